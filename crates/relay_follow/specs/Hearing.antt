@@ -1,0 +1,48 @@
+-- How a follower hears a text: a client that is never lost, since it refuses what would leave it so.
+use Rattle.std.specs.Prelude.{◌≡◌, ℕ, List, Option, Some, None, option_map, Result, Ok, Err, nat_lt, if◌then◌else◌}
+use Rattle.relay_tree.specs.Document.{Document}
+use Rattle.relay_patch.specs.Patch.{after, free}
+use Rattle.relay_patch.specs.declared.fault.ApplyFault.{ApplyFault}
+use Rattle.relay_patch.specs.declared.op.Op.{Op}
+use Rattle.relay_proto.specs.declared.message.Message.{Message}
+use Rattle.relay_proto.specs.declared.message.Message.TheVariants as message
+use Rattle.relay_proto.specs.MessageRead.{message_of_text}
+use Rattle.relay_proto.specs.Client.{Client, nothing, holds, lost, client}
+use Rattle.relay_follow.specs.declared.fault.HearFault.{HearFault}
+use Rattle.relay_follow.specs.declared.fault.HearFault.TheVariants.{NotMessage, NoView, Order, Apply}
+
+-- the client that a follower is, by the revision and the tree that it holds
+abbrev pub as_client : Option (ℕ × Document) → Client
+as_client None = nothing
+as_client (Some held) = holds held.0 held.1
+
+-- what a text makes of a client; None where it is no message
+abbrev pub told : Client → List ℕ → Option Client
+told c s = option_map (client c) (message_of_text s)
+
+-- the text is no message, or the client is lost by it
+abbrev pub IsLost : Option Client → Type 0
+IsLost None = Unit {0}
+IsLost (Some c) = c ≡ lost
+
+-- Why a text is not taken: the first that holds.
+
+abbrev pub apply_fault : Result Document ApplyFault → Option HearFault
+apply_fault (Ok tree) = None
+apply_fault (Err fault) = Some Apply
+
+abbrev pub patch_fault : ℕ → List Op → Option (ℕ × Document) → Option HearFault
+patch_fault rev ops None = Some NoView
+patch_fault rev ops (Some held) = if nat_lt held.0 rev then apply_fault (after held.1 ops free) else Some Order
+
+abbrev pub message_fault : Option (ℕ × Document) → Message → Option HearFault
+message_fault held (message.Reply r) = None
+message_fault held (message.Patch rev ops) = patch_fault rev ops held
+message_fault held (message.Snapshot rev view) = None
+
+abbrev pub read_fault : Option (ℕ × Document) → Option Message → Option HearFault
+read_fault held None = Some NotMessage
+read_fault held (Some m) = message_fault held m
+
+abbrev pub hear_fault : Option (ℕ × Document) → List ℕ → Option HearFault
+hear_fault held s = read_fault held (message_of_text s)

@@ -1,0 +1,57 @@
+//! What a client holds.
+use relay_tree::Tree;
+use std::marker::Model;
+
+/// A client's view: nothing, or a revision and the view of that revision. Contracts see what is held.
+#[derive(Drop)]
+pub struct Follower {
+    pub(crate) held: Option<(u64, Tree)>,
+}
+
+impl Model for Follower {
+    ghost use Rattle.std.specs.Prelude.{ℕ, Option};
+    ghost use Rattle.relay_tree.specs.Document.{Document};
+
+    ghost Value = { Option (ℕ × Document) };
+
+    ghost use Rattle.std.specs.Coded.{codes};
+    ghost use Rattle.relay_tree.specs.Code.{document_code};
+
+    ghost coded = { Prim.hlevel (codes, document_code) };
+
+    ghost view = { λ f. f.held };
+}
+
+impl Follower {
+    ghost use Rattle.std.specs.Prelude.{◌≡◌, None, Some, option_map, option_copied};
+
+    /// A follower that holds nothing. No memory is taken.
+    pub fn new() -> Follower
+        ensures { result ≡ None }
+    {
+        Follower { held: None }
+    }
+
+    /// A follower that holds the view of a revision: how a client that resumes begins. No memory is taken.
+    pub fn from_view(rev: u64, tree: Tree) -> Follower
+        ensures { result ≡ Some (rev, tree) }
+    {
+        Follower {
+            held: Some((rev, tree)),
+        }
+    }
+
+    /// The view that is held: the list of its slots. No memory is taken.
+    pub fn view(&self) -> Option<&Tree>
+        ensures { option_copied result ≡ option_map (λ held. held.1) self.now }
+    {
+        self.held.as_ref().map(|held| &held.1)
+    }
+
+    /// The revision of the view that is held. No memory is taken.
+    pub fn rev(&self) -> Option<u64>
+        ensures { result ≡ option_map (λ held. held.0) self.now }
+    {
+        self.held.as_ref().map(|held| held.0)
+    }
+}

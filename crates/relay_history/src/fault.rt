@@ -1,0 +1,24 @@
+//! Why there is no history.
+use std::alloc::AllocError;
+use thiserror::Error;
+
+/// Why [`History::new`](crate::History::new) makes none, in the order of the checks.
+#[derive(Clone, Copy, Debug, PartialEq, Eq, Error)]
+pub enum HistoryFault {
+    /// The limit is not 1 to 1,024, or the revision to start from is above `2^53 - 1`.
+    #[error("a history holds 1 to 1,024 revisions and starts from 0 to 2^53 - 1")]
+    BadLimit,
+    #[error("out of memory")]
+    NoMemory,
+}
+
+impl From<AllocError> for HistoryFault {
+    ghost use Rattle.std.specs.Prelude.{◌≡◌};
+    ghost use Rattle.relay_history.specs.declared.fault.HistoryFault.TheVariants.{NoMemory};
+
+    ghost from_gives = { λ _ fault. fault ≡ NoMemory };
+
+    fn from(_: AllocError) -> HistoryFault {
+        HistoryFault::NoMemory
+    }
+}

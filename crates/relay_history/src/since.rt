@@ -1,0 +1,75 @@
+//! The changes after a revision, one after the other.
+use circular_buffer::HeapCircularBuffer;
+use relay_patch::Change;
+use std::marker::Model;
+
+/// The changes after a revision, in the order in which they were made. Contracts see it as the list of those still to come.
+/// `since.collect(alloc)?` gives them all at once, as a `Vec<&Change>`.
+#[derive(Drop)]
+pub struct Since<'a> {
+    /// What is left of the revision that is being told.
+    changes: &'a [Change],
+    /// The revisions held, the newest first.
+    revisions: &'a HeapCircularBuffer<Vec<Change>>,
+    /// How many of them are still to be told.
+    left: usize,
+}
+
+impl<'a> Model for Since<'a> {
+    ghost use Rattle.std.specs.Prelude.{List, ◌≤◌, length};
+    ghost use Rattle.std.specs.Coded.{coded_list};
+    ghost use Rattle.relay_patch.specs.declared.change.Change.{Change};
+    ghost use Rattle.relay_patch.specs.contracts.change.Change as change;
+
+    ghost Value = { List Change };
+
+    ghost coded = { coded_list change.the_row.coded };
+
+    ghost use Rattle.relay_history.specs.Kept.{left_of};
+
+    ghost view = { left_of };
+
+    ghost invariant = { λ s. s.left ≤ length s.revisions.now.items };
+}
+
+impl<'a> Since<'a> {
+    ghost use Rattle.std.specs.Prelude.{◌≡◌, ◌≤◌, take, length};
+    ghost use Rattle.relay_history.specs.History.{in_order};
+    ghost use Rattle.relay_history.specs.Kept.{changes_of};
+
+    /// The changes of the first `count` of these revisions, which stand with the newest first.
+    pub(crate) fn of_first(
+        revisions: &'a HeapCircularBuffer<Vec<Change>>,
+        count: usize,
+    ) -> Since<'a>
+        requires { count ≤ length revisions.now.items }
+        ensures { result ≡ in_order (take count (changes_of revisions.now.items)) }
+    {
+        Since {
+            changes: &[],
+            revisions,
+            left: count,
+        }
+    }
+}
+
+impl<'a> Iterator for Since<'a> {
+    type Item = &'a Change;
+
+    ghost use Rattle.std.specs.Iterator.{YieldsFirstRef, item_count};
+
+    ghost next_gives = { YieldsFirstRef (λ s. s) };
+
+    ghost remaining = { item_count (λ s. s) };
+
+    #[tactic(auto, using(crate::proofs::Revisions::told_on))]
+    fn next(&mut self) -> Option<&'a Change> {
+        while self.changes.is_empty() && self.left > 0 {
+            self.left -= 1;
+            self.changes = self.revisions.get(self.left)?.as_slice();
+        }
+        let (change, rest) = self.changes.split_first()?;
+        self.changes = rest;
+        Some(change)
+    }
+}

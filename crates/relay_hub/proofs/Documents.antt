@@ -1,0 +1,78 @@
+-- The documents of a room as they become more, and what becomes of a room that has them.
+use Rattle.std.proofs.Common.{◌≡◌, ℕ, zero, suc, ◌+◌, ◌-◌, ◌<◌, ◌≤◌, List, [], ◌∷◌, ◌++◌, length, Some, refl, sym, ◌∙◌, ap, subst, arith, length-append, ◌⊎◌, inl, inr}
+use Rattle.std.specs.Prelude.{slice_get, min}
+use Rattle.std.proofs.lemmas.Bool.{cases_lt}
+use Rattle.std.proofs.lemmas.Option.{slice_get-get_or}
+use Rattle.relay_tree.specs.Document.{Document, null}
+use Rattle.relay_history.specs.History.{Past, Reaches, with_revision, changes_since}
+use Rattle.relay_history.proofs.Growing.{held-with_revision, changes_since-newest, changes_since-with_revision}
+use Rattle.relay_patch.specs.Change.{Leads, all_changes}
+use Rattle.relay_patch.specs.declared.change.Change.{Change}
+use Rattle.relay_patch.specs.declared.op.Op.{Op}
+use Rattle.relay_patch.proofs.Made.{Leads-append}
+use Rattle.relay_room.specs.Room.{State as Room, revision}
+use Rattle.relay_hub.specs.Log.{present_of}
+use Rattle.relay_hub.specs.Stands.{RoomStands}
+use Rattle.relay_hub.specs.Step.{GoesOn}
+use Rattle.relay_hub.proofs.Places.{slice_get-last}
+
+slice_get-older : {X : Type 0} (xs : List X) (d : X) (r : ℕ) → r < length xs → slice_get (xs ++ d ∷ []) r ≡ slice_get xs r
+slice_get-older [] d r h = absurd (omega arith)
+slice_get-older (y ∷ ys) d zero h = refl
+slice_get-older (y ∷ ys) d (suc r) h = slice_get-older ys d r (omega arith)
+
+present_of-newer : (ds : List Document) (d : Document) → present_of (ds ++ d ∷ []) ≡ d
+present_of-newer ds d =
+    let e : length (ds ++ d ∷ []) - 1 ≡ length ds = omega (arith, length-append ds (d ∷ [])) in
+    rw (e, slice_get-last ds d) refl
+
+-- the document of the last revision is the present one
+pub slice_get-present : (ds : List Document) (r : ℕ) → r + 1 ≡ length ds → slice_get ds r ≡ Some (present_of ds)
+slice_get-present ds r h =
+    let e : length ds - 1 ≡ r = omega (arith, h) in
+    let within : r < length ds = omega (arith, h) in
+    rw (e, slice_get-get_or ds r null within) refl
+
+-- the changes since each revision that is still held lead to the newest document
+goes_on_led : (most : ℕ) (ds : List Document) (room next : Room) (changes : List Change) (d : Document) → RoomStands most ds room → next.document ≡ d
+    → next.history ≡ with_revision changes room.history → Leads room.document changes d
+    → (rev : ℕ) (before : Document) → slice_get (ds ++ d ∷ []) rev ≡ Some before → Reaches next.history rev → Leads before (changes_since rev next.history) next.document
+goes_on_led most ds room next changes d h document history leads rev before at reaches =
+    rw (history, document) (go (cases_lt room.history.newest rev))
+  where
+    past : Past
+    past = room.history
+
+    reaches_with : Reaches (with_revision changes past) rev
+    reaches_with = subst (λ p. Reaches p rev) history reaches
+
+    go : (past.newest < rev) ⊎ (rev ≤ past.newest) → Leads before (changes_since rev (with_revision changes past)) d
+    go (inl above) =
+        let last : rev ≡ past.newest + 1 = omega (arith, above, reaches_with.made) in
+        let place : rev ≡ length ds = omega (arith, last, h.made) in
+        let same : Some before ≡ Some d = sym at ∙ (ap (λ k. slice_get (ds ++ d ∷ []) k) place ∙ slice_get-last ds d) in
+        let is : before ≡ d = cc in
+        rw (last, changes_since-newest (with_revision changes past)) is
+    go (inr below) =
+        let back = reaches_with.back in
+        let held = held-with_revision changes past in
+        let earlier : Reaches past rev = record { back = omega (arith, back, held, below); made = below } in
+        let older : rev < length ds = omega (arith, below, h.made) in
+        rw (changes_since-with_revision rev changes past below reaches_with)
+        (Leads-append (changes_since rev past) changes before room.document d (h.led rev before (sym (slice_get-older ds d rev older) ∙ at) earlier) leads)
+
+-- a room that goes on has one document more
+pub goes_on_stands : (most : ℕ) (ds : List Document) (room next : Room) (patch : List Op) (d : Document) → RoomStands most ds room → GoesOn room patch d next → RoomStands most (ds ++ d ∷ []) next
+goes_on_stands most ds room next patch d h goes =
+    let changes = all_changes room.document patch in
+    let newest : revision next ≡ revision room + 1 = ap (λ (p : Past). p.newest) goes.history in
+    let limit : next.history.limit ≡ room.history.limit = ap (λ (p : Past). p.limit) goes.history in
+    let count : length next.history.changes ≡ min room.history.limit (length room.history.changes + 1) = ap (λ (p : Past). length p.changes) goes.history ∙ held-with_revision changes room.history in
+    record {
+      document = goes.document ∙ sym (present_of-newer ds d);
+      made = omega (arith, newest, h.made, length-append ds (d ∷ []));
+      is = goes.is;
+      limit = limit ∙ h.limit;
+      held = omega (arith, count, newest, h.limit, h.held);
+      led = goes_on_led most ds room next changes d h goes.document goes.history goes.leads;
+    }

@@ -1,0 +1,98 @@
+-- Draws: what is drawn reads as its message, was waiting, and is now heard.
+use Rattle.std.proofs.Common.{◌≡◌, ℕ, ◌==◌, Bool, true, false, List, [], ◌∷◌, ◌++◌, Option, Some, None, refl, sym, ap, subst, arith, append_assoc}
+use Rattle.std.specs.List.{AllByRecursion}
+use Rattle.std.specs.Prelude.{⊤, slice_get, option_map}
+use Rattle.std.proofs.lemmas.Bool.Decides.{nat_tests}
+use Rattle.relay_outbox.specs.Outbox.{line, first_of, rest_of}
+use Rattle.relay_patch.specs.declared.op.Op.{Op}
+use Rattle.relay_patch.proofs.Fits.{within_flat}
+use Rattle.relay_pointer.specs.Path.{Path}
+use Rattle.relay_proto.specs.MessageRead.{message_of_text}
+use Rattle.relay_proto.specs.Written.{HasCounts}
+use Rattle.relay_proto.specs.declared.message.Message.{Message}
+use Rattle.relay_proto.specs.declared.message.Message.TheVariants as message
+use Rattle.relay_proto.specs.declared.reply.Reply.{Reply}
+use Rattle.relay_proto.proofs.Writable.{patch_is_writable, snapshot_is_writable}
+use Rattle.relay_proto.proofs.Written.{reply_text_back}
+use Rattle.relay_room.specs.Room.{State as Room, IsRoom, document_bounds, revision}
+use Rattle.relay_tree.specs.Document.{Document}
+use Rattle.relay_hub.specs.Log.{Log, Watching, entry, home, documents, view_message, hearing, watching}
+use Rattle.relay_hub.specs.Session.{session_with, snapshot_of, patch_message, message_of, message_text, ReadsBack, drawn, later}
+use Rattle.relay_hub.specs.Stands.{Beginning, LineStands, PatchFits, WatchStands, Follows, StandsFor}
+use Rattle.relay_hub.specs.State.{Group, State, place_of, session_in}
+use Rattle.relay_hub.specs.Step.{Draws, with_group}
+use Rattle.relay_hub.specs.declared.event.Answer.TheVariants.{Drawn}
+use Rattle.relay_hub.specs.declared.event.Event.TheVariants.{Draw}
+use Rattle.relay_hub.specs.declared.session.Session.{Session}
+use Rattle.relay_hub.proofs.Frames.{session_changes, session_stands}
+use Rattle.relay_hub.proofs.Waiting.{line_drawn}
+
+-- the text reads as the message
+abbrev Reads : Option Message → Type 0
+Reads (Some m) = message_of_text (message_text m) ≡ Some m
+Reads None = ⊤
+
+-- what stands at the front of a line that fits reads as itself
+front_reads : (room : Room) (pointers : Option (List Path)) (replies : List Reply) (patches : List (ℕ × List Op)) (due : Bool) → IsRoom room
+    → AllByRecursion HasCounts replies → AllByRecursion PatchFits patches → ReadsBack (message_of room pointers (first_of replies patches due)) → Reads (message_of room pointers (first_of replies patches due))
+front_reads room pointers (r ∷ replies) patches due is counts fit back = reply_text_back r counts.0
+front_reads room pointers [] (p ∷ patches) due is counts fit back = back (patch_is_writable p.0 p.1 fit.0.0 fit.0.1)
+front_reads room (Some v) [] [] true is counts fit back =
+    back (snapshot_is_writable (revision room) v room.document is.history.last (within_flat document_bounds room.document room.document (omega arith) is.within))
+front_reads room None [] [] true is counts fit back = tt
+front_reads room pointers [] [] false is counts fit back = tt
+
+-- what is heard was waiting
+hears : (ds : List Document) (w : Watching) (m : Message) (waiting : List Message) → Follows ds w (view_message (Some m) ++ waiting)
+    → Follows ds (record { view = w.view; start = w.start; heard = w.heard ++ view_message (Some m) }) waiting
+hears ds w m waiting h =
+    let e = append_assoc w.heard (view_message (Some m)) waiting in
+    record { each = rw e h.each; exactly = rw e h.exactly }
+
+-- the watching after a message that its text reads as
+abbrev after_message : Watching → Message → Option Watching
+after_message w m = Some (record { view = w.view; start = w.start; heard = w.heard ++ view_message (Some m) })
+
+heard_message : (w : Watching) (m : Message) → message_of_text (message_text m) ≡ Some m → hearing (Some (message_text m)) (Some w) ≡ after_message w m
+heard_message w m reads = ap (λ o. Some (record { view = w.view; start = w.start; heard = w.heard ++ view_message o })) reads
+
+watch_drawn : (ds : List Document) (room : Room) (number : ℕ) (pointers : Option (List Path)) (replies : List Reply) (patches : List (ℕ × List Op)) (due : Bool) (k : ℕ) (w : Option Watching)
+    → Reads (message_of room pointers (first_of replies patches due)) → WatchStands ds room (session_with number pointers (line replies patches due k)) w
+    → WatchStands ds room (session_with number pointers (rest_of replies patches due k)) (hearing (option_map message_text (message_of room pointers (first_of replies patches due))) w)
+watch_drawn ds room number pointers (r ∷ replies) patches due k (Some w) reads h =
+    let m = message.Reply r in
+    subst (λ after. WatchStands ds room (session_with number pointers (line replies patches due k)) after) (sym (heard_message w m reads))
+    (h.0, hears ds w m (later room w.view (line replies patches due k)) h.1)
+watch_drawn ds room number pointers [] (p ∷ patches) due k (Some w) reads h =
+    let m = patch_message p in
+    subst (λ after. WatchStands ds room (session_with number pointers (line [] patches due k)) after) (sym (heard_message w m reads))
+    (h.0, hears ds w m (later room w.view (line [] patches due k)) h.1)
+watch_drawn ds room number (Some v) [] [] true k (Some w) reads h =
+    let same : v ≡ w.view = cc in
+    let m = snapshot_of room v in
+    subst (λ after. WatchStands ds room (session_with number (Some v) (line [] [] false k)) after) (sym (heard_message w m reads)) (h.0, hears ds w m [] (rw same h.1))
+watch_drawn ds room number None [] [] true k (Some w) reads h = absurd (cc h.0)
+watch_drawn ds room number pointers [] [] false k (Some w) reads h = h
+watch_drawn ds room number pointers (r ∷ replies) patches due k None reads h = h
+watch_drawn ds room number pointers [] (p ∷ patches) due k None reads h = absurd (cc h.1)
+watch_drawn ds room number pointers [] [] true k None reads h = absurd (cc h.2)
+watch_drawn ds room number pointers [] [] false k None reads h = h
+
+-- a draw of session s, which is x, in the room at a place
+pub draw_stands : (b : Beginning) (E : Log) (old : State) (place : ℕ) (name : List ℕ) (g h : Group) (s : ℕ) (x : Session) (text : Option (List ℕ)) → StandsFor b E old
+    → slice_get old.rooms place ≡ Some (name, g) → place_of old s ≡ Some place → session_in g.sessions s ≡ Some x → Draws s (Some x) (Drawn text) g h
+    → StandsFor b (entry (Draw s) (Drawn text) ∷ E) (with_group place name h old)
+draw_stands b E old place name g h s x text stands at s_at is step =
+    let ds = documents E name in
+    let found = session_stands b E old s place name g stands s_at at in
+    let mine : (home E s ≡ Some name) × LineStands b.waiting x × WatchStands ds g.room x (watching b.epoch E s) = rw is at found in
+    let o = x.outbox in
+    let reads = front_reads g.room x.view o.replies o.patches o.due (stands.rooms place name g at).is mine.1.replies mine.1.patches step.2 in
+    let same : (s == s) ≡ true = grind (arith, nat_tests) in
+    session_changes b E (entry (Draw s) (Drawn text)) old place name g h stands at (λ other apart. refl)
+    (record { opened = refl; count = refl; home = λ t. refl })
+    (λ other. refl)
+    s (drawn x) s_at mine.0 step.1
+    (λ t apart. let other : (s == t) ≡ false = grind (arith, nat_tests, apart) in rw other refl)
+    (line_drawn b.waiting x mine.1)
+    (rw (same, step.0) (watch_drawn ds g.room x.number x.view o.replies o.patches o.due o.k (watching b.epoch E s) reads mine.2))

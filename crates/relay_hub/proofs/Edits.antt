@@ -1,0 +1,121 @@
+-- Edits: an accepted one gives its room one more document, of which all sessions are told; a refused one is answered alone.
+use Rattle.std.proofs.Common.{◌≡◌, ℕ, ◌-◌, Bool, true, false, List, [], ◌∷◌, ◌++◌, length, Option, Some, None, Result, Ok, Err, refl, sym, ◌∙◌, ap, arith}
+use Rattle.std.specs.Prelude.{slice_get, nat_lt, if◌then◌else◌}
+use Rattle.std.specs.Result.{result_ok}
+use Rattle.relay_history.specs.declared.history.TheConstants.{LAST_REVISION}
+use Rattle.relay_patch.specs.Change.{all_changes}
+use Rattle.relay_patch.specs.Patch.{after}
+use Rattle.relay_patch.specs.declared.change.Change.{Change}
+use Rattle.relay_patch.specs.declared.fault.ApplyFault.{ApplyFault}
+use Rattle.relay_patch.specs.declared.op.Op.{Op}
+use Rattle.relay_pointer.specs.Path.{Path}
+use Rattle.relay_proto.specs.Request.{request_of_text}
+use Rattle.relay_proto.specs.Written.{IsCount, IsCountOrNull}
+use Rattle.relay_proto.specs.declared.reply.Reply.TheVariants.{Done}
+use Rattle.relay_proto.specs.declared.request.Request.TheVariants.{Edit}
+use Rattle.relay_room.specs.Room.{State as Room, document_bounds, revision}
+use Rattle.relay_room.specs.declared.fault.EditFault.{EditFault}
+use Rattle.relay_room.specs.declared.fault.EditFault.TheVariants.{Exhausted as NoRevisionLeft}
+use Rattle.relay_tree.specs.Document.{Document}
+use Rattle.relay_hub.specs.Log.{Log, Watching, entry, home, documents, present_of, next_document, asked_at_home, watching}
+use Rattle.relay_hub.specs.Session.{replied}
+use Rattle.relay_hub.specs.Stands.{Beginning, RoomStands, LineStands, WatchStands, SessionStands, StandsFor}
+use Rattle.relay_hub.specs.State.{Group, State, place_of, session_in}
+use Rattle.relay_hub.specs.Step.{applied, edited, edit_place, telling, ToldView, ToldAs, EditServed, with_group}
+use Rattle.relay_hub.specs.declared.event.Answer.TheVariants.{Heard}
+use Rattle.relay_hub.specs.declared.event.Event.TheVariants.{Receive}
+use Rattle.relay_hub.specs.declared.event.Heard.TheVariants.{Answered}
+use Rattle.relay_hub.specs.declared.session.Session.{Session}
+use Rattle.relay_hub.proofs.Documents.{goes_on_stands}
+use Rattle.relay_hub.proofs.Follow.{folded_follows, told_follows}
+use Rattle.relay_hub.proofs.Frames.{room_changes, session_stands}
+use Rattle.relay_hub.proofs.Places.{by_number}
+use Rattle.relay_hub.proofs.Requests.{here, served_reply, watch_replied}
+use Rattle.relay_hub.proofs.Rooms.{one_added, others_stay}
+use Rattle.relay_hub.proofs.Told.{IsTold, each_told}
+use Rattle.relay_hub.proofs.Waiting.{line_replied, line_folded, line_told}
+
+-- the log and the room know the same of a patch
+same_edit : (most : ℕ) (ds : List Document) (room : Room) (patch : List Op) → RoomStands most ds room → next_document ds patch ≡ result_ok (edited room patch)
+same_edit most ds room patch h =
+    let last : length ds - 1 ≡ revision room = omega (arith, h.made) in
+    ap (λ n. if nat_lt n LAST_REVISION then result_ok (after (present_of ds) patch document_bounds) else None) last
+    ∙ (ap (λ now. if nat_lt (revision room) LAST_REVISION then result_ok (after now patch document_bounds) else None) (sym h.document)
+    ∙ both (nat_lt (revision room) LAST_REVISION) (after room.document patch document_bounds))
+  where
+    both : (more : Bool) (r : Result Document ApplyFault) → (if more then result_ok r else None) ≡ result_ok (if more then applied r else Err NoRevisionLeft)
+    both true (Ok d) = refl
+    both true (Err fault) = refl
+    both false r = refl
+
+-- Telling.
+
+-- the room had some documents and has one more, of which its watchers are told
+module _ (most k : ℕ) (ds : List Document) (d : Document) (room next : Room) (changes : List Change) (was : RoomStands most ds room) (is : RoomStands most (ds ++ d ∷ []) next) where
+  told_view : (short : Bool) (x y : Session) (w : Watching) → ToldView room.document changes next w.view short x y → LineStands k x → WatchStands ds room x (Some w)
+      → LineStands k y × WatchStands (ds ++ d ∷ []) next y (Some w)
+  told_view true x y w told line watch = rw told (line_folded k x x.view line, (watch.0, folded_follows most ds d w room next was is x.outbox watch.1))
+  told_view false x y w told line watch =
+      let up = telling changes next w.view in
+      rw told.0 (line_told k (revision next) up x is.is.history.last told.2 line, (watch.0, told_follows most ds d w room next was is x.outbox up told.1 watch.1))
+
+  told_stands : (v : Option (List Path)) (short : Bool) (x y : Session) (w : Option Watching) → x.view ≡ v → ToldAs room.document changes next v short x y → LineStands k x → WatchStands ds room x w
+      → LineStands k y × WatchStands (ds ++ d ∷ []) next y w
+  told_stands (Some v) short x y (Some w) e told line watch = let same : v ≡ w.view = cc in told_view short x y w (rw same at told) line watch
+  told_stands (Some v) short x y None e told line watch = absurd (cc (e, watch.0))
+  told_stands None short x y (Some w) e told line watch = absurd (cc (e, watch.0))
+  told_stands None short x y None e told line watch = rw told.0 (line, watch)
+
+  told_session : (before later : List ℕ → List Document) (name : List ℕ) (o p : Option Session) (there : Option (List ℕ)) (w : Option Watching) → before name ≡ ds → later name ≡ ds ++ d ∷ []
+      → IsTold room.document changes next o p → SessionStands k before name room o there w → SessionStands k later name next p there w
+  told_session before later name (Some x) (Some y) there w had has told h =
+      let s = told_stands x.view told.0 x y w refl told.1 h.1 (rw had at h.2) in
+      (h.0, s.0, rw has s.1)
+  told_session before later name None None there w had has told h = h
+  told_session before later name (Some x) None there w had has told h = absurd told
+  told_session before later name None (Some y) there w had has told h = absurd told
+
+-- An edit of session s, which is x, in the room at a place.
+
+module _ (b : Beginning) (E : Log) (old : State) (place : ℕ) (name : List ℕ) (g h : Group) (s short : ℕ) (x : Session) (text : List ℕ) (stands : StandsFor b E old)
+    (at : slice_get old.rooms place ≡ Some (name, g)) (s_at : place_of old s ≡ Some place) (is : session_in g.sessions s ≡ Some x)
+    (id : ℕ) (patch : List Op) (read : request_of_text text ≡ Ok (Edit id patch)) (i : IsCount id) where
+  -- an edit changes nobody's watching
+  same_watching : home E s ≡ Some name → (t : ℕ) → watching b.epoch (entry (Receive s text) (Heard (Answered short)) ∷ E) t ≡ watching b.epoch E t
+  same_watching s_home t =
+      by_number (λ t c. (if c then asked_at t else watching b.epoch E t) ≡ watching b.epoch E t) s t
+      (rw (s_home, read) refl)
+      (λ apart. refl)
+    where
+      asked_at : ℕ → Option Watching
+      asked_at t = asked_at_home b.epoch (documents E) (watching b.epoch E t) (home E t) text
+
+  edit_stands : (d : Document) → edited g.room patch ≡ Ok d → EditServed s x id patch (Ok d) short g h → StandsFor b (entry (Receive s text) (Heard (Answered short)) ∷ E) (with_group place name h old)
+  edit_stands d makes step =
+      let e = entry (Receive s text) (Heard (Answered short)) in
+      let ds = documents E name in
+      let mine = here b E old place name g h s short x text stands at s_at is in
+      let was = stands.rooms place name g at in
+      let newer : documents (e ∷ E) name ≡ ds ++ d ∷ [] = one_added E s short text name d mine.0 (rw read (same_edit b.history ds g.room patch was ∙ ap result_ok makes)) in
+      let room : RoomStands b.history (ds ++ d ∷ []) h.room = goes_on_stands b.history ds g.room h.room patch d was step.0 in
+      let answer = Done id (revision h.room) in
+      let changes = all_changes g.room.document patch in
+      room_changes b E e old place name g h stands at (others_stay E s short text name mine.0)
+      (record { opened = refl; count = refl; home = λ t. refl })
+      (rw newer room)
+      (λ t apart. same_watching mine.0 t)
+      (λ t t_at.
+      let answered : SessionStands b.waiting (documents E) name g.room (session_in step.1 t) (home E t) (watching b.epoch E t) =
+      rw (step.2 t) (by_number (λ t c. SessionStands b.waiting (documents E) name g.room (if c then Some (replied answer x) else session_in g.sessions t) (home E t) (watching b.epoch E t)) s t
+      (mine.0, line_replied b.waiting x answer (i, room.is.history.last) mine.1, watch_replied ds g.room x answer (watching b.epoch E s) mine.2)
+      (λ apart. session_stands b E old t place name g stands t_at at)) in
+      rw (same_watching mine.0 t)
+      (told_session b.history b.waiting ds d g.room h.room changes was room (documents E) (documents (e ∷ E)) name (session_in step.1 t) (session_in h.sessions t) (home E t) (watching b.epoch E t)
+      refl newer (each_told g.room.document changes h.room step.1 h.sessions short step.3 t) answered))
+
+  pub served_edit : (o : Result Document EditFault) → edited g.room patch ≡ o → ((fault : EditFault) → o ≡ Err fault → IsCountOrNull (edit_place fault)) → EditServed s x id patch o short g h
+      → StandsFor b (entry (Receive s text) (Heard (Answered short)) ∷ E) (with_group place name h old)
+  served_edit (Ok d) makes places step = edit_stands d makes step
+  served_edit (Err fault) makes places step =
+      served_reply b E old place name g h s short x text stands at s_at is (Ok (Edit id patch)) (Some id) step.1 (edit_place fault) read
+      (same_edit b.history (documents E name) g.room patch (stands.rooms place name g at) ∙ ap result_ok makes) refl step.3 i (places fault refl)

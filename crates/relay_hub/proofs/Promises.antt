@@ -1,0 +1,33 @@
+-- What the steps of the calls promise to clients.
+use Rattle.std.proofs.Common.{◌≡◌, ℕ, List, Result, Ok}
+use Rattle.relay_hub.specs.Call.{StepIf, Runs, receiving, followed}
+use Rattle.relay_hub.specs.Log.{Log}
+use Rattle.relay_hub.specs.Stands.{Beginning, StandsFor, EachHoldsPresent, EachIsAtNamed}
+use Rattle.relay_hub.specs.State.{State}
+use Rattle.relay_hub.specs.Telling.{RefusesEdits}
+use Rattle.relay_hub.specs.declared.event.Answer.{Answer}
+use Rattle.relay_hub.specs.declared.event.Event.{Event}
+use Rattle.relay_hub.specs.declared.event.Event.TheVariants.{Receive}
+use Rattle.relay_hub.specs.declared.event.Heard.{Heard}
+use Rattle.relay_hub.specs.declared.event.Heard.TheVariants.{Answered}
+use Rattle.relay_hub.specs.declared.fault.HubFault.{HubFault}
+use Rattle.relay_hub.proofs.Stands.{runs_stand}
+use Rattle.relay_hub.proofs.Watchers.{exactly_held, each_held, no_trace}
+
+-- an edit that is refused leaves no trace
+pub refuses_edits : (old new : State) (s : ℕ) (text : List ℕ) (result : Result Heard HubFault) → StepIf old (Receive s text) (receiving result) new
+    → (short : ℕ) → result ≡ Ok (Answered short) → RefusesEdits s text old new
+refuses_edits old new s text result step short is id patch name g x fault there found read refused =
+    no_trace old new s short id text patch name g x fault there found read refused (rw is at step)
+
+-- after a run the hub stands for the log that goes on by it
+module _ {old new : State} {events : List Event} {answers : List Answer} (runs : Runs old events answers new) (b : Beginning) (E : Log) (stands : StandsFor b E old) where
+  pub stands_after : StandsFor b (followed E events answers) new
+  stands_after = runs_stand b E stands runs
+
+  pub exact_after : EachHoldsPresent b (followed E events answers) new
+  exact_after s name g x w there is watches = exactly_held b (followed E events answers) new s name g x w stands_after there is watches
+
+  pub each_after : EachIsAtNamed b (followed E events answers) new
+  each_after s name g x w before after m there is watches split =
+      each_held b (followed E events answers) new s name g x w stands_after there is watches before after m split

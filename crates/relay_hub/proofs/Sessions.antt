@@ -1,0 +1,161 @@
+-- Finding a session by its number, in a list in which one was changed or taken away, or came.
+use Rattle.std.proofs.Common.{◌≡◌, ℕ, ◌<◌, ◌≤◌, ◌==◌, Bool, true, false, List, [], ◌∷◌, ◌++◌, length, Option, Some, None, refl, sym, ◌∙◌, ap, subst, arith, inl, inr, get_or, not, zero, suc}
+use Rattle.std.specs.Bool.{MatchBool}
+use Rattle.std.specs.List.{position_or_len}
+use Rattle.std.specs.Option.{option_or}
+use Rattle.std.specs.Prelude.{is_some, slice_get, if◌then◌else◌, position, filter, nat_lt, nat_le, slice_set}
+use Rattle.std.proofs.lemmas.Bool.Decides.{eqb_tells, leb_tells, nat_tests}
+use Rattle.std.proofs.lemmas.List.Folds.{find-set, find_past, find_at, find-append}
+use Rattle.std.proofs.lemmas.Option.{slice_get_past, slice_get-get_or}
+use Rattle.relay_outbox.specs.declared.outbox.TheConstants.{REPLIES}
+use Rattle.relay_hub.specs.Call.{ChangesBy, HasRoom, IsFull}
+use Rattle.relay_hub.specs.State.{session_in, is_number}
+use Rattle.relay_hub.specs.Step.{OnlyAt}
+use Rattle.relay_hub.specs.declared.session.Session.{Session}
+use Rattle.relay_hub.proofs.Places.{by_number, tested, untested}
+
+-- Where a session stands.
+
+-- where no place is found, there is no session
+pub not_found : (xs : List Session) (s : ℕ) → position (is_number s) xs ≡ None → session_in xs s ≡ None
+not_found xs s h =
+    let n = position_or_len (is_number s) xs in
+    let past : length xs ≤ n = grind (arith, nat_tests, untested (nat_lt n (length xs)) n h) in
+    rw (find_at (is_number s) xs) (slice_get_past xs n past)
+
+place_within : (xs : List Session) (s i : ℕ) → position (is_number s) xs ≡ Some i → (i < length xs) × (i ≡ position_or_len (is_number s) xs)
+place_within xs s i h =
+    let n = position_or_len (is_number s) xs in
+    let t : (nat_lt n (length xs) ≡ true) × (i ≡ n) = tested (nat_lt n (length xs)) n i h in
+    let within : n < length xs = grind (arith, nat_tests, t.0) in
+    (omega (arith, t.1, within), t.1)
+
+found : (xs : List Session) (s i : ℕ) → position (is_number s) xs ≡ Some i → session_in xs s ≡ slice_get xs i
+found xs s i h = rw (place_within xs s i h).1 (find_at (is_number s) xs)
+
+-- the session is the one at the place
+pub found_at : (xs : List Session) (s i : ℕ) → position (is_number s) xs ≡ Some i → (d : Session) → session_in xs s ≡ Some (get_or xs i d)
+found_at xs s i h d = found xs s i h ∙ slice_get-get_or xs i d (place_within xs s i h).0
+
+-- which is therefore the session that was found otherwise
+pub same_session : (xs : List Session) (s i : ℕ) → position (is_number s) xs ≡ Some i → (d x : Session) → session_in xs s ≡ Some x → get_or xs i d ≡ x
+same_session xs s i h d x e =
+    let same : Some x ≡ Some (get_or xs i d) = sym e ∙ found_at xs s i h d in
+    cc
+
+some_at : (xs : List Session) (i : ℕ) → i < length xs → (x : Session) × (slice_get xs i ≡ Some x)
+some_at [] i h = absurd (omega arith)
+some_at (x ∷ xs) zero h = (x, refl)
+some_at (x ∷ xs) (suc i) h = some_at xs i (omega arith)
+
+-- there is a session where its place was found
+pub session_there : (xs : List Session) (s i : ℕ) → position (is_number s) xs ≡ Some i → (x : Session) × (session_in xs s ≡ Some x)
+session_there xs s i h = let p = some_at xs i (place_within xs s i h).0 in (p.0, found xs s i h ∙ p.1)
+
+number_of-found : (xs : List Session) (s : ℕ) (x : Session) → session_in xs s ≡ Some x → x.number ≡ s
+number_of-found [] s x h = absurd (cc h)
+number_of-found (y ∷ ys) s x h =
+    elim (eqb_tells y.number s) [
+      | inl e ↦ let k : Some y ≡ Some x = rw e.0 at h in let same : y ≡ x = cc in rw (← same) e.1
+      | inr e ↦ let k : session_in ys s ≡ Some x = rw e.0 at h in number_of-found ys s x k
+    ]
+
+number_at : (xs : List Session) (s i : ℕ) (d : Session) → position (is_number s) xs ≡ Some i → (get_or xs i d).number ≡ s
+number_at xs s i d h = number_of-found xs s (get_or xs i d) (found_at xs s i h d)
+
+-- whether there is a place says whether there is a session
+pub none_placed : (xs : List Session) (s : ℕ) (place : Option ℕ) → place ≡ position (is_number s) xs → is_some place ≡ false → session_in xs s ≡ None
+none_placed xs s None h gone = not_found xs s (sym h)
+none_placed xs s (Some i) h gone = absurd cc
+
+pub some_placed : (xs : List Session) (s : ℕ) (place : Option ℕ) → place ≡ position (is_number s) xs → is_some place ≡ true → (x : Session) × (session_in xs s ≡ Some x)
+some_placed xs s None h stands = absurd cc
+some_placed xs s (Some i) h stands = session_there xs s i (sym h)
+
+-- A session is changed.
+
+session_in-set : (xs : List Session) (s i : ℕ) (y : Session) → position (is_number s) xs ≡ Some i → y.number ≡ s → OnlyAt s (Some y) xs (slice_set xs i y)
+session_in-set xs s i y h e t =
+    let place = place_within xs s i h in
+    elim (eqb_tells s t) [
+      | inl same ↦ rw same.0 (subst (λ u. session_in (slice_set xs i y) u ≡ Some y) same.1
+          (find-set (is_number s) xs i y place.1 place.0 (grind (arith, nat_tests, e))))
+      | inr other ↦
+          let passed : is_number t (get_or xs i y) ≡ false = grind (arith, nat_tests, number_at xs s i y h, other.1) in
+          rw other.0 (find_past (is_number t) xs i y y passed (grind (arith, nat_tests, e, other.1)))
+    ]
+
+-- a write at the place of a session changes that session alone
+pub set_changes : (xs : List Session) (s i : ℕ) (f : Session → Session) → ((x : Session) → (f x).number ≡ x.number) →
+    position (is_number s) xs ≡ Some i → (d : Session) → ChangesBy s f xs (slice_set xs i (f (get_or xs i d)))
+set_changes xs s i f keeps h d x e =
+    let y = get_or xs i d in
+    let number : (f y).number ≡ s = keeps y ∙ number_at xs s i d h in
+    subst (λ z. OnlyAt s (Some (f z)) xs (slice_set xs i (f y))) (same_session xs s i h d x e) (session_in-set xs s i (f y) h number)
+
+-- A session is taken away.
+
+tells_same : (n s t : ℕ) → (n == s) ≡ true → (n == t) ≡ (s == t)
+tells_same n s t h = grind (arith, nat_tests, h)
+
+tells_number : (n s t : ℕ) → (n == t) ≡ true → (s == t) ≡ true → (n == s) ≡ true
+tells_number n s t h k = grind (arith, nat_tests, h, k)
+
+abbrev others : ℕ → List Session → List Session
+others s xs = filter (λ x. not (is_number s x)) xs
+
+left_out : (a b c : Bool) → (a ≡ true → b ≡ c) → (b ≡ true → c ≡ true → a ≡ true) → (x : Session) (xs : List Session) (s t : ℕ) → b ≡ is_number t x →
+    session_in (others s xs) t ≡ (if c then None else session_in xs t) →
+    session_in (if not a then x ∷ others s xs else others s xs) t ≡ (if c then None else (if b then Some x else session_in xs t))
+left_out true true true h k x xs s t e g = g
+left_out true false false h k x xs s t e g = g
+left_out true true false h k x xs s t e g = absurd (cc (h refl))
+left_out true false true h k x xs s t e g = absurd (cc (h refl))
+left_out false true true h k x xs s t e g = absurd (cc (k refl refl))
+left_out false true false h k x xs s t e g = rw (← e) refl
+left_out false false c h k x xs s t e g = rw (← e) g
+
+none_either : (b : Bool) → session_in [] 0 ≡ (if b then None else None)
+none_either true = refl
+none_either false = refl
+
+-- the sessions of other numbers
+pub filter_removes : (xs : List Session) (s : ℕ) → OnlyAt s None xs (filter (λ x. not (is_number s x)) xs)
+filter_removes [] s t = none_either (s == t)
+filter_removes (x ∷ xs) s t =
+    left_out (is_number s x) (is_number t x) (s == t)
+    (λ h. tells_same x.number s t h) (λ h k. tells_number x.number s t h k) x xs s t refl (filter_removes xs s t)
+
+-- The line of a session.
+
+-- where a reply fits in the line of a session, it does in that of the session at its place
+pub room_at : (xs : List Session) (s i : ℕ) → position (is_number s) xs ≡ Some i → HasRoom xs s → (d : Session) → length (get_or xs i d).outbox.replies < REPLIES
+room_at xs s i h space d = space (get_or xs i d) (found_at xs s i h d)
+
+-- a line is full, or a reply fits
+pub full_or_room : (xs : List Session) (s i : ℕ) → position (is_number s) xs ≡ Some i → (y : Session) → y ≡ get_or xs i y → length y.outbox.replies ≤ REPLIES →
+    MatchBool (nat_le REPLIES (length y.outbox.replies)) (IsFull xs s) (HasRoom xs s)
+full_or_room xs s i h y at within =
+    let n = length y.outbox.replies in
+    let same : (x : Session) → session_in xs s ≡ Some x → length x.outbox.replies ≡ n =
+    λ x e. ap (λ (z : Session). length z.outbox.replies) (sym (at ∙ same_session xs s i h y x e)) in
+    elim (leb_tells REPLIES n) [
+      | inl e ↦ rw e.0 (λ x k. let is : length x.outbox.replies ≡ n = same x k in omega (arith, e.1, within))
+      | inr e ↦ rw e.0 (λ x k. let is : length x.outbox.replies ≡ n = same x k in omega (arith, e.1))
+    ]
+
+-- A session comes.
+
+or_none : (o : Option Session) → option_or o None ≡ o
+or_none None = refl
+or_none (Some x) = refl
+
+push_last : (xs : List Session) (y : Session) → session_in xs y.number ≡ None → OnlyAt y.number (Some y) xs (xs ++ y ∷ [])
+push_last xs y none t =
+    rw (find-append (is_number t) xs (y ∷ []))
+    (by_number (λ t b. option_or (session_in xs t) (if b then Some y else None) ≡ (if b then Some y else session_in xs t)) y.number t
+    (rw none refl) (λ _. or_none (session_in xs t)))
+
+-- a session of a new number comes last, and no other differs
+pub push_only : (xs : List Session) (s : ℕ) (y : Session) → session_in xs s ≡ None → y.number ≡ s → OnlyAt s (Some y) xs (xs ++ y ∷ [])
+push_only xs s y none e = subst (λ n. session_in xs n ≡ None → OnlyAt n (Some y) xs (xs ++ y ∷ [])) e (push_last xs y) none

@@ -1,0 +1,116 @@
+-- What a hub that stands for its log does for its watchers, and what a refused edit leaves.
+use Rattle.std.proofs.Common.{◌≡◌, ◌≢◌, ℕ, zero, suc, ◌==◌, true, false, List, [], ◌∷◌, ◌++◌, map, Option, Some, None, option_and_then, Ok, Err, refl, sym, ap, subst, arith, inl, inr}
+use Rattle.std.specs.Prelude.{slice_get, slice_set}
+use Rattle.std.proofs.lemmas.Bool.Decides.{eqb_tells, nat_tests}
+use Rattle.relay_patch.specs.declared.op.Op.{Op}
+use Rattle.relay_pointer.specs.Path.{Path}
+use Rattle.relay_proto.specs.Client.{Client, client, client_after}
+use Rattle.relay_proto.specs.Request.{request_of_text}
+use Rattle.relay_proto.specs.declared.message.Message.{Message}
+use Rattle.relay_proto.specs.declared.reply.Reply.TheVariants.{Refused}
+use Rattle.relay_proto.specs.declared.request.Request.TheVariants.{Edit}
+use Rattle.relay_proto.specs.declared.word.Word.{Word}
+use Rattle.relay_room.specs.declared.fault.EditFault.{EditFault}
+use Rattle.relay_tree.specs.Document.{Document}
+use Rattle.relay_hub.specs.Log.{Log, Watching, documents, watching}
+use Rattle.relay_hub.specs.Session.{replied, later}
+use Rattle.relay_hub.specs.Stands.{Beginning, IsAtNamed, EachLeads, HoldsPresent, Follows, StandsFor}
+use Rattle.relay_hub.specs.State.{Group, State, place_of, home_of, session_in, session_of, without_sessions}
+use Rattle.relay_hub.specs.Step.{OnlyAt, ChangesOnly, edited, edit_word, edit_place, EditServed, Receives, with_group, InGroup, Step}
+use Rattle.relay_hub.specs.Telling.{LeavesNoTrace}
+use Rattle.relay_hub.specs.declared.event.Answer.TheVariants.{Heard}
+use Rattle.relay_hub.specs.declared.event.Event.TheVariants.{Receive}
+use Rattle.relay_hub.specs.declared.event.Heard.TheVariants.{Answered}
+use Rattle.relay_hub.specs.declared.session.Session.{Session}
+use Rattle.relay_hub.proofs.Follow.{client_after-append}
+use Rattle.relay_hub.proofs.Frames.{session_stands}
+use Rattle.relay_hub.proofs.Places.{slice_get-set, slice_get-set_other}
+
+-- a session that has a room has it at a place
+at_place : (hub : State) (s : ℕ) (home : List ℕ × Group) → home_of hub s ≡ Some home → (place : ℕ) × (place_of hub s ≡ Some place) × (slice_get hub.rooms place ≡ Some home)
+at_place hub s home h = go (place_of hub s) refl h
+  where
+    go : (o : Option ℕ) → place_of hub s ≡ o → option_and_then (λ place. slice_get hub.rooms place) o ≡ Some home → (place : ℕ) × (place_of hub s ≡ Some place) × (slice_get hub.rooms place ≡ Some home)
+    go (Some place) is at = (place, is, at)
+    go None is at = absurd (cc at)
+
+-- Watchers.
+
+module _ (b : Beginning) (E : Log) (hub : State) (s : ℕ) (name : List ℕ) (g : Group) (x : Session) (w : Watching) (stands : StandsFor b E hub) (there : home_of hub s ≡ Some (name, g))
+    (is : session_in g.sessions s ≡ Some x) (watches : watching b.epoch E s ≡ Some w) where
+  watcher : Follows (documents E name) w (later g.room w.view x.outbox)
+  watcher =
+      let p = at_place hub s (name, g) there in
+      let found = session_stands b E hub s p.0 name g stands p.1 p.2 in
+      let here = rw (is, watches) at found in
+      here.2.1
+
+  -- a client that applies what was drawn and what waits, in order, holds exactly its view of the present document
+  pub exactly_held : HoldsPresent (documents E name) w.view (client_after w.start (w.heard ++ later g.room w.view x.outbox))
+  exactly_held = watcher.exactly
+
+  at_each : (ds : List Document) (v : List Path) (c : Client) (before after : List Message) (m : Message) → EachLeads ds v c (before ++ m ∷ after) → IsAtNamed ds v m (client (client_after c before) m)
+  at_each ds v c [] after m h = h.0
+  at_each ds v c (first ∷ before) after m h = at_each ds v (client c first) before after m h.1
+
+  -- each message leaves it at its view of the revision that the message names
+  pub each_held : (before after : List Message) (m : Message) → w.heard ++ later g.room w.view x.outbox ≡ before ++ m ∷ after
+      → IsAtNamed (documents E name) w.view m (client_after w.start (before ++ m ∷ []))
+  each_held before after m split =
+      rw (client_after-append w.start before (m ∷ [])) (at_each (documents E name) w.view w.start before after m (rw split at watcher.each))
+
+-- Refused edits.
+
+same_rooms : (rooms : List (List ℕ × Group)) (place : ℕ) (name : List ℕ) (g h : Group) → slice_get rooms place ≡ Some (name, g) → h.room ≡ g.room
+    → map without_sessions (slice_set rooms place (name, h)) ≡ map without_sessions rooms
+same_rooms [] place name g h at same = refl
+same_rooms (r ∷ rooms) zero name g h at same =
+    let first : r ≡ (name, g) = cc in
+    rw (first, same) refl
+same_rooms (r ∷ rooms) (suc place) name g h at same = ap (λ rest. without_sessions r ∷ rest) (same_rooms rooms place name g h at same)
+
+-- who is not s is found as before
+others_found : (hub : State) (place : ℕ) (name : List ℕ) (g h : Group) (s : ℕ) (y : Option Session) → slice_get hub.rooms place ≡ Some (name, g) → OnlyAt s y g.sessions h.sessions
+    → (t : ℕ) → s ≢ t → session_of (with_group place name h hub) t ≡ session_of hub t
+others_found hub place name g h s y at only t apart = go (place_of hub t)
+  where
+    found : List (List ℕ × Group) → Option ℕ → Option Session
+    found rooms o = option_and_then (λ (home : List ℕ × Group). session_in home.1.sessions t) (option_and_then (λ p. slice_get rooms p) o)
+
+    go : (o : Option ℕ) → found (slice_set hub.rooms place (name, h)) o ≡ found hub.rooms o
+    go None = refl
+    go (Some p) =
+        elim (eqb_tells p place) [
+          | inl same ↦
+              let other : (s == t) ≡ false = grind (arith, nat_tests, apart) in
+              rw (same.1, slice_get-set hub.rooms place (name, g) (name, h) at, at, only t, other) refl
+          | inr differs ↦ rw (slice_get-set_other hub.rooms place p (name, h) differs.1) refl
+        ]
+
+-- a room in which one session alone differs
+leaves_no_trace : (hub : State) (place : ℕ) (name : List ℕ) (g h : Group) (s : ℕ) (y : Session) → place_of hub s ≡ Some place → slice_get hub.rooms place ≡ Some (name, g)
+    → ChangesOnly s (Some y) g h → LeavesNoTrace s y hub (with_group place name h hub)
+leaves_no_trace hub place name g h s y s_at at changes =
+    let mine : (s == s) ≡ true = grind (arith, nat_tests) in
+    record {
+      rooms = same_rooms hub.rooms place name g h at changes.0;
+      homes = refl;
+      next = refl;
+      others = others_found hub place name g h s (Some y) at changes.1;
+      sender = rw (s_at, slice_get-set hub.rooms place (name, g) (name, h) at, changes.1 s, mine) refl;
+    }
+
+-- an edit that is refused changes no room, no other session, and the sender's session by one reply alone
+pub no_trace : (old new : State) (s short id : ℕ) (text : List ℕ) (patch : List Op) (name : List ℕ) (g : Group) (x : Session) (fault : EditFault) → home_of old s ≡ Some (name, g)
+    → session_in g.sessions s ≡ Some x → request_of_text text ≡ Ok (Edit id patch) → edited g.room patch ≡ Err fault → Step old (Receive s text) (Heard (Answered short)) new
+    → (w : Word) × (edit_word fault ≡ Some w) × LeavesNoTrace s (replied (Refused (Some id) w (edit_place fault)) x) old new
+no_trace old new s short id text patch name g x fault there is read refused step =
+    let p = at_place old s (name, g) there in
+    let answer = Heard (Answered short) in
+    let Does : Group → Group → Type 0 = λ g h. Receives old.epoch s (session_in g.sessions s) text answer g h in
+    let at_home : InGroup p.0 (Some (name, g)) old answer Does new = rw (p.1, p.2) at step in
+    let h = at_home.0 in
+    let received : Receives old.epoch s (Some x) text answer g h = rw is at at_home.1 in
+    let served : EditServed s x id patch (Err fault) short g h = rw (read, refused) at received.1 in
+    let y = replied (Refused (Some id) served.1 (edit_place fault)) x in
+    (served.1, served.2, subst (λ hub. LeavesNoTrace s y old hub) (sym at_home.2) (leaves_no_trace old p.0 name g h s y p.1 p.2 served.3))

@@ -1,0 +1,10 @@
+use Rattle.std.proofs.Common.{refl}
+use Rattle.relay_hub.proofs.Sessions.{room_at, set_changes}
+use Rattle.relay_hub.specs.Session.{replied}
+use Rattle.relay_hub.proofs.serve.reply_at.Goals as goal
+
+pub reply-requires : goal.reply-requires
+reply-requires c = room_at c.args.sessions.now c.args.number c.args.place c.requires.place c.requires.space c.index-sessions-place.result
+
+pub returns : goal.returns
+returns c = rw c.reply.ensures (set_changes c.args.sessions.now c.args.number c.args.place (replied c.args.reply) (λ x. refl) c.requires.place c.index-sessions-place.result)

@@ -1,0 +1,96 @@
+-- Calls as events: what each answers, when it is a step, and runs of steps.
+use Rattle.std.specs.Prelude.{◌≡◌, ℕ, ◌<◌, length, List, [], ◌∷◌, Option, Some, None, option_map, Result, Ok, Err, slice_get, string_bytes}
+use Rattle.std.specs.Global.{Vec}
+use Rattle.std.specs.declared.string.String.{String}
+use Rattle.relay_outbox.specs.declared.outbox.TheConstants.{REPLIES}
+use Rattle.relay_hub.specs.Log.{Log, entry}
+use Rattle.relay_hub.specs.State.{Group, State, session_in}
+use Rattle.relay_hub.specs.Step.{OnlyAt, Receives, Draws, Step}
+use Rattle.relay_hub.specs.declared.event.Answer.{Answer}
+use Rattle.relay_hub.specs.declared.event.Answer.TheVariants as answer
+use Rattle.relay_hub.specs.declared.event.Event.{Event}
+use Rattle.relay_hub.specs.declared.event.Heard.{Heard}
+use Rattle.relay_hub.specs.declared.fault.HubFault.{HubFault}
+use Rattle.relay_hub.specs.declared.fault.HubFault.TheVariants as hub
+use Rattle.relay_hub.specs.declared.fault.NoSession.{NoSession}
+use Rattle.relay_hub.specs.declared.fault.OpenFault.{OpenFault}
+use Rattle.relay_hub.specs.declared.fault.OpenFault.TheVariants as opening_fault
+use Rattle.relay_hub.specs.declared.fault.RunFault.{RunFault}
+use Rattle.relay_hub.specs.declared.session.Session.{Session}
+
+-- what a call answers; nothing where it found no memory
+
+abbrev pub not_opened : OpenFault → Option Answer
+not_opened opening_fault.NoMemory = None
+not_opened fault = Some (answer.NotOpened fault)
+
+abbrev pub opening : Result ℕ OpenFault → Option Answer
+opening (Ok n) = Some (answer.Opened n)
+opening (Err fault) = not_opened fault
+
+abbrev pub not_served : HubFault → Option Answer
+not_served hub.NoSession = Some answer.NoSession
+not_served hub.NoMemory = None
+
+abbrev pub receiving : Result Heard HubFault → Option Answer
+receiving (Ok heard) = Some (answer.Heard heard)
+receiving (Err fault) = not_served fault
+
+abbrev pub drawing : {A : Type 0} → Result (Option (String A)) HubFault → Option Answer
+drawing (Ok text) = Some (answer.Drawn (option_map string_bytes text))
+drawing (Err fault) = not_served fault
+
+abbrev pub closing : Result (Unit {0}) NoSession → Answer
+closing (Ok u) = answer.Closed
+closing (Err e) = answer.NoSession
+
+-- a call with that answer is a step, and without an answer it changed nothing
+abbrev pub StepIf : State → Event → Option Answer → State → Type 0
+StepIf old event (Some answer) new = Step old event answer new
+StepIf old event None new = new ≡ old
+
+-- the log after a call
+abbrev pub logged : Log → Event → Option Answer → Log
+logged E event (Some answer) = entry event answer ∷ E
+logged E event None = E
+
+-- a run: one step after another, with one answer for each. It may stop before the last event
+pub data Runs : State → List Event → List Answer → State → Type 0 where
+  stops : (hub : State) (events : List Event) → Runs hub events [] hub
+  steps : (old mid new : State) (event : Event) (events : List Event) (answer : Answer) (answers : List Answer)
+      → Step old event answer mid → Runs mid events answers new → Runs old (event ∷ events) (answer ∷ answers) new
+
+-- the answers to the events that a run did
+abbrev pub done : Result (Vec Answer) RunFault → List Answer
+done (Ok answers) = answers.items
+done (Err fault) = fault.answers.items
+
+-- the log after the events that have an answer
+abbrev pub followed : Log → List Event → List Answer → Log
+followed E (event ∷ events) (answer ∷ answers) = followed (entry event answer ∷ E) events answers
+followed E events answers = E
+
+-- The same within a room, for the functions that do the work.
+
+abbrev pub ReceivesIf : ℕ → ℕ → List ℕ → Option Answer → Group → Group → Type 0
+ReceivesIf epoch s text (Some answer) old new = Receives epoch s (session_in old.sessions s) text answer old new
+ReceivesIf epoch s text None old new = new ≡ old
+
+abbrev pub DrawsIf : ℕ → Option Answer → Group → Group → Type 0
+DrawsIf s (Some answer) old new = Draws s (session_in old.sessions s) answer old new
+DrawsIf s None old new = new ≡ old
+
+-- no room has a session of that number
+abbrev pub IsFresh : ℕ → List (List ℕ × Group) → Type 0
+IsFresh s rooms = (place : ℕ) (name : List ℕ) (g : Group) → slice_get rooms place ≡ Some (name, g) → session_in g.sessions s ≡ None
+
+-- session s becomes f of what it was, and no other differs
+abbrev pub ChangesBy : ℕ → (Session → Session) → List Session → List Session → Type 0
+ChangesBy s f old new = (x : Session) → session_in old s ≡ Some x → OnlyAt s (Some (f x)) old new
+
+-- a reply fits in the line of session s
+abbrev pub HasRoom : List Session → ℕ → Type 0
+HasRoom sessions s = (x : Session) → session_in sessions s ≡ Some x → length x.outbox.replies < REPLIES
+
+abbrev pub IsFull : List Session → ℕ → Type 0
+IsFull sessions s = (x : Session) → session_in sessions s ≡ Some x → length x.outbox.replies ≡ REPLIES

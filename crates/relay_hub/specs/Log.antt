@@ -1,0 +1,157 @@
+-- What a log says: the documents of each room, who is open where, what each session watches and what it was told. A log has its
+-- newest entry first, so that each definition says what one more entry does.
+use Rattle.std.specs.Prelude.{ℕ, ◌+◌, ◌-◌, ◌==◌, List, [], ◌∷◌, ◌++◌, Option, Some, None, Result, Ok, length, slice_get, unwrap_or, bytes_eq, nat_lt, if◌then◌else◌}
+use Rattle.std.specs.Result.{result_ok}
+use Rattle.relay_tree.specs.Document.{Document, null}
+use Rattle.relay_history.specs.declared.history.TheConstants.{LAST_REVISION}
+use Rattle.relay_patch.specs.Patch.{after}
+use Rattle.relay_patch.specs.declared.op.Op.{Op}
+use Rattle.relay_pointer.specs.Path.{Path}
+use Rattle.relay_proto.specs.Client.{Client, nothing, holds}
+use Rattle.relay_proto.specs.MessageRead.{message_of_text}
+use Rattle.relay_proto.specs.Request.{request_of_text}
+use Rattle.relay_proto.specs.declared.message.Message.{Message}
+use Rattle.relay_proto.specs.declared.message.Message.TheVariants as message
+use Rattle.relay_proto.specs.declared.refusal.Refusal.{Refusal}
+use Rattle.relay_proto.specs.declared.request.Request.{Request}
+use Rattle.relay_proto.specs.declared.request.Request.TheVariants.{Edit, Watch, Resume, Unwatch}
+use Rattle.relay_room.specs.Room.{document_bounds}
+use Rattle.relay_view.specs.View.{view}
+use Rattle.relay_hub.specs.declared.event.Answer.{Answer}
+use Rattle.relay_hub.specs.declared.event.Answer.TheVariants.{Opened, Heard, Drawn, Closed}
+use Rattle.relay_hub.specs.declared.event.Event.{Event}
+use Rattle.relay_hub.specs.declared.event.Event.TheVariants.{Open, Receive, Draw, Close}
+use Rattle.relay_hub.specs.declared.event.Heard.TheVariants.{Answered}
+
+-- an event, and what was answered. A call that found no memory changed nothing, and has no entry
+pub record Entry : Type 0 where
+  pub event : Event
+  pub answer : Answer
+
+abbrev pub entry : Event → Answer → Entry
+entry event answer = record { event = event; answer = answer }
+
+abbrev pub Log : Type 0
+Log = List Entry
+
+-- Who is open where.
+
+-- the room of session s, where it is open, after an event
+abbrev pub home_after : Option (List ℕ) → ℕ → Event → Answer → Option (List ℕ)
+home_after was s (Open name) (Opened t) = if t == s then Some name else was
+home_after was s (Close t) Closed = if t == s then None else was
+home_after was s _ _ = was
+
+-- the name of the room in which a session is open
+abbrev pub home : Log → ℕ → Option (List ℕ)
+home [] s = None
+home (e ∷ E) s = home_after (home E s) s e.event e.answer
+
+-- Documents: those of a room, the first one first, so that the one of revision r stands at place r.
+
+abbrev pub present_of : List Document → Document
+present_of documents = unwrap_or (slice_get documents (length documents - 1)) null
+
+-- the document that a patch adds, where it is accepted
+abbrev pub next_document : List Document → List Op → Option Document
+next_document documents patch =
+    if nat_lt (length documents - 1) LAST_REVISION then result_ok (after (present_of documents) patch document_bounds) else None
+
+-- the document that a request adds
+abbrev pub requested : List Document → Result Request Refusal → Option Document
+requested documents (Ok (Edit id patch)) = next_document documents patch
+requested documents _ = None
+
+-- the document that a text adds to the room of that name, where its sender is at home there
+abbrev pub added : List Document → List ℕ → Option (List ℕ) → List ℕ → Option Document
+added documents name (Some room) text = if bytes_eq room name then requested documents (request_of_text text) else None
+added documents name None text = None
+
+abbrev pub extended : List Document → Option Document → List Document
+extended documents None = documents
+extended documents (Some d) = documents ++ d ∷ []
+
+abbrev pub documents_after : (ℕ → Option (List ℕ)) → List Document → List ℕ → Event → Answer → List Document
+documents_after homes documents name (Receive s text) (Heard (Answered short)) = extended documents (added documents name (homes s) text)
+documents_after homes documents name _ _ = documents
+
+-- the documents of a room: null, and then one for each accepted edit
+abbrev pub documents : Log → List ℕ → List Document
+documents [] name = null ∷ []
+documents (e ∷ E) name = documents_after (home E) (documents E name) name e.event e.answer
+
+abbrev pub present : Log → List ℕ → Document
+present E name = present_of (documents E name)
+
+-- What is watched.
+
+-- the pointers of a session's view, what its client held as it began to watch, and the snapshots and patches drawn since
+pub record Watching : Type 0 where
+  pub view : List Path
+  pub start : Client
+  pub heard : List Message
+
+abbrev pub begun : List Path → Client → Watching
+begun pointers start = record { view = pointers; start = start; heard = [] }
+
+-- the message, where it is a snapshot or a patch
+abbrev pub view_message : Option Message → List Message
+view_message (Some (message.Patch rev ops)) = message.Patch rev ops ∷ []
+view_message (Some (message.Snapshot rev tree)) = message.Snapshot rev tree ∷ []
+view_message _ = []
+
+-- the watching once a text was drawn
+abbrev pub hearing : Option (List ℕ) → Option Watching → Option Watching
+hearing (Some text) (Some w) = Some (record { view = w.view; start = w.start; heard = w.heard ++ view_message (message_of_text text) })
+hearing _ was = was
+
+-- a client that resumes from a revision holds its view of that revision's document
+abbrev pub resumes_from : Option Watching → ℕ → List Path → Option Document → Option Watching
+resumes_from was rev pointers (Some d) = Some (begun pointers (holds rev (view pointers d)))
+resumes_from was rev pointers None = was
+
+-- the watching of a session after a request that was answered. A revision to come is refused, and changes nothing
+abbrev pub asked : ℕ → List Document → Option Watching → Result Request Refusal → Option Watching
+asked epoch documents was (Ok (Watch id pointers)) = Some (begun pointers nothing)
+asked epoch documents was (Ok (Unwatch id)) = None
+asked epoch documents was (Ok (Resume id e rev pointers)) =
+    if e == epoch then resumes_from was rev pointers (slice_get documents rev) else Some (begun pointers nothing)
+asked epoch documents was _ = was
+
+-- the same of a session that is open in a room
+abbrev pub asked_at_home : ℕ → (List ℕ → List Document) → Option Watching → Option (List ℕ) → List ℕ → Option Watching
+asked_at_home epoch documents was (Some name) text = asked epoch (documents name) was (request_of_text text)
+asked_at_home epoch documents was None text = was
+
+-- the watching of session s after an event
+abbrev pub watching_after : ℕ → (List ℕ → List Document) → Option (List ℕ) → Option Watching → ℕ → Event → Answer → Option Watching
+watching_after epoch documents home was s (Open name) (Opened t) = if t == s then None else was
+watching_after epoch documents home was s (Close t) Closed = if t == s then None else was
+watching_after epoch documents home was s (Receive t text) (Heard (Answered short)) = if t == s then asked_at_home epoch documents was home text else was
+watching_after epoch documents home was s (Draw t) (Drawn text) = if t == s then hearing text was else was
+watching_after epoch documents home was s _ _ = was
+
+-- what session s watches, if it does, in a hub of that epoch
+abbrev pub watching : ℕ → Log → ℕ → Option Watching
+watching epoch [] s = None
+watching epoch (e ∷ E) s = watching_after epoch (documents E) (home E s) (watching epoch E s) s e.event e.answer
+
+-- Numbers.
+
+-- how many sessions were opened, and how many are open
+abbrev pub opened_after : ℕ → Answer → ℕ
+opened_after n (Opened s) = n + 1
+opened_after n _ = n
+
+abbrev pub opened : Log → ℕ
+opened [] = 0
+opened (e ∷ E) = opened_after (opened E) e.answer
+
+abbrev pub open_after : ℕ → Answer → ℕ
+open_after n (Opened s) = n + 1
+open_after n Closed = n - 1
+open_after n _ = n
+
+abbrev pub open_count : Log → ℕ
+open_count [] = 0
+open_count (e ∷ E) = open_after (open_count E) e.answer

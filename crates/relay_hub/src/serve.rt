@@ -1,0 +1,305 @@
+//! The work of the hub's calls, over a room and the sessions that are open in it.
+ghost use Rattle.std.specs.Prelude.{◌≡◌, ◌<◌, ◌-◌, ◌==◌, List, Some, None, Ok, Err, IfOk, OnOk, OnErr, length, option_map, nat_le, position, filter, not};
+ghost use Rattle.std.specs.Bool.{MatchBool};
+ghost use Rattle.relay_history.specs.History.{Reaches, changes_since};
+ghost use Rattle.relay_outbox.specs.declared.outbox.TheConstants.{REPLIES};
+ghost use Rattle.relay_patch.specs.Change.{Leads};
+ghost use Rattle.relay_patch.specs.declared.change.Change.{Change};
+ghost use Rattle.relay_proto.specs.declared.reply.Reply.TheVariants.{Refused};
+ghost use Rattle.relay_room.specs.Room.{revision};
+ghost use Rattle.relay_tree.specs.Document.{Document};
+ghost use Rattle.relay_hub.specs.Call.{receiving, drawing, ReceivesIf, DrawsIf, ChangesBy, HasRoom, IsFull};
+ghost use Rattle.relay_hub.specs.Session.{replied, watches, unwatches, resumes};
+ghost use Rattle.relay_hub.specs.State.{group, is_number, session_in};
+ghost use Rattle.relay_hub.specs.Step.{edited, edit_word, edit_place, AllTold, EditServed, ResumeServed, Serves, OnlyAt, cause_word};
+ghost use Rattle.relay_hub.specs.declared.session.Session.{Session};
+
+use crate::event::Heard;
+use crate::fault::HubFault;
+use crate::session::Session;
+use relay_patch::{Cause, Patch};
+use relay_proto::{Reply, Request, RequestFault, Word};
+use relay_room::{CatchFault, CatchUp, EditFault, Room};
+use relay_view::View;
+use std::alloc::{AllocError, Global};
+
+/// The place of the session with that number.
+pub fn place_in(sessions: &[Session], number: u64) -> Option<usize>
+    ensures { result ≡ position (is_number number) sessions.now }
+{
+    sessions.iter().position(|session| session.number == number)
+}
+
+/// Takes a text from a session: exactly one reply is put in its line, but where 32 wait.
+pub fn receive(
+    alloc: Global,
+    epoch: u64,
+    room: &mut Room,
+    sessions: &mut [Session],
+    number: u64,
+    text: &str,
+) -> Result<Heard, HubFault>
+    ensures { ReceivesIf epoch number text.now (receiving result) (group room.old sessions.old) (group room.new sessions.new) }
+{
+    let Some(place) = place_in(sessions, number) else {
+        return Err(HubFault::NoSession);
+    };
+    if is_full(sessions, number, place) {
+        return Ok(Heard::Busy);
+    }
+    let served = match Request::read(alloc, text) {
+        Ok(request) => serve(alloc, epoch, room, sessions, number, place, request),
+        Err(RequestFault::Refused(refusal)) => {
+            reply_at(sessions, number, place, refusal.reply());
+            Ok(0)
+        }
+        Err(RequestFault::NoMemory) => Err(AllocError),
+    };
+    match served {
+        Ok(short) => Ok(Heard::Answered { short }),
+        Err(_) => Err(HubFault::NoMemory),
+    }
+}
+
+/// Does what a request asks. How many lines folded because memory was refused.
+fn serve(
+    alloc: Global,
+    epoch: u64,
+    room: &mut Room,
+    sessions: &mut [Session],
+    number: u64,
+    place: usize,
+    request: Request,
+) -> Result<u64, AllocError>
+    requires place { position (is_number number) sessions.old ≡ Some place }
+    requires space { HasRoom sessions.old number }
+    ensures ok { IfOk result (λ short. (x : Session) → session_in sessions.old number ≡ Some x →
+        Serves epoch number x (Ok request) short (group room.old sessions.old) (group room.new sessions.new)) }
+    ensures err { OnErr result (group room.new sessions.new ≡ group room.old sessions.old) }
+{
+    match request {
+        Request::Edit { id, patch } => edit(alloc, room, sessions, number, place, id, &patch),
+        Request::Watch { id, view } => {
+            watch_at(sessions, number, place, id, view);
+            Ok(0)
+        }
+        Request::Unwatch { id } => {
+            unwatch_at(sessions, number, place, id);
+            Ok(0)
+        }
+        Request::Resume {
+            id,
+            epoch: named,
+            rev,
+            view,
+        } => {
+            resume(
+                alloc,
+                room,
+                sessions,
+                number,
+                place,
+                id,
+                named == epoch,
+                rev,
+                view,
+            )?;
+            Ok(0)
+        }
+    }
+}
+
+/// Makes the room's next document, answers the sender and tells every watcher, the sender included. How many lines folded
+/// because memory was refused.
+fn edit(
+    alloc: Global,
+    room: &mut Room,
+    sessions: &mut [Session],
+    number: u64,
+    place: usize,
+    id: u64,
+    patch: &Patch,
+) -> Result<u64, AllocError>
+    requires place { position (is_number number) sessions.old ≡ Some place }
+    requires space { HasRoom sessions.old number }
+    ensures ok { IfOk result (λ short. (x : Session) → session_in sessions.old number ≡ Some x →
+        EditServed number x id patch.now (edited room.old patch.now) short (group room.old sessions.old) (group room.new sessions.new)) }
+    ensures err { OnErr result (group room.new sessions.new ≡ group room.old sessions.old) }
+{
+    match room.edit(alloc, patch) {
+        Ok(rev) => {
+            reply_at(sessions, number, place, Reply::Done { id, rev });
+            Ok(tell_all(alloc, room, sessions))
+        }
+        Err(fault) => {
+            let Some(reply) = refused(id, fault) else {
+                return Err(AllocError);
+            };
+            reply_at(sessions, number, place, reply);
+            Ok(0)
+        }
+    }
+}
+
+/// The reply to an edit that is refused; None of want of memory, which is no refusal.
+fn refused(id: u64, fault: EditFault) -> Option<Reply>
+    ensures { result ≡ option_map (λ word. Refused (Some id) word (edit_place fault)) (edit_word fault) }
+{
+    let (word, at) = match fault {
+        EditFault::Exhausted => (Word::Exhausted, None),
+        EditFault::Apply(fault) => (word_of(fault.cause)?, Some(fault.at)),
+    };
+    Some(Reply::Refused {
+        id: Some(id),
+        fault: word,
+        at,
+    })
+}
+
+/// The word of a cause; None of want of memory.
+fn word_of(cause: Cause) -> Option<Word>
+    ensures { result ≡ cause_word cause }
+{
+    match cause {
+        Cause::Missing => Some(Word::Missing),
+        Cause::NotIndex => Some(Word::NotIndex),
+        Cause::PastEnd => Some(Word::PastEnd),
+        Cause::NoContainer => Some(Word::NoContainer),
+        Cause::Root => Some(Word::Root),
+        Cause::IntoItself => Some(Word::IntoItself),
+        Cause::TestFailed => Some(Word::TestFailed),
+        Cause::TooDeep => Some(Word::TooDeep),
+        Cause::TooHeavy => Some(Word::TooHeavy),
+        Cause::NoMemory => None,
+    }
+}
+
+/// Tells all watchers of the newest edit. How many lines folded because memory was refused.
+fn tell_all(alloc: Global, room: &Room, sessions: &mut [Session]) -> u64
+    requires edited { 0 < revision room.now }
+    requires reaches { Reaches room.now.history (revision room.now - 1) }
+    ensures { (d : Document) (changes : List Change) → changes ≡ changes_since (revision room.now - 1) room.now.history
+        → Leads d changes room.now.document → AllTold d changes room.now sessions.old sessions.new result }
+{
+    let mut short: u64 = 0;
+    for session in sessions.iter_mut() {
+        if session.tell(alloc, room) {
+            short += 1;
+        }
+    }
+    short
+}
+
+/// Goes on with a view from revision `rev`, of this epoch or of another.
+fn resume(
+    alloc: Global,
+    room: &Room,
+    sessions: &mut [Session],
+    number: u64,
+    place: usize,
+    id: u64,
+    present: bool,
+    rev: u64,
+    view: View,
+) -> Result<(), AllocError>
+    requires place { position (is_number number) sessions.old ≡ Some place }
+    requires space { HasRoom sessions.old number }
+    ensures ok { OnOk result ((x : Session) → session_in sessions.old number ≡ Some x →
+        ResumeServed present (nat_le rev (revision room.now)) id rev view number x (group room.now sessions.old) (group room.now sessions.new)) }
+    ensures err { OnErr result (sessions.new ≡ sessions.old) }
+{
+    let how = if present {
+        match room.catch_up(alloc, rev, &view) {
+            Ok(how) => how,
+            Err(CatchFault::Future) => {
+                let reply = Reply::Refused {
+                    id: Some(id),
+                    fault: Word::Future,
+                    at: None,
+                };
+                reply_at(sessions, number, place, reply);
+                return Ok(());
+            }
+            Err(CatchFault::NoMemory) => return Err(AllocError),
+        }
+    } else {
+        CatchUp::Snapshot
+    };
+    resume_at(sessions, number, place, id, room.revision(), view, how);
+    Ok(())
+}
+
+/// The text at the front of a session's line, which leaves the line.
+pub fn draw(
+    alloc: Global,
+    room: &Room,
+    sessions: &mut [Session],
+    number: u64,
+) -> Result<Option<String>, HubFault>
+    ensures { DrawsIf number (drawing result) (group room.now sessions.old) (group room.now sessions.new) }
+{
+    let Some(place) = place_in(sessions, number) else {
+        return Err(HubFault::NoSession);
+    };
+    match sessions[place].draw(alloc, room) {
+        Ok(text) => Ok(text),
+        Err(_) => Err(HubFault::NoMemory),
+    }
+}
+
+/// Takes a session away. Whether it was there.
+pub fn remove(sessions: &mut Vec<Session>, number: u64)
+    ensures { OnlyAt number None sessions.old.items sessions.new.items }
+{
+    sessions.retain(|session| session.number != number);
+}
+
+// One session of the list, where its place was found.
+
+/// Whether 32 replies wait.
+fn is_full(sessions: &[Session], number: u64, place: usize) -> bool
+    requires { position (is_number number) sessions.now ≡ Some place }
+    ensures { MatchBool result (IsFull sessions.now number) (HasRoom sessions.now number) }
+{
+    sessions[place].is_full()
+}
+
+fn reply_at(sessions: &mut [Session], number: u64, place: usize, reply: Reply)
+    requires place { position (is_number number) sessions.old ≡ Some place }
+    requires space { HasRoom sessions.old number }
+    ensures { ChangesBy number (replied reply) sessions.old sessions.new }
+{
+    sessions[place].reply(reply);
+}
+
+fn watch_at(sessions: &mut [Session], number: u64, place: usize, id: u64, view: View)
+    requires place { position (is_number number) sessions.old ≡ Some place }
+    requires space { HasRoom sessions.old number }
+    ensures { ChangesBy number (watches id view) sessions.old sessions.new }
+{
+    sessions[place].watch(id, view);
+}
+
+fn unwatch_at(sessions: &mut [Session], number: u64, place: usize, id: u64)
+    requires place { position (is_number number) sessions.old ≡ Some place }
+    requires space { HasRoom sessions.old number }
+    ensures { ChangesBy number (unwatches id) sessions.old sessions.new }
+{
+    sessions[place].unwatch(id);
+}
+
+fn resume_at(
+    sessions: &mut [Session],
+    number: u64,
+    place: usize,
+    id: u64,
+    rev: u64,
+    view: View,
+    how: CatchUp,
+)
+    requires place { position (is_number number) sessions.old ≡ Some place }
+    requires space { HasRoom sessions.old number }
+    ensures { ChangesBy number (resumes rev id view how) sessions.old sessions.new }
+{
+    sessions[place].resume(id, rev, view, how);
+}

@@ -1,0 +1,34 @@
+-- A session that a link had and has no longer was closed on the way.
+use Rattle.std.proofs.Common.{◌≡◌, ◌⊎◌, inl, inr, ℕ, List, [], ◌∷◌, ◌++◌, Option, Some, None, sym, subst}
+use Rattle.std.specs.List.{Contains}
+use Rattle.std.proofs.lemmas.List.Elements.{Contains-append_left, Contains-push}
+use Rattle.relay_hub.specs.declared.event.Answer.{Answer}
+use Rattle.relay_hub.specs.declared.event.Event.{Event}
+use Rattle.relay_hub.specs.declared.event.Event.TheVariants.{Open, Receive, Draw, Close}
+use Rattle.relay_link.specs.Follows.{Point, IsOwn, session_after, Follows, stays, makes}
+
+-- the session is still there, or its close was made
+abbrev pub IsKept : ℕ → Option ℕ → List Event → Type 0
+IsKept s session made = (session ≡ Some s) ⊎ Contains made (Close s)
+
+-- one more event keeps it so
+kept_on : (s : ℕ) (session : Option ℕ) (made : List Event) (event : Event) (answer : Answer) → session ≡ Some s → IsOwn session event
+    → IsKept s (session_after session event answer) (made ++ event ∷ [])
+kept_on s session made (Open room) answer h own = cc
+kept_on s session made (Receive t text) answer h own = inl h
+kept_on s session made (Draw t) answer h own = inl h
+kept_on s session made (Close t) answer h own =
+    let same : t ≡ s = cc in
+    inr (subst (λ x. Contains (made ++ Close x ∷ []) (Close s)) (sym same) (Contains-push made (Close s)))
+
+-- from a point with session s on it is there, or its close was made
+pub kept : {p q : Point} → Follows p q → (s : ℕ) → p.session ≡ Some s → IsKept s q.session q.made
+kept stays s h = inl h
+kept (makes {q = q} event answer f own step) s h = elim (kept f s h) [
+  | inl there ↦ kept_on s q.session q.made event answer there own
+  | inr closed ↦ inr (Contains-append_left q.made (event ∷ []) (Close s) closed)
+]
+
+-- where the session is gone its close was made
+pub closed : {p q : Point} → Follows p q → (s : ℕ) → p.session ≡ Some s → q.session ≡ None → Contains q.made (Close s)
+closed f s h gone = elim (kept f s h) [ inl there ↦ cc | inr made ↦ made ]

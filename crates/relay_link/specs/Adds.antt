@@ -1,0 +1,25 @@
+-- How many events a turn makes.
+use Rattle.std.specs.Prelude.{ℕ, ◌+◌, ◌≤◌, Bool, true, false, List, length, count_by}
+use Rattle.relay_hub.specs.declared.event.Event.{Event}
+use Rattle.relay_hub.specs.declared.event.Event.TheVariants.{Receive, Draw}
+
+abbrev pub is_receive : Event → Bool
+is_receive (Receive s text) = true
+is_receive _ = false
+
+abbrev pub is_draw : Event → Bool
+is_draw (Draw s) = true
+is_draw _ = false
+
+-- how many of the events hand a text over, and how many draw one
+abbrev pub receives : List Event → ℕ
+receives made = count_by is_receive made
+
+abbrev pub draws : List Event → ℕ
+draws made = count_by is_draw made
+
+-- at most so many events joined, with at most so many receives and draws among them
+pub record Adds (all in_of out_of : ℕ) (before after : List Event) : Type 0 where
+  pub events : length after ≤ length before + all
+  pub receives_of : receives after ≤ receives before + in_of
+  pub draws_of : draws after ≤ draws before + out_of

@@ -1,0 +1,48 @@
+-- The stage and the session of a link.
+use Rattle.std.specs.Prelude.{ℕ, Bool, true, false, Option, Some, None}
+use Rattle.relay_link.specs.declared.cause.Cause.{Cause}
+use Rattle.relay_link.specs.declared.cause.Cause.TheVariants as cause
+use Rattle.relay_link.specs.declared.reply.Verdict.{Verdict}
+use Rattle.relay_link.specs.declared.reply.Verdict.TheVariants.{Entered, Refused}
+use Rattle.relay_link.specs.declared.stage.Stage.{Stage}
+use Rattle.relay_link.specs.declared.stage.Stage.TheVariants as stage
+use Rattle.relay_link.specs.declared.state.State.{State}
+use Rattle.relay_link.specs.declared.state.State.TheVariants.{Head, Replying, Open, Closing, Gone}
+
+-- the session that a reply speaks of
+abbrev pub entered : Verdict → Option ℕ
+entered (Entered s) = Some s
+entered (Refused status) = None
+
+module _ {S : Type 0} where
+  abbrev pub stage_of : State S → Stage
+  stage_of (Head stream bytes) = stage.Head
+  stage_of (Replying stream reply) = stage.Head
+  stage_of (Open socket s) = stage.Open
+  stage_of (Closing socket turns) = stage.Closing
+  stage_of Gone = stage.Gone
+
+  abbrev pub session_of : State S → Option ℕ
+  session_of (Replying stream reply) = entered reply.verdict
+  session_of (Open socket s) = Some s
+  session_of _ = None
+
+-- a link that goes from the first stage to the second has a cause: a handshake that ends without opening it, an open link that
+-- closes or goes, a closing link that goes
+abbrev pub leaves : Stage → Stage → Bool
+leaves stage.Head stage.Gone = true
+leaves stage.Open stage.Closing = true
+leaves stage.Open stage.Gone = true
+leaves stage.Closing stage.Gone = true
+leaves _ _ = false
+
+-- a stage in which a link has no session
+abbrev pub is_over : Stage → Bool
+is_over stage.Closing = true
+is_over stage.Gone = true
+is_over _ = false
+
+-- the cause of an end: none where the link was gone already
+abbrev pub ended : Stage → Option Cause
+ended stage.Gone = None
+ended _ = Some cause.Ended

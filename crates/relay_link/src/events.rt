@@ -1,0 +1,110 @@
+//! The calls of the hub that a link makes. Each is noted as an event.
+ghost use Rattle.std.specs.Prelude.{◌≡◌, ◌<◌, [], ◌∷◌, ◌++◌, length, is_some, Some, None};
+ghost use Rattle.relay_hub.specs.Call.{not_opened};
+ghost use Rattle.relay_link.specs.Follows.{Follows, at, closing_of};
+ghost use Rattle.relay_hub.specs.declared.event.Event.TheVariants.{Close};
+ghost use Rattle.relay_link.specs.Adds.{Adds};
+ghost use Rattle.relay_link.specs.declared.made.TheConstants.{EVENTS_MOST};
+
+use crate::made::Made;
+use relay_hub::{Event, Hub, HubFault, NoSession, OpenFault, Text};
+use std::alloc::{AllocError, Global};
+
+/// Opens the link's session in a room. None where the hub has no place for it; want of memory is no event.
+pub(crate) fn open(alloc: Global, hub: &mut Hub, room: String, made: &mut Made) -> Option<u64>
+    requires { length made.old < EVENTS_MOST }
+    ensures follows { Follows (at hub.old None made.old) (at hub.new result made.new) }
+    ensures adds { Adds 1 0 0 made.old made.new }
+{
+    let room = Text::of(room);
+    let opened = match hub.open(alloc, room.as_str()) {
+        Ok(session) => Some(session),
+        Err(fault) => {
+            if !is_answer(fault) {
+                return None;
+            }
+            None
+        }
+    };
+    made.note(Event::Open { room });
+    opened
+}
+
+/// Whether a fault answers the opening; want of memory does not.
+fn is_answer(fault: OpenFault) -> bool
+    ensures { result ≡ is_some (not_opened fault) }
+{
+    match fault {
+        OpenFault::RoomName
+        | OpenFault::RoomsFull
+        | OpenFault::SessionsFull
+        | OpenFault::Exhausted => true,
+        OpenFault::NoMemory => false,
+    }
+}
+
+/// Hands the hub a text of the link's session. After want of memory nothing has changed.
+pub(crate) fn receive(
+    alloc: Global,
+    hub: &mut Hub,
+    session: u64,
+    text: String,
+    made: &mut Made,
+) -> Result<(), AllocError>
+    requires { length made.old < EVENTS_MOST }
+    ensures follows { Follows (at hub.old (Some session) made.old) (at hub.new (Some session) made.new) }
+    ensures adds { Adds 1 1 0 made.old made.new }
+{
+    let text = Text::of(text);
+    match hub.receive(alloc, session, text.as_str()) {
+        Ok(_) => {}
+        Err(HubFault::NoSession) => {}
+        Err(HubFault::NoMemory) => return Err(AllocError),
+    }
+    made.note(Event::Receive { session, text });
+    Ok(())
+}
+
+/// Draws a text that waits for the link's session. After want of memory nothing has changed.
+pub(crate) fn draw(
+    alloc: Global,
+    hub: &mut Hub,
+    session: u64,
+    made: &mut Made,
+) -> Result<Option<String>, AllocError>
+    requires { length made.old < EVENTS_MOST }
+    ensures follows { Follows (at hub.old (Some session) made.old) (at hub.new (Some session) made.new) }
+    ensures adds { Adds 1 0 1 made.old made.new }
+{
+    let text = match hub.draw(alloc, session) {
+        Ok(text) => text,
+        Err(HubFault::NoSession) => None,
+        Err(HubFault::NoMemory) => return Err(AllocError),
+    };
+    made.note(Event::Draw { session });
+    Ok(text)
+}
+
+/// Closes the link's session. No memory is taken.
+pub(crate) fn close(hub: &mut Hub, session: u64, made: &mut Made)
+    requires { length made.old < EVENTS_MOST }
+    ensures follows { Follows (at hub.old (Some session) made.old) (at hub.new None made.new) }
+    ensures adds { Adds 1 0 0 made.old made.new }
+    ensures made { made.new ≡ made.old ++ Close session ∷ [] }
+{
+    match hub.close(session) {
+        Ok(()) | Err(NoSession) => made.note(Event::Close { session }),
+    }
+}
+
+/// Closes the link's session, where it has one.
+#[tactic(auto, using(crate::proofs::Following::follows_same))]
+pub(crate) fn end(hub: &mut Hub, session: Option<u64>, made: &mut Made)
+    requires { length made.old < EVENTS_MOST }
+    ensures follows { Follows (at hub.old session made.old) (at hub.new None made.new) }
+    ensures made { made.new ≡ made.old ++ closing_of session }
+{
+    if let Some(session) = session {
+        close(hub, session, made);
+    }
+}

@@ -1,0 +1,171 @@
+//! A link: the turns of one socket.
+ghost use Rattle.std.specs.Prelude.{◌≡◌, ℕ, ◌+◌, ◌≤◌, [], None, Some, true, min, is_some, IfOk, OnOk, OnErr, length};
+ghost use Rattle.std.specs.List.{Contains};
+ghost use Rattle.relay_hub.specs.declared.event.Event.TheVariants.{Close};
+ghost use Rattle.relay_link.specs.Adds.{Adds, receives, draws as draws_of};
+ghost use Rattle.relay_link.specs.Follows.{Follows, at, closing_of};
+ghost use Rattle.relay_link.specs.Stage.{stage_of, session_of, leaves, is_over, ended};
+ghost use Rattle.relay_link.specs.declared.made.TheConstants.{EVENTS_MOST};
+ghost use Rattle.relay_link.specs.declared.stage.Stage.TheVariants.{Head, Gone};
+
+use crate::cause::Cause;
+use crate::made::Made;
+use crate::next::Next;
+use crate::polled::Polled;
+use crate::socket::close;
+use crate::stage::Stage;
+use crate::state::State;
+use crate::turn::Turn;
+use crate::{closing, events, head, opened};
+use relay_hub::Hub;
+use std::alloc::{AllocError, Global};
+use std::io::{Read, Write};
+use std::marker::Model;
+use std::mem;
+use tungstenite::CloseCode;
+
+/// How many messages a turn draws at most.
+pub const DRAWS_MOST: u64 = 32;
+
+/// How many bytes of a head there is room for from the first on.
+const HEAD_ROOM: usize = 512;
+
+/// A stream and its place in the hub. Contracts see its state, and of that its stage and its session.
+#[derive(Drop)]
+pub struct Link<S> {
+    state: State<S>,
+}
+
+impl<S> Model for Link<S> {
+    ghost use Rattle.relay_link.specs.declared.state.State.{State};
+
+    ghost Value = { State S };
+
+    ghost view = { λ link. link.state };
+}
+
+impl<S: Read + Write + Drop> Link<S> {
+    /// A link that awaits a handshake, and has no session. After `AllocError` the stream is let go.
+    pub fn new(alloc: Global, stream: S) -> Result<Link<S>, AllocError>
+        ensures stage { IfOk result (λ link. stage_of link ≡ Head) }
+        ensures session { IfOk result (λ link. session_of link ≡ None) }
+    {
+        Ok(Link {
+            state: State::Head {
+                stream: Polled::new(stream),
+                bytes: Vec::with_capacity(alloc, HEAD_ROOM)?,
+            },
+        })
+    }
+
+    /// The session that the link has in the hub. No memory is taken.
+    pub fn session(&self) -> Option<u64>
+        ensures { result ≡ session_of self.now }
+    {
+        self.state.session()
+    }
+
+    /// How far the link has come. No memory is taken.
+    pub fn stage(&self) -> Stage
+        ensures { result ≡ stage_of self.now }
+    {
+        self.state.stage()
+    }
+
+    /// One turn. It reads a little, changes the hub by the events that it reports, and writes until output waits; at most
+    /// `draws` messages are drawn, and at most 32. `AllocError` comes before anything was read, written or changed.
+    ///
+    /// - Head: a reply that is not out yet is written on. Else up to 4,096 bytes are read, and all that came so far is judged
+    ///   as a handshake. A good one opens a session; where the hub has no place the answer is 503. Once the reply is out the
+    ///   link is Open, or Gone with [`Cause::Refused`].
+    /// - Open: while output waits a turn only sends. Else, where the hub may hear the session, one message is read: a text goes
+    ///   to the hub, a ping or pong does nothing, a binary message is closed with 1003 and a close is answered. Then messages
+    ///   are drawn and sent, until output waits; a draw that finds no memory ends the turn. After a binary message or a close
+    ///   the link is Closing. Where the bytes end, the stream fails, frames break the protocol or memory is refused it is Gone.
+    /// - Closing: one message is read and let go. A link that has not heard the other side's close after 16 such turns is Gone
+    ///   with [`Cause::Silent`].
+    /// - Gone: nothing.
+    ///
+    /// A cause is there exactly where the turn ended Head without Open, left Open, or ended Closing. [`Cause::Stream`] comes
+    /// only where a call on the stream failed in this very turn.
+    pub fn turn(&mut self, alloc: Global, hub: &mut Hub, draws: u64) -> Result<Turn, AllocError>
+        ensures follows { IfOk result (λ turn. Follows (at hub.old (session_of self.old) []) (at hub.new (session_of self.new) turn.made.items)) }
+        ensures few { IfOk result (λ turn. length turn.made.items ≤ 34) }
+        ensures receives { IfOk result (λ turn. receives turn.made.items ≤ 1) }
+        ensures draws { IfOk result (λ turn. draws_of turn.made.items ≤ min draws 32) }
+        ensures closed { IfOk result (λ turn. (s : ℕ) → session_of self.old ≡ Some s → session_of self.new ≡ None → Contains turn.made.items (Close s)) }
+        ensures over { OnOk result (is_over (stage_of self.new) ≡ true → session_of self.new ≡ None) }
+        ensures stage { IfOk result (λ turn. turn.stage ≡ stage_of self.new) }
+        ensures cause { IfOk result (λ turn. is_some turn.cause ≡ leaves (stage_of self.old) (stage_of self.new)) }
+        ensures gone { IfOk result (λ turn. stage_of self.old ≡ Gone → (turn.made.items ≡ []) × (self.new ≡ self.old)) }
+        ensures unchanged { OnErr result (self.new ≡ self.old) }
+        ensures hub_unchanged { OnErr result (hub.new ≡ hub.old) }
+    {
+        let mut made = Made::new(alloc)?;
+        let state = mem::replace(&mut self.state, State::Gone);
+        let next = advance(alloc, state, draws.min(DRAWS_MOST), hub, &mut made);
+        self.state = next.state;
+        Ok(Turn {
+            made: made.into_events(),
+            stage: self.stage(),
+            cause: next.cause,
+        })
+    }
+
+    /// Ends the link: its session is closed, if it has one, and it is Gone with [`Cause::Ended`]. An open link tries once to
+    /// send a close frame with 1001. A link that is Gone already stays so, without a cause. `AllocError` comes before anything
+    /// was written or changed.
+    pub fn end(&mut self, alloc: Global, hub: &mut Hub) -> Result<Turn, AllocError>
+        ensures follows { IfOk result (λ turn. Follows (at hub.old (session_of self.old) []) (at hub.new (session_of self.new) turn.made.items)) }
+        ensures closes { IfOk result (λ turn. turn.made.items ≡ closing_of (session_of self.old)) }
+        ensures gone { OnOk result (stage_of self.new ≡ Gone) }
+        ensures stage { IfOk result (λ turn. turn.stage ≡ Gone) }
+        ensures cause { IfOk result (λ turn. turn.cause ≡ ended (stage_of self.old)) }
+        ensures unchanged { OnErr result (self.new ≡ self.old) }
+        ensures hub_unchanged { OnErr result (hub.new ≡ hub.old) }
+    {
+        let mut made = Made::new(alloc)?;
+        events::end(hub, self.session(), &mut made);
+        let cause = match mem::replace(&mut self.state, State::Gone) {
+            State::Gone => None,
+            State::Open { mut socket, .. } => {
+                let _ = close(&mut socket, CloseCode::Away);
+                Some(Cause::Ended)
+            }
+            State::Head { .. } | State::Replying { .. } | State::Closing { .. } => {
+                Some(Cause::Ended)
+            }
+        };
+        Ok(Turn {
+            made: made.into_events(),
+            stage: Stage::Gone,
+            cause,
+        })
+    }
+}
+
+/// A turn, by the stage of the link.
+#[tactic(auto, using(crate::proofs::Following::follows_same))]
+fn advance<S: Read + Write + Drop>(
+    alloc: Global,
+    state: State<S>,
+    draws: u64,
+    hub: &mut Hub,
+    made: &mut Made,
+) -> Next<S>
+    requires { length made.old + draws + 2 ≤ EVENTS_MOST }
+    ensures follows { Follows (at hub.old (session_of state) made.old) (at hub.new (session_of result.state) made.new) }
+    ensures adds { Adds (draws + 2) 1 draws made.old made.new }
+    ensures cause { is_some result.cause ≡ leaves (stage_of state) (stage_of result.state) }
+    ensures gone { stage_of state ≡ Gone → (made.new ≡ made.old) × (result.state ≡ state) }
+{
+    match state {
+        State::Head { stream, bytes } => head::listen(alloc, stream, bytes, hub, made),
+        State::Replying { stream, reply } => head::reply(alloc, stream, reply, hub, made),
+        State::Open { socket, session } => {
+            opened::turn(alloc, socket, session, draws, hub, made)
+        }
+        State::Closing { socket, turns } => closing::turn(socket, turns),
+        State::Gone => Next::on(State::Gone),
+    }
+}

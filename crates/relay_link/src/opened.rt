@@ -1,0 +1,148 @@
+//! An open link: what waits is sent, a message is heard, and messages are told.
+ghost use Rattle.std.specs.Prelude.{◌≡◌, ◌+◌, ◌≤◌, length, is_some, Some, None};
+ghost use Rattle.relay_link.specs.Adds.{Adds};
+ghost use Rattle.relay_link.specs.Follows.{Follows, at};
+ghost use Rattle.relay_link.specs.Stage.{leaves, stage_of, session_of};
+ghost use Rattle.relay_link.specs.declared.made.TheConstants.{EVENTS_MOST};
+ghost use Rattle.relay_link.specs.declared.stage.Stage.TheVariants.{Open};
+
+use crate::cause::Cause;
+use crate::events;
+use crate::made::Made;
+use crate::next::Next;
+use crate::socket::{Socket, close, flush, read, send};
+use crate::state::State;
+use relay_hub::Hub;
+use std::alloc::Global;
+use std::io::{Read, Write};
+use tungstenite::{CloseCode, Message, Utf8Bytes};
+
+/// How the link is no longer open.
+enum Parting {
+    /// The closing handshake goes on.
+    Closing(Cause),
+    Gone(Cause),
+}
+
+impl From<Cause> for Parting {
+    fn from(cause: Cause) -> Parting {
+        Parting::Gone(cause)
+    }
+}
+
+/// A turn of an open link.
+#[tactic(auto, using(crate::proofs::Following::follows_same, crate::proofs::Following::follows_then))]
+pub(crate) fn turn<S: Read + Write + Drop>(
+    alloc: Global,
+    mut socket: Socket<S>,
+    session: u64,
+    draws: u64,
+    hub: &mut Hub,
+    made: &mut Made,
+) -> Next<S>
+    requires { length made.old + draws + 2 ≤ EVENTS_MOST }
+    ensures follows { Follows (at hub.old (Some session) made.old) (at hub.new (session_of result.state) made.new) }
+    ensures adds { Adds (draws + 2) 1 draws made.old made.new }
+    ensures cause { is_some result.cause ≡ leaves Open (stage_of result.state) }
+{
+    socket.get_mut().renew();
+    match talk(alloc, &mut socket, session, draws, hub, made) {
+        Ok(()) => Next::on(State::Open { socket, session }),
+        Err(parting) => {
+            events::close(hub, session, made);
+            match parting {
+                Parting::Closing(cause) => Next::closing(socket, cause),
+                Parting::Gone(cause) => Next::gone(cause),
+            }
+        }
+    }
+}
+
+/// Sends what waits. Where nothing waits any more a message is heard, and messages are told.
+#[tactic(auto, using(crate::proofs::Following::follows_same, crate::proofs::Following::follows_then))]
+fn talk<S: Read + Write + Drop>(
+    alloc: Global,
+    socket: &mut Socket<S>,
+    session: u64,
+    draws: u64,
+    hub: &mut Hub,
+    made: &mut Made,
+) -> Result<(), Parting>
+    requires { length made.old + draws + 1 ≤ EVENTS_MOST }
+    ensures follows { Follows (at hub.old (Some session) made.old) (at hub.new (Some session) made.new) }
+    ensures adds { Adds (draws + 1) 1 draws made.old made.new }
+{
+    if !flush(socket)? {
+        return Ok(());
+    }
+    if hub.may_hear(session) {
+        hear(alloc, socket, session, hub, made)?;
+    }
+    tell(alloc, socket, session, draws, hub, made)
+}
+
+/// Reads one message, and hands a text to the hub.
+#[tactic(auto, using(crate::proofs::Following::follows_same))]
+fn hear<S: Read + Write + Drop>(
+    alloc: Global,
+    socket: &mut Socket<S>,
+    session: u64,
+    hub: &mut Hub,
+    made: &mut Made,
+) -> Result<(), Parting>
+    requires { length made.old + 1 ≤ EVENTS_MOST }
+    ensures follows { Follows (at hub.old (Some session) made.old) (at hub.new (Some session) made.new) }
+    ensures adds { Adds 1 1 0 made.old made.new }
+{
+    let Some(message) = read(socket)? else {
+        return Ok(());
+    };
+    match message {
+        Message::Text(words) => {
+            let Ok(text) = String::from_str(alloc, words.as_str()) else {
+                return Err(Parting::Gone(Cause::Memory));
+            };
+            match events::receive(alloc, hub, session, text, made) {
+                Ok(()) => Ok(()),
+                Err(_) => Err(Parting::Gone(Cause::Memory)),
+            }
+        }
+        Message::Binary(_) => {
+            close(socket, CloseCode::Unsupported)?;
+            Err(Parting::Closing(Cause::Binary))
+        }
+        Message::Close(_) => {
+            flush(socket)?;
+            Err(Parting::Closing(Cause::Peer))
+        }
+        Message::Ping(_) | Message::Pong(_) => Ok(()),
+    }
+}
+
+/// Draws up to so many messages and sends them, until output waits. Where a draw finds no memory it ends the turn.
+#[tactic(auto, using(crate::proofs::Following::follows_same, crate::proofs::Following::follows_then))]
+fn tell<S: Read + Write + Drop>(
+    alloc: Global,
+    socket: &mut Socket<S>,
+    session: u64,
+    draws: u64,
+    hub: &mut Hub,
+    made: &mut Made,
+) -> Result<(), Parting>
+    requires { length made.old + draws ≤ EVENTS_MOST }
+    ensures follows { Follows (at hub.old (Some session) made.old) (at hub.new (Some session) made.new) }
+    ensures adds { Adds draws 0 draws made.old made.new }
+{
+    for _ in 0..draws {
+        let Ok(Some(text)) = events::draw(alloc, hub, session, made) else {
+            return Ok(());
+        };
+        let Ok(words) = Utf8Bytes::from_string(text) else {
+            return Err(Parting::Gone(Cause::Memory));
+        };
+        if !send(socket, words)? {
+            return Ok(());
+        }
+    }
+    Ok(())
+}

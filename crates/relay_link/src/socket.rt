@@ -1,0 +1,60 @@
+//! The WebSocket of a link, as a turn uses it: no call waits.
+use crate::cause::Cause;
+use crate::polled::{Polled, is_nothing_now};
+use std::alloc::Global;
+use std::io::{Read, Write};
+use tungstenite::{
+    CloseCode, CloseFrame, Error, Message, NoMask, Role, Utf8Bytes, WebSocket, WebSocketConfig,
+};
+
+/// A WebSocket of the relay's side, whose frames have no mask.
+pub(crate) type Socket<S> = WebSocket<Polled<S>, NoMask>;
+
+/// How many bytes one read asks for. The crate's own 128 KiB are much for sockets of which many are held.
+pub(crate) const READ_MOST: usize = 4_096;
+
+/// The socket of a stream whose handshake is done.
+pub(crate) fn socket_on<S: Read + Write + Drop>(alloc: Global, stream: Polled<S>) -> Socket<S> {
+    let config = WebSocketConfig::default().read_buffer_size(READ_MOST);
+    WebSocket::from_raw_socket(alloc, stream, NoMask, Role::Server, Some(config))
+}
+
+/// Reads one message. None where no whole message is there for now.
+pub(crate) fn read<S: Read + Write + Drop>(
+    socket: &mut Socket<S>,
+) -> Result<Option<Message>, Cause> {
+    match socket.read() {
+        Ok(message) => Ok(Some(message)),
+        Err(Error::Io(error)) if is_nothing_now(&error) => Ok(None),
+        Err(error) => Err(Cause::of(&error)),
+    }
+}
+
+/// Sends what waits. False where output still waits, and so for the other calls that send.
+pub(crate) fn flush<S: Read + Write + Drop>(socket: &mut Socket<S>) -> Result<bool, Cause> {
+    is_sent(socket.flush())
+}
+
+pub(crate) fn send<S: Read + Write + Drop>(
+    socket: &mut Socket<S>,
+    words: Utf8Bytes,
+) -> Result<bool, Cause> {
+    is_sent(socket.send(Message::Text(words)))
+}
+
+/// Sends a close frame with no reason.
+pub(crate) fn close<S: Read + Write + Drop>(
+    socket: &mut Socket<S>,
+    code: CloseCode,
+) -> Result<bool, Cause> {
+    let reason = Utf8Bytes::new();
+    is_sent(socket.close(Some(CloseFrame { code, reason })))
+}
+
+fn is_sent(sent: Result<(), Error>) -> Result<bool, Cause> {
+    match sent {
+        Ok(()) => Ok(true),
+        Err(Error::Io(error)) if is_nothing_now(&error) => Ok(false),
+        Err(error) => Err(Cause::of(&error)),
+    }
+}

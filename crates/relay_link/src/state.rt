@@ -1,0 +1,46 @@
+//! What a link holds, by its stage.
+ghost use Rattle.std.specs.Prelude.{◌≡◌};
+ghost use Rattle.relay_link.specs.Stage.{stage_of, session_of};
+
+use crate::polled::Polled;
+use crate::reply::{Reply, Verdict};
+use crate::socket::Socket;
+use crate::stage::Stage;
+
+#[derive(Drop)]
+pub(crate) enum State<S> {
+    /// The bytes that came so far are no whole head.
+    Head { stream: Polled<S>, bytes: Vec<u8> },
+    /// The reply to the head goes out.
+    Replying { stream: Polled<S>, reply: Reply },
+    Open { socket: Socket<S>, session: u64 },
+    /// How many turns are left in which the other side may answer.
+    Closing { socket: Socket<S>, turns: u64 },
+    Gone,
+}
+
+impl<S> State<S> {
+    pub(crate) fn stage(&self) -> Stage
+        ensures { result ≡ stage_of self.now }
+    {
+        match self {
+            State::Head { .. } | State::Replying { .. } => Stage::Head,
+            State::Open { .. } => Stage::Open,
+            State::Closing { .. } => Stage::Closing,
+            State::Gone => Stage::Gone,
+        }
+    }
+
+    pub(crate) fn session(&self) -> Option<u64>
+        ensures { result ≡ session_of self.now }
+    {
+        match self {
+            State::Open { session, .. } => Some(*session),
+            State::Replying { reply, .. } => match reply.verdict {
+                Verdict::Entered(session) => Some(session),
+                Verdict::Refused(_) => None,
+            },
+            State::Head { .. } | State::Closing { .. } | State::Gone => None,
+        }
+    }
+}

@@ -1,0 +1,29 @@
+//! What the program is to do, or why it does nothing.
+use crate::settings::Settings;
+
+/// What the words ask for.
+#[derive(Clone, Copy, Debug, PartialEq, Eq)]
+pub enum Job {
+    /// `relay`, or `relay script`: carry out a script.
+    Script(Settings),
+    /// `relay loop`: carry out a script through loopback sockets.
+    Loop(Settings),
+    /// `relay follow`: hear texts, one a line.
+    Follow,
+    /// `relay serve`: listen on a port, for a number of rounds.
+    Serve {
+        port: u16,
+        turns: u64,
+        settings: Settings,
+    },
+}
+
+/// Why there is nothing to do.
+#[derive(Debug, Drop)]
+pub enum Stop {
+    /// Help that was asked for, for standard output.
+    Help(String),
+    /// What is wrong with the words, for standard error.
+    Misuse(String),
+    NoMemory,
+}

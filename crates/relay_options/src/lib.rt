@@ -1,0 +1,14 @@
+//! The command line of the program `relay`, read by `clap`: which job the words ask for, with its numbers. A crate of its own, so
+//! that what stands beside it is checked without `clap`.
+#![tactic(auto)]
+
+mod job;
+mod reading;
+mod settings;
+
+pub use job::{Job, Stop};
+pub use reading::job_of;
+pub use settings::Settings;
+
+#[cfg(test)]
+mod tests;

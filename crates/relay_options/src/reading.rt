@@ -1,0 +1,156 @@
+//! The options as `clap` has them.
+use crate::job::{Job, Stop};
+use crate::settings::Settings;
+use clap::builder::ValueParser;
+use clap::error::ErrorKind;
+use clap::{Arg, ArgAction, ArgMatches, Command, Error};
+use std::alloc::{AllocError, Global};
+
+const ABOUT: &str =
+    "Keeps shared JSON documents in rooms, and tells each watcher what changed in the parts that it watches";
+
+const EXAMPLE: &str =
+    "Without a subcommand, relay carries out a script, as `relay script` does:\n\n  relay < examples/first.script";
+
+const SCRIPT_ABOUT: &str =
+    "Carries out a script: lines from standard input, answers to standard output";
+
+const SCRIPT_EXAMPLE: &str =
+    "Example, with two revisions of history and one waiting patch:\n\n  relay script --history 2 --outbox 1 < examples/first.script\n\nA line is `NAME open ROOM`, `NAME say TEXT`, `NAME draw`, `NAME close`, `NAME held` or `NAME truth`.";
+
+const LOOP_ABOUT: &str =
+    "Carries out a script through loopback sockets, server and clients in one thread";
+
+const LOOP_EXAMPLE: &str = "Example:\n\n  relay loop < examples/first.script";
+
+const SERVE_ABOUT: &str =
+    "Listens on 127.0.0.1, and serves WebSocket clients for a number of rounds";
+
+const SERVE_EXAMPLE: &str =
+    "Example, on a port that the system chooses, for about an hour:\n\n  relay serve --port 0 --turns 1000000000\n\nA client connects to ws://127.0.0.1:PORT/rooms/ROOM. Documents end with the program: give it an --epoch not used before when\nit is started again.";
+
+const FOLLOW_ABOUT: &str =
+    "Hears the relay's messages, one a line, and tells after each what its client holds";
+
+const FOLLOW_EXAMPLE: &str =
+    "Example:\n\n  echo '{\"kind\":\"snapshot\",\"rev\":1,\"view\":[[1]]}' | relay follow";
+
+const HISTORY: &str = "64";
+
+const OUTBOX: &str = "32";
+
+const EPOCH: &str = "1";
+
+const TURNS_MOST: u64 = 1_000_000_000_000;
+
+const EPOCH_MOST: u64 = 9_007_199_254_740_991;
+
+/// What the words ask for; the first of them is the program's name.
+pub fn job_of(alloc: Global, words: &[String]) -> Result<Job, Stop> {
+    match parsed(alloc, words) {
+        Ok(matches) => match chosen(&matches) {
+            Some(job) => Ok(job),
+            None => Err(Stop::NoMemory),
+        },
+        Err(error) => Err(stop_of(alloc, &error)),
+    }
+}
+
+fn parsed<'a>(alloc: Global, words: &'a [String]) -> Result<ArgMatches<'a>, Error> {
+    let relay = Command::new(alloc, "relay")
+        .about(ABOUT)
+        .after_help(EXAMPLE)
+        .subcommand(script(alloc)?)?
+        .subcommand(looped(alloc)?)?
+        .subcommand(follow(alloc))?
+        .subcommand(serve(alloc)?)?;
+    relay.try_get_matches_from(words)
+}
+
+fn script<'a>(alloc: Global) -> Result<Command<'a>, AllocError> {
+    let script = Command::new(alloc, "script")
+        .about(SCRIPT_ABOUT)
+        .after_help(SCRIPT_EXAMPLE);
+    with_settings(alloc, script)
+}
+
+fn looped<'a>(alloc: Global) -> Result<Command<'a>, AllocError> {
+    let looped = Command::new(alloc, "loop")
+        .about(LOOP_ABOUT)
+        .after_help(LOOP_EXAMPLE);
+    with_settings(alloc, looped)
+}
+
+fn serve<'a>(alloc: Global) -> Result<Command<'a>, AllocError> {
+    let port = number(alloc, "port", ValueParser::unsigned(0, 65_535))
+        .help("The port, 0 to 65535; 0 lets the system choose")
+        .required(true);
+    let turns = number(alloc, "turns", ValueParser::unsigned(1, TURNS_MOST))
+        .help("How many rounds to make, 1 to 1000000000000")
+        .required(true);
+    let serve = Command::new(alloc, "serve")
+        .about(SERVE_ABOUT)
+        .after_help(SERVE_EXAMPLE);
+    with_settings(alloc, serve)?.arg(port)?.arg(turns)
+}
+
+fn follow<'a>(alloc: Global) -> Command<'a> {
+    Command::new(alloc, "follow")
+        .about(FOLLOW_ABOUT)
+        .after_help(FOLLOW_EXAMPLE)
+}
+
+fn with_settings<'a>(alloc: Global, command: Command<'a>) -> Result<Command<'a>, AllocError> {
+    let history = number(alloc, "history", ValueParser::unsigned(1, 1_024))
+        .help("How many revisions each room holds, 1 to 1024")
+        .default_value(HISTORY);
+    let outbox = number(alloc, "outbox", ValueParser::unsigned(1, 256))
+        .help("How many patches wait for a session at most, 1 to 256")
+        .default_value(OUTBOX);
+    let epoch = number(alloc, "epoch", ValueParser::unsigned(0, EPOCH_MOST))
+        .help("Which run of the relay this is, 0 to 9007199254740991")
+        .default_value(EPOCH);
+    command.arg(history)?.arg(outbox)?.arg(epoch)
+}
+
+/// An option that takes a number.
+fn number<'a>(alloc: Global, name: &'a str, parser: ValueParser<'a>) -> Arg<'a> {
+    Arg::new(alloc, name)
+        .long(name)
+        .value_name("N")
+        .action(ArgAction::Set)
+        .value_parser(parser)
+}
+
+fn chosen(matches: &ArgMatches<'_>) -> Option<Job> {
+    match matches.subcommand() {
+        None => Some(Job::Script(Settings::DEFAULT)),
+        Some(("script", given)) => Some(Job::Script(settings_of(given)?)),
+        Some(("loop", given)) => Some(Job::Loop(settings_of(given)?)),
+        Some(("serve", given)) => Some(Job::Serve {
+            port: given.get_one::<u16>("port")?,
+            turns: given.get_one::<u64>("turns")?,
+            settings: settings_of(given)?,
+        }),
+        Some(_) => Some(Job::Follow),
+    }
+}
+
+fn settings_of(given: &ArgMatches<'_>) -> Option<Settings> {
+    Some(Settings {
+        history: given.get_one::<u64>("history")?,
+        outbox: given.get_one::<u64>("outbox")?,
+        epoch: given.get_one::<u64>("epoch")?,
+    })
+}
+
+fn stop_of(alloc: Global, error: &Error) -> Stop {
+    if error.kind() == ErrorKind::OutOfMemory {
+        return Stop::NoMemory;
+    }
+    match error.to_string(alloc) {
+        Ok(text) if error.use_stderr() => Stop::Misuse(text),
+        Ok(text) => Stop::Help(text),
+        Err(_) => Stop::NoMemory,
+    }
+}

@@ -1,0 +1,11 @@
+-- What an outbox lends of its front.
+use Rattle.relay_outbox.specs.Outbox.{Foremost, reply, patch, snapshot, nothing}
+use Rattle.relay_outbox.specs.declared.front.Front.{Front}
+use Rattle.relay_outbox.specs.declared.front.Front.TheVariants.{Reply, Patch, Snapshot, Nothing}
+
+-- what is lent, as plain data
+abbrev pub shown : {R : Type 0} → Front R → Foremost R
+shown (Reply r) = reply r.now
+shown (Patch rev p) = patch rev p.now
+shown Snapshot = snapshot
+shown Nothing = nothing

@@ -1,0 +1,82 @@
+-- What waits for a session, as contracts see an outbox.
+use Rattle.std.specs.Prelude.{◌≡◌, ℕ, ◌≤◌, Bool, true, false, List, [], ◌∷◌, ◌++◌, length, nat_lt, if◌then◌else◌, refl}
+use Rattle.std.specs.Coded.{Coded, code_by, coded×, coded_list, coded_ℕ, coded_bool}
+use Rattle.relay_patch.specs.declared.op.Op.{Op}
+use Rattle.relay_outbox.specs.declared.outbox.TheConstants.{REPLIES, MOST_PATCHES}
+
+-- the replies, the patches, each with the revision that it leads to, whether a snapshot is due, and how many patches may wait
+pub record Line (R : Type 0) : Type 0 where
+  pub replies : List R
+  pub patches : List (ℕ × List Op)
+  pub due : Bool
+  pub k : ℕ
+
+-- what stands at the front of a line
+pub data Foremost (R : Type 0) : Type 0 where
+  reply : R → Foremost R
+  patch : ℕ → List Op → Foremost R
+  snapshot : Foremost R
+  nothing : Foremost R
+
+module _ {R : Type 0} where
+  -- a line of these parts
+  abbrev pub line : List R → List (ℕ × List Op) → Bool → ℕ → Line R
+  line replies patches due k = record { replies = replies; patches = patches; due = due; k = k }
+
+  -- what holds of each outbox: no more wait than may, and patches and a due snapshot never wait together
+  pub record IsOutbox (o : Line R) : Type 0 where
+    pub replies : length o.replies ≤ REPLIES
+    pub patches : length o.patches ≤ o.k
+    pub limited : (1 ≤ o.k) × (o.k ≤ MOST_PATCHES)
+    pub either : o.due ≡ true → o.patches ≡ []
+
+  -- nothing waits
+  abbrev pub empty : ℕ → Line R
+  empty k = line [] [] false k
+
+  -- a reply waits behind the other replies
+  abbrev pub with_reply : R → Line R → Line R
+  with_reply r o = line (o.replies ++ r ∷ []) o.patches o.due o.k
+
+  -- the patches go, and a snapshot is due
+  abbrev pub folded : Line R → Line R
+  folded o = line o.replies [] true o.k
+
+  -- the patches go, and none is due
+  abbrev pub cleared : Line R → Line R
+  cleared o = line o.replies [] false o.k
+
+  -- a due snapshot tells of the patch too; else the patch waits behind the others, or they fold where no more may wait
+  abbrev pub with_patch : ℕ → List Op → Line R → Line R
+  with_patch rev ops o =
+      if o.due then o else
+      (if nat_lt (length o.patches) o.k then line o.replies (o.patches ++ (rev, ops) ∷ []) o.due o.k else folded o)
+
+  -- of replies, patches and whether a snapshot is due, what comes first
+  abbrev pub first_of : List R → List (ℕ × List Op) → Bool → Foremost R
+  first_of (r ∷ replies) patches due = reply r
+  first_of [] (p ∷ patches) due = patch p.0 p.1
+  first_of [] [] true = snapshot
+  first_of [] [] false = nothing
+
+  -- what is drawn next: the first reply, else the first patch, else the due snapshot
+  abbrev pub front_of : Line R → Foremost R
+  front_of o = first_of o.replies o.patches o.due
+
+  -- the line of what comes behind
+  abbrev pub rest_of : List R → List (ℕ × List Op) → Bool → ℕ → Line R
+  rest_of (r ∷ replies) patches due k = line replies patches due k
+  rest_of [] (p ∷ patches) due k = line [] patches due k
+  rest_of [] [] due k = line [] [] false k
+
+  -- the line once its front is drawn
+  abbrev pub without_front : Line R → Line R
+  without_front o = rest_of o.replies o.patches o.due o.k
+
+  -- how the logic stores a line
+  abbrev pub line_code : Coded R → Coded Op → Coded (Line R)
+  line_code r op = code_by (List R × (List (ℕ × List Op) × (Bool × ℕ)))
+      (coded× (coded_list r) (coded× (coded_list (coded× coded_ℕ (coded_list op))) (coded× coded_bool coded_ℕ)))
+      (λ o. (o.replies, (o.patches, (o.due, o.k))))
+      (λ p. line p.0 p.1.0 p.1.1.0 p.1.1.1)
+      (λ _. refl)

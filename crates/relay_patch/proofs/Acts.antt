@@ -1,0 +1,137 @@
+-- Acts at a path whose last token is split off.
+use Rattle.std.proofs.Common.{◌≡◌, ℕ, zero, suc, List, [], ◌∷◌, ◌++◌, Option, Some, None, Ok, Err, Result, IsOk, refl, sym, ap, ◌∙◌, bytes_eq, ok_or, option_map, Bool, true, false, if◌then◌else◌}
+use Rattle.relay_tree.specs.Document.{Document, null, truth, whole, text, list, object, Items, no_items, item, Members, no_members, member}
+use Rattle.relay_tree.specs.Part.{item_at, drop_item, member_at, drop_member}
+use Rattle.relay_pointer.specs.Index.{Token, index_of}
+use Rattle.relay_pointer.specs.Path.{Path, with_child}
+use Rattle.relay_patch.specs.Walk.{Cause, Missing, then_do, element, step, walk}
+use Rattle.relay_patch.specs.Patch.{Act, at_path, added, insert_child, drop_child, drop_element, replaced}
+use Rattle.relay_patch.proofs.Refusals.{then_ok, is_ok_then, some_ok}
+use Rattle.relay_patch.proofs.Exchanges.{at_end, exchanges, walk-replaced, replaced-twice}
+
+pub added-at : (before : Path) (t : Token) (v d : Document) → added (before ++ t ∷ []) v d ≡ at_path (insert_child v) (before ++ t ∷ []) d
+added-at [] t v d = refl
+added-at (u ∷ before) t v d = refl
+
+pub at_ok : (act : Act) (before : Path) (t : Token) (d c c' d' : Document) → walk d before ≡ Ok c → act t c ≡ Ok c' → replaced before c' d ≡ Ok d' → at_path act (before ++ t ∷ []) d ≡ Ok d'
+at_ok act before t d c c' d' there acted put = rw (at_end act before t d, there, acted) put
+
+pub at_no_container : (act : Act) (before : Path) (t : Token) (d : Document) (e : Cause) → walk d before ≡ Err e → at_path act (before ++ t ∷ []) d ≡ Err e
+at_no_container act before t d e there = rw (at_end act before t d, there) refl
+
+pub at_stops : (act : Act) (before : Path) (t : Token) (d c : Document) (e : Cause) → walk d before ≡ Ok c → act t c ≡ Err e → at_path act (before ++ t ∷ []) d ≡ Err e
+at_stops act before t d c e there acted = rw (at_end act before t d, there, acted) refl
+
+pub at_passes : (act : Act) (before : Path) (t : Token) (d c : Document) → walk d before ≡ Ok c → IsOk (act t c) → IsOk (at_path act (before ++ t ∷ []) d)
+at_passes act before t d c there acted =
+    let a = some_ok (act t c) acted in
+    let e = exchanges before a.0 d c there in
+    is_ok_then _ e.0 (at_ok act before t d c a.0 e.0 there a.1 e.1)
+
+-- what an act that passes stands on
+pub record Passed (act : Act) (before : Path) (t : Token) (d : Document) : Type 0 where
+  pub container : Document
+  pub there : walk d before ≡ Ok container
+  pub passes : IsOk (act t container)
+
+pub passed : (act : Act) (before : Path) (t : Token) (d : Document) → IsOk (at_path act (before ++ t ∷ []) d) → Passed act before t d
+passed act before t d h =
+    let r = some_ok _ h in
+    let whole = sym (at_end act before t d) ∙ r.1 in
+    let w = then_ok (walk d before) (λ c. then_do (act t c) (λ c'. replaced before c' d)) r.0 whole in
+    let a = then_ok (act t w.0) (λ c'. replaced before c' d) r.0 w.2 in
+    record { container = w.0; there = w.1; passes = is_ok_then _ a.0 a.1 }
+
+-- a child can be dropped where it is there
+
+drop_there : (ds : Items) (i : ℕ) (c : Document) → item_at ds i ≡ Some c → (es : Items) × (drop_item ds i ≡ Some es)
+drop_there no_items i c h = cc
+drop_there (item d ds) zero c h = (ds, refl)
+drop_there (item d ds) (suc i) c h = let r = drop_there ds i c h in (item d r.0, ap (option_map (item d)) r.1)
+
+drop_gone : (ds : Items) (i : ℕ) → item_at ds i ≡ None → drop_item ds i ≡ None
+drop_gone no_items i h = refl
+drop_gone (item d ds) zero h = cc
+drop_gone (item d ds) (suc i) h = ap (option_map (item d)) (drop_gone ds i h)
+
+member_gone : (ms : Members) (k : List ℕ) → member_at ms k ≡ None → drop_member ms k ≡ None
+member_gone no_members k h = refl
+member_gone (member n d ms) k h = go (bytes_eq n k) refl h (member_gone ms k)
+  where
+    go : (x : Bool) → bytes_eq n k ≡ x → (if x then Some d else member_at ms k) ≡ None → (member_at ms k ≡ None → drop_member ms k ≡ None) → (if x then Some ms else option_map (member n d) (drop_member ms k)) ≡ None
+    go true e h ih = cc
+    go false e h ih = ap (option_map (member n d)) (ih h)
+
+member_there : (ms : Members) (k : List ℕ) (c : Document) → member_at ms k ≡ Some c → (ns : Members) × (drop_member ms k ≡ Some ns)
+member_there no_members k c h = cc
+member_there (member n d ms) k c h = go (bytes_eq n k) refl h (member_there ms k c)
+  where
+    go : (x : Bool) → bytes_eq n k ≡ x → (if x then Some d else member_at ms k) ≡ Some c → (member_at ms k ≡ Some c → (ns : Members) × (drop_member ms k ≡ Some ns)) → (ns : Members) × ((if x then Some ms else option_map (member n d) (drop_member ms k)) ≡ Some ns)
+    go true e h ih = (ms, refl)
+    go false e h ih = let r = ih h in (member n d r.0, ap (option_map (member n d)) r.1)
+
+drops_element : (ds : Items) (t : Token) (o : Option ℕ) → IsOk (element ds t o) → IsOk (drop_element ds t o)
+drops_element ds t None h = cc
+drops_element ds t (Some i) h = go (item_at ds i) refl h
+  where
+    go : (o : Option Document) → item_at ds i ≡ o → IsOk (ok_or o Missing) → IsOk (drop_element ds t (Some i))
+    go None e k = cc
+    go (Some c) e k = let r = drop_there ds i c e in rw r.1 refl
+
+pub drops : (d : Document) (t : Token) → IsOk (step d t) → IsOk (drop_child t d)
+drops null t h = cc
+drops (truth b) t h = cc
+drops (whole z) t h = cc
+drops (text s) t h = cc
+drops (list ds) t h = drops_element ds t (index_of t) h
+drops (object ms) t h = go (member_at ms t) refl h
+  where
+    go : (o : Option Document) → member_at ms t ≡ o → IsOk (ok_or o Missing) → IsOk (drop_child t (object ms))
+    go None e k = cc
+    go (Some c) e k = let r = member_there ms t c e in rw r.1 refl
+
+no_element_dropped : (ds : Items) (t : Token) (o : Option ℕ) (e : Cause) → element ds t o ≡ Err e → drop_element ds t o ≡ Err e
+no_element_dropped ds t None e h = h
+no_element_dropped ds t (Some i) e h = go (item_at ds i) refl h
+  where
+    go : (o : Option Document) → item_at ds i ≡ o → ok_or o Missing ≡ Err e → drop_element ds t (Some i) ≡ Err e
+    go None g k = rw (drop_gone ds i g) k
+    go (Some c) g k = cc
+
+pub drop_refused : (d : Document) (t : Token) (e : Cause) → step d t ≡ Err e → drop_child t d ≡ Err e
+drop_refused null t e h = h
+drop_refused (truth b) t e h = h
+drop_refused (whole z) t e h = h
+drop_refused (text s) t e h = h
+drop_refused (list ds) t e h = no_element_dropped ds t (index_of t) e h
+drop_refused (object ms) t e h = go (member_at ms t) refl h
+  where
+    go : (o : Option Document) → member_at ms t ≡ o → ok_or o Missing ≡ Err e → drop_child t (object ms) ≡ Err e
+    go None g k = rw (member_gone ms t g) k
+    go (Some c) g k = cc
+
+-- and what can be dropped is there
+pub droppable : (d : Document) (t : Token) → IsOk (drop_child t d) → IsOk (step d t)
+droppable d t h = go (step d t) refl
+  where
+    go : (r : Result Document Cause) → step d t ≡ r → IsOk r
+    go (Ok c) e = refl
+    go (Err c) e = let k = rw (drop_refused d t c e) at h in cc
+
+-- the container is taken out, changed and put back
+
+pub container_there : (act : Act) (before : Path) (t : Token) (d : Document) → Passed act before t d → IsOk (walk d before)
+container_there act before t d p = is_ok_then _ p.container p.there
+
+pub container_passes : (act : Act) (before : Path) (t u : Token) (d c : Document) → Passed act before t d → walk d before ≡ Ok c → u ≡ t → IsOk (act u c)
+container_passes act before t u d c p there same = let is : p.container ≡ c = let k : Ok p.container ≡ Ok c = sym p.there ∙ there in cc in rw (same, ← is) p.passes
+
+pub container_back : (before : Path) (v d e : Document) → replaced before v d ≡ Ok e → IsOk (walk e before)
+container_back before v d e h = is_ok_then _ v (walk-replaced before v d e h)
+
+pub acted_at : (act : Act) (before : Path) (t u : Token) (d c c' v e d' : Document) → walk d before ≡ Ok c → u ≡ t → act u c ≡ Ok c' → replaced before v d ≡ Ok e → replaced before c' e ≡ Ok d' → at_path act (before ++ t ∷ []) d ≡ Ok d'
+acted_at act before t u d c c' v e d' there same acted out back = at_ok act before t d c c' d' there (rw (← same) acted) (replaced-twice before v c' d e d' out back)
+
+-- an act below a part
+pub acts_below : (act : Act) (d c n later : Document) (t u : Token) (p : Path) → step d t ≡ Ok c → n ≡ with_child d t later → at_path act (u ∷ p) c ≡ Ok later → at_path act (t ∷ u ∷ p) d ≡ Ok n
+acts_below act d c n later t u p found is acted = rw (found, acted) (ap Ok (sym is))

@@ -1,0 +1,114 @@
+-- What a change makes of a document, carried out.
+use Rattle.std.proofs.Common.{◌≡◌, [], ◌∷◌, Bool, true, false, Result, Ok, IsOk, refl, sym, ap, subst, ◌∙◌}
+use Rattle.relay_tree.specs.Document.{Document, null, truth, whole, text, list, object}
+use Rattle.relay_pointer.specs.Index.{Token, index_of}
+use Rattle.relay_pointer.specs.Path.{Path}
+use Rattle.relay_patch.specs.Walk.{Cause, then_do, walk}
+use Rattle.relay_patch.specs.Place.{Place}
+use Rattle.relay_patch.specs.Patch.{Act, below, at_path, insert_child, drop_child, added, replaced}
+use Rattle.relay_patch.specs.Change.{Change, Makes, Moves, in_list, in_object, placed, inserted, inserted_at}
+use Rattle.relay_patch.specs.declared.change.Change.TheVariants as change
+use Rattle.relay_patch.specs.Measure.{displaced, gone}
+use Rattle.relay_patch.proofs.Parts.{at_index}
+use Rattle.relay_patch.proofs.Inside.{was_inside}
+
+-- an act in one kind of container is the act
+list_act : (act : Act) (t : Token) (d d' : Document) → in_list act t d ≡ Ok d' → act t d ≡ Ok d'
+list_act act t null d' h = cc
+list_act act t (truth b) d' h = cc
+list_act act t (whole n) d' h = cc
+list_act act t (text bs) d' h = cc
+list_act act t (list ds) d' h = (at_index act t (list ds) d' (index_of t) h).2
+list_act act t (object ms) d' h = cc
+
+object_act : (act : Act) (t : Token) (d d' : Document) → in_object act t d ≡ Ok d' → act t d ≡ Ok d'
+object_act act t null d' h = cc
+object_act act t (truth b) d' h = cc
+object_act act t (whole n) d' h = cc
+object_act act t (text bs) d' h = cc
+object_act act t (list ds) d' h = cc
+object_act act t (object ms) d' h = h
+
+pub placed_act : (item : Bool) (act : Act) (t : Token) (d d' : Document) → placed item act t d ≡ Ok d' → act t d ≡ Ok d'
+placed_act true act = list_act act
+placed_act false act = object_act act
+
+below_plain : (f g : Act) → ((t : Token) (d d' : Document) → f t d ≡ Ok d' → g t d ≡ Ok d') → (t : Token) (path : Path) (d d' : Document) → below f t path d ≡ Ok d' → below g t path d ≡ Ok d'
+below_plain f g plain t [] d d' h = plain t d d' h
+below_plain f g plain t (u ∷ path) d d' h =
+    let w = was_inside (below f u path) t d d' h in
+    let acted : below g u path w.before ≡ Ok w.later = below_plain f g plain u path w.before w.later w.changed in
+    rw (w.stood, acted) (ap Ok (sym w.whole))
+
+pub plainly : (item : Bool) (act : Act) (path : Path) (d d' : Document) → at_path (placed item act) path d ≡ Ok d' → at_path act path d ≡ Ok d'
+plainly item act [] d d' h = cc
+plainly item act (t ∷ path) d d' h = below_plain (placed item act) act (placed_act item act) t path d d' h
+
+adds : (item : Bool) (path : Path) (v d d' : Document) → at_path (placed item (insert_child v)) path d ≡ Ok d' → added path v d ≡ Ok d'
+adds item [] v d d' h = cc
+adds item (t ∷ path) v d d' h = plainly item (insert_child v) (t ∷ path) d d' h
+
+pub inserts_plainly : (item : Bool) (path : Path) (v d d' : Document) → inserted_at item path v d ≡ Ok d' → added path v d ≡ Ok d'
+inserts_plainly true path v d d' h = adds true path v d d' h
+inserts_plainly false [] v d d' h = h
+inserts_plainly false (t ∷ path) v d d' h = adds false (t ∷ path) v d d' h
+
+-- what a change comes to, whatever the kinds of the containers
+abbrev pub made : Document → Change → Result Document Cause
+made d (change.Set path v) = replaced path v d
+made d (change.AddMember path v) = added path v d
+made d (change.AddItem path v) = added path v d
+made d (change.DropMember path) = at_path drop_child path d
+made d (change.DropItem path) = at_path drop_child path d
+made d (change.Move from to v) = then_do (at_path drop_child from.path d) (added to.path v)
+made d (change.Copy from to v) = added to.path v d
+
+pub makes_made : (c : Change) (d e : Document) → Makes d c e → made d c ≡ Ok e
+makes_made (change.Set path v) d e m = m
+makes_made (change.AddMember path v) d e m = adds false path v d e m.1
+makes_made (change.AddItem path v) d e m = adds true path v d e m
+makes_made (change.DropMember path) d e m = plainly false drop_child path d e m
+makes_made (change.DropItem path) d e m = plainly true drop_child path d e m
+makes_made (change.Move from to v) d e m = let went = plainly from.item drop_child from.path d m.between m.went in rw went (inserts_plainly to.item to.path v m.between e m.came)
+makes_made (change.Copy from to v) d e m = inserts_plainly to.item to.path v d e m.1
+
+pub makes_so : (c : Change) (d e n : Document) → Makes d c e → made d c ≡ Ok n → Makes d c n
+makes_so c d e n m h = let k : Ok e ≡ Ok n = sym (makes_made c d e m) ∙ h in let same : e ≡ n = cc in subst (λ x. Makes d c x) same m
+
+-- A change that can be made.
+
+abbrev pub CanMake : Document → Change → Type 0
+CanMake d c = (next : Document) × Makes d c next
+
+pub passes_as : (c e : Change) (d : Document) → c ≡ e → CanMake d c → IsOk (made d e)
+passes_as c e d is m = rw (← is, makes_made c d m.0 m.1) refl
+
+pub makes_as : (c e : Change) (d n : Document) → c ≡ e → CanMake d c → made d e ≡ Ok n → Makes d c n
+makes_as c e d n is m h = makes_so c d m.0 n m.1 (rw is h)
+
+moves_as : (c : Change) (d : Document) (from to : Place) (v : Document) → c ≡ change.Move from to v → (m : CanMake d c) → Moves d from to v m.0
+moves_as c d from to v is m = subst (λ e. Makes d e m.0) is m.1
+
+pub move_leaves : (c : Change) (d : Document) (from to : Place) (v : Document) → c ≡ change.Move from to v → CanMake d c → IsOk (at_path drop_child from.path d)
+move_leaves c d from to v is m = let k = moves_as c d from to v is m in rw (plainly from.item drop_child from.path d k.between k.went) refl
+
+-- the value that is taken away is the one that goes
+pub move_lands : (c : Change) (d : Document) (from to : Place) (v r b : Document) → c ≡ change.Move from to v → CanMake d c → walk d from.path ≡ Ok r → at_path drop_child from.path d ≡ Ok b → IsOk (inserted to r b)
+move_lands c d from to v r b is m there went =
+    let k = moves_as c d from to v is m in
+    let value : Ok v ≡ Ok r = sym k.there ∙ there in
+    let same : v ≡ r = cc in
+    let rest : Ok k.between ≡ Ok b = sym (plainly from.item drop_child from.path d k.between k.went) ∙ went in
+    let between : k.between ≡ b = cc in
+    rw (← same, ← between, k.came) refl
+
+pub move_made : (c : Change) (d : Document) (from to : Place) (v r b n : Document) → c ≡ change.Move from to v → CanMake d c → walk d from.path ≡ Ok r → at_path drop_child from.path d ≡ Ok b → added to.path r b ≡ Ok n → Makes d c n
+move_made c d from to v r b n is m there went came =
+    let k = moves_as c d from to v is m in
+    let value : Ok v ≡ Ok r = sym k.there ∙ there in
+    let same : v ≡ r = cc in
+    makes_as c (change.Move from to v) d n is m (rw (went, same) came)
+
+-- what goes where the value lands, in the document without it
+pub move_gone : (c : Change) (d : Document) (from to : Place) (v b : Document) → c ≡ change.Move from to v → at_path drop_child from.path d ≡ Ok b → displaced to b ≡ gone d c
+move_gone c d from to v b is went = rw (is, went) refl

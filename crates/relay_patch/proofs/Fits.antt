@@ -1,0 +1,187 @@
+-- What a change tells stands in the document before it or after it, so it is as short and as flat as these are.
+use Rattle.std.proofs.Common.{◌≡◌, ℕ, zero, suc, ◌-◌, ◌^◌, ◌<◌, ◌≤◌, min, List, [], ◌∷◌, ◌++◌, Bool, true, false, Option, Some, None, ok_or, Ok, Err, refl, sym, ap, subst, ◌∙◌, bytes_eq, is_eq, nat_lt, nat_cmp, Ordering, Less, Equal, Greater, if◌then◌else◌, arith}
+use Rattle.std.specs.Bool.{⊤}
+use Rattle.std.specs.List.{AllByRecursion}
+use Rattle.std.specs.Ordering.{match_ordering}
+use Rattle.std.specs.Cmp.Lexicographic.{slice_cmp}
+use Rattle.std.specs.Result.{result_ok}
+use Rattle.std.proofs.lemmas.Bool.Decides.{nat_tests}
+use Rattle.std.proofs.lemmas.Map.Text.{is_eq-slice_cmp}
+use Rattle.relay_tree.specs.Document.{Document, null, truth, whole, text, list, object, Items, no_items, item, Members, no_members, member, depth, weight}
+use Rattle.relay_tree.specs.Part.{item_at, insert_item, member_at, add_member, put_member}
+use Rattle.relay_tree.proofs.Names.{bytes_same}
+use Rattle.relay_tree.proofs.Members.{member_at-set_same}
+use Rattle.relay_pointer.specs.Index.{Token, index_of}
+use Rattle.relay_pointer.specs.Path.{Path, at, same_path}
+use Rattle.relay_patch.specs.declared.change.Change.TheVariants as change
+use Rattle.relay_patch.specs.Walk.{PastEnd, TooDeep, TooHeavy, then_do, step, walk}
+use Rattle.relay_patch.specs.Place.{Place, parent, last, place_of}
+use Rattle.relay_patch.specs.Patch.{Bounds, Op, Add, Remove, Replace, Move, Copy, Test, at_path, insert_child, insert_element, drop_child, effect, exceeds, within, after_from}
+use Rattle.relay_patch.specs.Change.{Change, Makes, Leads, in_list, in_object, placed, inserted, inserted_at, moved_changes, copied_changes, changes_of, all_changes}
+use Rattle.relay_patch.specs.Sizes.{ChangeFits}
+use Rattle.relay_patch.proofs.Refusals.{then_ok, then_itself, ok_or_some, not_refused, is_ok_then, some_ok}
+use Rattle.relay_patch.proofs.Parts.{at_index, place_in_at_index}
+use Rattle.relay_patch.proofs.Sites.{site, parent-last}
+use Rattle.relay_patch.proofs.Walks.{walk-append}
+use Rattle.relay_patch.proofs.Depths.{walk_depth}
+use Rattle.relay_patch.proofs.Exchanges.{walk-replaced}
+use Rattle.relay_patch.proofs.Acts.{droppable}
+use Rattle.relay_patch.proofs.Carried.{placed_act}
+use Rattle.relay_patch.proofs.Made.{effect_leads, within_same, went_on}
+
+-- What was inserted stands.
+
+item_at-insert_same : (ds : Items) (i : ℕ) (v : Document) (es : Items) → insert_item ds i v ≡ Some es → item_at es i ≡ Some v
+item_at-insert_same ds zero v es h = let same : item v ds ≡ es = cc in ap (λ x. item_at x zero) (sym same)
+item_at-insert_same no_items (suc i) v es h = cc
+item_at-insert_same (item d ds) (suc i) v es h = go (insert_item ds i v) refl (item_at-insert_same ds i v)
+  where
+    go : (o : Option Items) → insert_item ds i v ≡ o → ((fs : Items) → insert_item ds i v ≡ Some fs → item_at fs i ≡ Some v) → item_at es (suc i) ≡ Some v
+    go None f ih = let found : None ≡ Some es = rw f at h in cc
+    go (Some fs) f ih =
+        let found : Some (item d fs) ≡ Some es = rw f at h in
+        let is : es ≡ item d fs = cc in
+        rw is (ih fs f)
+
+added_step : (o : Ordering) (n a : List ℕ) (d e : Document) (ms rest : Members) → is_eq o ≡ bytes_eq a n → member_at rest a ≡ Some e → bytes_eq n a ≡ false → member_at (match_ordering o (member a e (member n d ms)) (member a e ms) (member n d rest)) a ≡ Some e
+added_step Less n a d e ms rest o ih other = rw (bytes_same a) refl
+added_step Equal n a d e ms rest o ih other = rw (bytes_same a) refl
+added_step Greater n a d e ms rest o ih other = rw other ih
+
+member_at-add_same : (ms : Members) (a : List ℕ) (e : Document) → member_at ms a ≡ None → member_at (add_member ms a e) a ≡ Some e
+member_at-add_same no_members a e h = rw (bytes_same a) refl
+member_at-add_same (member n d ms) a e h = go (bytes_eq n a) refl h (member_at-add_same ms a e)
+  where
+    go : (x : Bool) → bytes_eq n a ≡ x → (if x then Some d else member_at ms a) ≡ None → (member_at ms a ≡ None → member_at (add_member ms a e) a ≡ Some e) → member_at (add_member (member n d ms) a e) a ≡ Some e
+    go true k none ih = cc
+    go false k none ih = added_step (slice_cmp nat_cmp a n) n a d e ms (add_member ms a e) (is_eq-slice_cmp a n) (ih none) k
+
+member_at-put_same : (ms : Members) (a : List ℕ) (e : Document) → member_at (put_member ms a e) a ≡ Some e
+member_at-put_same ms a e = go (member_at ms a) refl
+  where
+    go : (o : Option Document) → member_at ms a ≡ o → member_at (put_member ms a e) a ≡ Some e
+    go None h = rw h (member_at-add_same ms a e h)
+    go (Some c) h = rw h (member_at-set_same ms a c e h)
+
+element_stands : (v : Document) (t : Token) (ds es : Items) (i : ℕ) (c' : Document) → index_of t ≡ Some i → insert_item ds i v ≡ Some es → c' ≡ list es → step c' t ≡ Ok v
+element_stands v t ds es i c' named inserted is = rw (is, named, item_at-insert_same ds i v es inserted) refl
+
+stands_in_list : (v : Document) (t : Token) (c c' : Document) → in_list (insert_child v) t c ≡ Ok c' → step c' t ≡ Ok v
+stands_in_list v t (list ds) c' h =
+    let a = at_index (insert_child v) t (list ds) c' (index_of t) h in
+    let done : insert_element v ds (Some a.0) ≡ Ok c' = subst (λ o. insert_element v ds o ≡ Ok c') (place_in_at_index ds t a.0 a.1) a.2 in
+    let s = then_ok (ok_or (insert_item ds a.0 v) PastEnd) (λ es. Ok (list es)) c' done in
+    let k : Ok (list s.0) ≡ Ok c' = s.2 in
+    let is : c' ≡ list s.0 = cc in
+    element_stands v t ds s.0 a.0 c' a.1 (ok_or_some _ _ _ s.1) is
+stands_in_list v t null c' h = cc
+stands_in_list v t (truth b) c' h = cc
+stands_in_list v t (whole z) c' h = cc
+stands_in_list v t (text s) c' h = cc
+stands_in_list v t (object ms) c' h = cc
+
+stands_in_object : (v : Document) (t : Token) (c c' : Document) → in_object (insert_child v) t c ≡ Ok c' → step c' t ≡ Ok v
+stands_in_object v t (object ms) c' h = let is : c' ≡ object (put_member ms t v) = cc in rw (is, member_at-put_same ms t v) refl
+stands_in_object v t null c' h = cc
+stands_in_object v t (truth b) c' h = cc
+stands_in_object v t (whole z) c' h = cc
+stands_in_object v t (text s) c' h = cc
+stands_in_object v t (list ds) c' h = cc
+
+stands : (b : Bool) (v : Document) (t : Token) (c c' : Document) → placed b (insert_child v) t c ≡ Ok c' → step c' t ≡ Ok v
+stands true v = stands_in_list v
+stands false v = stands_in_object v
+
+pub stands_at : (b : Bool) (v : Document) (path : Path) (d e : Document) → at_path (placed b (insert_child v)) path d ≡ Ok e → walk e path ≡ Ok v
+stands_at b v [] d e h = cc
+stands_at b v (t ∷ path) d e h =
+    let s = site (placed b (insert_child v)) t path d e h in
+    subst (λ p. walk e p ≡ Ok v) (parent-last t path) (walk-append (parent t path) (last t path ∷ []) e ∙ rw s.stands (then_itself (step s.later (last t path)) ∙ stands b v (last t path) s.container s.later s.acted))
+
+pub inserted_stands : (b : Bool) (path : Path) (v d e : Document) → inserted_at b path v d ≡ Ok e → walk e path ≡ Ok v
+inserted_stands true path v d e h = stands_at true v path d e h
+inserted_stands false [] v d e h = sym h
+inserted_stands false (t ∷ path) v d e h = stands_at false v (t ∷ path) d e h
+
+-- What was taken away stood.
+pub stood_at : (b : Bool) (path : Path) (d e : Document) → at_path (placed b drop_child) path d ≡ Ok e → (v : Document) × (walk d path ≡ Ok v)
+stood_at b [] d e h = cc
+stood_at b (t ∷ path) d e h =
+    let s = site (placed b drop_child) t path d e h in
+    let there = some_ok _ (droppable s.container (last t path) (is_ok_then _ s.later (placed_act b drop_child (last t path) s.container s.later s.acted))) in
+    (there.0, subst (λ p. walk d p ≡ Ok there.0) (parent-last t path) (walk-append (parent t path) (last t path ∷ []) d ∙ rw s.there (then_itself (step s.container (last t path)) ∙ there.1)))
+
+-- One change.
+
+pub makes_fit : (c : Change) (most : ℕ) (d e : Document) → Makes d c e → depth d ≤ most → depth e ≤ most → ChangeFits most most c
+makes_fit (change.Set path v) most d e m before later = let k = walk_depth path e v (walk-replaced path v d e m) in (omega (arith, k), omega (arith, k))
+makes_fit (change.AddMember path v) most d e m before later = let k = walk_depth path e v (stands_at false v path d e m.1) in (omega (arith, k), omega (arith, k))
+makes_fit (change.AddItem path v) most d e m before later = let k = walk_depth path e v (stands_at true v path d e m) in (omega (arith, k), omega (arith, k))
+makes_fit (change.DropMember path) most d e m before later = let s = stood_at false path d e m in let k = walk_depth path d s.0 s.1 in omega (arith, k)
+makes_fit (change.DropItem path) most d e m before later = let s = stood_at true path d e m in let k = walk_depth path d s.0 s.1 in omega (arith, k)
+makes_fit (change.Move from to v) most d e m before later =
+    let k = walk_depth from.path d v m.there in
+    let l = walk_depth to.path e v (inserted_stands to.item to.path v m.between e m.came) in
+    (omega (arith, k), omega (arith, l), omega (arith, k))
+makes_fit (change.Copy from to v) most d e m before later =
+    let k = walk_depth from d v m.0 in
+    let l = walk_depth to.path e v (inserted_stands to.item to.path v d e m.1) in
+    (omega (arith, k), omega (arith, l), omega (arith, k))
+
+-- An operation makes one change at most.
+
+abbrev AtMostOne : List Change → Type 0
+AtMostOne [] = ⊤
+AtMostOne (c ∷ []) = ⊤
+AtMostOne (c ∷ e ∷ cs) = ⊥
+
+moved_one : (from : Place) (path : Path) (v e : Option Document) → AtMostOne (moved_changes from path v e)
+moved_one from path None e = tt
+moved_one from path (Some v) None = tt
+moved_one from path (Some v) (Some e) = go (same_path from.path (place_of e path).path)
+  where
+    go : (x : Bool) → AtMostOne (if x then [] else change.Move from (place_of e path) v ∷ [])
+    go true = tt
+    go false = tt
+
+copied_one : (from : Path) (to : Place) (v : Option Document) → AtMostOne (copied_changes from to v)
+copied_one from to None = tt
+copied_one from to (Some v) = tt
+
+one_change : (d : Document) (op : Op) → AtMostOne (changes_of d op)
+one_change d (Add path v) = tt
+one_change d (Remove path) = tt
+one_change d (Replace path v) = tt
+one_change d (Move from path) = moved_one (place_of d from) path (at d from) (result_ok (at_path drop_child from d))
+one_change d (Copy from path) = copied_one from (place_of d path) (at d from)
+one_change d (Test path v) = tt
+
+leads_fit : (cs : List Change) (most : ℕ) (d e : Document) → AtMostOne cs → Leads d cs e → depth d ≤ most → depth e ≤ most → AllByRecursion (ChangeFits most most) cs
+leads_fit [] most d e one h before later = tt
+leads_fit (c ∷ []) most d e one h before later = (makes_fit c most d h.0 h.1 before (let same = ap depth h.2 in omega (arith, same, later)), tt)
+leads_fit (c ∷ x ∷ cs) most d e one h before later = absurd one
+
+-- All of them.
+
+All-append : (most : ℕ) (a b : List Change) → AllByRecursion (ChangeFits most most) a → AllByRecursion (ChangeFits most most) b → AllByRecursion (ChangeFits most most) (a ++ b)
+All-append most [] b h k = k
+All-append most (c ∷ a) b h k = (h.0, All-append most a b h.1 k)
+
+-- a bound below 2 ^ 64 - 1 holds of the depth itself
+pub within_flat : (bounds : Bounds) (d e : Document) → bounds.depth < 2 ^ 64 - 1 → within bounds d ≡ Ok e → depth e ≤ bounds.depth
+within_flat bounds d e small h =
+    let a = not_refused (exceeds bounds.depth (depth d)) TooDeep (if exceeds bounds.weight (weight d) then Err TooHeavy else Ok d) e h in
+    let test : nat_lt bounds.depth (min (depth d) (2 ^ 64 - 1)) ≡ false = a.0 in
+    let same = ap depth (within_same bounds d e h) in
+    let flat : min (depth d) (2 ^ 64 - 1) ≤ bounds.depth = grind (arith, nat_tests) in
+    omega (arith, flat, small, same)
+
+pub after_fits : (ops : List Op) (n : ℕ) (bounds : Bounds) (d d' : Document) → bounds.depth < 2 ^ 64 - 1 → depth d ≤ bounds.depth → after_from n bounds d ops ≡ Ok d' → AllByRecursion (ChangeFits bounds.depth bounds.depth) (all_changes d ops)
+after_fits [] n bounds d d' small flat h = tt
+after_fits (op ∷ ops) n bounds d d' small flat h =
+    let s = went_on n (then_do (effect d op) (within bounds)) (λ e. after_from (suc n) bounds e ops) d' h in
+    let w = then_ok (effect d op) (within bounds) s.0 s.1 in
+    let same : w.0 ≡ s.0 = within_same bounds w.0 s.0 w.2 in
+    let first : effect d op ≡ Ok s.0 = w.1 ∙ ap Ok same in
+    let later = within_flat bounds w.0 s.0 small w.2 in
+    rw first (All-append bounds.depth (changes_of d op) (all_changes s.0 ops) (leads_fit (changes_of d op) bounds.depth d s.0 (one_change d op) (effect_leads op d s.0 first) flat later) (after_fits ops (suc n) bounds s.0 d' small later s.2))

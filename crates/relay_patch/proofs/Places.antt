@@ -1,0 +1,158 @@
+-- Which operation a fault names: one of the patch. And how many operations a patch has that was read.
+use Rattle.std.proofs.Common.{◌≡◌, ℕ, suc, ◌+◌, ◌<◌, ◌≤◌, List, [], ◌∷◌, length, Bool, true, false, Option, Some, None, Result, Ok, Err, nat_lt, nat_le, if◌then◌else◌, refl, subst, arith}
+use Rattle.std.specs.Prelude.{IfOk, IfErr, codes}
+use Rattle.std.proofs.lemmas.Bool.Decides.{nat_tests}
+use Rattle.relay_tree.specs.Document.{Document, list, Items, no_items, item}
+use Rattle.relay_tree.specs.Each.{onto, each_from}
+use Rattle.relay_tree.specs.Part.{items_length}
+use Rattle.relay_pointer.specs.Path.{Path}
+use Rattle.relay_pointer.specs.Spelling.{path_of_text}
+use Rattle.relay_patch.proofs.Refusals.{if_err}
+use Rattle.relay_patch.specs.Form.{with_part, and_then, text_in, kind_of, path_within, path_in, valued, sourced, op_of_kind, op_at, patch_of}
+use Rattle.relay_patch.specs.Patch.{Op, Bounds, ApplyFault, effect, within, refused_at, go_on, after_from, after}
+use Rattle.relay_patch.specs.Walk.{Cause, then_do}
+use Rattle.relay_patch.specs.declared.kind.Kind.{Kind}
+use Rattle.relay_patch.specs.declared.kind.Kind.TheVariants as kind
+use Rattle.relay_patch.specs.declared.limits.PatchFault.{PatchFault}
+use Rattle.relay_patch.specs.declared.limits.PatchFault.TheVariants.{TooManyOps, Shape, UnknownOp, Pointer, NoMemory}
+
+-- A patch that is refused names one of its operations.
+
+at_step : (n m : ℕ) (r : Result Document Cause) (f : Document → Result Document ApplyFault)
+    → ((d : Document) → IfErr (f d) (λ fault. fault.at < suc n + m)) → IfErr (go_on (refused_at n r) f) (λ fault. fault.at < n + suc m)
+at_step n m (Ok d) f h = if_err (f d) (h d) (λ fault k. omega (arith, k))
+at_step n m (Err e) f h = omega arith
+
+after_from-place : (n : ℕ) (bounds : Bounds) (d : Document) (ops : List Op) → IfErr (after_from n bounds d ops) (λ fault. fault.at < n + length ops)
+after_from-place n bounds d [] = tt
+after_from-place n bounds d (op ∷ ops) =
+    at_step n (length ops) (then_do (effect d op) (within bounds)) (λ e. after_from (suc n) bounds e ops) (λ e. after_from-place (suc n) bounds e ops)
+
+pub after-place : (d : Document) (ops : List Op) (bounds : Bounds) (fault : ApplyFault) → after d ops bounds ≡ Err fault → fault.at < length ops
+after-place d ops bounds fault h =
+    let place : fault.at < 0 + length ops = subst (λ r. IfErr r (λ e. e.at < 0 + length ops)) h (after_from-place 0 bounds d ops) in
+    omega (arith, place)
+
+-- A list that is read element by element, where each refused element is named by its place.
+
+-- a number below another, if there is one
+abbrev pub IsBelow : ℕ → Option ℕ → Type 0
+IsBelow most (Some n) = n < most
+IsBelow most None = Unit {0}
+
+module _ {A E : Type 0} where
+  onto-length : (r : Result A E) (rest : Result (List A) E) (m : ℕ) → IfOk rest (λ xs. length xs ≡ m) → IfOk (onto r rest) (λ xs. length xs ≡ suc m)
+  onto-length (Ok x) (Ok xs) m h = rw h refl
+  onto-length (Ok x) (Err e) m h = tt
+  onto-length (Err e) rest m h = tt
+
+  each-length : (reads : ℕ → Document → Result A E) (n : ℕ) (ds : Items) → IfOk (each_from reads n ds) (λ xs. length xs ≡ items_length ds)
+  each-length reads n no_items = refl
+  each-length reads n (item d ds) = onto-length (reads n d) (each_from reads (suc n) ds) (items_length ds) (each-length reads (suc n) ds)
+
+  -- a list of few elements, as long as what is read of it
+  pub few-length : (reads : ℕ → Document → Result A E) (most : ℕ) (many : E) (ds : Items)
+      → IfOk (if nat_lt most (items_length ds) then Err many else each_from reads 0 ds) (λ xs. length xs ≤ most)
+  few-length reads most many ds = go (nat_lt most (items_length ds)) (each_from reads 0 ds) refl (each-length reads 0 ds)
+    where
+      go : (b : Bool) (read : Result (List A) E) → b ≡ nat_lt most (items_length ds) → IfOk read (λ xs. length xs ≡ items_length ds)
+          → IfOk (if b then Err many else read) (λ xs. length xs ≤ most)
+      go true read e h = tt
+      go false (Err fault) e h = tt
+      go false (Ok xs) e h = let few : items_length ds ≤ most = grind (arith, nat_tests, e) in omega (arith, few, h)
+
+module _ {A E : Type 0} (reads : ℕ → Document → Result A E) (named : E → Option ℕ) (names : (n : ℕ) (d : Document) → IfErr (reads n d) (λ fault. named fault ≡ Some n)) where
+  abbrev NamesBelow : ℕ → E → Type 0
+  NamesBelow most fault = (k : ℕ) × (k < most) × (named fault ≡ Some k)
+
+  onto-refused : (Q : E → Type 0) (r : Result A E) (rest : Result (List A) E) → IfErr r Q → IfErr rest Q → IfErr (onto r rest) Q
+  onto-refused Q (Ok x) (Ok xs) h k = tt
+  onto-refused Q (Ok x) (Err e) h k = k
+  onto-refused Q (Err e) rest h k = h
+
+  each-place : (n : ℕ) (ds : Items) → IfErr (each_from reads n ds) (NamesBelow (n + items_length ds))
+  each-place n no_items = tt
+  each-place n (item d ds) =
+      onto-refused (NamesBelow (n + suc (items_length ds))) (reads n d) (each_from reads (suc n) ds)
+      (if_err (reads n d) (names n d) (λ fault is. (n, omega arith, is)))
+      (if_err (each_from reads (suc n) ds) (each-place (suc n) ds) (λ fault k. (k.0, (let below = k.1 in omega (arith, below)), k.2)))
+
+  -- a list of few elements is refused for one of them
+  pub few-place : (most : ℕ) (many : E) → IsBelow most (named many) → (ds : Items)
+      → IfErr (if nat_lt most (items_length ds) then Err many else each_from reads 0 ds) (λ fault. IsBelow most (named fault))
+  few-place most many free ds = go (nat_lt most (items_length ds)) (each_from reads 0 ds) refl (each-place 0 ds)
+    where
+      go : (b : Bool) (read : Result (List A) E) → b ≡ nat_lt most (items_length ds) → IfErr read (NamesBelow (0 + items_length ds))
+          → IfErr (if b then Err many else read) (λ fault. IsBelow most (named fault))
+      go true read e h = free
+      go false (Ok xs) e h = tt
+      go false (Err fault) e h =
+          let few : items_length ds ≤ most = grind (arith, nat_tests, e) in
+          let below = h.1 in
+          rw h.2 (omega (arith, few, below))
+
+-- A document that is read as a patch.
+
+-- the operation that a fault names, if it names one
+abbrev pub place : PatchFault → Option ℕ
+place TooManyOps = None
+place (Shape at) = at
+place (UnknownOp at) = Some at
+place (Pointer at) = Some at
+place NoMemory = None
+
+abbrev Names : ℕ → PatchFault → Type 0
+Names n fault = place fault ≡ Some n
+
+part-names : {A B : Type 0} (n : ℕ) (o : Option A) (fault : PatchFault) (f : A → Result B PatchFault)
+    → Names n fault → ((x : A) → IfErr (f x) (Names n)) → IfErr (with_part o fault f) (Names n)
+part-names n (Some x) fault f h k = k x
+part-names n None fault f h k = h
+
+then-names : {A B : Type 0} (n : ℕ) (r : Result A PatchFault) (f : A → Result B PatchFault)
+    → IfErr r (Names n) → ((x : A) → IfErr (f x) (Names n)) → IfErr (and_then r f) (Names n)
+then-names n (Ok x) f h k = k x
+then-names n (Err e) f h k = h
+
+path-names : (most n : ℕ) (s : List ℕ) → IfErr (path_in most n s) (Names n)
+path-names most n s = go (path_of_text s)
+  where
+    short : (b : Bool) (path : Path) → IfErr (if b then Ok path else Err (Pointer n)) (Names n)
+    short true path = tt
+    short false path = refl
+
+    go : (o : Option Path) → IfErr (path_within most n o) (Names n)
+    go None = refl
+    go (Some path) = short (nat_le (length path) most) path
+
+valued-names : (most n : ℕ) (d : Document) (path : List ℕ) (make : Path → Document → Op) → IfErr (valued most n d path make) (Names n)
+valued-names most n d path make = part-names n _ _ _ refl (λ v. then-names n (path_in most n path) _ (path-names most n path) (λ p. tt))
+
+sourced-names : (most n : ℕ) (d : Document) (path : List ℕ) (make : Path → Path → Op) → IfErr (sourced most n d path make) (Names n)
+sourced-names most n d path make =
+    part-names n _ _ _ refl (λ from. then-names n (path_in most n path) _ (path-names most n path)
+    (λ p. then-names n (path_in most n from) _ (path-names most n from) (λ f. tt)))
+
+kind-names : (k : Kind) (most n : ℕ) (d : Document) (path : List ℕ) → IfErr (op_of_kind k most n d path) (Names n)
+kind-names kind.Add most n d path = valued-names most n d path _
+kind-names kind.Remove most n d path = then-names n (path_in most n path) _ (path-names most n path) (λ p. tt)
+kind-names kind.Replace most n d path = valued-names most n d path _
+kind-names kind.Move most n d path = sourced-names most n d path _
+kind-names kind.Copy most n d path = sourced-names most n d path _
+kind-names kind.Test most n d path = valued-names most n d path _
+
+-- an element that is no operation is named by its place
+op_at-names : (most n : ℕ) (d : Document) → IfErr (op_at most n d) (Names n)
+op_at-names most n d =
+    part-names n (text_in d (codes "op")) (Shape (Some n)) _ refl (λ name. part-names n (kind_of name) (UnknownOp n) _ refl (λ k.
+    part-names n (text_in d (codes "path")) (Shape (Some n)) _ refl (λ path. kind-names k most n d path)))
+
+-- a patch that was read has no more operations than it may
+pub patch_of-length : (ops tokens : ℕ) (d : Document) → IfOk (patch_of ops tokens d) (λ xs. length xs ≤ ops)
+patch_of-length ops tokens (list ds) = few-length (op_at tokens) ops TooManyOps ds
+patch_of-length ops tokens _ = tt
+
+-- one that was refused for an operation, for one of so many
+pub patch_of-place : (ops tokens : ℕ) (d : Document) → IfErr (patch_of ops tokens d) (λ fault. IsBelow ops (place fault))
+patch_of-place ops tokens (list ds) = few-place (op_at tokens) place (op_at-names tokens) ops TooManyOps tt ds
+patch_of-place ops tokens _ = tt

@@ -1,0 +1,9 @@
+pub mod Walk
+pub mod Same
+pub mod Place
+pub mod Patch
+pub mod Change
+pub mod Sizes
+pub mod Measure
+pub mod Steps
+pub mod Form

@@ -1,0 +1,85 @@
+-- What a change adds to the depth and the weight of a document, and what it takes from them.
+use Rattle.std.specs.Prelude.{ℕ, ◌+◌, ◌-◌, ◌^◌, ◌<◌, ◌≡◌, [], ◌∷◌, Option, Some, None, option_and_then, Result, Ok, Err, length, if◌then◌else◌}
+use Rattle.std.specs.Bool.{⊤}
+use Rattle.std.specs.Result.{result_ok}
+use Rattle.relay_tree.specs.Document.{Document, depth, weight}
+use Rattle.relay_pointer.specs.Path.{Path, at}
+use Rattle.relay_patch.specs.Walk.{Cause, TooDeep, TooHeavy}
+use Rattle.relay_patch.specs.Place.{Place, last}
+use Rattle.relay_patch.specs.Patch.{Bounds, at_path, drop_child, exceeds, within}
+use Rattle.relay_patch.specs.Change.{Change, Makes}
+use Rattle.relay_patch.specs.declared.change.Change.TheVariants as change
+
+-- how deep the value stands that a change brings
+abbrev pub reach : Change → ℕ
+reach (change.Set path v) = length path + depth v
+reach (change.AddMember path v) = length path + depth v
+reach (change.AddItem path v) = length path + depth v
+reach (change.DropMember path) = 0
+reach (change.DropItem path) = 0
+reach (change.Move from to v) = length to.path + depth v
+reach (change.Copy from to v) = length to.path + depth v
+
+-- what stood where a value is put: an element comes beside the others
+abbrev pub displaced : Place → Document → Option Document
+displaced place d = if place.item then None else at d place.path
+
+-- the value that is no longer there after a change, or no longer where it was, as a move's is not
+abbrev pub gone : Document → Change → Option Document
+gone d (change.Set path v) = at d path
+gone d (change.AddMember path v) = None
+gone d (change.AddItem path v) = None
+gone d (change.DropMember path) = at d path
+gone d (change.DropItem path) = at d path
+gone d (change.Move from to v) = option_and_then (displaced to) (result_ok (at_path drop_child from.path d))
+gone d (change.Copy from to v) = displaced to d
+
+abbrev pub part_weight : Option Document → ℕ
+part_weight None = 0
+part_weight (Some d) = weight d
+
+-- the bytes of a path's last token
+abbrev pub name_weight : Path → ℕ
+name_weight [] = 0
+name_weight (t ∷ path) = length (last t path)
+
+-- the name of a member at the place, which an element has not
+abbrev pub place_weight : Place → ℕ
+place_weight place = if place.item then 0 else name_weight place.path
+
+-- a name of n bytes, which is new where nothing stood
+abbrev pub new_name : ℕ → Option Document → ℕ
+new_name n None = n
+new_name n (Some d) = 0
+
+-- the weight of what a change takes away
+abbrev pub lost : Change → Option Document → ℕ
+lost (change.DropMember path) went = part_weight went + name_weight path
+lost (change.Move from to v) went = part_weight went + place_weight from
+lost _ went = part_weight went
+
+-- the weight of what a change brings
+abbrev pub gained : Change → Option Document → ℕ
+gained (change.Set path v) went = weight v
+gained (change.AddMember path v) went = weight v + name_weight path
+gained (change.AddItem path v) went = weight v
+gained (change.DropMember path) went = 0
+gained (change.DropItem path) went = 0
+gained (change.Move from to v) went = new_name (place_weight to) went
+gained (change.Copy from to v) went = weight v + new_name (place_weight to) went
+
+-- the weight n of a document after a change, where neither is too much
+abbrev pub judged : Bounds → Change → ℕ → Result ℕ Cause
+judged bounds c n = if exceeds bounds.depth (reach c) then Err TooDeep else (if exceeds bounds.weight n then Err TooHeavy else Ok n)
+
+-- what is known of a document: nothing, or that it is within the bounds, and its weight where that is bounded
+abbrev pub Known : Bounds → Document → Option ℕ → Type 0
+Known bounds d None = ⊤
+Known bounds d (Some n) = (within bounds d ≡ Ok d) × (bounds.weight < 2 ^ 64 - 1 → n ≡ weight d)
+
+-- a document of which this much is known became d by the change, and this went
+pub record Became (bounds : Bounds) (known : Option ℕ) (c : Change) (went : Option Document) (d : Document) : Type 0 where
+  pub before : Document
+  pub made : Makes before c d
+  pub took : went ≡ gone before c
+  pub was : Known bounds before known

@@ -1,0 +1,32 @@
+-- Where an operation inserts or removes.
+use Rattle.std.specs.Prelude.{[], ◌∷◌, ◌++◌, true, false, Option, Some, bytes_eq, if◌then◌else◌}
+use Rattle.relay_tree.specs.Document.{Document, list, Items}
+use Rattle.relay_tree.specs.Part.{items_length}
+use Rattle.relay_pointer.specs.Index.{Token, index_text}
+use Rattle.relay_pointer.specs.Path.{Path, at}
+use Rattle.relay_patch.specs.Walk.{dash}
+pub use Rattle.relay_patch.specs.declared.change.Place.{Place}
+
+-- the tokens t, path but the last
+abbrev pub parent : Token → Path → Path
+parent t [] = []
+parent t (u ∷ path) = t ∷ parent u path
+
+-- the last of the tokens t, path
+abbrev pub last : Token → Path → Token
+last t [] = t
+last t (u ∷ path) = last u path
+
+-- `-` replaced by the index that it names
+abbrev pub canonical : Items → Token → Token
+canonical ds t = if bytes_eq t dash then index_text (items_length ds) else t
+
+-- the place that a token names in a container, which is an item's in a list
+abbrev pub place_within : Option Document → Path → Token → Place
+place_within (Some (list ds)) before t = record { path = before ++ canonical ds t ∷ []; item = true }
+place_within _ before t = record { path = before ++ t ∷ []; item = false }
+
+-- the place that a path names in a document
+abbrev pub place_of : Document → Path → Place
+place_of d [] = record { path = []; item = false }
+place_of d (t ∷ path) = place_within (at d (parent t path)) (parent t path) (last t path)

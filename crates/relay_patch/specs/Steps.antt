@@ -1,0 +1,113 @@
+-- What the functions of this crate say of their steps.
+use Rattle.std.specs.Prelude.{take, slice_get, ℕ, List, [], ◌∷◌, ◌++◌, Bool, true, false, Option, Some, None, Result, Ok, Err, is_some, ◌≡◌, ◌≢◌, IsOk, if◌then◌else◌, nat_le, nat_lt, ◌+◌, ◌==◌, ◌&&◌, ◌||◌, bytes_eq}
+use Rattle.relay_tree.specs.Document.{Document, list, object}
+use Rattle.relay_tree.specs.Part.{items_length, member_at}
+use Rattle.relay_pointer.specs.Index.{Token, index_of, index_text}
+use Rattle.relay_pointer.specs.Path.{Path}
+use Rattle.relay_patch.specs.Walk.{Cause, NotIndex, PastEnd, NoContainer, Root, NoMemory, then_do, is_dash, step, walk}
+use Rattle.relay_patch.specs.Place.{Place, parent, last}
+use Rattle.relay_patch.specs.Patch.{Op, Bounds, effect, after}
+use Rattle.relay_patch.specs.Change.{Change}
+use Rattle.relay_patch.specs.declared.change.Change.TheVariants as change
+pub use Rattle.relay_patch.specs.declared.spot.Spot.{Spot}
+use Rattle.relay_patch.specs.declared.spot.Spot.TheVariants as spot
+
+-- a fault: memory was refused to a step that passes, or the step is refused
+abbrev pub Refuses : {A : Type 0} → Result A Cause → Cause → Type 0
+Refuses r cause = (cause ≢ NoMemory → r ≡ Err cause) × (cause ≡ NoMemory → IsOk r)
+
+abbrev pub index_within : ℕ → Option ℕ → Result ℕ Cause
+index_within n None = Err NotIndex
+index_within n (Some i) = if nat_le i n then Ok i else Err PastEnd
+
+-- the index at which a token inserts into a list of n elements
+abbrev pub insertion_index : ℕ → Token → Result ℕ Cause
+insertion_index n t = if is_dash t then Ok n else index_within n (index_of t)
+
+-- where a token inserts in a container
+abbrev pub landing_in : Document → Token → Result Spot Cause
+landing_in (list ds) t = then_do (insertion_index (items_length ds) t) (λ i. Ok (spot.Item i))
+landing_in (object ms) t = Ok (spot.Member (is_some (member_at ms t)))
+landing_in _ t = Err NoContainer
+
+-- where an insertion at a path goes
+abbrev pub landing : Document → Path → Result Spot Cause
+landing d [] = Ok spot.Root
+landing d (t ∷ path) = then_do (walk d (parent t path)) (λ c. landing_in c (last t path))
+
+abbrev pub is_list : Document → Bool
+is_list (list ds) = true
+is_list _ = false
+
+-- whether the part that a token names is an element
+abbrev pub standing_in : Document → Token → Result Bool Cause
+standing_in c t = then_do (step c t) (λ _. Ok (is_list c))
+
+-- whether the part at a path is an element
+abbrev pub standing : Document → Path → Result Bool Cause
+standing d [] = Err Root
+standing d (t ∷ path) = then_do (walk d (parent t path)) (λ c. standing_in c (last t path))
+
+-- the last token of the place to which a path leads
+abbrev pub final : Spot → Token → Token
+final (spot.Item i) t = if is_dash t then index_text i else t
+final _ t = t
+
+abbrev pub is_item : Spot → Bool
+is_item (spot.Item i) = true
+is_item _ = false
+
+-- the place at a path where an insertion goes to a spot
+abbrev pub landed : Spot → Path → Place
+landed s [] = record { path = []; item = is_item s }
+landed s (t ∷ path) = record { path = parent t path ++ final s (last t path) ∷ []; item = is_item s }
+
+abbrev pub shifted_index : ℕ → Option ℕ → Option ℕ → Option ℕ
+shifted_index n (Some i) (Some j) = if nat_le i j && nat_lt j n then Some (j + 1) else None
+shifted_index n _ _ = None
+
+-- the index, while the element that the first token names is still there, of one behind it
+abbrev pub shifted : Document → Token → Token → Option ℕ
+shifted (list ds) gone t = shifted_index (items_length ds) (index_of gone) (index_of t)
+shifted _ gone t = None
+
+abbrev pub is_end_index : ℕ → Option ℕ → Bool
+is_end_index n None = false
+is_end_index n (Some i) = i + 1 == n
+
+-- whether a token names the last element of a list
+abbrev pub is_end : Document → Token → Bool
+is_end (list ds) t = is_end_index (items_length ds) (index_of t)
+is_end _ t = false
+
+abbrev pub ends : Result Document Cause → Token → Bool
+ends (Ok c) t = is_end c t
+ends (Err e) t = false
+
+-- whether two tokens name the same place of a container that loses the part of the first one
+abbrev pub is_same_end : Result Document Cause → Token → Token → Bool
+is_same_end c t last = bytes_eq t last || (is_dash last && ends c t)
+
+-- the change of an insertion at a canonical path, by where it goes
+abbrev pub insertion : Spot → Path → Document → Change
+insertion spot.Root path v = change.Set path v
+insertion (spot.Member true) path v = change.Set path v
+insertion (spot.Member false) path v = change.AddMember path v
+insertion (spot.Item i) path v = change.AddItem path v
+
+abbrev pub removal : Bool → Path → Change
+removal true path = change.DropItem path
+removal false path = change.DropMember path
+
+abbrev pub listed : Option Change → List Change
+listed None = []
+listed (Some c) = c ∷ []
+
+-- the document that the operations so far have made: the old one while none has changed it
+abbrev pub present : Option Document → Document → Document
+present (Some d) old = d
+present None old = old
+
+-- the operations before place n pass, and the one at n is not refused by its own checks
+abbrev pub Reaches : Document → List Op → Bounds → ℕ → Type 0
+Reaches d ops bounds n = (e : Document) × (op : Op) × (after d (take n ops) bounds ≡ Ok e) × (slice_get ops n ≡ Some op) × IsOk (effect e op)

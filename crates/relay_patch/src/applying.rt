@@ -1,0 +1,230 @@
+//! Patches applied: all of their operations, or none.
+ghost use Rattle.std.specs.Prelude.{Some, ◌≡◌, ◌≢◌, ◌<◌, ◌-◌, ◌^◌, ◌++◌, Ok, Err, IsOk, IfOk, IfErr, OnOk, [], ◌∷◌};
+ghost use Rattle.std.specs.List.{AllByRecursion};
+ghost use Rattle.relay_tree.specs.Document.{Document};
+ghost use Rattle.relay_patch.specs.Walk.{then_do};
+ghost use Rattle.relay_patch.specs.Patch.{after, effect, within};
+ghost use Rattle.relay_patch.specs.Change.{Makes, Leads, changes_of, all_changes};
+ghost use Rattle.relay_patch.specs.Sizes.{ChangeFits};
+ghost use Rattle.relay_patch.specs.Measure.{Known};
+ghost use Rattle.relay_patch.specs.Steps.{listed, present, Reaches};
+ghost use Rattle.relay_patch.specs.declared.fault.Cause.TheVariants.{NoMemory};
+
+use crate::bounds::Bounds;
+use crate::change::Change;
+use crate::fault::{ApplyFault, Cause};
+use crate::making::make;
+use crate::measuring::{bound, measure};
+use crate::op::Op;
+use crate::patch::Patch;
+use crate::recording::record;
+use relay_tree::Tree;
+use std::alloc::{AllocError, Global};
+
+/// Applies a patch to the tree (RFC 6902, section 5), and tells what it changed. The operations are done in order, and
+/// after each the document has to be within the bounds. Where one is refused, or memory is, the tree is as it was.
+///
+/// The changes are those of the operations in order, with canonical paths: they lead from the old document to the new
+/// one. A `test`, and a `move` to its own place, change nothing. Where there is a bound on the depth, which the old
+/// document keeps, no path of a change has more tokens and no value is deeper.
+///
+/// Nothing is copied before the first operation that changes something has passed its checks. From there on it costs a
+/// copy of the document, and for each operation its paths, what it takes away and three times its value. The document is
+/// measured once, after the first operation, as far as there are bounds; from then on what an operation changed tells.
+pub fn apply(
+    alloc: Global,
+    tree: &mut Tree,
+    patch: &Patch,
+    bounds: Bounds,
+) -> Result<Vec<Change>, ApplyFault>
+    ensures document { OnOk result (after tree.old patch.now bounds ≡ Ok tree.new) }
+    ensures changes { IfOk result (λ changes. changes.items ≡ all_changes tree.old patch.now) }
+    ensures led { IfOk result (λ changes. Leads tree.old changes.items tree.new) }
+    ensures sizes { IfOk result (λ changes. bounds.depth < 2 ^ 64 - 1 → within bounds tree.old ≡ Ok tree.old → AllByRecursion (ChangeFits bounds.depth bounds.depth) changes.items) }
+    ensures refused { IfErr result (λ fault. fault.cause ≢ NoMemory → after tree.old patch.now bounds ≡ Err fault) }
+    ensures memory { IfErr result (λ fault. fault.cause ≡ NoMemory → Reaches tree.old patch.now bounds fault.at) }
+    ensures unchanged { IfErr result (λ _. tree.new ≡ tree.old) }
+{
+    match run(alloc, tree, patch.ops(), bounds) {
+        Ok(Done { draft, changes, .. }) => {
+            settle(tree, draft);
+            Ok(changes)
+        }
+        Err(fault) => Err(fault),
+    }
+}
+
+// Puts the new document in the place of the old one, if it is another.
+fn settle(tree: &mut Tree, draft: Option<Tree>)
+    ensures { tree.new ≡ present draft tree.old }
+{
+    if let Some(draft) = draft {
+        *tree = draft;
+    }
+}
+
+// What the operations so far have made.
+#[derive(Drop)]
+struct Done {
+    // The present document, once it is another than the old one.
+    draft: Option<Tree>,
+    changes: Vec<Change>,
+    // The weight of the present document, as far as it is bounded, once that is known to be within the bounds.
+    weight: Option<u64>,
+}
+
+fn run(alloc: Global, old: &Tree, ops: &[Op], bounds: Bounds) -> Result<Done, ApplyFault>
+    ensures document { IfOk result (λ done. after old.now ops.now bounds ≡ Ok (present done.draft old.now)) }
+    ensures changes { IfOk result (λ done. done.changes.items ≡ all_changes old.now ops.now) }
+    ensures refused { IfErr result (λ fault. fault.cause ≢ NoMemory → after old.now ops.now bounds ≡ Err fault) }
+    ensures memory { IfErr result (λ fault. fault.cause ≡ NoMemory → Reaches old.now ops.now bounds fault.at) }
+{
+    let mut done = Done {
+        draft: None,
+        changes: Vec::new(alloc),
+        weight: None,
+    };
+    for (at, op) in ops.iter().enumerate() {
+        done = match perform(alloc, old, done, op, bounds) {
+            Ok(done) => done,
+            Err(cause) => return Err(ApplyFault {
+                at: at as u64,
+                cause,
+            }),
+        };
+    }
+    Ok(done)
+}
+
+// One operation, and the bounds on what it makes.
+fn perform(alloc: Global, old: &Tree, done: Done, op: &Op, bounds: Bounds) -> Result<Done, Cause>
+    requires { Known bounds (present done.draft old.now) done.weight }
+    ensures known { IfOk result (λ next. Known bounds (present next.draft old.now) next.weight) }
+    ensures document { IfOk result (λ next. then_do (effect (present done.draft old.now) op.now) (within bounds) ≡ Ok (present next.draft old.now)) }
+    ensures changes { IfOk result (λ next. next.changes.items ≡ done.changes.items ++ changes_of (present done.draft old.now) op.now) }
+    ensures refused { IfErr result (λ cause. cause ≢ NoMemory → then_do (effect (present done.draft old.now) op.now) (within bounds) ≡ Err cause) }
+    ensures memory { IfErr result (λ cause. cause ≡ NoMemory → IsOk (effect (present done.draft old.now) op.now)) }
+{
+    let change = record(alloc, present(&done, old), op)?;
+    advance(alloc, old, done, change, bounds)
+}
+
+fn present<'t>(done: &'t Done, old: &'t Tree) -> &'t Tree
+    ensures { result.now ≡ present done.now.draft old.now }
+{
+    match &done.draft {
+        Some(draft) => draft,
+        None => old,
+    }
+}
+
+// Makes the change, if there is one, within the bounds.
+fn advance(
+    alloc: Global,
+    old: &Tree,
+    done: Done,
+    change: Option<Change>,
+    bounds: Bounds,
+) -> Result<Done, Cause>
+    requires makes { (next : Document) × Leads (present done.draft old.now) (listed change) next }
+    requires known { Known bounds (present done.draft old.now) done.weight }
+    ensures known { IfOk result (λ next. Known bounds (present next.draft old.now) next.weight) }
+    ensures fits { IfOk result (λ next. within bounds (present next.draft old.now) ≡ Ok (present next.draft old.now)) }
+    ensures document { IfOk result (λ next. Leads (present done.draft old.now) (listed change) (present next.draft old.now)) }
+    ensures changes { IfOk result (λ next. next.changes.items ≡ done.changes.items ++ listed change) }
+    ensures refused { IfErr result (λ cause. cause ≢ NoMemory → (next : Document) × Leads (present done.draft old.now) (listed change) next × (within bounds next ≡ Err cause)) }
+{
+    match change {
+        Some(change) => carry_out(alloc, old, done, change, bounds),
+        None => confine(old, done, bounds),
+    }
+}
+
+// The bounds on what has been made, unless it is known to keep them.
+fn confine(old: &Tree, done: Done, bounds: Bounds) -> Result<Done, Cause>
+    requires { Known bounds (present done.draft old.now) done.weight }
+    ensures known { IfOk result (λ next. Known bounds (present next.draft old.now) next.weight) }
+    ensures fits { IfOk result (λ next. within bounds (present next.draft old.now) ≡ Ok (present next.draft old.now)) }
+    ensures document { IfOk result (λ next. present done.draft old.now ≡ present next.draft old.now) }
+    ensures changes { IfOk result (λ next. next.changes.items ≡ done.changes.items) }
+    ensures refused { IfErr result (λ cause. within bounds (present done.draft old.now) ≡ Err cause) }
+{
+    if done.weight.is_some() {
+        return Ok(done);
+    }
+    let weight = measure(present(&done, old), bounds)?;
+    let Done { draft, changes, .. } = done;
+    Ok(Done {
+        draft,
+        changes,
+        weight: Some(weight),
+    })
+}
+
+// Makes a change within the bounds, in a copy of the old document if it is the first one.
+fn carry_out(
+    alloc: Global,
+    old: &Tree,
+    done: Done,
+    change: Change,
+    bounds: Bounds,
+) -> Result<Done, Cause>
+    requires makes { (next : Document) × Makes (present done.draft old.now) change next }
+    requires known { Known bounds (present done.draft old.now) done.weight }
+    ensures known { IfOk result (λ next. Known bounds (present next.draft old.now) next.weight) }
+    ensures fits { IfOk result (λ next. within bounds (present next.draft old.now) ≡ Ok (present next.draft old.now)) }
+    ensures document { IfOk result (λ next. Makes (present done.draft old.now) change (present next.draft old.now)) }
+    ensures changes { IfOk result (λ next. next.changes.items ≡ done.changes.items ++ change ∷ []) }
+    ensures refused { IfErr result (λ cause. cause ≢ NoMemory → (next : Document) × Makes (present done.draft old.now) change next × (within bounds next ≡ Err cause)) }
+{
+    let Done {
+        draft,
+        mut changes,
+        weight,
+    } = done;
+    let mut next = begin(alloc, old, draft)?;
+    let weight = match alter(alloc, &mut next, weight, &change, bounds) {
+        Ok(weight) => weight,
+        Err(cause) => return Err(cause),
+    };
+    tell(&mut changes, change)?;
+    Ok(Done {
+        draft: Some(next),
+        changes,
+        weight: Some(weight),
+    })
+}
+
+// The document to change: a copy of the old one before the first change.
+fn begin(alloc: Global, old: &Tree, draft: Option<Tree>) -> Result<Tree, AllocError>
+    ensures { IfOk result (λ next. next ≡ present draft old.now) }
+{
+    match draft {
+        Some(draft) => Ok(draft),
+        None => old.copy(alloc),
+    }
+}
+
+// Makes a change, and gives the weight after it, if that is within the bounds.
+fn alter(
+    alloc: Global,
+    tree: &mut Tree,
+    known: Option<u64>,
+    change: &Change,
+    bounds: Bounds,
+) -> Result<u64, Cause>
+    requires makes { (next : Document) × Makes tree.old change.now next }
+    requires known { Known bounds tree.old known }
+    ensures made { OnOk result (Makes tree.old change.now tree.new) }
+    ensures known { IfOk result (λ n. Known bounds tree.new (Some n)) }
+    ensures refused { IfErr result (λ cause. cause ≢ NoMemory → Makes tree.old change.now tree.new × (within bounds tree.new ≡ Err cause)) }
+{
+    let went = make(alloc, tree, change)?;
+    bound(tree, known, change, &went, bounds)
+}
+
+fn tell(changes: &mut Vec<Change>, change: Change) -> Result<(), AllocError>
+    ensures { OnOk result (changes.new.items ≡ changes.old.items ++ change ∷ []) }
+{
+    Ok(changes.push(change)?)
+}

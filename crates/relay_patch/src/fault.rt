@@ -1,0 +1,57 @@
+//! Why a patch is not applied.
+use std::alloc::AllocError;
+use thiserror::Error;
+
+/// Why an operation is refused. An operation's own checks, in the order that RFC 6902 gives them, come first, then the
+/// depth and the weight of what it made. Memory is taken only once an operation's own checks have passed.
+#[derive(Clone, Copy, Debug, PartialEq, Eq, Error)]
+pub enum Cause {
+    /// A path names a part that is not there.
+    #[error("no such part")]
+    Missing,
+    /// A token that has to be the index of an element is none.
+    #[error("not an index")]
+    NotIndex,
+    /// An insertion behind the end of a list, with a gap.
+    #[error("past the end of the list")]
+    PastEnd,
+    /// A path goes on below a value that has no parts.
+    #[error("not a container")]
+    NoContainer,
+    /// A `remove` of the whole document.
+    #[error("the root stays")]
+    Root,
+    /// A `move` of a value to a place inside itself.
+    #[error("moved into itself")]
+    IntoItself,
+    /// A `test` found another value.
+    #[error("another value")]
+    TestFailed,
+    /// The document would be deeper than the bound.
+    #[error("too deep")]
+    TooDeep,
+    /// The document would weigh more than the bound.
+    #[error("too heavy")]
+    TooHeavy,
+    #[error("out of memory")]
+    NoMemory,
+}
+
+impl From<AllocError> for Cause {
+    ghost use Rattle.std.specs.Prelude.{◌≡◌};
+    ghost use Rattle.relay_patch.specs.declared.fault.Cause.TheVariants.{NoMemory};
+
+    ghost from_gives = { λ _ cause. cause ≡ NoMemory };
+
+    fn from(_: AllocError) -> Cause {
+        Cause::NoMemory
+    }
+}
+
+/// The first operation that is refused, counted from 0, and why.
+#[derive(Clone, Copy, Debug, PartialEq, Eq, Error)]
+#[error("operation {at}: {cause}")]
+pub struct ApplyFault {
+    pub at: u64,
+    pub cause: Cause,
+}

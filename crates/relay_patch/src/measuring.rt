@@ -1,0 +1,176 @@
+//! The bounds on a document, measured whole, or from what a change brought and took.
+ghost use Rattle.std.specs.Prelude.{◌≡◌, ◌≢◌, ◌<◌, ◌≤◌, ◌-◌, ◌+◌, ◌^◌, Ok, Err, OnOk, IfOk, IfErr, IsOk, length};
+ghost use Rattle.relay_tree.specs.Document.{depth, weight, saturated};
+ghost use Rattle.relay_pointer.specs.Path.{path_of};
+ghost use Rattle.relay_patch.specs.Patch.{within, exceeds};
+ghost use Rattle.relay_patch.specs.Measure.{reach, lost, gained, part_weight, name_weight, place_weight, new_name, judged, Became};
+ghost use Rattle.relay_patch.specs.declared.fault.Cause.TheVariants.{NoMemory};
+
+use crate::bounds::Bounds;
+use crate::change::{Change, Place};
+use crate::fault::Cause;
+use relay_pointer::Pointer;
+use relay_tree::Tree;
+
+/// The weight of a document within the bounds, which is told where it is bounded. Without a bound nothing is measured.
+pub(crate) fn measure(tree: &Tree, bounds: Bounds) -> Result<u64, Cause>
+    ensures ok { OnOk result (within bounds tree.now ≡ Ok tree.now) }
+    ensures weight { IfOk result (λ n. bounds.weight < 2 ^ 64 - 1 → n ≡ weight tree.now) }
+    ensures err { IfErr result (λ cause. within bounds tree.now ≡ Err cause) }
+    ensures other { IfErr result (λ cause. cause ≢ NoMemory) }
+{
+    if exceeds_depth(tree, bounds.depth) {
+        return Err(Cause::TooDeep);
+    }
+    if bounds.weight == u64::MAX {
+        return Ok(0);
+    }
+    let weight = tree.weight();
+    if bounds.weight < weight {
+        return Err(Cause::TooHeavy);
+    }
+    Ok(weight)
+}
+
+fn exceeds_depth(tree: &Tree, most: u64) -> bool
+    ensures { result ≡ exceeds most (depth tree.now) }
+{
+    most < u64::MAX && most < tree.depth()
+}
+
+/// The weight of a document after a change. Where the one before it is known to be within the bounds, the document is
+/// not walked: what the change brought and took tells.
+pub(crate) fn bound(
+    tree: &Tree,
+    known: Option<u64>,
+    change: &Change,
+    went: &Option<Tree>,
+    bounds: Bounds,
+) -> Result<u64, Cause>
+    requires { Became bounds known change.now went.now tree.now }
+    ensures ok { OnOk result (within bounds tree.now ≡ Ok tree.now) }
+    ensures weight { IfOk result (λ n. bounds.weight < 2 ^ 64 - 1 → n ≡ weight tree.now) }
+    ensures err { IfErr result (λ cause. within bounds tree.now ≡ Err cause) }
+    ensures other { IfErr result (λ cause. cause ≢ NoMemory) }
+{
+    match known {
+        Some(weight) => judge(weight, change, went, bounds),
+        None => measure(tree, bounds),
+    }
+}
+
+// The weight after a change, from the weight before it. The document before was within the bounds, so it is too deep
+// after the change exactly where the value that came stands too deep.
+fn judge(weight: u64, change: &Change, went: &Option<Tree>, bounds: Bounds) -> Result<u64, Cause>
+    requires { bounds.weight < 2 ^ 64 - 1 → lost change.now went.now ≤ weight }
+    ensures ok { OnOk result (IsOk (judged bounds change.now (weight - lost change.now went.now + gained change.now went.now))) }
+    ensures weight { IfOk result (λ n. bounds.weight < 2 ^ 64 - 1 → n ≡ weight - lost change.now went.now + gained change.now went.now) }
+    ensures err { IfErr result (λ cause. judged bounds change.now (weight - lost change.now went.now + gained change.now went.now) ≡ Err cause) }
+    ensures other { IfErr result (λ cause. cause ≢ NoMemory) }
+{
+    if exceeds_reach(change, bounds.depth) {
+        return Err(Cause::TooDeep);
+    }
+    if bounds.weight == u64::MAX {
+        return Ok(0);
+    }
+    let weight = (weight - lost(change, went)).saturating_add(gained(change, went));
+    if bounds.weight < weight {
+        return Err(Cause::TooHeavy);
+    }
+    Ok(weight)
+}
+
+fn exceeds_reach(change: &Change, most: u64) -> bool
+    ensures { result ≡ exceeds most (reach change.now) }
+{
+    most < u64::MAX && most < reach(change)
+}
+
+// How deep the value stands that a change brings.
+fn reach(change: &Change) -> u64
+    ensures { result ≡ saturated (reach change.now) }
+{
+    match change {
+        Change::Set { path, value } => reach_at(path, value),
+        Change::AddMember { path, value } => reach_at(path, value),
+        Change::AddItem { path, value } => reach_at(path, value),
+        Change::DropMember { .. } => 0,
+        Change::DropItem { .. } => 0,
+        Change::Move { to, value, .. } => reach_at(&to.path, value),
+        Change::Copy { to, value, .. } => reach_at(&to.path, value),
+    }
+}
+
+fn reach_at(path: &Pointer, value: &Tree) -> u64
+    ensures { result ≡ saturated (length path.now + depth value.now) }
+{
+    (path.tokens().len() as u64).saturating_add(value.depth())
+}
+
+// The weight of what a change takes away.
+fn lost(change: &Change, went: &Option<Tree>) -> u64
+    ensures { result ≡ saturated (lost change.now went.now) }
+{
+    let name = match change {
+        Change::DropMember { path } => name_weight(path),
+        Change::Move { from, .. } => place_weight(from),
+        _ => 0,
+    };
+    part_weight(went).saturating_add(name)
+}
+
+// The weight of what a change brings.
+fn gained(change: &Change, went: &Option<Tree>) -> u64
+    ensures { result ≡ saturated (gained change.now went.now) }
+{
+    match change {
+        Change::Set { value, .. } => value.weight(),
+        Change::AddMember { path, value } => value.weight().saturating_add(name_weight(path)),
+        Change::AddItem { value, .. } => value.weight(),
+        Change::DropMember { .. } => 0,
+        Change::DropItem { .. } => 0,
+        Change::Move { to, .. } => new_name(to, went),
+        Change::Copy { to, value, .. } => value.weight().saturating_add(new_name(to, went)),
+    }
+}
+
+fn part_weight(part: &Option<Tree>) -> u64
+    ensures { result ≡ saturated (part_weight part.now) }
+{
+    match part {
+        Some(part) => part.weight(),
+        None => 0,
+    }
+}
+
+// The name of a member that is new at the place.
+fn new_name(place: &Place, went: &Option<Tree>) -> u64
+    ensures { result ≡ saturated (new_name (place_weight place.now) went.now) }
+{
+    match went {
+        Some(_) => 0,
+        None => place_weight(place),
+    }
+}
+
+// The name of a member at the place, which an element has not.
+fn place_weight(place: &Place) -> u64
+    ensures { result ≡ saturated (place_weight place.now) }
+{
+    if place.item {
+        0
+    } else {
+        name_weight(&place.path)
+    }
+}
+
+// The bytes of a path's last token.
+fn name_weight(path: &Pointer) -> u64
+    ensures { result ≡ saturated (name_weight path.now) }
+{
+    match path.tokens() {
+        [.., last] => last.len() as u64,
+        [] => 0,
+    }
+}

@@ -1,0 +1,10 @@
+pub mod Indexes
+pub mod Numbers
+pub mod Walks
+pub mod Reaching
+pub mod Puts
+pub mod Paths
+pub mod Parts
+pub mod Spellings
+pub mod Rows
+pub mod Escapes

@@ -1,0 +1,87 @@
+-- What was put at a path stands there; of two values put at one place the last stands; the old value put back gives the old document.
+use Rattle.std.proofs.Common.{◌≡◌, ℕ, zero, suc, [], ◌∷◌, List, Bool, true, false, bytes_eq, Option, Some, None, refl, sym, ap, ◌∙◌}
+use Rattle.relay_tree.specs.Document.{Document, null, truth, whole, text, list, object, Items, no_items, item, Members, no_members, member}
+use Rattle.relay_tree.specs.Part.{item_at, put_item, set_member}
+use Rattle.relay_tree.proofs.Elements.{item_at-put_same}
+use Rattle.relay_tree.proofs.Members.{member_at-set_same}
+use Rattle.relay_pointer.specs.Index.{Token, index_of}
+use Rattle.relay_pointer.specs.Path.{Path, child, put_element, with_child, at, put}
+use Rattle.relay_pointer.proofs.Walks.{with_child-same}
+
+-- Elements and members.
+
+put_item-twice : (ds : Items) (i : ℕ) (a b : Document) → put_item (put_item ds i a) i b ≡ put_item ds i b
+put_item-twice no_items i a b = refl
+put_item-twice (item d ds) zero a b = refl
+put_item-twice (item d ds) (suc i) a b = ap (item d) (put_item-twice ds i a b)
+
+put_element-twice : (ds : Items) (o : Option ℕ) (a b : Document) → put_element (put_element ds o a) o b ≡ put_element ds o b
+put_element-twice ds None a b = refl
+put_element-twice ds (Some i) a b = put_item-twice ds i a b
+
+set_member-twice : (ms : Members) (name : List ℕ) (a b : Document) → set_member (set_member ms name a) name b ≡ set_member ms name b
+set_member-twice no_members name a b = refl
+set_member-twice (member n d ms) name a b = go (bytes_eq n name) refl (set_member-twice ms name a b)
+  where
+    go : (x : Bool) → bytes_eq n name ≡ x → set_member (set_member ms name a) name b ≡ set_member ms name b → set_member (set_member (member n d ms) name a) name b ≡ set_member (member n d ms) name b
+    go true e rest = rw e (rw e refl)
+    go false e rest = rw e (rw e (ap (member n d) rest))
+
+-- Children.
+
+pub with_child-twice : (d : Document) (t : Token) (a b : Document) → with_child (with_child d t a) t b ≡ with_child d t b
+with_child-twice null t a b = refl
+with_child-twice (truth x) t a b = refl
+with_child-twice (whole z) t a b = refl
+with_child-twice (text s) t a b = refl
+with_child-twice (list ds) t a b = ap list (put_element-twice ds (index_of t) a b)
+with_child-twice (object ms) t a b = ap object (set_member-twice ms t a b)
+
+pub child-with_child : (d : Document) (t : Token) (c a : Document) → child d t ≡ Some c → child (with_child d t a) t ≡ Some a
+child-with_child null t c a h = cc
+child-with_child (truth x) t c a h = cc
+child-with_child (whole z) t c a h = cc
+child-with_child (text s) t c a h = cc
+child-with_child (list ds) t c a h = go (index_of t) refl
+  where
+    go : (o : Option ℕ) → index_of t ≡ o → child (list (put_element ds (index_of t) a)) t ≡ Some a
+    go None e = let k : None ≡ Some c = rw e at h in cc
+    go (Some i) e = let k : item_at ds i ≡ Some c = rw e at h in rw e (item_at-put_same ds i c a k)
+child-with_child (object ms) t c a h = member_at-set_same ms t c a h
+
+-- Paths.
+
+-- what a path leads to, through its first token
+record Through (d : Document) (t : Token) (path : Path) (old : Document) : Type 0 where
+  part : Document
+  first : child d t ≡ Some part
+  rest : at part path ≡ Some old
+
+through : (d : Document) (t : Token) (path : Path) (old : Document) → at d (t ∷ path) ≡ Some old → Through d t path old
+through d t path old h = go (child d t) refl
+  where
+    go : (o : Option Document) → child d t ≡ o → Through d t path old
+    go None e = let k : None ≡ Some old = rw e at h in cc
+    go (Some c) e = record { part = c; first = e; rest = rw e at h }
+
+pub at-put : (d : Document) (path : Path) (old v : Document) → at d path ≡ Some old → at (put d path v) path ≡ Some v
+at-put d [] old v h = refl
+at-put d (t ∷ path) old v h =
+    let s = through d t path old h in
+    rw (s.first, child-with_child d t s.part (put s.part path v) s.first) (at-put s.part path old v s.rest)
+
+pub put-twice : (d : Document) (path : Path) (old v w : Document) → at d path ≡ Some old → put (put d path v) path w ≡ put d path w
+put-twice d [] old v w h = refl
+put-twice d (t ∷ path) old v w h =
+    let s = through d t path old h in
+    let below = put-twice s.part path old v w s.rest in
+    rw (s.first, child-with_child d t s.part (put s.part path v) s.first, below) (with_child-twice d t (put s.part path v) (put s.part path w))
+
+pub put-same : (d : Document) (path : Path) (old : Document) → at d path ≡ Some old → put d path old ≡ d
+put-same d [] old h = let e : d ≡ old = cc in sym e
+put-same d (t ∷ path) old h =
+    let s = through d t path old h in
+    rw (s.first, put-same s.part path old s.rest) (with_child-same d t s.part s.first)
+
+pub put-back : (d : Document) (path : Path) (old v : Document) → at d path ≡ Some old → put (put d path v) path old ≡ d
+put-back d path old v h = put-twice d path old v old h ∙ put-same d path old h

@@ -1,0 +1,11 @@
+-- What a node ends as, once the borrow of a part is over.
+use Rattle.std.specs.Prelude.{Option}
+use Rattle.std.specs.Borrow.{MutBor, Fml}
+use Rattle.relay_tree.specs.Document.{Document}
+use Rattle.relay_tree.specs.Lending.{LendsPart}
+use Rattle.relay_tree.specs.declared.tree.Node.{Node}
+use Rattle.relay_pointer.specs.Index.{Token}
+use Rattle.relay_pointer.specs.Path.{with_child}
+
+abbrev pub LendsChild : MutBor Node → Token → Option (MutBor Document) → Fml
+LendsChild s t r = LendsPart (λ d. with_child d t) s r

@@ -1,0 +1,4 @@
+pub mod Index
+pub mod Path
+pub mod Spelling
+pub mod Lending

@@ -1,0 +1,24 @@
+//! JSON Pointer (RFC 6901): paths into a document, and the part that a path names.
+//!
+//! The promise: a text and its pointer agree, what [`resolve`] gives is the value at the path, and what is written through
+//! [`resolve_mut`] is all that changes in the whole. Contracts see a [`Pointer`] as the list of its tokens, each a list of
+//! bytes with nothing escaped.
+#![tactic(auto)]
+
+mod index;
+mod lent;
+mod pointer;
+mod put;
+mod reading;
+mod text;
+mod walk;
+
+pub use index::index_of;
+pub use lent::resolve_mut;
+pub use pointer::Pointer;
+pub use put::{exchange, set, take};
+pub use reading::PointerFault;
+pub use walk::{child, resolve};
+
+#[cfg(test)]
+mod tests;

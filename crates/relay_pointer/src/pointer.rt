@@ -1,0 +1,81 @@
+//! A path into a document.
+ghost use Rattle.std.specs.Prelude.{◌≡◌, IfOk};
+ghost use Rattle.relay_pointer.specs.Path.{path_of};
+
+use std::alloc::{AllocError, Global};
+use std::marker::Model;
+
+/// A path into a document, as the list of its tokens. Contracts see each token as its bytes, with nothing escaped.
+#[derive(Drop)]
+pub struct Pointer {
+    tokens: Vec<String>,
+}
+
+impl Model for Pointer {
+    ghost use Rattle.std.specs.Prelude.{ℕ, List};
+    ghost use Rattle.relay_pointer.specs.Path.{path_of};
+
+    ghost Value = { List (List ℕ) };
+
+    ghost view = { λ p. path_of p.tokens.items };
+}
+
+impl Pointer {
+    ghost use Rattle.std.specs.Prelude.{◌≡◌, [], IfOk};
+    ghost use Rattle.relay_pointer.specs.Path.{path_of, is_prefix};
+
+    /// The path of no token, which leads to the whole document. No memory is taken.
+    pub fn root(alloc: Global) -> Pointer
+        ensures { result ≡ [] }
+    {
+        Pointer {
+            tokens: Vec::new(alloc),
+        }
+    }
+
+    /// The path of these tokens. No memory is taken.
+    pub fn from_tokens(texts: Vec<String>) -> Pointer
+        ensures { result ≡ path_of texts.items }
+    {
+        Pointer { tokens: texts }
+    }
+
+    /// The tokens, in order.
+    pub fn tokens(&self) -> &[String]
+        ensures { path_of result.now ≡ self.now }
+    {
+        self.tokens.as_slice()
+    }
+
+    /// The tokens, in order, without the pointer round them. No memory is taken.
+    pub fn into_tokens(self) -> Vec<String>
+        ensures { path_of result.items ≡ self }
+    {
+        let Pointer { tokens } = self;
+        tokens
+    }
+
+    /// An equal pointer. Want of memory leaves nothing behind.
+    pub fn copy(&self, alloc: Global) -> Result<Pointer, AllocError>
+        ensures { IfOk result (λ copy. copy ≡ self.now) }
+    {
+        Ok(Pointer::from_tokens(copy_tokens(alloc, self.tokens())?))
+    }
+
+    /// Whether the other path begins with this one, or is this one. No memory is taken.
+    pub fn is_prefix(&self, other: &Pointer) -> bool
+        ensures { result ≡ is_prefix self.now other.now }
+    {
+        other.tokens().starts_with(self.tokens())
+    }
+}
+
+fn copy_tokens(alloc: Global, tokens: &[String]) -> Result<Vec<String>, AllocError>
+    ensures { IfOk result (λ copies. path_of copies.items ≡ path_of tokens.now) }
+{
+    let mut copies = Vec::with_capacity(alloc, tokens.len())?;
+    for token in tokens {
+        copies.push(token.clone()?)?;
+    }
+    Ok(copies)
+}

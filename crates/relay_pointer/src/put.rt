@@ -1,0 +1,44 @@
+//! Writes at a path, through [`resolve_mut`]: of two writes to one place the last stands, and the old value written back
+//! gives the old document (`proofs/Puts.antt`).
+ghost use Rattle.std.specs.Prelude.{◌≡◌, Some, None, IfSome, IsNone, IsTrue, IsFalse, is_some};
+ghost use Rattle.relay_tree.specs.Document.{null};
+ghost use Rattle.relay_pointer.specs.Path.{at, put};
+
+use crate::lent::resolve_mut;
+use crate::pointer::Pointer;
+use relay_tree::{Node, Tree};
+use std::mem;
+
+/// Exchanges the value at the pointer for another, and hands back the old one. None, with nothing changed and the new
+/// value dropped, where the pointer leads to nothing. No memory is taken.
+pub fn exchange(whole: &mut Tree, pointer: &Pointer, value: Tree) -> Option<Tree>
+    ensures old { result ≡ at whole.old pointer.now }
+    ensures found { IfSome result (λ _. whole.new ≡ put whole.old pointer.now value) }
+    ensures missing { IsNone result → whole.new ≡ whole.old }
+{
+    let Tree { node } = value;
+    let part = resolve_mut(whole, pointer)?;
+    Some(Tree {
+        node: mem::replace(part, node),
+    })
+}
+
+/// Takes the value at the pointer, and leaves null there. None, with nothing changed, where the pointer leads to
+/// nothing. No memory is taken.
+pub fn take(whole: &mut Tree, pointer: &Pointer) -> Option<Tree>
+    ensures old { result ≡ at whole.old pointer.now }
+    ensures found { IfSome result (λ _. whole.new ≡ put whole.old pointer.now null) }
+    ensures missing { IsNone result → whole.new ≡ whole.old }
+{
+    exchange(whole, pointer, Tree::from(Node::Null))
+}
+
+/// Puts a value in the place of the one at the pointer. False, with nothing changed and the value dropped, where the
+/// pointer leads to nothing. No memory is taken.
+pub fn set(whole: &mut Tree, pointer: &Pointer, value: Tree) -> bool
+    ensures found { result ≡ is_some (at whole.old pointer.now) }
+    ensures set { IsTrue result → whole.new ≡ put whole.old pointer.now value }
+    ensures missing { IsFalse result → whole.new ≡ whole.old }
+{
+    exchange(whole, pointer, value).is_some()
+}

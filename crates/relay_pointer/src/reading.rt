@@ -1,0 +1,135 @@
+//! Pointers of texts (RFC 6901, section 3): a text is checked and counted whole before its tokens are built.
+ghost use Rattle.std.specs.Prelude.{◌≡◌, ◌<◌, ◌≤◌, ◌==◌, Some, None, IfOk, IfErr, IsSome, IsSomeAnd, IfSome, IsNone, is_some, ◌∷◌, length, count_by, string_bytes};
+ghost use Rattle.std.specs.List.{slice_split};
+ghost use Rattle.std.specs.Option.{option_map};
+ghost use Rattle.relay_pointer.specs.Path.{path_of};
+ghost use Rattle.relay_pointer.specs.Spelling.{Spells, SpellsNone, path_of_text, is_escaped, begins_escape, tokens_of, unescaped, after_tilde};
+ghost use Rattle.relay_pointer.specs.declared.reading.PointerFault.TheVariants.{BadPointer, TooManyTokens, NoMemory};
+
+use crate::pointer::Pointer;
+use std::alloc::{AllocError, Global};
+use thiserror::Error;
+
+/// Why a text gives no pointer, in the order of the checks.
+#[derive(Clone, Copy, Debug, PartialEq, Eq, Error)]
+pub enum PointerFault {
+    /// The text is not empty and begins with no `/`, or a `~` in it stands before neither `0` nor `1`.
+    #[error("not a JSON pointer")]
+    BadPointer,
+    /// The text spells more tokens than the caller takes.
+    #[error("too many tokens")]
+    TooManyTokens,
+    #[error("out of memory")]
+    NoMemory,
+}
+
+impl From<AllocError> for PointerFault {
+    ghost from_gives = { λ _ fault. fault ≡ NoMemory };
+
+    fn from(_: AllocError) -> PointerFault {
+        PointerFault::NoMemory
+    }
+}
+
+impl Pointer {
+    /// The pointer that a text spells, of at most `most` tokens. It costs the text's length in time and memory, and the
+    /// whole text is checked before any memory is taken.
+    pub fn read(alloc: Global, text: &str, most: u64) -> Result<Pointer, PointerFault>
+        ensures ok { IfOk result (λ pointer. path_of_text text.now ≡ Some pointer) }
+        ensures spelled { IfOk result (λ pointer. Spells text.now pointer) }
+        ensures few { IfOk result (λ pointer. length pointer ≤ most) }
+        ensures bad { IfErr result (λ fault. fault ≡ BadPointer → path_of_text text.now ≡ None) }
+        ensures unspelled { IfErr result (λ fault. fault ≡ BadPointer → SpellsNone text.now) }
+        ensures many { IfErr result (λ fault. fault ≡ TooManyTokens → IsSomeAnd (path_of_text text.now) (λ path. most < length path)) }
+        ensures no_memory { IfErr result (λ fault. fault ≡ NoMemory → IsSomeAnd (path_of_text text.now) (λ path. length path ≤ most)) }
+    {
+        if !is_pointer(text) {
+            return Err(PointerFault::BadPointer);
+        }
+        if count_tokens(text) > most {
+            return Err(PointerFault::TooManyTokens);
+        }
+        Ok(Pointer::from_tokens(tokens_of(alloc, text)?))
+    }
+}
+
+fn is_pointer(text: &str) -> bool
+    ensures { result ≡ is_some (path_of_text text.now) }
+{
+    text.is_empty() || text.starts_with('/') && is_escaped(text)
+}
+
+// Each `~` stands before a `0` or a `1`.
+fn is_escaped(text: &str) -> bool
+    ensures { result ≡ is_escaped text.now }
+{
+    let mut rest = text;
+    while let Some((_, behind)) = rest.split_once('~') {
+        if escape(behind).is_none() {
+            return false;
+        }
+        rest = behind;
+    }
+    true
+}
+
+// A text that spells a path has a token for each `/`.
+fn count_tokens(text: &str) -> u64
+    ensures { result ≡ count_by (λ b. b == 47) text.now }
+{
+    text.bytes().filter(|byte| *byte == b'/').count() as u64
+}
+
+fn tokens_of(alloc: Global, text: &str) -> Result<Vec<String>, AllocError>
+    requires { IsSome (path_of_text text.now) }
+    ensures { IfOk result (λ tokens. path_of_text text.now ≡ Some (path_of tokens.items)) }
+{
+    match text.strip_prefix('/') {
+        Some(written) => tokens_behind(alloc, written),
+        None => Ok(Vec::new(alloc)),
+    }
+}
+
+// The tokens of a text behind its first `/`.
+fn tokens_behind(alloc: Global, written: &str) -> Result<Vec<String>, AllocError>
+    requires { IsSome (tokens_of (slice_split (λ b. b == 47) written.now)) }
+    ensures { IfOk result (λ tokens. tokens_of (slice_split (λ b. b == 47) written.now) ≡ Some (path_of tokens.items)) }
+{
+    let mut tokens = Vec::new(alloc);
+    for part in written.split('/') {
+        tokens.push(unescaped(alloc, part)?)?;
+    }
+    Ok(tokens)
+}
+
+// The token that a text without a `/` writes.
+fn unescaped(alloc: Global, written: &str) -> Result<String, AllocError>
+    requires { IsSome (unescaped written.now) }
+    ensures { IfOk result (λ token. unescaped written.now ≡ Some (string_bytes token)) }
+{
+    let mut token = String::new(alloc);
+    let mut rest = written;
+    while let Some((plain, behind)) = rest.split_once('~') {
+        token.push_str(plain)?;
+        let (character, after) = escape(behind).unwrap();
+        token.push(character)?;
+        rest = after;
+    }
+    token.push_str(rest)?;
+    Ok(token)
+}
+
+// The character that an escape stands for, by what follows its `~`, and the text after it.
+fn escape(behind: &str) -> Option<(char, &str)>
+    ensures found { IfSome result (λ found. after_tilde behind.now ≡ option_map (λ t. found.0 ∷ t) (unescaped found.1.now)) }
+    ensures ascii { IfSome result (λ found. found.0 < 128) }
+    ensures shorter { IfSome result (λ found. length found.1.now < length behind.now) }
+    ensures missing { IsNone result → after_tilde behind.now ≡ None }
+    ensures is_there { is_some result ≡ begins_escape behind.now }
+{
+    if let Some(after) = behind.strip_prefix('0') {
+        return Some(('~', after));
+    }
+    let after = behind.strip_prefix('1')?;
+    Some(('/', after))
+}

@@ -1,0 +1,47 @@
+//! Evaluation of a pointer (RFC 6901, section 4).
+ghost use Rattle.std.specs.Prelude.{◌≡◌, option_copied};
+ghost use Rattle.std.specs.Option.{option_copied_mut};
+ghost use Rattle.std.specs.Borrow.{sem};
+ghost use Rattle.relay_tree.specs.Seen.{document_of};
+ghost use Rattle.relay_pointer.specs.Path.{child, at};
+ghost use Rattle.relay_pointer.specs.Lending.{LendsChild};
+
+use crate::index::index_of;
+use crate::pointer::Pointer;
+use relay_tree::{Node, Tree};
+
+/// The value to which the pointer leads, if there is one. No memory is taken.
+pub fn resolve<'t>(tree: &'t Tree, pointer: &Pointer) -> Option<&'t Tree>
+    ensures { option_copied result ≡ at tree.now pointer.now }
+{
+    let mut part = tree;
+    for token in pointer.tokens() {
+        part = child(part, token.as_str())?;
+    }
+    Some(part)
+}
+
+/// The part that one token names: the member of an object, or the element of a list where the token is its index.
+pub fn child<'t>(tree: &'t Tree, token: &str) -> Option<&'t Tree>
+    ensures { option_copied result ≡ child tree.now token.now }
+{
+    match &tree.node {
+        Node::List(_) => tree.item(index_of(token)? as usize),
+        Node::Members(_) => tree.member(token),
+        _ => None,
+    }
+}
+
+/// The part that one token names, for writing.
+pub(crate) fn child_mut<'t>(node: &'t mut Node, token: &str) -> Option<&'t mut Tree>
+    ensures* writes_back { sem 𝓛 (LendsChild node.entry token.now result) }
+    ensures value { option_copied_mut result ≡ child (document_of node.old) token.now }
+{
+    if node.list_len().is_none() {
+        return node.member_mut(token);
+    }
+    match index_of(token) {
+        Some(index) => node.item_mut(index as usize),
+        None => None,
+    }
+}

@@ -1,0 +1,178 @@
+-- The numbers of a request that was read, and of a refusal, are counts.
+use Rattle.std.proofs.Common.{◌≡◌, ℕ, ◌≤◌, pos, List, length, Bool, true, false, Option, Some, None, Result, Ok, Err, nat_lt, nat_le, bytes_eq, option_and_then, if◌then◌else◌, refl, subst, arith}
+use Rattle.std.specs.Prelude.{IfOk, IfErr, IfSome, MatchResult, codes}
+use Rattle.std.proofs.lemmas.Bool.Decides.{nat_tests}
+use Rattle.serde_json.specs.Data.{Data}
+use Rattle.serde_json.specs.Read as json
+use Rattle.relay_tree.specs.Count.{count_of, is_count}
+use Rattle.relay_tree.specs.Document.{Document, whole, list, text}
+use Rattle.relay_tree.specs.Part.{object_member}
+use Rattle.relay_tree.specs.Text.{tree_of}
+use Rattle.relay_pointer.specs.Path.{Path}
+use Rattle.relay_pointer.specs.Spelling.{path_of_text}
+use Rattle.relay_patch.proofs.Places.{place, IsBelow, few-place, patch_of-length, patch_of-place}
+use Rattle.relay_patch.specs.Form.{text_in, patch_of}
+use Rattle.relay_patch.specs.declared.limits.PatchFault.{PatchFault}
+use Rattle.relay_patch.specs.declared.limits.PatchFault.TheVariants as patch
+use Rattle.relay_patch.specs.declared.op.Op.{Op}
+use Rattle.relay_view.specs.Form.{path_within, path_at, view_of}
+use Rattle.relay_view.specs.declared.fault.ViewFault.{ViewFault}
+use Rattle.relay_view.specs.declared.fault.ViewFault.TheVariants as view
+use Rattle.relay_proto.specs.Request.{with_part, and_then, count_in, patch_refusal, patch_read, patch_in, view_refusal, view_read, view_in, resume_of, asked, request_of, request_of_tree, request_of_json, request_of_text}
+use Rattle.relay_proto.specs.Written.{IsCount, IsCountOrNull, HasCounts}
+use Rattle.relay_proto.specs.declared.refusal.Refusal.{Refusal}
+use Rattle.relay_proto.specs.declared.reply.Reply.TheVariants.{Refused}
+use Rattle.relay_proto.specs.declared.request.Request.{Request}
+use Rattle.relay_proto.specs.declared.request.Request.TheVariants.{Edit, Watch, Resume, Unwatch}
+
+-- a request's numbers are counts, and it has at most 64 operations
+abbrev pub IsRequest : Request → Type 0
+IsRequest (Edit id ops) = IsCount id × (length ops ≤ 64)
+IsRequest (Watch id pointers) = IsCount id
+IsRequest (Resume id epoch rev pointers) = IsCount id × IsCount epoch × IsCount rev
+IsRequest (Unwatch id) = IsCount id
+
+-- the numbers of the reply that says so are counts
+abbrev pub IsRefusal : Refusal → Type 0
+IsRefusal r = HasCounts (Refused r.id r.fault r.at)
+
+-- What is read part by part.
+
+abbrev Reads : {A : Type 0} → (A → Type 0) → Result A Refusal → Type 0
+Reads P r = MatchResult r P IsRefusal
+
+part_reads : {A B : Type 0} (P : A → Type 0) (Q : B → Type 0) (id : Option ℕ) (o : Option A) (f : A → Result B Refusal)
+    → IsCountOrNull id → IfSome o P → ((x : A) → P x → Reads Q (f x)) → Reads Q (with_part id o f)
+part_reads P Q id (Some x) f counts h k = k x h
+part_reads P Q id None f counts h k = (counts, tt)
+
+then_reads : {A B : Type 0} (P : A → Type 0) (Q : B → Type 0) (r : Result A Refusal) (f : A → Result B Refusal)
+    → Reads P r → ((x : A) → P x → Reads Q (f x)) → Reads Q (and_then r f)
+then_reads P Q (Ok x) f h k = k x h
+then_reads P Q (Err r) f h k = h
+
+either_reads : {A : Type 0} (P : A → Type 0) (b : Bool) (r s : Result A Refusal) → Reads P r → Reads P s → Reads P (if b then r else s)
+either_reads P true r s h k = h
+either_reads P false r s h k = k
+
+abbrev Anything : {A : Type 0} → A → Type 0
+Anything x = Unit {0}
+
+some_anything : {A : Type 0} (o : Option A) → IfSome o Anything
+some_anything None = tt
+some_anything (Some x) = tt
+
+-- Counts.
+
+count_of_is : (d : Document) → IfSome (count_of d) IsCount
+count_of_is (whole (pos n)) = go (is_count n) refl
+  where
+    go : (b : Bool) → b ≡ nat_le n 9007199254740991 → IfSome (if b then Some n else None) IsCount
+    go true e = grind (arith, nat_tests, e)
+    go false e = tt
+count_of_is _ = tt
+
+count_in_is : (d : Document) (name : List ℕ) → IfSome (count_in d name) IsCount
+count_in_is d name = go (object_member d name)
+  where
+    go : (o : Option Document) → IfSome (option_and_then count_of o) IsCount
+    go None = tt
+    go (Some v) = count_of_is v
+
+below_is : (most : ℕ) (o : Option ℕ) → most ≤ 64 → IsBelow most o → IsCountOrNull o
+below_is most None few h = tt
+below_is most (Some n) few h = omega (arith, few, h)
+
+-- Patches.
+
+patch_refused : (id : ℕ) (fault : PatchFault) → IsCount id → IsBelow 64 (place fault) → IsRefusal (patch_refusal id fault)
+patch_refused id patch.TooManyOps counts h = (counts, tt)
+patch_refused id (patch.Shape at) counts h = (counts, below_is 64 at (omega arith) h)
+patch_refused id (patch.UnknownOp at) counts h = (counts, below_is 64 (Some at) (omega arith) h)
+patch_refused id (patch.Pointer at) counts h = (counts, below_is 64 (Some at) (omega arith) h)
+patch_refused id patch.NoMemory counts h = (counts, tt)
+
+patch_reads : (id : ℕ) (d : Document) → IsCount id → Reads (λ ops. length ops ≤ 64) (patch_in id d)
+patch_reads id d counts =
+    part_reads Anything (λ ops. length ops ≤ 64) (Some id) (object_member d (codes "patch")) _ counts (some_anything _)
+    (λ p _. go (patch_of 64 64 p) (patch_of-length 64 64 p) (patch_of-place 64 64 p))
+  where
+    go : (r : Result (List Op) PatchFault) → IfOk r (λ ops. length ops ≤ 64) → IfErr r (λ fault. IsBelow 64 (place fault)) → Reads (λ ops. length ops ≤ 64) (patch_read id r)
+    go (Ok ops) h k = h
+    go (Err fault) h k = patch_refused id fault counts k
+
+-- Views.
+
+-- the pointer that a fault names, if it names one
+abbrev pointer_place : ViewFault → Option ℕ
+pointer_place view.TooMany = None
+pointer_place (view.Shape at) = at
+pointer_place (view.Pointer at) = Some at
+pointer_place view.NoMemory = None
+
+path_at_names : (n : ℕ) (d : Document) → IfErr (path_at n d) (λ fault. pointer_place fault ≡ Some n)
+path_at_names n (text s) = go (path_of_text s)
+  where
+    short : (b : Bool) (path : Path) → IfErr (if b then Ok path else Err (view.Pointer n)) (λ fault. pointer_place fault ≡ Some n)
+    short true path = tt
+    short false path = refl
+
+    go : (o : Option Path) → IfErr (path_within n o) (λ fault. pointer_place fault ≡ Some n)
+    go None = refl
+    go (Some path) = short (nat_le (length path) 64) path
+path_at_names n _ = refl
+
+view_of_place : (d : Document) → IfErr (view_of d) (λ fault. IsBelow 16 (pointer_place fault))
+view_of_place (list ds) = few-place path_at pointer_place path_at_names 16 view.TooMany tt ds
+view_of_place _ = tt
+
+view_refused : (id : ℕ) (fault : ViewFault) → IsCount id → IsBelow 16 (pointer_place fault) → IsRefusal (view_refusal id fault)
+view_refused id view.TooMany counts h = (counts, tt)
+view_refused id (view.Shape at) counts h = (counts, below_is 16 at (omega arith) h)
+view_refused id (view.Pointer at) counts h = (counts, below_is 16 (Some at) (omega arith) h)
+view_refused id view.NoMemory counts h = (counts, tt)
+
+view_reads : (id : ℕ) (d : Document) → IsCount id → Reads Anything (view_in id d)
+view_reads id d counts =
+    part_reads Anything Anything (Some id) (object_member d (codes "view")) _ counts (some_anything _) (λ v _. go (view_of v) (view_of_place v))
+  where
+    go : (r : Result (List Path) ViewFault) → IfErr r (λ fault. IsBelow 16 (pointer_place fault)) → Reads Anything (view_read id r)
+    go (Ok pointers) h = tt
+    go (Err fault) h = view_refused id fault counts h
+
+-- Requests.
+
+resume_reads : (id : ℕ) (d : Document) → IsCount id → Reads IsRequest (resume_of id d)
+resume_reads id d counts =
+    part_reads IsCount IsRequest (Some id) (count_in d (codes "epoch")) _ counts (count_in_is d (codes "epoch")) (λ epoch is_epoch.
+    part_reads IsCount IsRequest (Some id) (count_in d (codes "rev")) _ counts (count_in_is d (codes "rev")) (λ rev is_rev.
+    then_reads Anything IsRequest (view_in id d) _ (view_reads id d counts) (λ v _. (counts, is_epoch, is_rev))))
+
+asked_reads : (name : List ℕ) (id : ℕ) (d : Document) → IsCount id → Reads IsRequest (asked name id d)
+asked_reads name id d counts =
+    either_reads IsRequest (bytes_eq name (codes "edit")) _ _ (then_reads (λ ops. length ops ≤ 64) IsRequest (patch_in id d) _ (patch_reads id d counts) (λ ops short. (counts, short)))
+    (either_reads IsRequest (bytes_eq name (codes "watch")) _ _ (then_reads Anything IsRequest (view_in id d) _ (view_reads id d counts) (λ v _. counts))
+    (either_reads IsRequest (bytes_eq name (codes "resume")) _ _ (resume_reads id d counts)
+    (either_reads IsRequest (bytes_eq name (codes "unwatch")) _ _ counts (counts, tt))))
+
+request_reads : (d : Document) → Reads IsRequest (request_of d)
+request_reads d =
+    part_reads IsCount IsRequest None (count_in d (codes "id")) _ tt (count_in_is d (codes "id")) (λ id counts.
+    part_reads Anything IsRequest (Some id) (text_in d (codes "do")) _ counts (some_anything _) (λ name _. asked_reads name id d counts))
+
+text_reads : (s : List ℕ) → Reads IsRequest (request_of_text s)
+text_reads s = either_reads IsRequest (nat_lt 262144 (length s)) _ _ (tt, tt) (data_reads (json.read s))
+  where
+    tree_reads : (d : Option Document) → Reads IsRequest (request_of_tree d)
+    tree_reads None = (tt, tt)
+    tree_reads (Some d) = request_reads d
+
+    data_reads : (value : Option Data) → Reads IsRequest (request_of_json value)
+    data_reads None = (tt, tt)
+    data_reads (Some value) = tree_reads (tree_of value)
+
+pub request_counts : (s : List ℕ) (request : Request) → request_of_text s ≡ Ok request → IsRequest request
+request_counts s request h = subst (Reads IsRequest) h (text_reads s)
+
+pub refusal_counts : (s : List ℕ) (r : Refusal) → request_of_text s ≡ Err r → IsRefusal r
+refusal_counts s r h = subst (Reads IsRequest) h (text_reads s)

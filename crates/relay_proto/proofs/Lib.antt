@@ -1,0 +1,10 @@
+pub mod Numbers
+pub mod Texts
+pub mod Quoted
+pub mod Views
+pub mod Slots
+pub mod Patches
+pub mod Messages
+pub mod Written
+pub mod Writable
+pub mod Counts

@@ -1,0 +1,53 @@
+-- The words that messages spell, in quotes: none has a character to escape.
+use Rattle.std.proofs.Common.{◌≡◌, ℕ, List, ◌∷◌, ◌++◌, Option, refl, ap}
+use Rattle.std.specs.Prelude.{codes, decimal}
+use Rattle.json.specs.Print.{escape_byte}
+use Rattle.relay_tree.specs.Document.{text}
+use Rattle.relay_tree.specs.Text.{text_of}
+use Rattle.relay_proto.specs.Message.{count_or_null, reply_document}
+use Rattle.relay_proto.specs.Words.{word_text, how_text}
+use Rattle.relay_proto.specs.declared.reply.How.{How}
+use Rattle.relay_proto.specs.declared.reply.How.TheVariants as how
+use Rattle.relay_proto.specs.declared.reply.Reply.TheVariants as reply
+use Rattle.relay_proto.specs.declared.word.Word.{Word}
+use Rattle.relay_proto.specs.declared.word.Word.TheVariants as word
+
+text_of-word_text : (w : Word) (rest : List ℕ) → 34 ∷ (word_text w ++ (34 ∷ rest)) ≡ text_of (text (word_text w)) ++ rest
+unfolding escape_byte
+text_of-word_text word.TooLong rest = refl
+text_of-word_text word.NotJson rest = refl
+text_of-word_text word.Number rest = refl
+text_of-word_text word.Shape rest = refl
+text_of-word_text word.TooMany rest = refl
+text_of-word_text word.UnknownOp rest = refl
+text_of-word_text word.Pointer rest = refl
+text_of-word_text word.Missing rest = refl
+text_of-word_text word.NotIndex rest = refl
+text_of-word_text word.PastEnd rest = refl
+text_of-word_text word.NoContainer rest = refl
+text_of-word_text word.Root rest = refl
+text_of-word_text word.IntoItself rest = refl
+text_of-word_text word.TestFailed rest = refl
+text_of-word_text word.TooDeep rest = refl
+text_of-word_text word.TooHeavy rest = refl
+text_of-word_text word.Exhausted rest = refl
+text_of-word_text word.Future rest = refl
+
+text_of-how_text : (h : How) (rest : List ℕ) → 34 ∷ (how_text h ++ (34 ∷ rest)) ≡ text_of (text (how_text h)) ++ rest
+unfolding escape_byte
+text_of-how_text how.Nothing rest = refl
+text_of-how_text how.Patch rest = refl
+text_of-how_text how.Snapshot rest = refl
+
+-- The texts of the replies that spell a word.
+
+pub refused : {a i f : List ℕ} (id at : Option ℕ) (w : Word) → f ≡ word_text w → a ≡ text_of (count_or_null at) → i ≡ text_of (count_or_null id)
+    → codes "{\"at\":" ++ (a ++ (codes ",\"fault\":\"" ++ (f ++ (codes "\",\"id\":" ++ (i ++ codes ",\"kind\":\"refused\"}"))))) ≡ text_of (reply_document (reply.Refused id w at))
+unfolding escape_byte
+refused id at w f a i =
+    rw (f, a, i) (ap (λ rest. codes "{\"at\":" ++ (text_of (count_or_null at) ++ (codes ",\"fault\":" ++ rest))) (text_of-word_text w (codes ",\"id\":" ++ (text_of (count_or_null id) ++ codes ",\"kind\":\"refused\"}"))))
+
+pub resumed : {f : List ℕ} (id : ℕ) (h : How) → f ≡ how_text h
+    → codes "{\"how\":\"" ++ (f ++ (codes "\",\"id\":" ++ (decimal id ++ codes ",\"kind\":\"resumed\"}"))) ≡ text_of (reply_document (reply.Resumed id h))
+unfolding escape_byte
+resumed id h f = rw f (ap (λ rest. codes "{\"how\":" ++ rest) (text_of-how_text h (codes ",\"id\":" ++ (decimal id ++ codes ",\"kind\":\"resumed\"}"))))

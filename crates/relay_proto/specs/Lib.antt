@@ -1,0 +1,7 @@
+pub mod Words
+pub mod RoomName
+pub mod Message
+pub mod Request
+pub mod MessageRead
+pub mod Written
+pub mod Client

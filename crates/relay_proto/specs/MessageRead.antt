@@ -1,0 +1,122 @@
+-- How a text reads as a message: the members of its kind have their forms, and others are ignored.
+use Rattle.std.specs.Prelude.{ℕ, ◌^◌, ◌-◌, List, codes, bytes_eq, Bool, true, false, ◌&&◌, nat_le, Option, Some, None, option_map, if◌then◌else◌}
+use Rattle.std.specs.Result.{result_ok}
+use Rattle.relay_tree.specs.Document.{Document, null, list, Items, no_items, item}
+use Rattle.relay_tree.specs.Count.{count_of}
+use Rattle.relay_tree.specs.Part.{items_length, object_member}
+use Rattle.relay_tree.specs.Text.{tree_of_text}
+use Rattle.relay_patch.specs.Form.{text_in, patch_of}
+use Rattle.relay_patch.specs.declared.op.Op.{Op}
+use Rattle.relay_proto.specs.declared.message.Message.{Message}
+use Rattle.relay_proto.specs.declared.message.Message.TheVariants as message
+use Rattle.relay_proto.specs.declared.reply.How.{How}
+use Rattle.relay_proto.specs.declared.reply.Reply.{Reply}
+use Rattle.relay_proto.specs.declared.reply.Reply.TheVariants.{Welcome, Done, Refused, Watching, Resumed, Unwatched}
+use Rattle.relay_proto.specs.declared.word.Word.{Word}
+use Rattle.relay_proto.specs.Request.{count_in}
+use Rattle.relay_proto.specs.Words.{word_of_text, how_of_text}
+
+-- what follows where a part is there; else the text is no message
+abbrev pub with_form : {A B : Type 0} → Option A → (A → Option B) → Option B
+with_form (Some x) f = f x
+with_form None f = None
+
+-- a count or null
+abbrev pub nullable_count : Document → Option (Option ℕ)
+nullable_count null = Some None
+nullable_count d = option_map Some (count_of d)
+
+-- the count or null that a member is, which has to be there
+abbrev pub nullable_in : Document → List ℕ → Option (Option ℕ)
+nullable_in d name = with_form (object_member d name) nullable_count
+
+abbrev pub word_in : Document → Option Word
+word_in d = with_form (text_in d (codes "fault")) word_of_text
+
+abbrev pub how_in : Document → Option How
+how_in d = with_form (text_in d (codes "how")) how_of_text
+
+-- Replies.
+
+abbrev pub welcome_in : Document → Option Reply
+welcome_in d =
+    with_form (count_in d (codes "epoch")) (λ epoch.
+    with_form (count_in d (codes "rev")) (λ rev.
+    with_form (count_in d (codes "session")) (λ session. Some (Welcome epoch rev session))))
+
+abbrev pub done_in : Document → Option Reply
+done_in d = with_form (count_in d (codes "id")) (λ id. with_form (count_in d (codes "rev")) (λ rev. Some (Done id rev)))
+
+abbrev pub refused_in : Document → Option Reply
+refused_in d =
+    with_form (nullable_in d (codes "id")) (λ id.
+    with_form (word_in d) (λ fault.
+    with_form (nullable_in d (codes "at")) (λ at. Some (Refused id fault at))))
+
+abbrev pub watching_in : Document → Option Reply
+watching_in d = with_form (count_in d (codes "id")) (λ id. Some (Watching id))
+
+abbrev pub resumed_in : Document → Option Reply
+resumed_in d = with_form (count_in d (codes "id")) (λ id. with_form (how_in d) (λ how. Some (Resumed id how)))
+
+abbrev pub unwatched_in : Document → Option Reply
+unwatched_in d = with_form (count_in d (codes "id")) (λ id. Some (Unwatched id))
+
+-- the reply of a kind
+abbrev pub reply_in : List ℕ → Document → Option Reply
+reply_in kind d =
+    if bytes_eq kind (codes "welcome") then welcome_in d else
+    if bytes_eq kind (codes "done") then done_in d else
+    if bytes_eq kind (codes "refused") then refused_in d else
+    if bytes_eq kind (codes "watching") then watching_in d else
+    if bytes_eq kind (codes "resumed") then resumed_in d else
+    if bytes_eq kind (codes "unwatched") then unwatched_in d else None
+
+-- What brings a view up to date.
+
+-- a list of at most one element: the part that a pointer names, or that there is none
+abbrev pub is_slot : Document → Bool
+is_slot (list ds) = nat_le (items_length ds) 1
+is_slot _ = false
+
+abbrev pub are_slots : Items → Bool
+are_slots no_items = true
+are_slots (item d ds) = is_slot d && are_slots ds
+
+-- a list of slots
+abbrev pub is_view : Document → Bool
+is_view (list ds) = are_slots ds
+is_view _ = false
+
+abbrev pub when_view : Document → Option Document
+when_view d = if is_view d then Some d else None
+
+-- a patch of any length, each path of at most 66 tokens
+abbrev pub relayed_patch : Document → Option (List Op)
+relayed_patch d = result_ok (patch_of (2 ^ 64 - 1) 66 d)
+
+abbrev pub patch_message_in : Document → Option Message
+patch_message_in d =
+    with_form (count_in d (codes "rev")) (λ rev.
+    with_form (object_member d (codes "patch")) (λ patch.
+    with_form (relayed_patch patch) (λ ops. Some (message.Patch rev ops))))
+
+abbrev pub snapshot_in : Document → Option Message
+snapshot_in d =
+    with_form (count_in d (codes "rev")) (λ rev.
+    with_form (object_member d (codes "view")) (λ view.
+    with_form (when_view view) (λ v. Some (message.Snapshot rev v))))
+
+-- the message of a kind
+abbrev pub message_in : List ℕ → Document → Option Message
+message_in kind d =
+    if bytes_eq kind (codes "patch") then patch_message_in d else
+    if bytes_eq kind (codes "snapshot") then snapshot_in d else option_map message.Reply (reply_in kind d)
+
+-- the message that a document is
+abbrev pub message_of : Document → Option Message
+message_of d = with_form (text_in d (codes "kind")) (λ kind. message_in kind d)
+
+-- the message that a text is
+abbrev pub message_of_text : List ℕ → Option Message
+message_of_text s = with_form (tree_of_text s) message_of

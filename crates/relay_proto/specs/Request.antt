@@ -1,0 +1,101 @@
+-- How a text reads as a request, or its first fault: the checks come in the order of these definitions.
+use Rattle.std.specs.Prelude.{◌≡◌, ℕ, List, length, codes, bytes_eq, nat_lt, Option, Some, None, option_and_then, Result, Ok, Err, if◌then◌else◌}
+use Rattle.serde_json.specs.Data.{Data}
+use Rattle.serde_json.specs.Read as json
+use Rattle.relay_tree.specs.Document.{Document}
+use Rattle.relay_tree.specs.Count.{count_of}
+use Rattle.relay_tree.specs.Part.{object_member}
+use Rattle.relay_tree.specs.Text.{tree_of}
+use Rattle.relay_pointer.specs.Path.{Path}
+use Rattle.relay_patch.specs.Form.{text_in, patch_of}
+use Rattle.relay_patch.specs.declared.limits.PatchFault.{PatchFault}
+use Rattle.relay_patch.specs.declared.limits.PatchFault.TheVariants as patch
+use Rattle.relay_patch.specs.declared.op.Op.{Op}
+use Rattle.relay_view.specs.Form.{view_of}
+use Rattle.relay_view.specs.declared.fault.ViewFault.{ViewFault}
+use Rattle.relay_view.specs.declared.fault.ViewFault.TheVariants as view
+use Rattle.relay_proto.specs.declared.refusal.Refusal.{Refusal}
+use Rattle.relay_proto.specs.declared.refusal.RequestFault.{RequestFault}
+use Rattle.relay_proto.specs.declared.refusal.RequestFault.TheVariants.{Refused, NoMemory}
+use Rattle.relay_proto.specs.declared.request.Request.{Request}
+use Rattle.relay_proto.specs.declared.request.Request.TheVariants.{Edit, Watch, Resume, Unwatch}
+use Rattle.relay_proto.specs.declared.word.Word.{Word}
+use Rattle.relay_proto.specs.declared.word.Word.TheVariants.{TooLong, NotJson, Number, Shape, TooMany, UnknownOp, Pointer}
+
+abbrev pub refusal : Word → Option ℕ → Option ℕ → Refusal
+refusal fault id at = record { fault = fault; id = id; at = at }
+
+-- what follows where a part is there; else the request is of another shape
+abbrev pub with_part : {A B : Type 0} → Option ℕ → Option A → (A → Result B Refusal) → Result B Refusal
+with_part id (Some x) f = f x
+with_part id None f = Err (refusal Shape id None)
+
+abbrev pub and_then : {A B : Type 0} → Result A Refusal → (A → Result B Refusal) → Result B Refusal
+and_then (Ok x) f = f x
+and_then (Err r) f = Err r
+
+-- the count that a member is
+abbrev pub count_in : Document → List ℕ → Option ℕ
+count_in d name = option_and_then count_of (object_member d name)
+
+-- a patch of at most 64 operations, each path of at most 64 tokens
+abbrev pub patch_refusal : ℕ → PatchFault → Refusal
+patch_refusal id patch.TooManyOps = refusal TooMany (Some id) None
+patch_refusal id (patch.Shape at) = refusal Shape (Some id) at
+patch_refusal id (patch.UnknownOp at) = refusal UnknownOp (Some id) (Some at)
+patch_refusal id (patch.Pointer at) = refusal Pointer (Some id) (Some at)
+patch_refusal id patch.NoMemory = refusal Shape (Some id) None
+
+abbrev pub patch_read : ℕ → Result (List Op) PatchFault → Result (List Op) Refusal
+patch_read id (Ok ops) = Ok ops
+patch_read id (Err fault) = Err (patch_refusal id fault)
+
+abbrev pub patch_in : ℕ → Document → Result (List Op) Refusal
+patch_in id d = with_part (Some id) (object_member d (codes "patch")) (λ p. patch_read id (patch_of 64 64 p))
+
+abbrev pub view_refusal : ℕ → ViewFault → Refusal
+view_refusal id view.TooMany = refusal TooMany (Some id) None
+view_refusal id (view.Shape at) = refusal Shape (Some id) at
+view_refusal id (view.Pointer at) = refusal Pointer (Some id) (Some at)
+view_refusal id view.NoMemory = refusal Shape (Some id) None
+
+abbrev pub view_read : ℕ → Result (List Path) ViewFault → Result (List Path) Refusal
+view_read id (Ok pointers) = Ok pointers
+view_read id (Err fault) = Err (view_refusal id fault)
+
+abbrev pub view_in : ℕ → Document → Result (List Path) Refusal
+view_in id d = with_part (Some id) (object_member d (codes "view")) (λ v. view_read id (view_of v))
+
+abbrev pub resume_of : ℕ → Document → Result Request Refusal
+resume_of id d =
+    with_part (Some id) (count_in d (codes "epoch")) (λ epoch.
+    with_part (Some id) (count_in d (codes "rev")) (λ rev.
+    and_then (view_in id d) (λ v. Ok (Resume id epoch rev v))))
+
+-- the request that `do` names
+abbrev pub asked : List ℕ → ℕ → Document → Result Request Refusal
+asked name id d =
+    if bytes_eq name (codes "edit") then and_then (patch_in id d) (λ p. Ok (Edit id p)) else
+    if bytes_eq name (codes "watch") then and_then (view_in id d) (λ v. Ok (Watch id v)) else
+    if bytes_eq name (codes "resume") then resume_of id d else
+    if bytes_eq name (codes "unwatch") then Ok (Unwatch id) else Err (refusal Shape (Some id) None)
+
+abbrev pub request_of : Document → Result Request Refusal
+request_of d = with_part None (count_in d (codes "id")) (λ id. with_part (Some id) (text_in d (codes "do")) (λ name. asked name id d))
+
+abbrev pub request_of_tree : Option Document → Result Request Refusal
+request_of_tree None = Err (refusal Number None None)
+request_of_tree (Some d) = request_of d
+
+abbrev pub request_of_json : Option Data → Result Request Refusal
+request_of_json None = Err (refusal NotJson None None)
+request_of_json (Some value) = request_of_tree (tree_of value)
+
+-- the request that a text is
+abbrev pub request_of_text : List ℕ → Result Request Refusal
+request_of_text s = if nat_lt 262144 (length s) then Err (refusal TooLong None None) else request_of_json (json.read s)
+
+-- the fault is that refusal, or want of memory
+abbrev pub IsRefusedAs : {A : Type 0} → RequestFault → Result A Refusal → Type 0
+IsRefusedAs (Refused r) read = read ≡ Err r
+IsRefusedAs NoMemory read = Unit {0}

@@ -1,0 +1,173 @@
+//! Messages of texts, as a client reads them. Members that a message does not need are ignored; an unknown word, or a
+//! member that is missing, makes the text no message.
+ghost use Rattle.std.specs.Prelude.{◌≡◌, Some, None, IfOk, IfErr};
+ghost use Rattle.std.specs.List.{list_all};
+ghost use Rattle.relay_proto.specs.MessageRead.{message_of_text, message_of, patch_message_in, snapshot_in, reply_in, refused_in, resumed_in, nullable_in, word_in, how_in, is_view, is_slot};
+ghost use Rattle.relay_proto.specs.declared.message_reading.MessageFault.TheVariants.{NotMessage};
+
+use crate::message::Message;
+use crate::part::{count_at, text_at};
+use crate::reply::{How, Reply};
+use crate::word::Word;
+use relay_patch::{Patch, PatchFault, PatchLimits};
+use relay_tree::{Node, Tree, TreeFault};
+use std::alloc::Global;
+use thiserror::Error;
+
+/// Why no message was read.
+#[derive(Clone, Copy, Debug, PartialEq, Eq, Error)]
+pub enum MessageFault {
+    /// The text reads as no tree, or its members do not have the forms of a message.
+    #[error("not a message")]
+    NotMessage,
+    #[error("out of memory")]
+    NoMemory,
+}
+
+impl Message {
+    /// The message that a text is. A patch may have any number of operations, and paths of at most 66 tokens.
+    pub fn read(alloc: Global, text: &str) -> Result<Message, MessageFault>
+        ensures ok { IfOk result (λ message. message_of_text text.now ≡ Some message) }
+        ensures not_message { IfErr result (λ fault. fault ≡ NotMessage → message_of_text text.now ≡ None) }
+    {
+        match relay_tree::read(alloc, text) {
+            Ok(tree) => message_of(alloc, &tree),
+            Err(TreeFault::NotJson | TreeFault::Number) => Err(MessageFault::NotMessage),
+            Err(TreeFault::NoMemory) => Err(MessageFault::NoMemory),
+        }
+    }
+}
+
+fn message_of(alloc: Global, tree: &Tree) -> Result<Message, MessageFault>
+    ensures ok { IfOk result (λ message. message_of tree.now ≡ Some message) }
+    ensures not_message { IfErr result (λ fault. fault ≡ NotMessage → message_of tree.now ≡ None) }
+{
+    let Some(kind) = text_at(tree, "kind") else {
+        return Err(MessageFault::NotMessage);
+    };
+    match kind {
+        "patch" => patch_of(alloc, tree),
+        "snapshot" => snapshot_of(alloc, tree),
+        _ => match reply_of(kind, tree) {
+            Some(reply) => Ok(Message::Reply(reply)),
+            None => Err(MessageFault::NotMessage),
+        },
+    }
+}
+
+fn patch_of(alloc: Global, tree: &Tree) -> Result<Message, MessageFault>
+    ensures ok { IfOk result (λ message. patch_message_in tree.now ≡ Some message) }
+    ensures not_message { IfErr result (λ fault. fault ≡ NotMessage → patch_message_in tree.now ≡ None) }
+{
+    let Some(rev) = count_at(tree, "rev") else {
+        return Err(MessageFault::NotMessage);
+    };
+    let Some(patch) = tree.member("patch") else {
+        return Err(MessageFault::NotMessage);
+    };
+    match Patch::from_tree(alloc, patch, PatchLimits::RELAYED) {
+        Ok(patch) => Ok(Message::Patch { rev, patch }),
+        Err(PatchFault::NoMemory) => Err(MessageFault::NoMemory),
+        Err(_) => Err(MessageFault::NotMessage),
+    }
+}
+
+fn snapshot_of(alloc: Global, tree: &Tree) -> Result<Message, MessageFault>
+    ensures ok { IfOk result (λ message. snapshot_in tree.now ≡ Some message) }
+    ensures not_message { IfErr result (λ fault. fault ≡ NotMessage → snapshot_in tree.now ≡ None) }
+{
+    let Some(rev) = count_at(tree, "rev") else {
+        return Err(MessageFault::NotMessage);
+    };
+    let Some(view) = tree.member("view") else {
+        return Err(MessageFault::NotMessage);
+    };
+    if !is_view(view) {
+        return Err(MessageFault::NotMessage);
+    }
+    match view.copy(alloc) {
+        Ok(view) => Ok(Message::Snapshot { rev, view }),
+        Err(_) => Err(MessageFault::NoMemory),
+    }
+}
+
+#[tactic(auto, using(crate::proofs::Slots::all_slots))]
+fn is_view(tree: &Tree) -> bool
+    ensures { result ≡ is_view tree.now }
+{
+    match &tree.node {
+        Node::List(slots) => are_slots(slots.as_slice()),
+        _ => false,
+    }
+}
+
+fn are_slots(slots: &[Tree]) -> bool
+    ensures { result ≡ list_all is_slot slots.now }
+{
+    slots.iter().all(|slot| is_slot(slot))
+}
+
+#[tactic(auto, using(crate::proofs::Slots::few_values))]
+fn is_slot(tree: &Tree) -> bool
+    ensures { result ≡ is_slot tree.now }
+{
+    match &tree.node {
+        Node::List(values) => values.len() <= 1,
+        _ => false,
+    }
+}
+
+fn reply_of(kind: &str, tree: &Tree) -> Option<Reply>
+    ensures { result ≡ reply_in kind.now tree.now }
+{
+    match kind {
+        "welcome" => Some(Reply::Welcome {
+            epoch: count_at(tree, "epoch")?,
+            rev: count_at(tree, "rev")?,
+            session: count_at(tree, "session")?,
+        }),
+        "done" => Some(Reply::Done {
+            id: count_at(tree, "id")?,
+            rev: count_at(tree, "rev")?,
+        }),
+        "refused" => refused_of(tree),
+        "watching" => Some(Reply::Watching {
+            id: count_at(tree, "id")?,
+        }),
+        "resumed" => resumed_of(tree),
+        "unwatched" => Some(Reply::Unwatched {
+            id: count_at(tree, "id")?,
+        }),
+        _ => None,
+    }
+}
+
+fn refused_of(tree: &Tree) -> Option<Reply>
+    ensures { result ≡ refused_in tree.now }
+{
+    Some(Reply::Refused {
+        id: nullable_at(tree, "id")?,
+        fault: Word::read(text_at(tree, "fault")?)?,
+        at: nullable_at(tree, "at")?,
+    })
+}
+
+fn resumed_of(tree: &Tree) -> Option<Reply>
+    ensures { result ≡ resumed_in tree.now }
+{
+    Some(Reply::Resumed {
+        id: count_at(tree, "id")?,
+        how: How::read(text_at(tree, "how")?)?,
+    })
+}
+
+/// The count or null that a member is.
+fn nullable_at(tree: &Tree, name: &str) -> Option<Option<u64>>
+    ensures { result ≡ nullable_in tree.now name.now }
+{
+    let member = tree.member(name)?;
+    match &member.node {
+        Node::Null => Some(None),
+        _ => Some(Some(member.count()?)),
+    }
+}

@@ -1,0 +1,113 @@
+//! Requests of texts. The checks come in one order, and the first that fails is the answer: the text's length, JSON, its
+//! numbers, an object with `id`, `do`, the counts that the request needs, and then its patch or its view.
+ghost use Rattle.std.specs.Prelude.{◌≡◌, Ok, Err, IfOk, IfErr};
+ghost use Rattle.relay_proto.specs.Request.{request_of_text, request_of, resume_of, patch_in, view_in, refusal, IsRefusedAs};
+
+use crate::part::{count_at, text_at};
+use crate::refusal::{Refusal, RequestFault};
+use crate::request::Request;
+use crate::word::Word;
+use relay_patch::{Patch, PatchFault, PatchLimits};
+use relay_tree::{Tree, TreeFault};
+use relay_view::{View, ViewFault};
+use std::alloc::Global;
+
+/// How many bytes the text of a request has at most.
+pub const REQUEST_MOST: u64 = 262_144;
+
+impl Request {
+    /// The request that a text is, or its first fault. Members that a request does not need are ignored.
+    pub fn read(alloc: Global, text: &str) -> Result<Request, RequestFault>
+        ensures ok { IfOk result (λ request. request_of_text text.now ≡ Ok request) }
+        ensures refused { IfErr result (λ fault. IsRefusedAs fault (request_of_text text.now)) }
+    {
+        if text.len() as u64 > REQUEST_MOST {
+            return refuse(Word::TooLong, None, None);
+        }
+        match relay_tree::read(alloc, text) {
+            Ok(tree) => of_tree(alloc, &tree),
+            Err(TreeFault::NotJson) => refuse(Word::NotJson, None, None),
+            Err(TreeFault::Number) => refuse(Word::Number, None, None),
+            Err(TreeFault::NoMemory) => Err(RequestFault::NoMemory),
+        }
+    }
+}
+
+fn of_tree(alloc: Global, tree: &Tree) -> Result<Request, RequestFault>
+    ensures ok { IfOk result (λ request. request_of tree.now ≡ Ok request) }
+    ensures refused { IfErr result (λ fault. IsRefusedAs fault (request_of tree.now)) }
+{
+    let Some(id) = count_at(tree, "id") else {
+        return refuse(Word::Shape, None, None);
+    };
+    match text_at(tree, "do") {
+        Some("edit") => Ok(Request::Edit {
+            id,
+            patch: patch_of(alloc, id, tree)?,
+        }),
+        Some("watch") => Ok(Request::Watch {
+            id,
+            view: view_of(alloc, id, tree)?,
+        }),
+        Some("resume") => resume_of(alloc, id, tree),
+        Some("unwatch") => Ok(Request::Unwatch { id }),
+        _ => refuse(Word::Shape, Some(id), None),
+    }
+}
+
+fn resume_of(alloc: Global, id: u64, tree: &Tree) -> Result<Request, RequestFault>
+    ensures ok { IfOk result (λ request. resume_of id tree.now ≡ Ok request) }
+    ensures refused { IfErr result (λ fault. IsRefusedAs fault (resume_of id tree.now)) }
+{
+    let Some(epoch) = count_at(tree, "epoch") else {
+        return refuse(Word::Shape, Some(id), None);
+    };
+    let Some(rev) = count_at(tree, "rev") else {
+        return refuse(Word::Shape, Some(id), None);
+    };
+    Ok(Request::Resume {
+        id,
+        epoch,
+        rev,
+        view: view_of(alloc, id, tree)?,
+    })
+}
+
+fn patch_of(alloc: Global, id: u64, tree: &Tree) -> Result<Patch, RequestFault>
+    ensures ok { IfOk result (λ patch. patch_in id tree.now ≡ Ok patch) }
+    ensures refused { IfErr result (λ fault. IsRefusedAs fault (patch_in id tree.now)) }
+{
+    let Some(patch) = tree.member("patch") else {
+        return refuse(Word::Shape, Some(id), None);
+    };
+    match Patch::from_tree(alloc, patch, PatchLimits::REQUEST) {
+        Ok(patch) => Ok(patch),
+        Err(PatchFault::TooManyOps) => refuse(Word::TooMany, Some(id), None),
+        Err(PatchFault::Shape { at }) => refuse(Word::Shape, Some(id), at),
+        Err(PatchFault::UnknownOp { at }) => refuse(Word::UnknownOp, Some(id), Some(at)),
+        Err(PatchFault::Pointer { at }) => refuse(Word::Pointer, Some(id), Some(at)),
+        Err(PatchFault::NoMemory) => Err(RequestFault::NoMemory),
+    }
+}
+
+fn view_of(alloc: Global, id: u64, tree: &Tree) -> Result<View, RequestFault>
+    ensures ok { IfOk result (λ view. view_in id tree.now ≡ Ok view) }
+    ensures refused { IfErr result (λ fault. IsRefusedAs fault (view_in id tree.now)) }
+{
+    let Some(view) = tree.member("view") else {
+        return refuse(Word::Shape, Some(id), None);
+    };
+    match View::read(alloc, view) {
+        Ok(view) => Ok(view),
+        Err(ViewFault::TooMany) => refuse(Word::TooMany, Some(id), None),
+        Err(ViewFault::Shape { at }) => refuse(Word::Shape, Some(id), at),
+        Err(ViewFault::Pointer { at }) => refuse(Word::Pointer, Some(id), Some(at)),
+        Err(ViewFault::NoMemory) => Err(RequestFault::NoMemory),
+    }
+}
+
+fn refuse<T>(fault: Word, id: Option<u64>, at: Option<u64>) -> Result<T, RequestFault>
+    ensures { result ≡ Err (RequestFault.Refused (refusal fault id at)) }
+{
+    Err(RequestFault::Refused(Refusal { fault, id, at }))
+}

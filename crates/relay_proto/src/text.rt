@@ -1,0 +1,94 @@
+//! Messages as texts: compact JSON, member names in byte order.
+ghost use Rattle.std.specs.Prelude.{◌≡◌, Some, IfOk, string_bytes};
+ghost use Rattle.relay_tree.specs.Text.{text_of};
+ghost use Rattle.relay_proto.specs.Message.{reply_document, count_or_null, patch_message, snapshot_message, message_document};
+ghost use Rattle.relay_proto.specs.MessageRead.{message_of_text};
+ghost use Rattle.relay_proto.specs.Written.{HasCounts, IsWritable};
+ghost use Rattle.relay_proto.specs.declared.message.Message.TheVariants as message;
+
+use crate::message::Message;
+use crate::reply::Reply;
+use relay_patch::Patch;
+use relay_tree::Tree;
+use std::alloc::{AllocError, Global};
+
+impl Reply {
+    /// The text of the reply. It reads back as the reply, where its numbers are counts.
+    pub fn text(&self, alloc: Global) -> Result<String, AllocError>
+        ensures text { IfOk result (λ text. string_bytes text ≡ text_of (reply_document self.now)) }
+        ensures reads_back { IfOk result (λ text. HasCounts self.now → message_of_text (string_bytes text) ≡ Some (message.Reply self.now)) }
+    {
+        match *self {
+            Reply::Welcome {
+                epoch,
+                rev,
+                session,
+            } => format!(in alloc;
+                "{{\"epoch\":{epoch},\"kind\":\"welcome\",\"rev\":{rev},\"session\":{session}}}"
+            ),
+            Reply::Done { id, rev } => format!(in alloc;
+                "{{\"id\":{id},\"kind\":\"done\",\"rev\":{rev}}}"
+            ),
+            Reply::Refused { id, fault, at } => {
+                let fault = fault.text();
+                let id = count_text(alloc, id)?;
+                let at = count_text(alloc, at)?;
+                format!(in alloc;
+                    "{{\"at\":{at},\"fault\":\"{fault}\",\"id\":{id},\"kind\":\"refused\"}}"
+                )
+            }
+            Reply::Watching { id } => format!(in alloc; "{{\"id\":{id},\"kind\":\"watching\"}}"),
+            Reply::Resumed { id, how } => {
+                let how = how.text();
+                format!(in alloc; "{{\"how\":\"{how}\",\"id\":{id},\"kind\":\"resumed\"}}")
+            }
+            Reply::Unwatched { id } => format!(in alloc; "{{\"id\":{id},\"kind\":\"unwatched\"}}"),
+        }
+    }
+}
+
+/// A count in decimal, or `null`.
+fn count_text(alloc: Global, count: Option<u64>) -> Result<String, AllocError>
+    ensures { IfOk result (λ text. string_bytes text ≡ text_of (count_or_null count)) }
+{
+    match count {
+        Some(count) => count.to_string(alloc),
+        None => String::from_str(alloc, "null"),
+    }
+}
+
+/// The text of a patch message: the operations that lead a view to that of the revision. It costs a copy of the patch.
+/// It reads back as the message, where the revision is a count, paths have at most 66 tokens and the text nests at most 127
+/// containers.
+pub fn patch_text(alloc: Global, rev: u64, patch: &Patch) -> Result<String, AllocError>
+    ensures text { IfOk result (λ text. string_bytes text ≡ text_of (patch_message rev patch.now)) }
+    ensures reads_back { IfOk result (λ text. IsWritable (message.Patch rev patch.now) → message_of_text (string_bytes text) ≡ Some (message.Patch rev patch.now)) }
+{
+    let patch = patch.to_tree(alloc)?.text(alloc)?;
+    format!(in alloc; "{{\"kind\":\"patch\",\"patch\":{patch},\"rev\":{rev}}}")
+}
+
+/// The text of a snapshot: the whole view of the revision. It reads back as the message, where the revision is a count, the
+/// view is a list of slots and the text nests at most 127 containers.
+pub fn snapshot_text(alloc: Global, rev: u64, view: &Tree) -> Result<String, AllocError>
+    ensures text { IfOk result (λ text. string_bytes text ≡ text_of (snapshot_message rev view.now)) }
+    ensures reads_back { IfOk result (λ text. IsWritable (message.Snapshot rev view.now) → message_of_text (string_bytes text) ≡ Some (message.Snapshot rev view.now)) }
+{
+    let view = view.text(alloc)?;
+    format!(in alloc; "{{\"kind\":\"snapshot\",\"rev\":{rev},\"view\":{view}}}")
+}
+
+impl Message {
+    /// The text of the message. It reads back as the message, where its members have the forms in which they are read and it
+    /// nests at most 127 containers.
+    pub fn text(&self, alloc: Global) -> Result<String, AllocError>
+        ensures text { IfOk result (λ text. string_bytes text ≡ text_of (message_document self.now)) }
+        ensures reads_back { IfOk result (λ text. IsWritable self.now → message_of_text (string_bytes text) ≡ Some self.now) }
+    {
+        match self {
+            Message::Reply(reply) => reply.text(alloc),
+            Message::Patch { rev, patch } => patch_text(alloc, *rev, patch),
+            Message::Snapshot { rev, view } => snapshot_text(alloc, *rev, view),
+        }
+    }
+}

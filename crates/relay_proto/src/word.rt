@@ -1,0 +1,81 @@
+//! The words by which a refusal says why.
+ghost use Rattle.std.specs.Prelude.{◌≡◌};
+ghost use Rattle.relay_proto.specs.Words.{word_text, word_of_text};
+
+/// Why a request is refused, in the order of the checks (`docs/PROTOCOL.md`).
+#[derive(Clone, Copy, Debug, PartialEq, Eq)]
+pub enum Word {
+    TooLong,
+    NotJson,
+    Number,
+    Shape,
+    TooMany,
+    UnknownOp,
+    Pointer,
+    Missing,
+    NotIndex,
+    PastEnd,
+    NoContainer,
+    Root,
+    IntoItself,
+    TestFailed,
+    TooDeep,
+    TooHeavy,
+    Exhausted,
+    Future,
+}
+
+impl Word {
+    /// The word that a text spells; None where it spells none.
+    pub fn read(text: &str) -> Option<Word>
+        ensures { result ≡ word_of_text text.now }
+    {
+        match text {
+            "too-long" => Some(Word::TooLong),
+            "not-json" => Some(Word::NotJson),
+            "number" => Some(Word::Number),
+            "shape" => Some(Word::Shape),
+            "too-many" => Some(Word::TooMany),
+            "unknown-op" => Some(Word::UnknownOp),
+            "pointer" => Some(Word::Pointer),
+            "missing" => Some(Word::Missing),
+            "not-index" => Some(Word::NotIndex),
+            "past-end" => Some(Word::PastEnd),
+            "no-container" => Some(Word::NoContainer),
+            "root" => Some(Word::Root),
+            "into-itself" => Some(Word::IntoItself),
+            "test-failed" => Some(Word::TestFailed),
+            "too-deep" => Some(Word::TooDeep),
+            "too-heavy" => Some(Word::TooHeavy),
+            "exhausted" => Some(Word::Exhausted),
+            "future" => Some(Word::Future),
+            _ => None,
+        }
+    }
+
+    /// The word as a message spells it.
+    pub fn text(self) -> &'static str
+        ensures { result.now ≡ word_text self }
+    {
+        match self {
+            Word::TooLong => "too-long",
+            Word::NotJson => "not-json",
+            Word::Number => "number",
+            Word::Shape => "shape",
+            Word::TooMany => "too-many",
+            Word::UnknownOp => "unknown-op",
+            Word::Pointer => "pointer",
+            Word::Missing => "missing",
+            Word::NotIndex => "not-index",
+            Word::PastEnd => "past-end",
+            Word::NoContainer => "no-container",
+            Word::Root => "root",
+            Word::IntoItself => "into-itself",
+            Word::TestFailed => "test-failed",
+            Word::TooDeep => "too-deep",
+            Word::TooHeavy => "too-heavy",
+            Word::Exhausted => "exhausted",
+            Word::Future => "future",
+        }
+    }
+}

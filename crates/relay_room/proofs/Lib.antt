@@ -1,0 +1,4 @@
+pub mod Bounded
+pub mod Rooms
+pub mod Missed
+pub mod Rows

@@ -1,0 +1,72 @@
+-- A room is one when it begins, and after each revision.
+use Rattle.std.specs.List.{AllByRecursion}
+use Rattle.std.proofs.Common.{◌≡◌, ℕ, zero, suc, ◌+◌, ◌-◌, ◌<◌, ◌≤◌, ◌⊎◌, inl, inr, List, [], ◌∷◌, take, false, Ok, refl, arith}
+use Rattle.std.proofs.lemmas.Bool.{cases_lt}
+use Rattle.relay_tree.specs.Document.{Document, depth, weight}
+use Rattle.relay_patch.specs.declared.change.Change.{Change}
+use Rattle.relay_patch.specs.Patch.{exceeds, within}
+use Rattle.relay_patch.specs.Change.{Leads}
+use Rattle.relay_patch.proofs.Made.{Leads-append}
+use Rattle.relay_history.specs.declared.history.TheConstants.{MOST_REVISIONS, LAST_REVISION}
+use Rattle.relay_history.specs.History.{Past, IsHistory, Reaches, in_order, with_revision, changes_since}
+use Rattle.relay_history.proofs.Growing.{held-with_revision, changes_since-newest, changes_since-with_revision}
+use Rattle.relay_room.specs.Room.{State, IsRoom, Fit, begun, document_bounds}
+
+no_changes : (n : ℕ) → in_order (take n []) ≡ []
+no_changes zero = refl
+no_changes (suc n) = refl
+
+pub begun_is_room : (document : Document) (rev limit : ℕ)
+    → exceeds 64 (depth document) ≡ false → exceeds 65536 (weight document) ≡ false
+    → 1 ≤ limit → limit ≤ MOST_REVISIONS → rev ≤ LAST_REVISION
+    → IsRoom (begun document rev limit)
+begun_is_room document rev limit flat light least most last = record {
+  history = record { limited = (least, most); within = omega arith; made = omega arith; last = last };
+  within = rw (flat, light) refl;
+  fit = tt;
+  led = λ r reaches. (document, rw (no_changes (rev - r)) refl);
+}
+
+fit_take : (n : ℕ) (revisions : List (List Change)) → AllByRecursion Fit revisions → AllByRecursion Fit (take n revisions)
+fit_take zero revisions h = tt
+fit_take (suc n) [] h = tt
+fit_take (suc n) (changes ∷ revisions) h = (h.0, fit_take n revisions h.1)
+
+pub edited_is_room : (room : State) (changes : List Change) (document : Document)
+    → IsRoom room → IsHistory (with_revision changes room.history)
+    → within document_bounds document ≡ Ok document → Fit changes → Leads room.document changes document
+    → IsRoom (record { document = document; history = with_revision changes room.history })
+edited_is_room room changes document was is inside fit leads = record {
+  history = is;
+  within = inside;
+  fit = fit_take room.history.limit (changes ∷ room.history.changes) (fit, was.fit);
+  led = λ rev reaches. from rev reaches (cases_lt room.history.newest rev);
+}
+  where
+    next : State
+    next = record { document = document; history = with_revision changes room.history }
+
+    from : (rev : ℕ) → Reaches next.history rev → (room.history.newest < rev) ⊎ (rev ≤ room.history.newest) → (d : Document) × Leads d (changes_since rev next.history) document
+    from rev reaches (inl above) =
+        let made = reaches.made in
+        let newest : rev ≡ room.history.newest + 1 = omega (arith, above, made) in
+        (document, rw (newest, changes_since-newest next.history) refl)
+    from rev reaches (inr below) =
+        let back = reaches.back in
+        let held = held-with_revision changes room.history in
+        let earlier : Reaches room.history rev = record { back = omega (arith, back, held, below); made = below } in
+        let led = was.led rev earlier in
+        (led.0, rw (changes_since-with_revision rev changes room.history below reaches) (Leads-append (changes_since rev room.history) changes led.0 room.document document led.1 leads))
+
+-- from the revision before, a room that was edited reaches to the present one
+pub edited_reaches : (changes : List Change) (past : Past) → IsHistory past → Reaches (with_revision changes past) past.newest
+edited_reaches changes past is =
+    let held = held-with_revision changes past in
+    let limited = is.limited.0 in
+    let made = is.made in
+    record { back = omega (arith, held, limited, made); made = omega arith }
+
+-- and the changes since then are those of the edit
+pub edited_since : (changes : List Change) (past : Past) → IsHistory past → changes_since past.newest (with_revision changes past) ≡ changes
+edited_since changes past is =
+    rw (changes_since-with_revision past.newest changes past (omega arith) (edited_reaches changes past is), changes_since-newest past) refl

@@ -1,0 +1,56 @@
+-- What the definitions give for a room that holds the last two of five revisions, and for limits that are not kept.
+use Rattle.std.specs.Prelude.{◌≡◌, ◌-◌, ◌^◌, List, [], ◌∷◌, Some, None, true, false, refl, codes}
+use Rattle.relay_tree.specs.Document.{null, truth, list, object, no_items, item, no_members, member}
+use Rattle.relay_pointer.specs.Index.{index_text}
+use Rattle.relay_pointer.specs.Path.{Path}
+use Rattle.relay_patch.specs.declared.op.Op.TheVariants.{Replace}
+use Rattle.relay_patch.specs.declared.change.Change.{Change}
+use Rattle.relay_patch.specs.declared.change.Change.TheVariants.{Set}
+use Rattle.relay_history.specs.History as history
+use Rattle.relay_history.specs.History.{with_revision}
+use Rattle.relay_room.specs.Room.{State}
+use Rattle.relay_room.specs.Fault.{room_fault}
+use Rattle.relay_room.specs.CatchUp.{caught_up}
+use Rattle.relay_room.specs.declared.fault.RoomFault.TheVariants.{BadRevision, BadLimit}
+use Rattle.relay_room.specs.declared.catch_up.CatchUp.TheVariants.{Nothing, Patch, Snapshot}
+
+revision_is_no_count : room_fault null (2 ^ 53) 0 ≡ Some BadRevision
+revision_is_no_count = refl
+
+holds_nothing : room_fault null (2 ^ 53 - 1) 0 ≡ Some BadLimit
+holds_nothing = refl
+
+holds_too_much : room_fault null 0 1025 ≡ Some BadLimit
+holds_too_much = refl
+
+last_revision : room_fault null (2 ^ 53 - 1) 1 ≡ None
+last_revision = refl
+
+n : Path
+n = codes "n" ∷ []
+
+m : Path
+m = codes "m" ∷ []
+
+module _ (a b c : List Change) where
+  five : State
+  five = record {
+    document = object (member (codes "n") (truth true) no_members);
+    history = with_revision (Set n (truth true) ∷ []) (with_revision (Set n (truth false) ∷ []) (with_revision c (with_revision b (with_revision a (history.begun 2 0)))));
+  }
+
+  from_5 : caught_up five 5 (n ∷ []) ≡ Nothing
+  unfolding five n index_text
+  from_5 = refl
+
+  from_3 : caught_up five 3 (n ∷ []) ≡ Patch (Replace (codes "0" ∷ []) (list (item (truth true) no_items)) ∷ [])
+  unfolding five n index_text
+  from_3 = refl
+
+  from_3_elsewhere : caught_up five 3 (m ∷ []) ≡ Nothing
+  unfolding five n m
+  from_3_elsewhere = refl
+
+  from_2 : caught_up five 2 (m ∷ []) ≡ Snapshot
+  unfolding five
+  from_2 = refl

@@ -1,0 +1,16 @@
+use Rattle.std.proofs.Common.{rules, sym, subst, ◌∙◌}
+use Rattle.relay_room.specs.Room.{IsRoom}
+use Rattle.relay_room.specs.CatchUp.{Fits}
+use Rattle.relay_room.proofs.Missed.{caught_up_present, caught_up_fits}
+use Rattle.relay_room.proofs.room.Room.catch_up.Goals as goal
+
+pub returns-clause-exact : goal.returns-clause-exact
+returns-clause-exact c = search rules
+
+pub returns-clause-present : goal.returns-clause-present
+returns-clause-present c = λ now. returns-clause-exact c ∙ caught_up_present c.args.self.now c.args.rev c.args.view.now now
+
+pub returns-clause-sizes : goal.returns-clause-sizes
+returns-clause-sizes c =
+    let is : IsRoom c.args.self.now = subst IsRoom c.self.view_is c.self.invariant in
+    subst Fits (sym (returns-clause-exact c)) (caught_up_fits c.args.self.now c.args.rev c.args.view.now is)

@@ -1,0 +1,52 @@
+-- A shared document and what its last revisions changed, as contracts see a room.
+use Rattle.std.specs.Prelude.{◌≡◌, ℕ, List, Ok, refl}
+use Rattle.std.specs.List.{AllByRecursion}
+use Rattle.std.specs.Coded.{Coded, code_by, coded×}
+use Rattle.relay_tree.specs.Document.{Document}
+use Rattle.relay_tree.specs.Code.{document_code}
+use Rattle.relay_patch.specs.declared.bounds.Bounds.{Bounds}
+use Rattle.relay_patch.specs.declared.change.Change.{Change}
+use Rattle.relay_patch.specs.Patch.{within}
+use Rattle.relay_patch.specs.Change.{Leads}
+use Rattle.relay_patch.specs.Sizes.{ChangeFits}
+use Rattle.relay_history.specs.History as history
+use Rattle.relay_history.specs.History.{Past, IsHistory, Reaches, changes_since, past_code}
+
+-- the present document, and what the last revisions changed
+pub record State : Type 0 where
+  pub document : Document
+  pub history : Past
+
+-- the present revision
+abbrev pub revision : State → ℕ
+revision room = room.history.newest
+
+-- a room at a revision, which holds no changes yet
+abbrev pub begun : Document → ℕ → ℕ → State
+begun document rev limit = record { document = document; history = history.begun limit rev }
+
+-- the bounds of a shared document
+abbrev pub document_bounds : Bounds
+document_bounds = record { depth = 64; weight = 65536 }
+
+-- each change fits: no path has more than 64 tokens, and no value is deeper than 64
+abbrev pub Fit : List Change → Type 0
+Fit changes = AllByRecursion (ChangeFits 64 64) changes
+
+-- what holds of each room
+pub record IsRoom (room : State) : Type 0 where
+  pub history : IsHistory room.history
+  -- the document is within the bounds
+  pub within : within document_bounds room.document ≡ Ok room.document
+  -- each change held fits
+  pub fit : AllByRecursion Fit room.history.changes
+  -- from each revision that the history reaches back to, some document was led to the present one by the changes since
+  pub led : (rev : ℕ) → Reaches room.history rev → (d : Document) × Leads d (changes_since rev room.history) room.document
+
+-- how the logic stores a room
+abbrev pub state_code : Coded Change → Coded State
+state_code change = code_by (Document × Past)
+    (coded× document_code (past_code change))
+    (λ room. (room.document, room.history))
+    (λ p. record { document = p.0; history = p.1 })
+    (λ _. refl)

@@ -1,0 +1,41 @@
+//! A room's next revision.
+ghost use Rattle.std.specs.Prelude.{◌≡◌, ◌+◌, ◌↔◌, Ok, IfOk, IfErr, OnOk, OnErr, IsErrOf};
+ghost use Rattle.relay_history.specs.declared.history.TheConstants.{LAST_REVISION};
+ghost use Rattle.relay_history.specs.History.{with_revision};
+ghost use Rattle.relay_patch.specs.Patch.{after};
+ghost use Rattle.relay_patch.specs.Change.{Leads, all_changes};
+ghost use Rattle.relay_room.specs.Room.{IsRoom, revision, document_bounds};
+ghost use Rattle.relay_room.specs.Fault.{Refuses};
+ghost use Rattle.relay_room.specs.declared.fault.EditFault.TheVariants.{Exhausted};
+
+use crate::fault::EditFault;
+use crate::room::Room;
+use relay_history::LAST_REVISION;
+use relay_patch::{Bounds, Patch, apply};
+use std::alloc::Global;
+
+impl Room {
+    /// Applies a patch to the document (RFC 6902, section 5), which has to stay within `Bounds::DOCUMENT` after each
+    /// operation. Gives the new revision: one higher, also where the patch changes nothing.
+    /// Exhausted: the revision is the last that there can be, whatever the patch is. Apply: an operation is refused, or
+    /// memory is. The room is as it was then.
+    ///
+    /// It costs what `relay_patch::apply` costs. Where the most revisions are held, the oldest one's changes go.
+    pub fn edit(&mut self, alloc: Global, patch: &Patch) -> Result<u64, EditFault>
+        ensures document { OnOk result (after self.old.document patch.now document_bounds ≡ Ok self.new.document) }
+        ensures revision { IfOk result (λ rev. (rev ≡ revision self.old + 1) × (rev ≡ revision self.new)) }
+        ensures history { OnOk result (self.new.history ≡ with_revision (all_changes self.old.document patch.now) self.old.history) }
+        ensures led { OnOk result (Leads self.old.document (all_changes self.old.document patch.now) self.new.document) }
+        ensures exhausted { IsErrOf result Exhausted ↔ (revision self.old ≡ LAST_REVISION) }
+        ensures refused { IfErr result (λ fault. Refuses self.old.document patch.now fault) }
+        ensures unchanged { OnErr result (self.new ≡ self.old) }
+        ensures kept { IsRoom self.new }
+    {
+        if self.history.newest() >= LAST_REVISION {
+            return Err(EditFault::Exhausted);
+        }
+        let changes = apply(alloc, &mut self.document, patch, Bounds::DOCUMENT)?;
+        self.history.push(changes);
+        Ok(self.history.newest())
+    }
+}

@@ -1,0 +1,80 @@
+//! Why a room is not made, not edited, or cannot say what somebody missed.
+ghost use Rattle.std.specs.Prelude.{◌≡◌};
+ghost use Rattle.relay_history.specs.declared.fault.HistoryFault.TheVariants as history;
+ghost use Rattle.relay_room.specs.declared.fault.RoomFault.TheVariants as room;
+ghost use Rattle.relay_room.specs.declared.fault.EditFault.TheVariants as edit;
+ghost use Rattle.relay_room.specs.declared.fault.CatchFault.TheVariants as catch;
+
+use relay_history::HistoryFault;
+use relay_patch::ApplyFault;
+use std::alloc::AllocError;
+use thiserror::Error;
+
+/// Why no room is made, in the order of the checks.
+#[derive(Clone, Copy, Debug, PartialEq, Eq, Error)]
+pub enum RoomFault {
+    /// The document is deeper than `Bounds::DOCUMENT` allows.
+    #[error("too deep")]
+    TooDeep,
+    /// The document weighs more than `Bounds::DOCUMENT` allows.
+    #[error("too heavy")]
+    TooHeavy,
+    /// The revision is above `2^53 - 1`.
+    #[error("a revision is at most 2^53 - 1")]
+    BadRevision,
+    /// The number of revisions to hold is not 1 to 1,024.
+    #[error("a room holds the changes of 1 to 1,024 revisions")]
+    BadLimit,
+    #[error("out of memory")]
+    NoMemory,
+}
+
+impl From<HistoryFault> for RoomFault {
+    ghost use Rattle.relay_room.specs.Fault.{of_history};
+
+    ghost from_gives = { λ fault result. result ≡ of_history fault };
+
+    fn from(fault: HistoryFault) -> RoomFault {
+        match fault {
+            HistoryFault::BadLimit => RoomFault::BadLimit,
+            HistoryFault::NoMemory => RoomFault::NoMemory,
+        }
+    }
+}
+
+/// Why a patch makes no revision, in the order of the checks. The room is as it was.
+#[derive(Clone, Copy, Debug, PartialEq, Eq, Error)]
+pub enum EditFault {
+    /// The revision is `2^53 - 1`, the last that there can be.
+    #[error("no revision is left")]
+    Exhausted,
+    /// The patch is refused, or memory is.
+    #[error("{0}")]
+    Apply(ApplyFault),
+}
+
+impl From<ApplyFault> for EditFault {
+    ghost from_gives = { λ fault result. result ≡ edit.Apply fault };
+
+    fn from(fault: ApplyFault) -> EditFault {
+        EditFault::Apply(fault)
+    }
+}
+
+/// Why nobody can say what was missed, in the order of the checks.
+#[derive(Clone, Copy, Debug, PartialEq, Eq, Error)]
+pub enum CatchFault {
+    /// The revision is above the present one.
+    #[error("a revision that is still to come")]
+    Future,
+    #[error("out of memory")]
+    NoMemory,
+}
+
+impl From<AllocError> for CatchFault {
+    ghost from_gives = { λ _ result. result ≡ catch.NoMemory };
+
+    fn from(_: AllocError) -> CatchFault {
+        CatchFault::NoMemory
+    }
+}

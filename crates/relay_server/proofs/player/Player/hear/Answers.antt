@@ -1,0 +1,12 @@
+-- A text that was taken had no fault.
+use Rattle.std.proofs.Common.{ap, ◌≡◌, Some}
+use Rattle.relay_follow.specs.Hearing.{as_client, told}
+use Rattle.relay_server.specs.Script.{player}
+use Rattle.relay_server.proofs.Hearing.{heard_well}
+use Rattle.relay_server.proofs.player.Player.hear.Goals as goal
+
+pub returns-in-Ok : goal.returns-in-Ok
+returns-in-Ok c =
+    let p = c.args.self.now in
+    let led : told (as_client p.follower) c.args.text ≡ Some (as_client c.hear.new.self) = rw c.as_str.ensures at c.in-Ok.ensures.ok in
+    (heard_well p.follower c.args.text c.hear.new.self led, led, ap (player p.session c.hear.new.self) c.requires)

@@ -1,0 +1,44 @@
+-- A run over the lines of an input, and what is written for them: of whatever answers line after line.
+use Rattle.std.specs.Prelude.{◌≡◌, ℕ, ◌+◌, ◌<◌, ◌⊎◌, List, [], ◌∷◌, ◌++◌, length, take, ⊤, Option, Some, None, IfSome}
+use Rattle.std.specs.Io.KnownBytes.{Appends}
+use Rattle.relay_server.specs.Lines.{lines_of}
+use Rattle.relay_server.specs.declared.fault.ScriptFault.{ScriptFault}
+use Rattle.relay_server.specs.declared.fault.ScriptFault.TheVariants.{Output}
+
+-- from a state over the line of a number to the next state, with what is written
+abbrev pub Answering : Type 0 → Type 1
+Answering S = S → ℕ → List ℕ → S → List ℕ → Type 0
+
+-- a run over lines, which are numbered from 1, with all that is written
+pub data Runs {S : Type 0} (answers : Answering S) : S → List (List ℕ) → S → List ℕ → Type 0 where
+  start : {from : S} → Runs answers from [] from []
+  step : {from mid to : S} {lines : List (List ℕ)} {line written answer : List ℕ}
+      → Runs answers from lines mid written → answers mid (length lines + 1) line to answer → Runs answers from (lines ++ line ∷ []) to (written ++ answer)
+
+-- known bytes are these lines, and then `new`
+abbrev pub TakesLines : Option (List ℕ) → Option (List ℕ) → List (List ℕ) → Type 0
+TakesLines None new lines = ⊤
+TakesLines (Some old) None lines = ⊥
+TakesLines (Some old) (Some new) lines = lines_of old ≡ lines ++ lines_of new
+
+module _ {S : Type 0} (answers : Answering S) where
+  -- each line was answered, and nothing else written
+  abbrev pub AnswersAll : S → Option (List ℕ) → Option (List ℕ) → Option (List ℕ) → Type 0
+  AnswersAll from input old new = (lines : List (List ℕ)) × (written : List ℕ) × (to : S)
+      × Runs answers from lines to written × Appends old new written × IfSome input (λ bytes. lines ≡ lines_of bytes)
+
+  -- a part at the front of the answer to the line that follows these
+  abbrev pub CutsNext : Option (List ℕ) → List (List ℕ) → S → List ℕ → Type 0
+  CutsNext input lines from cut = (line answer : List ℕ) × (to : S) × (n : ℕ) × answers from (length lines + 1) line to answer × (cut ≡ take n answer)
+      × IfSome input (λ bytes. (rest : List (List ℕ)) × (lines_of bytes ≡ (lines ++ line ∷ []) ++ rest))
+
+  -- the lines at the front were answered, and nothing else written but, after a fault of the writer, a part of the next answer
+  abbrev pub AnswersSome : ScriptFault → S → Option (List ℕ) → Option (List ℕ) → Option (List ℕ) → Type 0
+  AnswersSome fault from input old new = (lines : List (List ℕ)) × (written cut : List ℕ) × (to : S)
+      × Runs answers from lines to written × Appends old new (written ++ cut)
+      × IfSome input (λ bytes. (rest : List (List ℕ)) × (lines_of bytes ≡ lines ++ rest))
+      × ((cut ≡ []) ⊎ ((fault ≡ Output) × CutsNext input lines to cut))
+
+-- some line is longer than `most`
+abbrev pub HasLongLine : ℕ → List (List ℕ) → Type 0
+HasLongLine most lines = (before after : List (List ℕ)) × (line : List ℕ) × (lines ≡ before ++ line ∷ after) × (most < length line)

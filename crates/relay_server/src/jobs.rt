@@ -1,0 +1,114 @@
+//! The program's jobs, from its words to its exit status.
+ghost use Rattle.relay_server.specs.Jobs.{IsExit, JobEnds, StopEnds};
+
+use crate::fault::{ScriptFault, ServeFault};
+use crate::looped::Looped;
+use crate::run::run_lines;
+use crate::serve::serve;
+use crate::status::{Status, report, say};
+use crate::whole::{run_follow, run_script};
+use relay_options::{Job, Settings, Stop, job_of};
+use std::alloc::{AllocGlobal, Global};
+use std::io::{Read, Write};
+use std::net::Net;
+
+/// Does what the words ask for, the first of which is the program's name, over a reader and a writer, with faults told on
+/// `errors`. The exit status: 0 where all was done, 1 for a fault of input, output or a line, 2 for the words, 3 for want of
+/// memory. Help that was asked for goes to the writer.
+pub fn start<H: AllocGlobal + Net, R: Read, W: Write, E: Write>(
+    rt: &H,
+    words: &[String],
+    reader: &mut R,
+    writer: &mut W,
+    errors: &mut E,
+) -> u8
+    ensures { IsExit result }
+{
+    let alloc = rt.alloc();
+    match job_of(alloc, words) {
+        Ok(job) => carry_out(alloc, rt, job, reader, writer, errors).code(),
+        Err(stop) => explain(&stop, writer, errors).code(),
+    }
+}
+
+/// Does a job, over a reader and a writer, with faults told on `errors`; sockets come from `net`.
+pub fn carry_out<N: Net, R: Read, W: Write, E: Write>(
+    alloc: Global,
+    net: &N,
+    job: Job,
+    reader: &mut R,
+    writer: &mut W,
+    errors: &mut E,
+) -> Status
+    ensures { JobEnds job result (R.remaining reader.old) (W.contents writer.old) (W.contents writer.new) }
+{
+    match job {
+        Job::Script(settings) => {
+            let Settings {
+                history,
+                outbox,
+                epoch,
+            } = settings;
+            let ended = run_script(alloc, reader, writer, epoch, history, outbox);
+            report(ended, errors)
+        }
+        Job::Follow => {
+            let ended = run_follow(alloc, reader, writer);
+            report(ended, errors)
+        }
+        Job::Loop(settings) => {
+            let ended = run_loop(alloc, net, reader, writer, settings);
+            told(ended, 0, errors)
+        }
+        Job::Serve {
+            port,
+            turns,
+            settings,
+        } => {
+            let ended = serve(alloc, net, writer, port, turns, settings);
+            told(ended, port, errors)
+        }
+    }
+}
+
+/// Carries out the lines of a script through loopback sockets.
+fn run_loop<N: Net, R: Read, W: Write>(
+    alloc: Global,
+    net: &N,
+    reader: &mut R,
+    writer: &mut W,
+    settings: Settings,
+) -> Result<(), ServeFault> {
+    let mut looped = Looped::new(alloc, net, settings)?;
+    run_lines(alloc, &mut looped, reader, writer)?;
+    Ok(())
+}
+
+/// Tells why listening ended early.
+fn told<E: Write>(ended: Result<(), ServeFault>, port: u16, errors: &mut E) -> Status {
+    match ended {
+        Ok(()) => Status::Done,
+        Err(ServeFault::Listen) => {
+            let _ = writeln!(errors, "relay: cannot listen on port {port}");
+            Status::Failed
+        }
+        Err(ServeFault::Ended(fault)) => report(Err(fault), errors),
+    }
+}
+
+/// Tells why there is nothing to do.
+fn explain<W: Write, E: Write>(stop: &Stop, writer: &mut W, errors: &mut E) -> Status
+    ensures { StopEnds stop.now result }
+{
+    match stop {
+        Stop::Help(text) => match writer.write_all(text.as_bytes()) {
+            Ok(()) => Status::Done,
+            Err(_) => report(Err(ScriptFault::Output), errors),
+        },
+        Stop::Misuse(text) => {
+            say(text, errors);
+            Status::Misused
+        }
+        Stop::NoMemory => report(Err(ScriptFault::NoMemory), errors),
+    }
+}

@@ -1,0 +1,32 @@
+//! Scripts, followers and sockets as library calls over any reader and writer (`docs/PROTOCOL.md`): what the program `relay`
+//! does.
+#![tactic(auto)]
+
+mod client;
+mod fault;
+mod follow;
+mod input;
+mod jobs;
+mod line;
+mod looped;
+mod output;
+mod player;
+mod respond;
+mod run;
+mod script;
+mod serve;
+mod serving;
+mod status;
+mod whole;
+mod words;
+
+pub use fault::{ScriptFault, ServeFault};
+pub use input::LINE_MOST;
+pub use jobs::{carry_out, start};
+pub use run::LINES_MOST;
+pub use serving::{LINKS_MOST, Serving};
+pub use status::{Status, report};
+pub use whole::{run_follow, run_script};
+
+#[cfg(test)]
+mod tests;

@@ -1,0 +1,81 @@
+//! How the program ends.
+ghost use Rattle.std.specs.Prelude.{◌≡◌, Err};
+ghost use Rattle.relay_server.specs.Jobs.{code_of, status_of};
+
+use crate::fault::ScriptFault;
+use std::io::Write;
+
+/// The exit statuses of the program.
+#[derive(Clone, Copy, Debug, PartialEq, Eq)]
+pub enum Status {
+    /// 0: all was done.
+    Done,
+    /// 1: input, output or a line is at fault.
+    Failed,
+    /// 2: the command line is at fault.
+    Misused,
+    /// 3: memory was refused.
+    NoMemory,
+}
+
+impl Status {
+    /// The number that the process ends with.
+    pub fn code(self) -> u8
+        ensures { result ≡ code_of self }
+    {
+        match self {
+            Status::Done => 0,
+            Status::Failed => 1,
+            Status::Misused => 2,
+            Status::NoMemory => 3,
+        }
+    }
+}
+
+/// Says on `errors` why a script ended early, and gives the status.
+pub fn report<E: Write>(ended: Result<(), ScriptFault>, errors: &mut E) -> Status
+    ensures { result ≡ status_of ended }
+{
+    if let Err(fault) = ended {
+        say(complaint(fault), errors);
+    }
+    status_of(ended)
+}
+
+fn status_of(ended: Result<(), ScriptFault>) -> Status
+    ensures { result ≡ status_of ended }
+{
+    match ended {
+        Ok(()) => Status::Done,
+        Err(fault) => fault_status(fault),
+    }
+}
+
+fn fault_status(fault: ScriptFault) -> Status
+    ensures { result ≡ status_of (Err fault) }
+{
+    match fault {
+        ScriptFault::BadLimit => Status::Misused,
+        ScriptFault::NoMemory => Status::NoMemory,
+        ScriptFault::Input
+        | ScriptFault::Output
+        | ScriptFault::LineTooLong
+        | ScriptFault::TooManyLines => Status::Failed,
+    }
+}
+
+fn complaint(fault: ScriptFault) -> &'static str {
+    match fault {
+        ScriptFault::BadLimit => "relay: a limit out of range\n",
+        ScriptFault::Input => "relay: input\n",
+        ScriptFault::Output => "relay: output\n",
+        ScriptFault::LineTooLong => "relay: line too long\n",
+        ScriptFault::TooManyLines => "relay: too many lines\n",
+        ScriptFault::NoMemory => "relay: no memory\n",
+    }
+}
+
+/// Says a text on `errors`. A fault of theirs is passed over: there is nowhere left to say it.
+pub fn say<E: Write>(text: &str, errors: &mut E) {
+    let _ = errors.write_all(text.as_bytes());
+}

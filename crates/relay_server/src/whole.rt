@@ -1,0 +1,60 @@
+//! A script, or the texts for a follower, from the first line to the last.
+ghost use Rattle.std.specs.Prelude.{◌≡◌, ◌≢◌, ◌<◌, ◌↔◌, length, OnOk, IfErr, IfSome, IsErrOf, None};
+ghost use Rattle.std.specs.Io.KnownBytes.{IsAtEnd};
+ghost use Rattle.relay_hub.specs.Telling.{BadLimits};
+ghost use Rattle.relay_server.specs.Follow as follow;
+ghost use Rattle.relay_server.specs.Lines.{lines_of};
+ghost use Rattle.relay_server.specs.Respond.{AnswersAll, AnswersSome, HasLongLine};
+ghost use Rattle.relay_server.specs.Script as script;
+ghost use Rattle.relay_server.specs.Script.{new_stage};
+
+use crate::fault::ScriptFault;
+use crate::follow::Following;
+use crate::run::run_lines;
+use crate::script::Script;
+use std::alloc::Global;
+use std::io::{Read, Write};
+
+/// Carries out the lines of a script, and writes their answers, over a new hub of this epoch whose rooms hold `history`
+/// revisions, and in whose lines at most `outbox` patches wait. The lines before a fault were carried out and their answers
+/// written; after `Output` the last answer may be cut.
+pub fn run_script<R: Read, W: Write>(
+    alloc: Global,
+    reader: &mut R,
+    writer: &mut W,
+    epoch: u64,
+    history: u64,
+    outbox: u64,
+) -> Result<(), ScriptFault>
+    ensures done { OnOk result (AnswersAll script.Answers (new_stage epoch history outbox) (R.remaining reader.old) (W.contents writer.old) (W.contents writer.new)) }
+    ensures read { OnOk result (IsAtEnd (R.remaining reader.new)) }
+    ensures bad_limit { IsErrOf result ScriptFault.BadLimit ↔ BadLimits epoch 1 history outbox }
+    ensures stopped { IfErr result (λ fault. fault ≢ ScriptFault.BadLimit
+        → AnswersSome script.Answers fault (new_stage epoch history outbox) (R.remaining reader.old) (W.contents writer.old) (W.contents writer.new)) }
+    ensures too_long { IfErr result (λ fault. fault ≡ ScriptFault.LineTooLong
+        → IfSome (R.remaining reader.old) (λ bytes. HasLongLine 270336 (lines_of bytes))) }
+    ensures too_many { IfErr result (λ fault. fault ≡ ScriptFault.TooManyLines
+        → IfSome (R.remaining reader.old) (λ bytes. 65536 < length (lines_of bytes))) }
+{
+    let mut script = Script::new(alloc, epoch, history, outbox)?;
+    run_lines(alloc, &mut script, reader, writer)
+}
+
+/// Hears the texts of an input, one a line, and writes what is held after each. The same limits and faults as for a script;
+/// there is no limit to be out of range.
+pub fn run_follow<R: Read, W: Write>(
+    alloc: Global,
+    reader: &mut R,
+    writer: &mut W,
+) -> Result<(), ScriptFault>
+    ensures done { OnOk result (AnswersAll follow.Answers None (R.remaining reader.old) (W.contents writer.old) (W.contents writer.new)) }
+    ensures read { OnOk result (IsAtEnd (R.remaining reader.new)) }
+    ensures limits { IfErr result (λ fault. fault ≢ ScriptFault.BadLimit) }
+    ensures stopped { IfErr result (λ fault. AnswersSome follow.Answers fault None (R.remaining reader.old) (W.contents writer.old) (W.contents writer.new)) }
+    ensures too_long { IfErr result (λ fault. fault ≡ ScriptFault.LineTooLong
+        → IfSome (R.remaining reader.old) (λ bytes. HasLongLine 270336 (lines_of bytes))) }
+    ensures too_many { IfErr result (λ fault. fault ≡ ScriptFault.TooManyLines
+        → IfSome (R.remaining reader.old) (λ bytes. 65536 < length (lines_of bytes))) }
+{
+    run_lines(alloc, &mut Following::new(), reader, writer)
+}

@@ -1,0 +1,36 @@
+-- Lemmas on the statuses of refusals.
+use Rattle.std.proofs.Common.{◌≡◌, ℕ, ◌++◌, ◌∷◌, Bool, true, false, refl, sym, subst, eqb-true, unwrap_or, [], List, Option, Some, None, option_map, append_assoc, ap, ◌∙◌, Result, Ok, Err}
+use Rattle.std.specs.Prelude.{◌==◌, ◌||◌, IsTrue}
+use Rattle.std.specs.Result.{OkIff}
+use denote.Ref.{Bor}
+use Rattle.http.specs.StatusCode.{code_digits, reason_phrase}
+use Rattle.relay_shake.specs.Replies.{is_refusal, status_text}
+
+one_more : (P : ℕ → Type 0) (n status : ℕ) (other : Bool) → P n → (IsTrue other → P status) → IsTrue (other || status == n) → P status
+one_more P n status true here later h = later refl
+one_more P n status false here later h = subst P (sym (eqb-true status n h)) here
+
+-- what holds of each status of a refusal
+pub by_status : (P : ℕ → Type 0) → P 400 → P 404 → P 405 → P 426 → P 431 → P 503 → (status : ℕ) → IsTrue (is_refusal status) → P status
+by_status P a b c d e f status h =
+    one_more P 503 status _ f (one_more P 431 status _ e (one_more P 426 status _ d (one_more P 405 status _ c (one_more P 404 status _ b
+    (λ first. subst P (sym (eqb-true status 400 first)) a))))) h
+
+-- the digits and the phrase, with a space between them
+pub spelled : (status : ℕ) → IsTrue (is_refusal status) → code_digits status ++ 32 ∷ unwrap_or (reason_phrase status) [] ≡ status_text status
+spelled status h = by_status (λ s. code_digits s ++ 32 ∷ unwrap_or (reason_phrase s) [] ≡ status_text s) refl refl refl refl refl refl status h
+
+-- three pieces behind a list
+pub joined : (old digits phrase text : List ℕ) → digits ++ 32 ∷ phrase ≡ text → ((old ++ digits) ++ 32 ∷ []) ++ phrase ≡ old ++ text
+joined old digits phrase text e = simp append_assoc (ap (λ t. old ++ t) e)
+
+-- the text of an option, or of a default
+pub text-unwrap_or : (o : Option (Bor (List ℕ))) (d : Bor (List ℕ)) (text : Option (List ℕ)) → option_map (λ b. b.now) o ≡ text
+    → (unwrap_or o d).now ≡ unwrap_or text d.now
+text-unwrap_or None d text e = ap (λ t. unwrap_or t d.now) e
+text-unwrap_or (Some b) d text e = ap (λ t. unwrap_or t d.now) e
+
+-- the value that is given where a fact holds
+pub value-from_OkIff : {T E : Type 0} (P : Type 0) (r : Result T E) (v x : T) → OkIff r P v → r ≡ Ok x → x ≡ v
+value-from_OkIff P (Ok y) v x here e = let same : y ≡ x = cc in sym same ∙ here.1
+value-from_OkIff P (Err y) v x none e = absurd (cc)

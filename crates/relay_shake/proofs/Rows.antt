@@ -1,0 +1,62 @@
+-- Worked heads, by computation.
+use Rattle.std.proofs.Common.{◌≡◌, ℕ, List, [], ◌∷◌, codes, true, Some, None, refl}
+use Rattle.httparse.specs.Grammar.{RequestHead, crlf, Field, trim_ows}
+use Rattle.relay_shake.specs.Head.{has_element, only_value}
+use Rattle.relay_shake.specs.Key.{key_of}
+use Rattle.relay_shake.specs.Route.{room_of}
+use Rattle.relay_shake.specs.Handshake.{accept, refuse, verdict_of}
+
+room : room_of (codes "/rooms/a") ≡ Some (codes "a")
+room = refl
+
+room_without_name : room_of (codes "/rooms/") ≡ None
+room_without_name = refl
+
+room_with_query : room_of (codes "/rooms/a?x=1") ≡ None
+room_with_query = refl
+
+room_of_two_segments : room_of (codes "/rooms/a/b") ≡ None
+room_of_two_segments = refl
+
+key_of_23 : key_of ((codes "Sec-WebSocket-Key", codes "dGhlIHNhbXBsZSBub25jZQ=") ∷ []) ≡ None
+key_of_23 = refl
+
+two_hosts : only_value (codes "Host") ((codes "host", codes "a") ∷ (codes "HOST", codes "a") ∷ []) ≡ None
+two_hosts = refl
+
+element_among_others : has_element (codes "Connection") (codes "Upgrade") ((codes "connection", codes "keep-alive,\t upgrade ,x") ∷ []) ≡ true
+unfolding trim_ows
+element_among_others = refl
+
+abbrev field : List ℕ → List ℕ → Field
+field name raw = record { name = name; raw = raw; end = crlf }
+
+-- the sample head with this version
+abbrev sample : List ℕ → RequestHead
+sample version = record {
+  blank = [];
+  method = codes "GET";
+  target = codes "/rooms/a";
+  minor = 1;
+  line_end = crlf;
+  fields =
+      field (codes "Host") (codes " localhost")
+      ∷ field (codes "Upgrade") (codes " websocket")
+      ∷ field (codes "Connection") (codes " keep-alive, Upgrade")
+      ∷ field (codes "Sec-WebSocket-Key") (codes " dGhlIHNhbXBsZSBub25jZQ==")
+      ∷ field (codes "Sec-WebSocket-Version") version
+      ∷ [];
+  last = crlf;
+}
+
+accepted : verdict_of (sample (codes " 13")) [] ≡ accept (codes "a") (codes "dGhlIHNhbXBsZSBub25jZQ==")
+unfolding trim_ows
+accepted = refl
+
+older_version : verdict_of (sample (codes " 8")) (codes "x") ≡ refuse 426
+unfolding trim_ows
+older_version = refl
+
+surplus : verdict_of (sample (codes " 13")) (codes "x") ≡ refuse 400
+unfolding trim_ows
+surplus = refl

@@ -1,0 +1,25 @@
+-- What the code holds of a head and of its verdict.
+use Rattle.std.specs.Prelude.{◌≡◌, Result, Ok, Err, IsTrue, map}
+use Rattle.httparse.specs.Borrowed.{header_parts}
+use Rattle.relay_shake.specs.Head.{Parts}
+use Rattle.relay_shake.specs.Handshake.{Verdict, accept, refuse}
+use Rattle.relay_shake.specs.Replies.{is_refusal}
+use Rattle.relay_shake.specs.declared.head.Head.{Head}
+use Rattle.relay_shake.specs.declared.checks.Accepted.{Accepted}
+use Rattle.relay_shake.specs.declared.fault.Fault.{Fault}
+use Rattle.relay_shake.specs.declared.fault.Fault.TheVariants.{Refused, NoMemory}
+
+-- the parts that a borrowed head shows
+abbrev pub parts : Head → Parts
+parts head = record { method = head.method.now; target = head.target.now; minor = head.minor; lines = map header_parts head.lines.now; has_surplus = head.has_surplus }
+
+-- the outcome is the verdict, if there was memory for it
+abbrev pub Judges : Result Accepted Fault → Verdict → Type 0
+Judges (Ok accepted) verdict = verdict ≡ accept accepted.room.now accepted.key.now
+Judges (Err (Refused status)) verdict = verdict ≡ refuse status
+Judges (Err NoMemory) verdict = Unit {0}
+
+-- the status is one that has a reply
+abbrev pub HasReply : Fault → Type 0
+HasReply (Refused status) = IsTrue (is_refusal status)
+HasReply NoMemory = Unit {0}

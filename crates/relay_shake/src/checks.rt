@@ -1,0 +1,53 @@
+//! The checks of a head, in their order (RFC 6455, section 4.2.1).
+ghost use Rattle.std.specs.Prelude.{◌≡◌, OnOk, OnErr, IfErr, true, false};
+ghost use Rattle.relay_shake.specs.Judged.{parts, Judges, HasReply};
+ghost use Rattle.relay_shake.specs.Handshake.{verdict_on};
+
+use crate::fault::Fault;
+use crate::head::Head;
+use crate::key::key_of;
+use crate::lines::{has_element, only_value};
+use crate::route::room_of;
+use std::alloc::Global;
+
+const LINES_MOST: usize = 32;
+
+/// What an accepted head asks for.
+#[derive(Drop)]
+pub(crate) struct Accepted<'b> {
+    pub room: &'b str,
+    pub key: &'b [u8],
+}
+
+/// The room and the key of a head that passes each check, or the status of the first that fails.
+pub(crate) fn judge<'b>(alloc: Global, head: &Head<'_, 'b>) -> Result<Accepted<'b>, Fault>
+    ensures verdict { Judges result (verdict_on (parts head.now)) }
+    ensures status { IfErr result HasReply }
+{
+    demand(head.lines.len() <= LINES_MOST, 431)?;
+    demand(head.method == "GET", 405)?;
+    let room = room_of(alloc, head.target)?.ok_or(Fault::Refused(404))?;
+    demand(head.minor == 1, 400)?;
+    demand(only_value(head.lines, "Host").is_some(), 400)?;
+    demand(has_element(head.lines, "Upgrade", "websocket"), 400)?;
+    demand(has_element(head.lines, "Connection", "Upgrade"), 400)?;
+    let version = only_value(head.lines, "Sec-WebSocket-Version").ok_or(Fault::Refused(400))?;
+    demand(version == "13".as_bytes(), 426)?;
+    let key = key_of(head.lines).ok_or(Fault::Refused(400))?;
+    // A client waits for the reply.
+    demand(!head.has_surplus, 400)?;
+    Ok(Accepted { room, key })
+}
+
+// Passes where the fact holds, and else refuses with the status.
+fn demand(holds: bool, status: u16) -> Result<(), Fault>
+    ensures passed { OnOk result (holds ≡ true) }
+    ensures failed { OnErr result (holds ≡ false) }
+    ensures status { IfErr result (λ fault. fault ≡ Fault.Refused status) }
+{
+    if holds {
+        Ok(())
+    } else {
+        Err(Fault::Refused(status))
+    }
+}

@@ -1,0 +1,95 @@
+//! Header lines by name.
+//!
+//! Names, and the elements of a list, compare without regard to ASCII case (RFC 9110, sections 5.1 and 5.6.1). A value
+//! has lost the spaces and tabs round it already; an element loses them too.
+ghost use Rattle.std.specs.Prelude.{◌≡◌, map, reverse, option_map};
+ghost use Rattle.std.specs.Str.{str_eq_ignore_ascii_case};
+ghost use Rattle.httparse.specs.Borrowed.{header_parts};
+ghost use Rattle.httparse.specs.Grammar.{skip_ows, trim_ows};
+ghost use Rattle.relay_shake.specs.Head.{count_of, first_value, only_value, lists, has_element};
+
+use httparse::Header;
+
+/// The value of the line of that name, where there is exactly one.
+pub(crate) fn only_value<'b>(lines: &[Header<'b>], name: &str) -> Option<&'b [u8]>
+    ensures { option_map (λ value. value.now) result ≡ only_value name.now (map header_parts lines.now) }
+{
+    if count(lines, name) == 1 {
+        first_value(lines, name)
+    } else {
+        None
+    }
+}
+
+/// Whether a line of that name lists the element.
+pub(crate) fn has_element(lines: &[Header<'_>], name: &str, element: &str) -> bool
+    ensures { result ≡ has_element name.now element.now (map header_parts lines.now) }
+{
+    lines
+        .iter()
+        .any(|line| is_named(line, name) && lists(line.value, element))
+}
+
+fn count(lines: &[Header<'_>], name: &str) -> usize
+    ensures { result ≡ count_of name.now (map header_parts lines.now) }
+{
+    lines.iter().filter(|line| is_named(line, name)).count()
+}
+
+fn first_value<'b>(lines: &[Header<'b>], name: &str) -> Option<&'b [u8]>
+    ensures { option_map (λ value. value.now) result ≡ first_value name.now (map header_parts lines.now) }
+{
+    for line in lines {
+        if is_named(line, name) {
+            return Some(line.value);
+        }
+    }
+    None
+}
+
+fn is_named(line: &Header<'_>, name: &str) -> bool
+    ensures { result ≡ str_eq_ignore_ascii_case line.now.name.now name.now }
+{
+    line.name.eq_ignore_ascii_case(name)
+}
+
+fn lists(value: &[u8], element: &str) -> bool
+    ensures { result ≡ lists element.now value.now }
+{
+    value
+        .split(|byte| *byte == b',')
+        .any(|part| is_element(part, element))
+}
+
+fn is_element(part: &[u8], element: &str) -> bool
+    ensures { result ≡ str_eq_ignore_ascii_case (trim_ows part.now) element.now }
+{
+    trimmed(part).eq_ignore_ascii_case(element.as_bytes())
+}
+
+#[tactic(auto, unfolding(httparse::specs::Grammar::trim_ows))]
+fn trimmed(bytes: &[u8]) -> &[u8]
+    ensures { result.now ≡ trim_ows bytes.now }
+{
+    trimmed_end(trimmed_start(bytes))
+}
+
+fn trimmed_start(bytes: &[u8]) -> &[u8]
+    ensures { result.now ≡ skip_ows bytes.now }
+{
+    let mut rest = bytes;
+    while let [b' ' | b'\t', behind @ ..] = rest {
+        rest = behind;
+    }
+    rest
+}
+
+fn trimmed_end(bytes: &[u8]) -> &[u8]
+    ensures { result.now ≡ reverse (skip_ows (reverse bytes.now)) }
+{
+    let mut rest = bytes;
+    while let [before @ .., b' ' | b'\t'] = rest {
+        rest = before;
+    }
+    rest
+}

@@ -1,0 +1,137 @@
+//! From bytes to a head, and from the head to the answer.
+ghost use Rattle.std.specs.Prelude.{◌≡◌, ◌<◌, ◌≤◌, IfOk, IsTrue};
+ghost use Rattle.httparse.specs.Borrowed.{HoldsSomeRequest};
+ghost use Rattle.httparse.specs.Grammar.{HasNoRequest, NeverHasRequest, MayBecomeRequest};
+ghost use Rattle.relay_shake.specs.Handshake.{verdict_on, refuse, window};
+ghost use Rattle.relay_shake.specs.Judged.{parts};
+ghost use Rattle.relay_shake.specs.Replies.{is_refusal};
+ghost use Rattle.relay_shake.specs.Shaken.{Shows, AnswersHead, AnswersNoHead};
+
+use crate::answer::Shake;
+use crate::checks::judge;
+use crate::fault::Fault;
+use crate::head::Head;
+use crate::reply::{accept_reply, refusal};
+use httparse::{EMPTY_HEADER, Error, Request, Status};
+use std::alloc::{AllocError, Global};
+
+const HEAD_MOST: usize = 8_192;
+
+/// A head of that many bytes has no more header lines, since each takes three.
+const LINES_ROOM: usize = 2_730;
+
+/// The answer to all bytes that came so far.
+///
+/// A head is looked for in the first 8,192 bytes. Where they begin with one, the first check that fails gives the
+/// status of [`Shake::Refuse`]:
+///
+/// 1. at most 32 header lines, else 431;
+/// 2. the method `GET`, else 405;
+/// 3. the target `/rooms/` and a room name, with no query, else 404;
+/// 4. HTTP/1.1, else 400;
+/// 5. one line `Host`, else 400;
+/// 6. the element `websocket` in a line `Upgrade`, else 400;
+/// 7. the element `Upgrade` in a line `Connection`, else 400;
+/// 8. one line `Sec-WebSocket-Version`, else 400; it says `13`, else 426;
+/// 9. one line `Sec-WebSocket-Key`, whose value is 16 bytes in base64, else 400;
+/// 10. no byte behind the head, since a client waits for the reply, else 400.
+///
+/// A head that passes is accepted, and other headers are ignored: no extension and no protocol is agreed on.
+///
+/// Without a head the answer is [`Shake::More`], or 431 where more than 8,192 bytes came, while a head can still come;
+/// it is 400 where none can. One place is open: where the bytes end in a target that no head can have, as one that is
+/// not UTF-8, either answer may come until the target has ended.
+///
+/// Each call reads from the first byte, and takes about 90 KB for the header lines while it does. `AllocError` comes where
+/// memory was refused, and nothing is left of the call.
+pub fn shake(alloc: Global, bytes: &[u8]) -> Result<Shake, AllocError>
+    ensures head { IfOk result (AnswersHead bytes.now) }
+    // Both parts hold only where the bytes end in a target that no head can have.
+    ensures no_head { IfOk result (AnswersNoHead bytes.now) }
+{
+    let mut lines = vec![in alloc; EMPTY_HEADER; LINES_ROOM]?;
+    let mut request = Request::new(&mut lines);
+    match request.parse(window(bytes)) {
+        Ok(Status::Complete(len)) => with_head(alloc, bytes, &request, len),
+        Ok(Status::Partial) => without_head(alloc, bytes),
+        // There is room for each line that the window can hold, so that this never comes.
+        Err(Error::TooManyHeaders) => without_head(alloc, bytes),
+        Err(_) => hopeless(alloc, bytes),
+    }
+}
+
+// The bytes in which a head is looked for.
+fn window(bytes: &[u8]) -> &[u8]
+    ensures { result.now ≡ window bytes.now }
+{
+    if bytes.len() > HEAD_MOST {
+        &bytes[..HEAD_MOST]
+    } else {
+        bytes
+    }
+}
+
+fn with_head(
+    alloc: Global,
+    bytes: &[u8],
+    request: &Request<'_, '_>,
+    len: usize,
+) -> Result<Shake, AllocError>
+    requires { HoldsSomeRequest (window bytes.now) request.now len }
+    ensures head { IfOk result (AnswersHead bytes.now) }
+    ensures no_head { IfOk result (AnswersNoHead bytes.now) }
+{
+    let head = Head {
+        method: request.method.unwrap_or(""),
+        target: request.path.unwrap_or(""),
+        minor: request.version.unwrap_or(0),
+        lines: &*request.headers,
+        has_surplus: len < bytes.len(),
+    };
+    answer(alloc, &head)
+}
+
+fn answer(alloc: Global, head: &Head<'_, '_>) -> Result<Shake, AllocError>
+    ensures { IfOk result (λ answer. Shows answer (verdict_on (parts head.now))) }
+{
+    match judge(alloc, head) {
+        Ok(accepted) => Ok(Shake::Accept {
+            room: String::from_str(alloc, accepted.room)?,
+            reply: accept_reply(alloc, accepted.key)?,
+        }),
+        Err(Fault::Refused(status)) => refused(alloc, status),
+        Err(Fault::NoMemory) => Err(AllocError),
+    }
+}
+
+fn without_head(alloc: Global, bytes: &[u8]) -> Result<Shake, AllocError>
+    requires none { HasNoRequest (window bytes.now) }
+    requires unfinished { MayBecomeRequest (window bytes.now) }
+    ensures head { IfOk result (AnswersHead bytes.now) }
+    ensures no_head { IfOk result (AnswersNoHead bytes.now) }
+{
+    if bytes.len() > HEAD_MOST {
+        refused(alloc, 431)
+    } else {
+        Ok(Shake::More)
+    }
+}
+
+// No bytes that follow can make a head of these.
+fn hopeless(alloc: Global, bytes: &[u8]) -> Result<Shake, AllocError>
+    requires { NeverHasRequest (window bytes.now) }
+    ensures head { IfOk result (AnswersHead bytes.now) }
+    ensures no_head { IfOk result (AnswersNoHead bytes.now) }
+{
+    refused(alloc, 400)
+}
+
+fn refused(alloc: Global, status: u16) -> Result<Shake, AllocError>
+    requires { IsTrue (is_refusal status) }
+    ensures { IfOk result (λ answer. Shows answer (refuse status)) }
+{
+    Ok(Shake::Refuse {
+        status,
+        reply: refusal(alloc, status)?,
+    })
+}

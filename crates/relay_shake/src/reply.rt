@@ -1,0 +1,74 @@
+//! The bytes of the replies.
+ghost use Rattle.std.specs.Prelude.{◌≡◌, ◌++◌, IfOk, OnOk, IsTrue, codes, string_bytes};
+ghost use Rattle.relay_shake.specs.Replies.{accept_value, accept_reply, status_text, refusal_lines, refusal_of, is_refusal};
+
+use base64::engine::general_purpose::STANDARD;
+use http::StatusCode;
+use sha1::Sha1;
+use std::alloc::{AllocError, Global};
+
+/// RFC 6455, section 1.3.
+const GUID: &str = "258EAFA5-E914-47DA-95CA-C5AB0DC85B11";
+
+/// The reply 101 to a handshake with that key (RFC 6455, section 4.2.2).
+pub(crate) fn accept_reply(alloc: Global, key: &[u8]) -> Result<Vec<u8>, AllocError>
+    ensures { IfOk result (λ reply. reply.items ≡ accept_reply key.now) }
+{
+    let value = accept_value(alloc, key)?;
+    let mut reply = Vec::new(alloc);
+    reply.extend_from_slice(
+        b"HTTP/1.1 101 Switching Protocols\r\nUpgrade: websocket\r\nConnection: Upgrade\r\n",
+    )?;
+    reply.extend_from_slice(b"Sec-WebSocket-Accept: ")?;
+    reply.extend_from_slice(value.as_bytes())?;
+    reply.extend_from_slice(b"\r\n\r\n")?;
+    Ok(reply)
+}
+
+fn accept_value(alloc: Global, key: &[u8]) -> Result<String, AllocError>
+    ensures { IfOk result (λ text. string_bytes text ≡ accept_value key.now) }
+{
+    let mut hasher = Sha1::new();
+    hasher.update(key);
+    hasher.update(GUID.as_bytes());
+    STANDARD.encode(alloc, &hasher.finalize())
+}
+
+/// The reply that turns a handshake away, after which the socket is closed.
+///
+/// The status is one of 400, 404, 405, 426 and 431, as in [`crate::Shake::Refuse`], or 503 where the relay has no place
+/// for another session. `AllocError` comes where memory was refused.
+pub fn refusal(alloc: Global, status: u16) -> Result<Vec<u8>, AllocError>
+    requires { IsTrue (is_refusal status) }
+    ensures { IfOk result (λ reply. reply.items ≡ refusal_of status) }
+{
+    let mut reply = Vec::new(alloc);
+    reply.extend_from_slice(b"HTTP/1.1 ")?;
+    write_status(&mut reply, status)?;
+    reply.extend_from_slice(refusal_lines(status).as_bytes())?;
+    Ok(reply)
+}
+
+// The status with its phrase, behind what the reply holds already.
+fn write_status(reply: &mut Vec<u8>, status: u16) -> Result<(), AllocError>
+    requires { IsTrue (is_refusal status) }
+    ensures { OnOk result (reply.new.items ≡ reply.old.items ++ status_text status) }
+{
+    let code = StatusCode::from_u16(status).unwrap();
+    reply.extend_from_slice(code.as_str().as_bytes())?;
+    reply.extend_from_slice(b" ")?;
+    reply.extend_from_slice(code.canonical_reason().unwrap_or("").as_bytes())?;
+    Ok(())
+}
+
+fn refusal_lines(status: u16) -> &'static str
+    ensures { result.now ≡ refusal_lines status }
+{
+    match status {
+        405 => "\r\nAllow: GET\r\nContent-Length: 0\r\nConnection: close\r\n\r\n",
+        426 => {
+            "\r\nUpgrade: websocket\r\nSec-WebSocket-Version: 13\r\nContent-Length: 0\r\nConnection: close, Upgrade\r\n\r\n"
+        }
+        _ => "\r\nContent-Length: 0\r\nConnection: close\r\n\r\n",
+    }
+}

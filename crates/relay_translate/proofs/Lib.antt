@@ -1,0 +1,11 @@
+pub mod Bounds
+pub mod Tokens
+pub mod Leaves
+pub mod Below
+pub mod Under
+pub mod Changes
+pub mod Slots
+pub mod Sizes
+pub mod Table
+pub mod Lent
+pub mod Rows

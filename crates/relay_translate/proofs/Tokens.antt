@@ -1,0 +1,27 @@
+-- The tokens of a path that is made token by token.
+use Rattle.std.proofs.Common.{◌≡◌, ℕ, zero, suc, ◌≤◌, List, [], ◌∷◌, ◌++◌, length, drop, String, Global, append-nil, refl, sym, ap, ◌∙◌, arith}
+use Rattle.std.specs.List.{slice_range}
+use Rattle.std.proofs.lemmas.List.Folds.{drop_split}
+use Rattle.relay_pointer.specs.Path.{path_of}
+
+pub path_of-drop : (n : ℕ) (ts : List (String Global)) → path_of (drop n ts) ≡ drop n (path_of ts)
+path_of-drop zero ts = refl
+path_of-drop (suc n) [] = refl
+path_of-drop (suc n) (t ∷ ts) = path_of-drop n ts
+
+-- what lies past the end is nothing
+pub path_of-past : (n : ℕ) (ts : List (String Global)) → length ts ≤ n → drop n (path_of ts) ≡ []
+path_of-past zero [] h = refl
+path_of-past zero (t ∷ ts) h = absurd (omega arith)
+path_of-past (suc n) [] h = refl
+path_of-past (suc n) (t ∷ ts) h = path_of-past n ts (omega arith)
+
+none_behind : (ts : List (String Global)) → drop (length ts) ts ≡ []
+none_behind [] = refl
+none_behind (t ∷ ts) = none_behind ts
+
+-- the range from the n-th to the end
+pub path_of-range : (n : ℕ) (ts : List (String Global)) → n ≤ length ts → path_of (slice_range ts n (length ts)) ≡ drop n (path_of ts)
+path_of-range n ts h =
+    ap path_of (sym (append-nil (slice_range ts n (length ts))) ∙ (ap (λ rest. slice_range ts n (length ts) ++ rest) (sym (none_behind ts)) ∙ sym (drop_split ts n (length ts) h)))
+    ∙ path_of-drop n ts

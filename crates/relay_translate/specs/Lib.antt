@@ -1,0 +1,4 @@
+pub mod Touch
+pub mod Table
+pub mod Translate
+pub mod Sizes

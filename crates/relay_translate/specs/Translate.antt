@@ -1,0 +1,89 @@
+-- The operations that bring a view up to date, slot by slot.
+use Rattle.std.specs.Prelude.{ℕ, suc, List, [], ◌∷◌, ◌++◌, length, drop, Bool, true, false, if◌then◌else◌, flat_map, ◌≡◌, Ok}
+use Rattle.std.specs.List.{list_any}
+use Rattle.relay_tree.specs.Document.{Document}
+use Rattle.relay_pointer.specs.Index.{Token, index_text}
+use Rattle.relay_pointer.specs.Path.{Path, is_prefix}
+use Rattle.relay_patch.specs.declared.op.Op.{Op}
+use Rattle.relay_patch.specs.declared.op.Op.TheVariants.{Add, Remove, Replace, Move, Copy, Test}
+use Rattle.relay_patch.specs.Patch.{after, free}
+use Rattle.relay_patch.specs.declared.change.Change.{Change}
+use Rattle.relay_patch.specs.Change.{Leads}
+use Rattle.relay_patch.specs.declared.change.Change.TheVariants as change
+use Rattle.relay_view.specs.View.{slot, view}
+use Rattle.relay_translate.specs.Touch.{Touch, Apart, Inside, Reset, touch_place, touch}
+
+abbrev pub is_reset : Touch → Bool
+is_reset Apart = false
+is_reset Inside = false
+is_reset Reset = true
+
+-- a move within the value is a move; of one that enters or leaves, the value sees an insertion or a removal
+abbrev pub move_op : Touch → Touch → Path → Path → Document → Op
+move_op Inside Inside from to v = Move from to
+move_op Inside Apart from to v = Remove from
+move_op Inside Reset from to v = Remove from
+move_op Apart b from to v = Add to v
+move_op Reset b from to v = Add to v
+
+-- the operation on the document that a change inside the pointer's value comes to
+abbrev pub op_of : Path → Change → Op
+op_of q (change.Set path v) = Replace path v
+op_of q (change.AddMember path v) = Add path v
+op_of q (change.AddItem path v) = Add path v
+op_of q (change.DropMember path) = Remove path
+op_of q (change.DropItem path) = Remove path
+op_of q (change.Move from to v) = move_op (touch_place from q) (touch_place to q) from.path to.path v
+op_of q (change.Copy from to v) = if is_prefix q from then Copy from to.path else Add to.path v
+
+-- the operation with each of its paths exchanged
+abbrev pub with_paths : (Path → Path) → Op → Op
+with_paths f (Add path v) = Add (f path) v
+with_paths f (Remove path) = Remove (f path)
+with_paths f (Replace path v) = Replace (f path) v
+with_paths f (Move from path) = Move (f from) (f path)
+with_paths f (Copy from path) = Copy (f from) (f path)
+with_paths f (Test path v) = Test (f path) v
+
+-- `0`, at which a slot shows its value
+abbrev pub first : Token
+first = 48 ∷ []
+
+-- the pointer q followed by some tokens becomes `/k/0` followed by them
+abbrev pub in_slot : ℕ → Path → Path → Path
+in_slot k q path = index_text k ∷ first ∷ drop (length q) path
+
+-- the operation on the document as one on the view
+abbrev pub in_view : ℕ → Path → Op → Op
+in_view k q op = with_paths (in_slot k q) op
+
+abbrev pub when_inside : Touch → Op → List Op
+when_inside Apart op = []
+when_inside Inside op = op ∷ []
+when_inside Reset op = []
+
+-- the operation on slot k, whose pointer is q, that a change inside its value comes to
+abbrev pub slot_op : ℕ → Path → Change → List Op
+slot_op k q c = when_inside (touch c q) (in_view k q (op_of q c))
+
+-- one exchange of the whole slot where some change is Reset, else an operation for each change inside, in order
+abbrev pub slot_ops : ℕ → Path → List Change → Document → List Op
+slot_ops k q changes now =
+    if list_any (λ c. is_reset (touch c q)) changes then Replace (index_text k ∷ []) (slot q now) ∷ [] else flat_map (slot_op k q) changes
+
+-- slot by slot, from slot k on
+abbrev pub local_from : ℕ → List Change → Document → List Path → List Op
+local_from k changes now [] = []
+local_from k changes now (q ∷ pointers) = slot_ops k q changes now ++ local_from (suc k) changes now pointers
+
+-- what the changes, which led to the present document, come to in the view through some pointers
+abbrev pub local : List Change → Document → List Path → List Op
+local changes now pointers = local_from 0 changes now pointers
+
+-- Whatever document the changes led from, the operations lead its view to the view of the present document.
+abbrev pub LeadsViews : List Change → Document → List Path → List Op → Type 0
+LeadsViews changes now pointers ops = (d : Document) → Leads d changes now → after (view pointers d) ops free ≡ Ok (view pointers now)
+
+-- What the changes come to leads every view.
+abbrev pub IsTranslation : Type 0
+IsTranslation = (changes : List Change) (now : Document) (pointers : List Path) → LeadsViews changes now pointers (local changes now pointers)

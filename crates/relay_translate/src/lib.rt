@@ -1,0 +1,20 @@
+//! What changes mean inside a view: which slots they touch, and the operations that lead a watcher's view from the document
+//! before them to the document after them.
+//!
+//! The promise: whatever document the changes led from, its view, patched with what [`translate`] gives, is the view of the
+//! document that they led to. A slot that no change touches costs no operation, and a change inside a slot's value costs one
+//! operation; a slot is sent anew only where a change reset it, since its pointer may lead to another value now.
+#![tactic(auto)]
+
+mod kind;
+mod operation;
+mod slot;
+mod touching;
+mod translating;
+
+pub use kind::Touch;
+pub use touching::touch;
+pub use translating::translate;
+
+#[cfg(test)]
+mod tests;

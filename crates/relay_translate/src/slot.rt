@@ -1,0 +1,65 @@
+//! One slot of a view.
+ghost use Rattle.std.specs.Prelude.{◌≡◌, [], ◌∷◌, drop, string_bytes, IfOk};
+ghost use Rattle.relay_pointer.specs.Index.{index_text};
+ghost use Rattle.relay_pointer.specs.Path.{path_of};
+ghost use Rattle.relay_view.specs.View.{slot};
+ghost use Rattle.relay_translate.specs.Translate.{in_slot};
+
+use relay_pointer::Pointer;
+use relay_tree::Tree;
+use relay_view::slot_of;
+use std::alloc::{AllocError, Global};
+
+/// A slot by its place in the view, counted from 0, and its pointer.
+#[derive(Clone, Copy)]
+pub(crate) struct Slot<'v> {
+    pub number: u64,
+    pub pointer: &'v Pointer,
+}
+
+impl Slot<'_> {
+    /// `/k`, where the view shows the slot.
+    pub fn place(&self, alloc: Global) -> Result<Pointer, AllocError>
+        ensures { IfOk result (λ path. path ≡ index_text self.now.number ∷ []) }
+    {
+        let mut tokens = Vec::new(alloc);
+        tokens.push(index_text(alloc, self.number)?)?;
+        Ok(Pointer::from_tokens(tokens))
+    }
+
+    /// `/k/0`, where the slot shows its value, followed by what a path has behind the slot's pointer.
+    pub fn path(&self, alloc: Global, path: &Pointer) -> Result<Pointer, AllocError>
+        ensures { IfOk result (λ inner. inner ≡ in_slot self.now.number self.now.pointer.now path.now) }
+    {
+        let mut tokens = self.place(alloc)?.into_tokens();
+        tokens.push(String::from_str(alloc, "0")?)?;
+        for token in tokens_behind(path, self.pointer.tokens().len()) {
+            tokens.push(token.clone()?)?;
+        }
+        Ok(Pointer::from_tokens(tokens))
+    }
+
+    /// What the slot shows of a document: `[v]` where its pointer leads to `v`, `[]` where it leads to nothing.
+    pub fn shown(&self, alloc: Global, document: &Tree) -> Result<Tree, AllocError>
+        ensures { IfOk result (λ seen. seen ≡ slot self.now.pointer.now document.now) }
+    {
+        slot_of(alloc, document, self.pointer)
+    }
+}
+
+/// The index that spells a number (RFC 6901, section 4).
+fn index_text(alloc: Global, number: u64) -> Result<String, AllocError>
+    ensures { IfOk result (λ token. string_bytes token ≡ index_text number) }
+{
+    number.to_string(alloc)
+}
+
+/// The tokens of a path behind the first of them, `count` in number.
+fn tokens_behind(path: &Pointer, count: usize) -> &[String]
+    ensures { path_of result.now ≡ drop count path.now }
+{
+    match path.tokens().get(count..) {
+        Some(rest) => rest,
+        None => &[],
+    }
+}

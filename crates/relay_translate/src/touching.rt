@@ -1,0 +1,82 @@
+//! How changes touch pointers, decided by paths alone: no document is read.
+ghost use Rattle.std.specs.Prelude.{◌≡◌};
+ghost use Rattle.relay_pointer.specs.Path.{path_of};
+ghost use Rattle.relay_translate.specs.Touch.{touch, touch_either, touch_last, touch_path, touch_place};
+ghost use Rattle.relay_translate.specs.Table.{touch_by_table};
+
+use crate::kind::Touch;
+use relay_patch::{Change, Place};
+use relay_pointer::{Pointer, index_of};
+
+/// How a change touches what the pointer leads to. A move is judged as a removal and an insertion, a copy where it comes.
+/// It costs a comparison of the paths; no memory is taken.
+pub fn touch(change: &Change, pointer: &Pointer) -> Touch
+    ensures exact { result ≡ touch change.now pointer.now }
+    ensures table { result ≡ touch_by_table change.now pointer.now }
+{
+    match change {
+        Change::Set { path, .. } | Change::AddMember { path, .. } | Change::DropMember { path } => {
+            touch_path(false, path.tokens(), pointer.tokens())
+        }
+        Change::AddItem { path, .. } | Change::DropItem { path } => {
+            touch_path(true, path.tokens(), pointer.tokens())
+        }
+        Change::Move { from, to, .. } => {
+            touch_either(touch_place(from, pointer), touch_place(to, pointer))
+        }
+        Change::Copy { to, .. } => touch_place(to, pointer),
+    }
+}
+
+/// How a change at a place touches what the pointer leads to.
+pub(crate) fn touch_place(place: &Place, pointer: &Pointer) -> Touch
+    ensures { result ≡ touch_place place.now pointer.now }
+{
+    touch_path(place.item, place.path.tokens(), pointer.tokens())
+}
+
+/// Reset if either is, else Inside if either is.
+fn touch_either(first: Touch, second: Touch) -> Touch
+    ensures { result ≡ touch_either first second }
+{
+    match (first, second) {
+        (Touch::Reset, _) | (_, Touch::Reset) => Touch::Reset,
+        (Touch::Inside, _) | (_, Touch::Inside) => Touch::Inside,
+        (Touch::Apart, Touch::Apart) => Touch::Apart,
+    }
+}
+
+fn touch_path(is_item: bool, path: &[String], pointer: &[String]) -> Touch
+    ensures { result ≡ touch_path is_item (path_of path.now) (path_of pointer.now) }
+{
+    let [token, rest @ ..] = path else {
+        return Touch::Reset;
+    };
+    let [other, further @ ..] = pointer else {
+        return Touch::Inside;
+    };
+    if rest.is_empty() {
+        return touch_last(is_item, token, other);
+    }
+    if token == other {
+        touch_path(is_item, rest, further)
+    } else {
+        Touch::Apart
+    }
+}
+
+/// At the last token of a path, and the token with which the pointer goes on there.
+fn touch_last(is_item: bool, token: &str, other: &str) -> Touch
+    ensures { result ≡ touch_last is_item token.now other.now }
+{
+    if is_item {
+        match (index_of(token), index_of(other)) {
+            (Some(index), Some(pointed)) if index <= pointed => Touch::Reset,
+            _ => Touch::Apart,
+        }
+    } else if token == other {
+        Touch::Reset
+    } else {
+        Touch::Apart
+    }
+}

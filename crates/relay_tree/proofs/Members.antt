@@ -1,0 +1,168 @@
+-- A map's entries beside the members that they stand for, and members after a change.
+use Rattle.std.proofs.Common.{◌≡◌, ℕ, List, [], ◌∷◌, ◌++◌, Bool, true, false, Option, Some, None, option_map, is_some, cond, if◌then◌else◌, String, Global, Ordering, Less, Equal, Greater, is_eq, string_bytes, string_cmp, nat_cmp, bytes_eq, refl, sym, ap, subst, ◌∙◌}
+use Rattle.std.proofs.lemmas.Cmp.{nat_list_cmp_total}
+use Rattle.std.proofs.lemmas.Map.Text.{is_eq-slice_cmp}
+use Rattle.std.specs.Cmp.Lexicographic.{slice_cmp}
+use Rattle.std.specs.List.{AllByRecursion}
+use Rattle.std.specs.List.Sorted.{IsStrictlySortedBy}
+use Rattle.std.specs.Map.{keys_of, lookup, set_value, remove_entry}
+use Rattle.std.specs.Ordering.{match_ordering, ordering_reverse}
+use Rattle.std.specs.BTreeMap.{is_at, insert_entry}
+use Rattle.relay_tree.specs.Document.{Document, Members, no_members, member}
+use Rattle.relay_tree.specs.Part.{member_at, set_member, add_member, put_member, drop_member}
+use Rattle.relay_tree.specs.Seen.{members_of}
+use Rattle.relay_tree.proofs.Names.{equal_bytes, bytes_eq-slice_cmp, equal_names}
+
+abbrev pub Entry : Type 0
+Entry = String Global × Document
+
+-- Look-ups and exchanges.
+
+members_of-cond : (b : Bool) (es rest : List Entry) → members_of (cond b es rest) ≡ (if b then members_of es else members_of rest)
+members_of-cond true es rest = refl
+members_of-cond false es rest = refl
+
+pub members_of-lookup : (k : List ℕ) (es : List Entry) → lookup (is_at (λ l. slice_cmp nat_cmp k (string_bytes l))) es ≡ member_at (members_of es) k
+members_of-lookup k [] = refl
+members_of-lookup k (e ∷ es) = rw (bytes_eq-slice_cmp (string_bytes e.0) k, members_of-lookup k es) refl
+
+pub members_of-set_value : (k : List ℕ) (es : List Entry) (d : Document) → members_of (set_value (is_at (λ l. slice_cmp nat_cmp k (string_bytes l))) es d) ≡ set_member (members_of es) k d
+members_of-set_value k [] d = refl
+members_of-set_value k (e ∷ es) d = members_of-cond (is_eq (slice_cmp nat_cmp k (string_bytes e.0))) _ _ ∙ rw (bytes_eq-slice_cmp (string_bytes e.0) k, members_of-set_value k es d) refl
+
+-- Insertions.
+
+members_of-match_ordering : (o : Ordering) (a b c : List Entry) → members_of (match_ordering o a b c) ≡ match_ordering o (members_of a) (members_of b) (members_of c)
+members_of-match_ordering Less a b c = refl
+members_of-match_ordering Equal a b c = refl
+members_of-match_ordering Greater a b c = refl
+
+renamed : (o : Ordering) (k n : List ℕ) (v d : Document) (ms rest : Members) → (o ≡ Equal → k ≡ n) → match_ordering o (member k v (member n d ms)) (member n v ms) (member n d rest) ≡ match_ordering o (member k v (member n d ms)) (member k v ms) (member n d rest)
+renamed Less k n v d ms rest same = refl
+renamed Equal k n v d ms rest same = ap (λ m. member m v ms) (sym (same refl))
+renamed Greater k n v d ms rest same = refl
+
+pub members_of-insert_entry : (es : List Entry) (k : String Global) (v : Document) → members_of (insert_entry string_cmp es k v) ≡ add_member (members_of es) (string_bytes k) v
+members_of-insert_entry [] k v = refl
+members_of-insert_entry (e ∷ es) k v =
+    members_of-match_ordering (string_cmp k e.0) _ _ _
+    ∙ ap (λ rest. match_ordering (string_cmp k e.0) (member (string_bytes k) v (members_of (e ∷ es))) (member (string_bytes e.0) v (members_of es)) (member (string_bytes e.0) e.1 rest)) (members_of-insert_entry es k v)
+    ∙ renamed (string_cmp k e.0) (string_bytes k) (string_bytes e.0) v e.1 (members_of es) (add_member (members_of es) (string_bytes k) v) (equal_names (string_bytes k) (string_bytes e.0))
+
+below_rest : (k : List ℕ) (first : List ℕ) (es : List Entry) → slice_cmp nat_cmp k first ≡ Less → AllByRecursion (λ y. slice_cmp nat_cmp first (string_bytes y) ≡ Less) (keys_of es) → member_at (members_of es) k ≡ None
+below_rest k first [] less h = refl
+below_rest k first (e ∷ es) less h =
+    let below : slice_cmp nat_cmp k (string_bytes e.0) ≡ Less = nat_list_cmp_total.trans k first (string_bytes e.0) less h.0 in
+    let other : bytes_eq (string_bytes e.0) k ≡ false = bytes_eq-slice_cmp (string_bytes e.0) k ∙ ap is_eq below in
+    rw other (below_rest k first es less h.1)
+
+put_step : (o : Ordering) (k n : List ℕ) (d v : Document) (ms : Members) → is_eq o ≡ bytes_eq n k → (o ≡ Equal → k ≡ n) → (o ≡ Less → member_at ms k ≡ None) → add_member ms k v ≡ put_member ms k v
+    → match_ordering o (member k v (member n d ms)) (member k v ms) (member n d (add_member ms k v)) ≡ (if is_some (if bytes_eq n k then Some d else member_at ms k) then (if bytes_eq n k then member n v ms else member n d (set_member ms k v)) else match_ordering o (member k v (member n d ms)) (member k v ms) (member n d (add_member ms k v)))
+put_step Less k n d v ms is same none ih = rw (← is, none refl) refl
+put_step Equal k n d v ms is same none ih = rw (← is, same refl) refl
+put_step Greater k n d v ms is same none ih = rw (← is, ih) (go (is_some (member_at ms k)))
+  where
+    go : (x : Bool) → member n d (if x then set_member ms k v else add_member ms k v) ≡ (if x then member n d (set_member ms k v) else member n d (if x then set_member ms k v else add_member ms k v))
+    go true = refl
+    go false = refl
+
+add_member-sorted : (es : List Entry) (k : List ℕ) (v : Document) → IsStrictlySortedBy string_cmp (keys_of es) → add_member (members_of es) k v ≡ put_member (members_of es) k v
+unfolding IsStrictlySortedBy
+add_member-sorted [] k v h = refl
+add_member-sorted (e ∷ es) k v h =
+    put_step (slice_cmp nat_cmp k (string_bytes e.0)) k (string_bytes e.0) e.1 v (members_of es) (sym (bytes_eq-slice_cmp (string_bytes e.0) k)) (equal_names k (string_bytes e.0)) (λ less. below_rest k (string_bytes e.0) es less h.0) (add_member-sorted es k v h.1)
+
+-- an insertion in a sorted map
+pub inserted_member : (es : List Entry) (k : String Global) (v : Document) → IsStrictlySortedBy string_cmp (keys_of es) → members_of (insert_entry string_cmp es k v) ≡ put_member (members_of es) (string_bytes k) v
+inserted_member es k v h = members_of-insert_entry es k v ∙ add_member-sorted es (string_bytes k) v h
+
+pub below_middle : (first : Entry) (es : List Entry) (e : Entry) (more : List Entry) → AllByRecursion (λ y. string_cmp first.0 y ≡ Less) (keys_of (es ++ e ∷ more)) → string_cmp first.0 e.0 ≡ Less
+below_middle first [] e more h = h.0
+below_middle first (x ∷ es) e more h = below_middle first es e more h.1
+
+-- a name that is above those before it goes last
+pub add_member-last : (done : List Entry) (e : Entry) (more : List Entry) → IsStrictlySortedBy string_cmp (keys_of (done ++ e ∷ more))
+    → add_member (members_of done) (string_bytes e.0) e.1 ≡ members_of (done ++ e ∷ [])
+unfolding IsStrictlySortedBy
+add_member-last [] e more h = refl
+add_member-last (first ∷ done) e more h =
+    let above : slice_cmp nat_cmp (string_bytes e.0) (string_bytes first.0) ≡ Greater =
+    nat_list_cmp_total.antisymm (string_bytes e.0) (string_bytes first.0) ∙ ap ordering_reverse (below_middle first done e more h.0) in
+    rw above (ap (member (string_bytes first.0) first.1) (add_member-last done e more h.1))
+
+-- Removals.
+
+pub dropped_member : (es : List Entry) (k : List ℕ) (c : Document) → member_at (members_of es) k ≡ Some c → drop_member (members_of es) k ≡ Some (members_of (remove_entry (is_at (λ l. slice_cmp nat_cmp k (string_bytes l))) es))
+dropped_member [] k c h = cc
+dropped_member (e ∷ es) k c h = go (bytes_eq (string_bytes e.0) k) refl h (dropped_member es k c)
+  where
+    go : (x : Bool) → bytes_eq (string_bytes e.0) k ≡ x → (if x then Some e.1 else member_at (members_of es) k) ≡ Some c → (member_at (members_of es) k ≡ Some c → drop_member (members_of es) k ≡ Some (members_of (remove_entry (is_at (λ l. slice_cmp nat_cmp k (string_bytes l))) es)))
+        → (if x then Some (members_of es) else option_map (member (string_bytes e.0) e.1) (drop_member (members_of es) k)) ≡ Some (members_of (cond (is_eq (slice_cmp nat_cmp k (string_bytes e.0))) es (e ∷ remove_entry (is_at (λ l. slice_cmp nat_cmp k (string_bytes l))) es)))
+    go true f there ih = rw (← bytes_eq-slice_cmp (string_bytes e.0) k, f) refl
+    go false f there ih = rw (← bytes_eq-slice_cmp (string_bytes e.0) k, f, ih there) refl
+
+-- After a change.
+
+-- a member that is set to its value changes nothing
+pub set_member-same : (ms : Members) (name : List ℕ) (e : Document) → member_at ms name ≡ Some e → set_member ms name e ≡ ms
+set_member-same no_members name e h = refl
+set_member-same (member n d ms) name e h = go (bytes_eq n name) h (set_member-same ms name e)
+  where
+    go : (x : Bool) → (if x then Some d else member_at ms name) ≡ Some e → (member_at ms name ≡ Some e → set_member ms name e ≡ ms) → (if x then member n e ms else member n d (set_member ms name e)) ≡ member n d ms
+    go true there ih = let same : d ≡ e = cc in ap (λ x. member n x ms) (sym same)
+    go false there ih = ap (member n d) (ih there)
+
+pub member_at-set_same : (ms : Members) (a : List ℕ) (c e : Document) → member_at ms a ≡ Some c → member_at (set_member ms a e) a ≡ Some e
+member_at-set_same no_members a c e h = cc
+member_at-set_same (member n d ms) a c e h = go (bytes_eq n a) refl h (member_at-set_same ms a c e)
+  where
+    go : (x : Bool) → bytes_eq n a ≡ x → (if x then Some d else member_at ms a) ≡ Some c → (member_at ms a ≡ Some c → member_at (set_member ms a e) a ≡ Some e) → member_at (if x then member n e ms else member n d (set_member ms a e)) a ≡ Some e
+    go true k there ih = rw k refl
+    go false k there ih = rw k (ih there)
+
+pub member_at-set_other : (ms : Members) (a b : List ℕ) (e : Document) → bytes_eq a b ≡ false → member_at (set_member ms a e) b ≡ member_at ms b
+member_at-set_other no_members a b e h = refl
+member_at-set_other (member n d ms) a b e h = go (bytes_eq n a) refl (member_at-set_other ms a b e h)
+  where
+    go : (x : Bool) → bytes_eq n a ≡ x → member_at (set_member ms a e) b ≡ member_at ms b → member_at (if x then member n e ms else member n d (set_member ms a e)) b ≡ member_at (member n d ms) b
+    go true k ih =
+        let same : n ≡ a = equal_bytes n a k in
+        let other : bytes_eq n b ≡ false = rw same h in
+        rw other refl
+    go false k ih = rw ih refl
+
+put_other_step : (o : Ordering) (n a b : List ℕ) (d e : Document) (ms rest : Members) → is_eq o ≡ bytes_eq a n → bytes_eq a b ≡ false → member_at rest b ≡ member_at ms b → member_at (match_ordering o (member a e (member n d ms)) (member a e ms) (member n d rest)) b ≡ member_at (member n d ms) b
+put_other_step Less n a b d e ms rest o h ih = rw h refl
+put_other_step Equal n a b d e ms rest o h ih =
+    let same : a ≡ n = equal_bytes a n (sym o) in
+    let k : bytes_eq n b ≡ false = subst (λ m. bytes_eq m b ≡ false) same h in
+    rw (h, k) refl
+put_other_step Greater n a b d e ms rest o h ih = rw ih refl
+
+member_at-add_other : (ms : Members) (a b : List ℕ) (e : Document) → bytes_eq a b ≡ false → member_at (add_member ms a e) b ≡ member_at ms b
+member_at-add_other no_members a b e h = rw h refl
+member_at-add_other (member n d ms) a b e h = put_other_step (slice_cmp nat_cmp a n) n a b d e ms (add_member ms a e) (is_eq-slice_cmp a n) h (member_at-add_other ms a b e h)
+
+pub member_at-put_other : (ms : Members) (a b : List ℕ) (e : Document) → bytes_eq a b ≡ false → member_at (put_member ms a e) b ≡ member_at ms b
+member_at-put_other ms a b e h = go (is_some (member_at ms a))
+  where
+    go : (x : Bool) → member_at (if x then set_member ms a e else add_member ms a e) b ≡ member_at ms b
+    go true = member_at-set_other ms a b e h
+    go false = member_at-add_other ms a b e h
+
+pub member_at-drop_other : (ms : Members) (a b : List ℕ) (ns : Members) → bytes_eq a b ≡ false → drop_member ms a ≡ Some ns → member_at ns b ≡ member_at ms b
+member_at-drop_other no_members a b ns h k = cc
+member_at-drop_other (member n d ms) a b ns h k = go (bytes_eq n a) refl (drop_member ms a) refl (member_at-drop_other ms a b)
+  where
+    go : (x : Bool) → bytes_eq n a ≡ x → (o : Option Members) → drop_member ms a ≡ o → ((ls : Members) → bytes_eq a b ≡ false → drop_member ms a ≡ Some ls → member_at ls b ≡ member_at ms b) → member_at ns b ≡ member_at (member n d ms) b
+    go true e o f ih =
+        let same : n ≡ a = equal_bytes n a e in
+        let gone : bytes_eq n b ≡ false = rw same h in
+        let found : Some ms ≡ Some ns = rw e at k in
+        let is : ms ≡ ns = cc in
+        rw (gone, is) refl
+    go false e None f ih = let found : None ≡ Some ns = rw (e, f) at k in cc
+    go false e (Some ls) f ih =
+        let found : Some (member n d ls) ≡ Some ns = rw (e, f) at k in
+        let is : ns ≡ member n d ls = cc in
+        rw (is, ih ls h f) refl

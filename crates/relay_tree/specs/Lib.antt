@@ -1,0 +1,10 @@
+pub mod Document
+pub mod Part
+pub mod Count
+pub mod Each
+pub mod Code
+pub mod Seen
+pub mod Falls
+pub mod Lending
+pub mod Rows
+pub mod Text

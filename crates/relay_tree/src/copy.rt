@@ -1,0 +1,57 @@
+//! Equal trees in memory of their own.
+ghost use Rattle.std.specs.Prelude.{◌≡◌, IfOk};
+ghost use Rattle.relay_tree.specs.Seen.{members_of};
+
+use crate::tree::{Node, Tree};
+use std::alloc::{AllocError, Global};
+use std::collections::BTreeMap;
+
+impl Tree {
+    /// An equal tree. It costs the tree's weight in time and memory; want of memory leaves nothing behind.
+    pub fn copy(&self, alloc: Global) -> Result<Tree, AllocError>
+        ensures { IfOk result (λ copy. copy ≡ self.now) }
+    {
+        copy_tree(alloc, self)
+    }
+}
+
+#[cycle(copy)]
+fn copy_tree(alloc: Global, tree: &Tree) -> Result<Tree, AllocError>
+    ensures { IfOk result (λ copy. copy ≡ tree.now) }
+{
+    let node = match &tree.node {
+        Node::Null => Node::Null,
+        Node::Truth(truth) => Node::Truth(*truth),
+        Node::Whole(number) => Node::Whole(*number),
+        Node::Text(text) => Node::Text(text.clone()?),
+        Node::List(items) => Node::List(copy_items(alloc, items)?),
+        Node::Members(members) => Node::Members(copy_members(alloc, members)?),
+    };
+    Ok(Tree { node })
+}
+
+#[cycle(copy)]
+fn copy_items(alloc: Global, items: &Vec<Tree>) -> Result<Vec<Tree>, AllocError>
+    ensures { IfOk result (λ copies. copies.items ≡ items.now.items) }
+{
+    let mut copies = Vec::with_capacity(alloc, items.len())?;
+    for item in items {
+        copies.push(copy_tree(alloc, item)?)?;
+    }
+    Ok(copies)
+}
+
+#[cycle(copy)]
+fn copy_members(
+    alloc: Global,
+    members: &BTreeMap<String, Tree>,
+) -> Result<BTreeMap<String, Tree>, AllocError>
+    ensures { IfOk result (λ copies. members_of copies.entries ≡ members_of members.now.entries) }
+{
+    let mut copies = BTreeMap::new(alloc);
+    for (name, member) in members.iter() {
+        let name = name.clone()?;
+        drop(copies.insert(name, copy_tree(alloc, member)?)?);
+    }
+    Ok(copies)
+}

@@ -1,0 +1,101 @@
+//! How deep and how heavy a tree is. Both walk the whole tree and take no memory.
+ghost use Rattle.std.specs.Prelude.{◌≡◌, min, ◌-◌, ◌^◌};
+ghost use Rattle.relay_tree.specs.Document.{depth, weight, items_of, items_depth, members_depth, items_weight, members_weight, saturated};
+ghost use Rattle.relay_tree.specs.Seen.{members_of};
+
+use crate::tree::{Node, Tree};
+use std::collections::BTreeMap;
+
+/// What each value weighs, whatever it holds.
+const VALUE_WEIGHT: u64 = 8;
+
+impl Tree {
+    /// The number of levels: a scalar or an empty container is 1 deep. `u64::MAX` where more.
+    pub fn depth(&self) -> u64
+        ensures { result ≡ saturated (depth self.now) }
+    {
+        depth_of(self)
+    }
+
+    /// 8 for each value, and a byte for each byte of a text or a member's name. `u64::MAX` where more.
+    pub fn weight(&self) -> u64
+        ensures { result ≡ saturated (weight self.now) }
+    {
+        weight_of(self)
+    }
+}
+
+#[cycle(depth)]
+#[tactic(auto, using(crate::proofs::Weights::item_weighs, crate::proofs::Weights::depth_of_more))]
+fn depth_of(tree: &Tree) -> u64
+    ensures { result ≡ saturated (depth tree.now) }
+{
+    match &tree.node {
+        Node::List(items) => depth_of_items(items).saturating_add(1),
+        Node::Members(members) => depth_of_members(members).saturating_add(1),
+        _ => 1,
+    }
+}
+
+#[cycle(depth)]
+#[tactic(auto, using(crate::proofs::Weights::item_weighs, crate::proofs::Weights::depth_of_more))]
+fn depth_of_items(items: &Vec<Tree>) -> u64
+    ensures { result ≡ saturated (items_depth (items_of items.now.items)) }
+{
+    let mut deepest = 0;
+    for item in items {
+        deepest = depth_of(item).max(deepest);
+    }
+    deepest
+}
+
+#[cycle(depth)]
+#[tactic(auto, using(crate::proofs::Weights::item_weighs, crate::proofs::Weights::depth_of_more))]
+fn depth_of_members(members: &BTreeMap<String, Tree>) -> u64
+    ensures { result ≡ saturated (members_depth (members_of members.now.entries)) }
+{
+    let mut deepest = 0;
+    for (_, member) in members.iter() {
+        deepest = depth_of(member).max(deepest);
+    }
+    deepest
+}
+
+#[cycle(weight)]
+#[tactic(auto, using(crate::proofs::Weights::item_weighs, crate::proofs::Weights::weight_of_more))]
+fn weight_of(tree: &Tree) -> u64
+    ensures { result ≡ saturated (weight tree.now) }
+{
+    match &tree.node {
+        Node::Text(text) => VALUE_WEIGHT.saturating_add(text.len() as u64),
+        Node::List(items) => VALUE_WEIGHT.saturating_add(weight_of_items(items)),
+        Node::Members(members) => VALUE_WEIGHT.saturating_add(weight_of_members(members)),
+        _ => VALUE_WEIGHT,
+    }
+}
+
+#[cycle(weight)]
+#[tactic(auto, using(crate::proofs::Weights::item_weighs, crate::proofs::Weights::weight_of_more))]
+fn weight_of_items(items: &Vec<Tree>) -> u64
+    ensures { result ≡ saturated (items_weight (items_of items.now.items)) }
+{
+    let mut sum = 0u64;
+    for item in items {
+        sum = sum.saturating_add(weight_of(item));
+    }
+    sum
+}
+
+#[cycle(weight)]
+#[tactic(auto, using(crate::proofs::Weights::item_weighs, crate::proofs::Weights::weight_of_more))]
+fn weight_of_members(members: &BTreeMap<String, Tree>) -> u64
+    ensures { result ≡ saturated (members_weight (members_of members.now.entries)) }
+{
+    let mut sum = 0u64;
+    for (name, member) in members.iter() {
+        sum = sum
+            .saturating_add(name.len() as u64)
+            .saturating_add(weight_of(member));
+    }
+    sum
+}

@@ -1,0 +1,127 @@
+//! Trees of JSON texts (RFC 8259), through `serde_json`.
+ghost use Rattle.std.specs.Prelude.{◌≡◌, ◌≢◌, Some, None, IfOk, IfErr, OnErr};
+ghost use Rattle.serde_json.specs.Read as json;
+ghost use Rattle.serde_json.specs.View.{view, items_view, members_view};
+ghost use Rattle.relay_tree.specs.Document.{items_of};
+ghost use Rattle.relay_tree.specs.Seen.{members_of};
+ghost use Rattle.relay_tree.specs.Text.{tree_of_text, IsNumberFault, tree_of, items_tree, members_tree};
+ghost use Rattle.relay_tree.specs.declared.reading.TreeFault.TheVariants.{NotJson, Number, NoMemory};
+
+use crate::tree::{Node, Tree};
+use serde_json::{Map, Value};
+use std::alloc::{AllocError, Global};
+use std::collections::BTreeMap;
+use thiserror::Error;
+
+/// Why a text gives no tree, in the order of the checks.
+#[derive(Clone, Copy, Debug, PartialEq, Eq, Error)]
+pub enum TreeFault {
+    /// `serde_json` reads no value: the text is no JSON, or it nests more than 127 containers.
+    #[error("not a JSON text")]
+    NotJson,
+    /// A number has a fraction or an exponent, or does not fit in `i64`.
+    #[error("a number that is not whole in 64 bits")]
+    Number,
+    #[error("out of memory")]
+    NoMemory,
+}
+
+impl From<AllocError> for TreeFault {
+    ghost from_gives = { λ _ fault. fault ≡ NoMemory };
+
+    fn from(_: AllocError) -> TreeFault {
+        TreeFault::NoMemory
+    }
+}
+
+/// The tree that a text reads as. The whole text is read before its numbers are judged.
+pub fn read(alloc: Global, text: &str) -> Result<Tree, TreeFault>
+    ensures ok { IfOk result (λ tree. tree_of_text text.now ≡ Some tree) }
+    ensures not_json { IfErr result (λ fault. fault ≡ NotJson → json.read text.now ≡ None) }
+    ensures number { IfErr result (λ fault. fault ≡ Number → IsNumberFault text.now) }
+{
+    match Value::from_str(alloc, text) {
+        Ok(value) => tree_from(alloc, &value),
+        Err(error) if error.is_memory() => Err(TreeFault::NoMemory),
+        Err(_) => Err(TreeFault::NotJson),
+    }
+}
+
+#[cycle(tree_from)]
+fn tree_from(alloc: Global, value: &Value) -> Result<Tree, TreeFault>
+    ensures ok { IfOk result (λ tree. tree_of (view value.now) ≡ Some tree) }
+    ensures number { IfErr result (λ fault. fault ≡ Number → tree_of (view value.now) ≡ None) }
+    ensures other { IfErr result (λ fault. fault ≢ NotJson) }
+{
+    match value {
+        Value::Null => Ok(Tree { node: Node::Null }),
+        Value::Bool(truth) => Ok(Tree {
+            node: Node::Truth(*truth),
+        }),
+        Value::Number(number) => match number.as_i64() {
+            Some(whole) => Ok(Tree {
+                node: Node::Whole(whole),
+            }),
+            None => Err(TreeFault::Number),
+        },
+        Value::String(text) => Ok(Tree {
+            node: Node::Text(text.clone()?),
+        }),
+        Value::Array(items) => Ok(Tree {
+            node: Node::List(list_from(alloc, items)?),
+        }),
+        Value::Object(members) => Ok(Tree {
+            node: Node::Members(map_from(alloc, members)?),
+        }),
+    }
+}
+
+#[cycle(tree_from)]
+fn list_from(alloc: Global, items: &Vec<Value>) -> Result<Vec<Tree>, TreeFault>
+    ensures ok { IfOk result (λ trees. items_tree (items_view items.now.items) ≡ Some (items_of trees.items)) }
+    ensures number { IfErr result (λ fault. fault ≡ Number → items_tree (items_view items.now.items) ≡ None) }
+    ensures other { IfErr result (λ fault. fault ≢ NotJson) }
+{
+    let mut trees = Vec::with_capacity(alloc, items.len())?;
+    for item in items {
+        let tree = match tree_from(alloc, item) {
+            Ok(tree) => tree,
+            Err(fault) => return Err(fault),
+        };
+        match trees.push(tree) {
+            Ok(()) => {}
+            Err(refused) => {
+                drop(refused);
+                return Err(TreeFault::NoMemory);
+            }
+        }
+    }
+    Ok(trees)
+}
+
+#[cycle(tree_from)]
+fn map_from(
+    alloc: Global,
+    members: &Map<String, Value>,
+) -> Result<BTreeMap<String, Tree>, TreeFault>
+    ensures ok { IfOk result (λ trees. members_tree (members_view members.now.entries) ≡ Some (members_of trees.entries)) }
+    ensures number { IfErr result (λ fault. fault ≡ Number → members_tree (members_view members.now.entries) ≡ None) }
+    ensures other { IfErr result (λ fault. fault ≢ NotJson) }
+{
+    let mut trees = BTreeMap::new(alloc);
+    for (name, member) in members.iter() {
+        let name = name.clone()?;
+        let tree = match tree_from(alloc, member) {
+            Ok(tree) => tree,
+            Err(fault) => return Err(fault),
+        };
+        match trees.insert(name, tree) {
+            Ok(earlier) => drop(earlier),
+            Err(refused) => {
+                drop(refused);
+                return Err(TreeFault::NoMemory);
+            }
+        }
+    }
+    Ok(trees)
+}

@@ -1,0 +1,79 @@
+//! Whether two trees are equal (RFC 6902, section 4.6). No memory is taken.
+ghost use Rattle.std.specs.Prelude.{◌≡◌, ◌↔◌, IsTrue};
+ghost use Rattle.relay_tree.specs.Seen.{members_of};
+
+use crate::tree::{Node, Tree};
+use std::collections::BTreeMap;
+
+impl Tree {
+    /// Whether both are the same document: the order in which members were written has no meaning, and texts are equal
+    /// only code point by code point. It costs the smaller of the two.
+    pub fn same(&self, other: &Tree) -> bool
+        ensures { IsTrue result ↔ (self.now ≡ other.now) }
+    {
+        same_tree(self, other)
+    }
+}
+
+#[cycle(same)]
+#[tactic(auto, using(crate::proofs::Weights::item_weighs, crate::proofs::Weights::same_items_of))]
+fn same_tree(tree: &Tree, other: &Tree) -> bool
+    ensures { IsTrue result ↔ (tree.now ≡ other.now) }
+{
+    match &tree.node {
+        Node::Null => matches!(&other.node, Node::Null),
+        Node::Truth(truth) => match &other.node {
+            Node::Truth(other) => *truth == *other,
+            _ => false,
+        },
+        Node::Whole(number) => match &other.node {
+            Node::Whole(other) => *number == *other,
+            _ => false,
+        },
+        Node::Text(text) => match &other.node {
+            Node::Text(other) => text.as_bytes() == other.as_bytes(),
+            _ => false,
+        },
+        Node::List(items) => match &other.node {
+            Node::List(others) => same_items(items, others),
+            _ => false,
+        },
+        Node::Members(members) => match &other.node {
+            Node::Members(others) => same_members(members, others),
+            _ => false,
+        },
+    }
+}
+
+#[cycle(same)]
+#[tactic(auto, using(crate::proofs::Weights::item_weighs, crate::proofs::Weights::same_items_of))]
+fn same_items(items: &Vec<Tree>, others: &Vec<Tree>) -> bool
+    ensures { IsTrue result ↔ (items.now.items ≡ others.now.items) }
+{
+    if items.len() != others.len() {
+        return false;
+    }
+    for (i, item) in items.iter().enumerate() {
+        if !same_tree(item, &others[i]) {
+            return false;
+        }
+    }
+    true
+}
+
+#[cycle(same)]
+#[tactic(auto, using(crate::proofs::Weights::item_weighs, crate::proofs::Weights::same_items_of))]
+fn same_members(members: &BTreeMap<String, Tree>, others: &BTreeMap<String, Tree>) -> bool
+    ensures { IsTrue result ↔ (members_of members.now.entries ≡ members_of others.now.entries) }
+{
+    let mut rest = others.iter();
+    for (name, member) in members.iter() {
+        let Some((other_name, other)) = rest.next() else {
+            return false;
+        };
+        if name.as_bytes() != other_name.as_bytes() || !same_tree(member, other) {
+            return false;
+        }
+    }
+    rest.next().is_none()
+}

@@ -1,0 +1,19 @@
+//! Why a tree gives no view.
+use thiserror::Error;
+
+/// Why a tree gives no view. A list that is too long is refused before its elements are looked at; among these, the
+/// first in the list that is refused gives the fault, and `at` is its place, counted from 0.
+#[derive(Clone, Copy, Debug, PartialEq, Eq, Error)]
+pub enum ViewFault {
+    /// More than 16 pointers.
+    #[error("a view of more than 16 pointers")]
+    TooMany,
+    /// The tree is no list (no place), or an element is no text.
+    #[error("a view is a list of texts")]
+    Shape { at: Option<u64> },
+    /// A text that is no JSON Pointer (RFC 6901), or one of more than 64 tokens.
+    #[error("element {at} is no pointer of at most 64 tokens")]
+    Pointer { at: u64 },
+    #[error("out of memory")]
+    NoMemory,
+}
