@@ -10,6 +10,3 @@ mod hearing;
 
 pub use fault::HearFault;
 pub use follower::Follower;
-
-#[cfg(test)]
-mod tests;

@@ -12,6 +12,3 @@ mod since;
 pub use fault::HistoryFault;
 pub use history::{History, LAST_REVISION, MOST_REVISIONS};
 pub use since::Since;
-
-#[cfg(test)]
-mod tests;

@@ -3,7 +3,7 @@
 //! Each call is a step (`specs/Step`), and a hub stands for the log of the calls that it answered (`specs/Stands`): it has the
 //! documents, sessions and views of the log, and every client that watches, and applies what was drawn for it and what
 //! waits, in order, holds exactly its view of the present document. A call that finds no memory changes nothing.
-ghost use Rattle.std.specs.Prelude.{◌≡◌, ◌↔◌, [], ◌∷◌, ℕ, Some, None, Ok, IfOk, IfErr, IsErrOf, OnOk, OnErr, length, option_map, not, is_some, ◌&&◌, nat_le};
+ghost use Rattle.std.specs.Prelude.{◌≡◌, ◌≢◌, ◌<◌, ◌⊎◌, ◌↔◌, [], ◌∷◌, ℕ, Some, None, Ok, IfOk, IfErr, IsErrOf, OnOk, OnErr, length, option_map, not, is_some, ◌&&◌, nat_le};
 ghost use Rattle.relay_hub.specs.Call.{StepIf, opening, receiving, drawing, closing, logged, done, followed, Runs};
 ghost use Rattle.relay_hub.specs.Log.{Log, entry};
 ghost use Rattle.relay_hub.specs.State.{place_named, session_of, new_hub};
@@ -105,6 +105,7 @@ impl Hub {
         ensures step { StepIf self.old (Open room.now) (opening result) self.new }
         ensures stands { (b : Beginning) (E : Log) → StandsFor b E self.old →
             StandsFor b (logged E (Open room.now) (opening result)) self.new }
+        ensures no_memory { IsErrOf result OpenFault.NoMemory → open_fault self.old room.now ≡ None }
     {
         let place = self.admit(room)?;
         let guest = Guest {
@@ -248,6 +249,7 @@ impl Hub {
     pub fn truth(&self, alloc: Global, session: u64) -> Result<Option<(u64, Tree)>, HubFault>
         ensures ok { IfOk result (λ shown. truth self.now session ≡ Some shown) }
         ensures no_session { IsErrOf result HubFault.NoSession ↔ (session_of self.now session ≡ None) }
+        ensures no_memory { IsErrOf result HubFault.NoMemory → truth self.now session ≢ Some None }
     {
         let Some((room, session)) = self.find(session) else {
             return Err(HubFault::NoSession);
@@ -269,6 +271,7 @@ impl Hub {
         ensures steps { IfOk result (λ answers. Runs self.old events.now answers.items self.new) }
         ensures all { IfOk result (λ answers. length answers.items ≡ length events.now) }
         ensures stopped { IfErr result (λ fault. Runs self.old events.now fault.answers.items self.new) }
+        ensures before { IfErr result (λ fault. (length events.now ≡ 0) ⊎ (length fault.answers.items < length events.now)) }
         ensures stands { (b : Beginning) (E : Log) → StandsFor b E self.old → StandsFor b (followed E events.now (done result)) self.new }
         ensures exact { (b : Beginning) (E : Log) → StandsFor b E self.old → EachHoldsPresent b (followed E events.now (done result)) self.new }
         ensures each { (b : Beginning) (E : Log) → StandsFor b E self.old → EachIsAtNamed b (followed E events.now (done result)) self.new }

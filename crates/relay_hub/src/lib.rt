@@ -17,6 +17,3 @@ pub use event::{Answer, Event, Heard};
 pub use fault::{HubFault, HubNewFault, NoSession, OpenFault, RunFault};
 pub use hub::{Hub, ROOMS_MOST, SESSIONS_MOST};
 pub use text::Text;
-
-#[cfg(test)]
-mod tests;

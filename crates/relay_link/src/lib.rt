@@ -31,6 +31,3 @@ pub use cause::Cause;
 pub use link::{DRAWS_MOST, Link};
 pub use stage::Stage;
 pub use turn::Turn;
-
-#[cfg(test)]
-mod tests;

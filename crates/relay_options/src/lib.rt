@@ -9,6 +9,3 @@ mod settings;
 pub use job::{Job, Stop};
 pub use reading::job_of;
 pub use settings::Settings;
-
-#[cfg(test)]
-mod tests;

@@ -14,6 +14,3 @@ pub use busy::Busy;
 pub use fault::OutboxFault;
 pub use front::Front;
 pub use outbox::{MOST_PATCHES, Outbox, REPLIES};
-
-#[cfg(test)]
-mod tests;

@@ -32,6 +32,3 @@ pub use fault::{ApplyFault, Cause};
 pub use limits::{PatchFault, PatchLimits};
 pub use op::Op;
 pub use patch::Patch;
-
-#[cfg(test)]
-mod tests;

@@ -19,6 +19,3 @@ pub use pointer::Pointer;
 pub use put::{exchange, set, take};
 pub use reading::PointerFault;
 pub use walk::{child, resolve};
-
-#[cfg(test)]
-mod tests;

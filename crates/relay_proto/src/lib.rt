@@ -24,6 +24,3 @@ pub use request::Request;
 pub use room_name::is_room_name;
 pub use text::{patch_text, snapshot_text};
 pub use word::Word;
-
-#[cfg(test)]
-mod tests;

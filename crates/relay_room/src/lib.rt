@@ -14,6 +14,3 @@ mod room;
 pub use catch_up::CatchUp;
 pub use fault::{CatchFault, EditFault, RoomFault};
 pub use room::Room;
-
-#[cfg(test)]
-mod tests;

@@ -20,13 +20,13 @@ mod status;
 mod whole;
 mod words;
 
+pub use client::{Client, Knocking};
 pub use fault::{ScriptFault, ServeFault};
 pub use input::LINE_MOST;
 pub use jobs::{carry_out, start};
+pub use respond::Respond;
 pub use run::LINES_MOST;
+pub use script::Script;
 pub use serving::{LINKS_MOST, Serving};
 pub use status::{Status, report};
 pub use whole::{run_follow, run_script};
-
-#[cfg(test)]
-mod tests;

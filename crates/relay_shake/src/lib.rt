@@ -21,6 +21,3 @@ mod route;
 pub use answer::Shake;
 pub use reading::shake;
 pub use reply::refusal;
-
-#[cfg(test)]
-mod tests;

@@ -15,6 +15,3 @@ mod translating;
 pub use kind::Touch;
 pub use touching::touch;
 pub use translating::translate;
-
-#[cfg(test)]
-mod tests;

@@ -19,6 +19,3 @@ pub use count::COUNT_MOST;
 pub use member::insert_member;
 pub use reading::{TreeFault, read};
 pub use tree::{Node, Tree};
-
-#[cfg(test)]
-mod tests;

@@ -12,6 +12,3 @@ mod view;
 pub use fault::ViewFault;
 pub use of::slot_of;
 pub use view::{TOKENS_MOST, View};
-
-#[cfg(test)]
-mod tests;

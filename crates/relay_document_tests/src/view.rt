@@ -1,0 +1,81 @@
+use crate::shared::{gives, is, repeated, text_of, tree_of, view_of};
+use relay_view::{View, ViewFault};
+use std::alloc::AllocGlobal;
+use std::process::Abort;
+
+fn shown(rt: &(impl Abort + AllocGlobal), document: &str, pointers: &str) -> String {
+    let document = tree_of(rt, document);
+    let slots = view_of(rt, pointers).of(rt.alloc(), &document);
+    text_of(rt, &slots.expect(rt, "memory"))
+}
+
+#[test]
+fn shows_null_and_absent_apart(rt: HostRuntime) {
+    let absent = shown(&rt, r#"{"a":null}"#, r#"["/a","/b"]"#);
+    gives(&rt, absent, "[[null],[]]", "null and absent");
+    let parts = shown(&rt, r#"{"a":[1,{"b":2}]}"#, r#"["","/a/1/b","/a/2"]"#);
+    gives(&rt, parts, r#"[[{"a":[1,{"b":2}]}],[2],[]]"#, "three parts");
+    gives(&rt, shown(&rt, "5", "[]"), "[]", "no pointer");
+}
+
+fn fault_of(rt: &(impl Abort + AllocGlobal), text: &str) -> Option<ViewFault> {
+    View::read(rt.alloc(), &tree_of(rt, text)).err()
+}
+
+fn refuses(rt: &(impl Abort + AllocGlobal), rows: &[(&str, ViewFault)]) {
+    for (text, fault) in rows {
+        is(rt, fault_of(rt, text), Some(*fault), text);
+    }
+}
+
+#[test]
+fn refuses_in_order(rt: HostRuntime) {
+    refuses(
+        &rt,
+        &[
+            (
+                "[1,2,3,4,5,6,7,8,9,10,11,12,13,14,15,16,17]",
+                ViewFault::TooMany,
+            ),
+            (r#"["/a",5]"#, ViewFault::Shape { at: Some(1) }),
+            (r#"["a"]"#, ViewFault::Pointer { at: 0 }),
+            (r#"["a",5]"#, ViewFault::Pointer { at: 0 }),
+            ("5", ViewFault::Shape { at: None }),
+            ("{}", ViewFault::Shape { at: None }),
+        ],
+    );
+}
+
+// The fault of a view whose second pointer has so many tokens.
+fn fault_of_tokens(rt: &(impl Abort + AllocGlobal), count: usize) -> Option<ViewFault> {
+    let slashes = repeated(rt, "/", count);
+    let text = format!(in rt.alloc(); "[\"\",\"{slashes}\"]").expect(rt, "memory");
+    fault_of(rt, text.as_str())
+}
+
+#[test]
+fn takes_64_tokens(rt: HostRuntime) {
+    is(&rt, fault_of_tokens(&rt, 64), None, "64 tokens");
+    is(
+        &rt,
+        fault_of_tokens(&rt, 65),
+        Some(ViewFault::Pointer { at: 1 }),
+        "65 tokens",
+    );
+}
+
+fn slot_pointer(rt: &(impl Abort + AllocGlobal), pointers: &str, slot: u64) -> String {
+    match view_of(rt, pointers).pointer(slot) {
+        Some(pointer) => pointer.text(rt.alloc()).expect(rt, "memory"),
+        None => repeated(rt, "none", 1),
+    }
+}
+
+#[test]
+fn tells_its_pointers(rt: HostRuntime) {
+    let pointers = r#"["/a","/b"]"#;
+    is(&rt, view_of(&rt, pointers).len(), 2, "its length");
+    gives(&rt, slot_pointer(&rt, pointers, 0), "/a", "slot 0");
+    gives(&rt, slot_pointer(&rt, pointers, 1), "/b", "slot 1");
+    gives(&rt, slot_pointer(&rt, pointers, 2), "none", "slot 2");
+}

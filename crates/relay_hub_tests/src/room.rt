@@ -1,0 +1,250 @@
+//! Rooms: how they start, what an edit makes of them, and what somebody missed.
+use relay_history::LAST_REVISION;
+use relay_patch::{Patch, PatchLimits};
+use relay_room::{CatchFault, CatchUp, Room, RoomFault};
+use relay_tree::{Node, Tree, read};
+use relay_view::View;
+use std::alloc::{AllocError, AllocGlobal, Global};
+use std::process::Abort;
+use std::test::Fail;
+
+/// The view of a text.
+fn view_of(alloc: Global, text: &str) -> Result<View, Fail> {
+    let tree = read(alloc, text)?;
+    Ok(View::read(alloc, &tree)?)
+}
+
+/// What somebody missed, in words: a patch is written out.
+fn missed(alloc: Global, room: &Room, rev: u64, view: &View) -> Result<String, AllocError> {
+    match room.catch_up(alloc, rev, view) {
+        Ok(CatchUp::Nothing) => String::from_str(alloc, "nothing"),
+        Ok(CatchUp::Patch(patch)) => patch.to_tree(alloc)?.text(alloc),
+        Ok(CatchUp::Snapshot) => String::from_str(alloc, "snapshot"),
+        Err(CatchFault::Future) => String::from_str(alloc, "future"),
+        Err(CatchFault::NoMemory) => Err(AllocError),
+    }
+}
+
+/// The patch of a text.
+fn patch_of(alloc: Global, text: &str) -> Result<Patch, Fail> {
+    let tree = read(alloc, text)?;
+    Ok(Patch::from_tree(alloc, &tree, PatchLimits::REQUEST)?)
+}
+
+/// The room's revision and its document, in words.
+fn state(alloc: Global, room: &Room) -> Result<String, AllocError> {
+    let document = room.document().text(alloc)?;
+    let rev = room.revision();
+    format!(in alloc; "{rev} {document}")
+}
+
+/// What an edit answers, and what the room is then.
+fn edit(alloc: Global, room: &mut Room, text: &str) -> Result<String, Fail> {
+    let patch = patch_of(alloc, text)?;
+    let answer = room.edit(alloc, &patch);
+    let state = state(alloc, room)?;
+    Ok(format!(in alloc; "{answer:?}: {state}")?)
+}
+
+/// Each edit answers, and leaves the room, as the row says.
+fn edits(
+    rt: &(impl Abort + AllocGlobal),
+    room: &mut Room,
+    rows: &[(&str, &str)],
+) -> Result<(), Fail> {
+    for (patch, expected) in rows {
+        let found = edit(rt.alloc(), room, *patch)?;
+        assert_eq!(rt; found.as_str(), *expected, "of {patch}");
+    }
+    Ok(())
+}
+
+/// Whoever held a view of a revision missed what the row says.
+fn misses(
+    rt: &(impl Abort + AllocGlobal),
+    room: &Room,
+    rows: &[(u64, &str, &str)],
+) -> Result<(), Fail> {
+    for (rev, view, expected) in rows {
+        let seen = view_of(rt.alloc(), *view)?;
+        let found = missed(rt.alloc(), room, *rev, &seen)?;
+        assert_eq!(rt; found.as_str(), *expected, "{view} after {rev}");
+    }
+    Ok(())
+}
+
+/// A room whose document is the tree of a text.
+fn room_of(alloc: Global, document: &str, rev: u64, h: u64) -> Result<Room, Fail> {
+    let tree = read(alloc, document)?;
+    Ok(Room::starting_at(alloc, tree, rev, h)?)
+}
+
+/// The revision of a room that starts with the tree, or why there is none.
+fn start(alloc: Global, tree: Tree, rev: u64, h: u64) -> Result<u64, RoomFault> {
+    Ok(Room::starting_at(alloc, tree, rev, h)?.revision())
+}
+
+/// Lists, each in the next.
+fn nested(alloc: Global, levels: usize) -> Result<Tree, AllocError> {
+    let mut tree = Tree::from(Node::List(Vec::new(alloc)));
+    for _ in 1..levels {
+        let mut items = Vec::new(alloc);
+        items.push(tree)?;
+        tree = Tree::from(Node::List(items));
+    }
+    Ok(tree)
+}
+
+#[test]
+fn starts_with_a_document_that_is_not_too_deep(rt: HostRuntime) -> Result<(), Fail> {
+    for (levels, rev, h, expected) in [
+        (65, 0, 64, Err(RoomFault::TooDeep)),
+        (65, LAST_REVISION + 1, 0, Err(RoomFault::TooDeep)),
+        (64, 0, 64, Ok(0)),
+        (1, 9_007_199_254_740_992, 0, Err(RoomFault::BadRevision)),
+        (1, 9_007_199_254_740_991, 0, Err(RoomFault::BadLimit)),
+        (1, 9_007_199_254_740_991, 1_025, Err(RoomFault::BadLimit)),
+        (1, 9_007_199_254_740_991, 1_024, Ok(9_007_199_254_740_991)),
+    ] {
+        let tree = nested(rt.alloc(), levels)?;
+        assert_eq!(rt;
+            start(rt.alloc(), tree, rev, h),
+            expected,
+            "{levels} levels"
+        );
+    }
+    Ok(())
+}
+
+#[test]
+fn starts_with_a_document_that_is_not_too_heavy(rt: HostRuntime) -> Result<(), Fail> {
+    for (bytes, rev, h, expected) in [
+        (65_529, 0, 64, Err(RoomFault::TooHeavy)),
+        (65_529, LAST_REVISION + 1, 0, Err(RoomFault::TooHeavy)),
+        (65_528, 0, 64, Ok(0)),
+    ] {
+        let tree = Tree::from(Node::Text("a".repeat(rt.alloc(), bytes)?));
+        assert_eq!(rt; start(rt.alloc(), tree, rev, h), expected, "{bytes} bytes");
+    }
+    Ok(())
+}
+
+#[test]
+fn a_new_room_holds_at_least_one_revision(rt: HostRuntime) {
+    assert_eq!(rt; Room::new(rt.alloc(), 0).err(), Some(RoomFault::BadLimit));
+}
+
+#[test]
+fn begins_with_null(rt: HostRuntime) -> Result<(), Fail> {
+    let room = Room::new(rt.alloc(), 1)?;
+    assert_eq!(rt; state(rt.alloc(), &room)?.as_str(), "0 null");
+    misses(
+        &rt,
+        &room,
+        &[(0, r#"[""]"#, "nothing"), (1, r#"[""]"#, "future")],
+    )
+}
+
+/// A room that holds two revisions, after five edits.
+fn edited(rt: &(impl Abort + AllocGlobal)) -> Result<Room, Fail> {
+    let mut room = room_of(rt.alloc(), r#"{"list":[],"n":0}"#, 0, 2)?;
+    edits(
+        rt,
+        &mut room,
+        &[
+            (
+                r#"[{"op":"replace","path":"/n","value":1}]"#,
+                r#"Ok(1): 1 {"list":[],"n":1}"#,
+            ),
+            (
+                r#"[{"op":"replace","path":"/n","value":2}]"#,
+                r#"Ok(2): 2 {"list":[],"n":2}"#,
+            ),
+            (
+                r#"[{"op":"replace","path":"/n","value":3}]"#,
+                r#"Ok(3): 3 {"list":[],"n":3}"#,
+            ),
+            (
+                r#"[{"op":"add","path":"/list/-","value":"a"},{"op":"replace","path":"/n","value":4}]"#,
+                r#"Ok(4): 4 {"list":["a"],"n":4}"#,
+            ),
+            (
+                r#"[{"op":"replace","path":"/n","value":5},{"op":"add","path":"/list/0","value":"b"}]"#,
+                r#"Ok(5): 5 {"list":["b","a"],"n":5}"#,
+            ),
+        ],
+    )?;
+    Ok(room)
+}
+
+#[test]
+fn tells_what_was_missed(rt: HostRuntime) -> Result<(), Fail> {
+    let room = edited(&rt)?;
+    misses(
+        &rt,
+        &room,
+        &[
+            (5, r#"["/n"]"#, "nothing"),
+            (
+                4,
+                r#"["/n"]"#,
+                r#"[{"op":"replace","path":"/0","value":[5]}]"#,
+            ),
+            (
+                3,
+                r#"["/n"]"#,
+                r#"[{"op":"replace","path":"/0","value":[5]}]"#,
+            ),
+            (2, r#"["/n"]"#, "snapshot"),
+            (0, r#"["/n"]"#, "snapshot"),
+            (6, r#"["/n"]"#, "future"),
+            (3, r#"["/other"]"#, "nothing"),
+            (2, r#"["/other"]"#, "snapshot"),
+            (
+                3,
+                r#"["/list"]"#,
+                r#"[{"op":"add","path":"/0/0/0","value":"a"},{"op":"add","path":"/0/0/0","value":"b"}]"#,
+            ),
+        ],
+    )
+}
+
+#[test]
+fn stays_as_it_was_where_a_patch_is_refused(rt: HostRuntime) -> Result<(), Fail> {
+    let mut room = room_of(rt.alloc(), "[1]", 7, 64)?;
+    edits(
+        &rt,
+        &mut room,
+        &[
+            (
+                r#"[{"op":"remove","path":"/0"},{"op":"test","path":"","value":[1]}]"#,
+                "Err(Apply(ApplyFault { at: 1, cause: TestFailed })): 7 [1]",
+            ),
+            (r#"[{"op":"test","path":"","value":[1]}]"#, "Ok(8): 8 [1]"),
+        ],
+    )?;
+    misses(&rt, &room, &[(7, r#"[""]"#, "nothing")])
+}
+
+#[test]
+fn makes_no_revision_after_the_last(rt: HostRuntime) -> Result<(), Fail> {
+    let mut room = room_of(rt.alloc(), "[]", LAST_REVISION - 1, 1)?;
+    edits(
+        &rt,
+        &mut room,
+        &[
+            (
+                r#"[{"op":"add","path":"/-","value":1}]"#,
+                "Ok(9007199254740991): 9007199254740991 [1]",
+            ),
+            (
+                r#"[{"op":"add","path":"/-","value":1}]"#,
+                "Err(Exhausted): 9007199254740991 [1]",
+            ),
+            (
+                r#"[{"op":"remove","path":""}]"#,
+                "Err(Exhausted): 9007199254740991 [1]",
+            ),
+        ],
+    )
+}

@@ -1,0 +1,239 @@
+//! Each call of a link on its stream goes wrong once, in each way.
+//!
+//! The link enters beside session 1, which watches the whole document. Its client watches, edits twice and closes.
+use crate::frames::CLOSE;
+use crate::side::Act::{Comes, Says};
+use crate::side::{Act, SAMPLE, Side};
+use crate::wire::{Trick, Wire};
+use crate::written::words;
+use relay_hub::{Event, Hub};
+use relay_link::{Stage, Turn};
+use std::alloc::{AllocGlobal, Global};
+use std::cell::RefCell;
+use std::process::Abort;
+use std::test::Fail;
+
+const WATCH: &str = r#"{"do":"watch","id":1,"view":[""]}"#;
+
+/// What the client sends. Each comes once the one before it was read and answered.
+const MESSAGES: [Act; 5] = [
+    Comes(SAMPLE),
+    Says(WATCH),
+    Says(r#"{"do":"edit","id":2,"patch":[{"op":"add","path":"","value":{"x":1}}]}"#),
+    Says(r#"{"do":"edit","id":3,"patch":[{"op":"replace","path":"/x","value":2}]}"#),
+    Comes(CLOSE),
+];
+
+/// How many turns, and how many calls, are more than enough.
+const TURNS: u64 = 64;
+
+const CALLS: u64 = 40;
+
+/// A run of a link with session 2, and a twin of its hub, which is handed the events that the link reports.
+#[derive(Drop)]
+struct Run<'a> {
+    alloc: Global,
+    side: Side<'a>,
+    hub: Hub,
+    twin: Hub,
+    /// Which message comes next.
+    next: usize,
+    /// The causes of the turns, each with a `!` where a call failed, and whatever a link must not do.
+    told: String,
+}
+
+/// Session 1 is opened, and watches; it has drawn what it was told so far.
+fn watch(alloc: Global, hub: &mut Hub) -> Result<(), Fail> {
+    hub.open(alloc, "a")?;
+    hub.receive(alloc, 1, WATCH)?;
+    for _ in 0..3 {
+        hub.draw(alloc, 1)?;
+    }
+    Ok(())
+}
+
+/// All texts that wait for session 1, one a line.
+fn drawn(alloc: Global, hub: &mut Hub) -> Result<String, Fail> {
+    let mut texts = String::new(alloc);
+    for _ in 0..hub.waiting(1).unwrap_or(0) {
+        let text = hub.draw(alloc, 1)?.ok_or("a text")?;
+        texts.push_str(text.as_str())?;
+        texts.push('\n')?;
+    }
+    Ok(texts)
+}
+
+/// Whether an event is of session 2, or opens it.
+fn is_own(event: &Event) -> bool {
+    match event {
+        Event::Open { room } => room.as_str() == "a",
+        Event::Receive { session, .. } | Event::Draw { session } | Event::Close { session } => {
+            *session == 2
+        }
+    }
+}
+
+impl<'a> Run<'a> {
+    fn new(alloc: Global, wire: &'a RefCell<Wire>) -> Result<Run<'a>, Fail> {
+        Ok(Run {
+            alloc,
+            side: Side::new(alloc, wire)?,
+            hub: Hub::new(alloc, 1, 1, 64, 32)?,
+            twin: Hub::new(alloc, 1, 1, 64, 32)?,
+            next: 0,
+            told: String::new(alloc),
+        })
+    }
+
+    /// Lets the next message come, where it may.
+    fn feed(&mut self) -> Result<(), Fail> {
+        let may_come = match self.side.link.stage() {
+            Stage::Head => self.next == 0,
+            Stage::Open => self.hub.waiting(2) == Some(0),
+            Stage::Closing | Stage::Gone => false,
+        };
+        if may_come && self.side.wire.try_borrow()?.is_read() {
+            if let Some(act) = MESSAGES.get(self.next) {
+                self.side.prepare(*act)?;
+                self.next = self.next.saturating_add(1);
+            }
+        }
+        Ok(())
+    }
+
+    fn turn(&mut self) -> Result<(), Fail> {
+        let failures = self.failures()?;
+        let session = self.side.link.session();
+        let turn = self.side.link.turn(self.alloc, &mut self.hub, 32)?;
+        self.tell_events(&turn, session)?;
+        self.tell_cause(&turn, self.failures()? > failures)?;
+        match self.twin.run(self.alloc, turn.made.as_slice()) {
+            Ok(_) => Ok(()),
+            Err(_) => Err(Fail::from("no memory in a twin")),
+        }
+    }
+
+    fn failures(&self) -> Result<u64, Fail> {
+        Ok(self.side.wire.try_borrow()?.failures)
+    }
+
+    fn tell_cause(&mut self, turn: &Turn, failed: bool) -> Result<(), Fail> {
+        if let Some(cause) = turn.cause {
+            write!(self.told, "{cause:?} ")?;
+        }
+        if failed {
+            self.told.push_str("! ")?;
+        }
+        Ok(())
+    }
+
+    /// Tells of an event of another session, and of a session that is left without its close as the last event.
+    fn tell_events(&mut self, turn: &Turn, session: Option<u64>) -> Result<(), Fail> {
+        for event in turn.made.iter() {
+            if !is_own(event) {
+                self.told.push_str("a stranger ")?;
+            }
+        }
+        let had_one = session.is_some() || !turn.made.is_empty();
+        let is_left = had_one && self.side.link.session().is_none();
+        let is_closed = matches!(turn.made.last(), Some(Event::Close { .. }));
+        if is_left != is_closed {
+            self.told.push_str("not closed ")?;
+        }
+        Ok(())
+    }
+
+    /// All turns, and what is left behind them.
+    fn all(&mut self) -> Result<(), Fail> {
+        watch(self.alloc, &mut self.hub)?;
+        watch(self.alloc, &mut self.twin)?;
+        for _ in 0..TURNS {
+            self.feed()?;
+            self.turn()?;
+        }
+        self.tell_end()?;
+        self.tell_other()?;
+        self.tell_written()
+    }
+
+    fn tell_end(&mut self) -> Result<(), Fail> {
+        if self.hub.waiting(2).is_some() {
+            self.told.push_str("still open ")?;
+        }
+        if self.side.wire.try_borrow()?.calls > CALLS {
+            self.told.push_str("too many calls ")?;
+        }
+        Ok(write!(self.told, "{:?}\n", self.side.link.stage())?)
+    }
+
+    /// What session 1 draws, which is the same from the twin.
+    fn tell_other(&mut self) -> Result<(), Fail> {
+        let texts = drawn(self.alloc, &mut self.hub)?;
+        if drawn(self.alloc, &mut self.twin)?.as_str() != texts.as_str() {
+            self.told.push_str("another hub ")?;
+        }
+        Ok(self.told.push_str(texts.as_str())?)
+    }
+
+    fn tell_written(&mut self) -> Result<(), Fail> {
+        let wire = self.side.wire.try_borrow()?;
+        let words = words(self.alloc, wire.output.as_slice(), 0)?;
+        self.told.push_str(words.as_str())?;
+        Ok(self.told.push('\n')?)
+    }
+
+    /// Whether what was told begins by one of some words.
+    fn is_one_of(&self, beginnings: &[&str]) -> bool {
+        for beginning in beginnings {
+            if self.told.as_str().starts_with(*beginning) {
+                return true;
+            }
+        }
+        false
+    }
+}
+
+/// A run in which one call goes wrong. What is told begins by one of the words.
+fn goes_wrong(
+    rt: &(impl Abort + AllocGlobal),
+    call: u64,
+    trick: Trick,
+    beginnings: &[&str],
+) -> Result<(), Fail> {
+    let wire = Wire::new(rt.alloc());
+    wire.try_borrow_mut()?.trick = Some((call, trick));
+    runs(rt, &wire, beginnings)
+}
+
+fn runs(
+    rt: &(impl Abort + AllocGlobal),
+    wire: &RefCell<Wire>,
+    beginnings: &[&str],
+) -> Result<(), Fail> {
+    let mut run = Run::new(rt.alloc(), wire)?;
+    run.all()?;
+    assert!(rt; run.is_one_of(beginnings), "{}", run.told);
+    Ok(())
+}
+
+/// The causes of a run in which no call goes wrong, what session 1 draws, and what is written.
+const WHOLE: &str =
+    "Peer Peer Gone\n{\"kind\":\"patch\",\"patch\":[{\"op\":\"replace\",\"path\":\"/0\",\"value\":[{\"x\":1}]}],\"rev\":1}\n{\"kind\":\"patch\",\"patch\":[{\"op\":\"replace\",\"path\":\"/0/0/x\",\"value\":2}],\"rev\":2}\n > switched > {\"epoch\":1,\"kind\":\"welcome\",\"rev\":0,\"session\":2} > {\"id\":1,\"kind\":\"watching\"} > {\"kind\":\"snapshot\",\"rev\":0,\"view\":[[null]]} > {\"id\":2,\"kind\":\"done\",\"rev\":1} > {\"kind\":\"patch\",\"patch\":[{\"op\":\"replace\",\"path\":\"/0\",\"value\":[{\"x\":1}]}],\"rev\":1} > {\"id\":3,\"kind\":\"done\",\"rev\":2} > {\"kind\":\"patch\",\"patch\":[{\"op\":\"replace\",\"path\":\"/0/0/x\",\"value\":2}],\"rev\":2} > close 1000\n";
+
+/// A call that moves nothing, or little, changes nothing; one that fails ends the link. A read that gives nothing is the
+/// end, a write that takes nothing fails, and a flush moves nothing anyway. Behind the last call nothing can go wrong.
+#[test]
+fn each_call_goes_wrong_in_each_way(rt: HostRuntime) -> Result<(), Fail> {
+    for (trick, beginnings) in [
+        (Trick::Nothing, &[WHOLE][..]),
+        (Trick::Interrupt, &[WHOLE]),
+        (Trick::OneByte, &[WHOLE]),
+        (Trick::Fail, &["Stream ! Gone\n", WHOLE]),
+        (Trick::End, &["Peer Gone\n", "Stream Gone\n", WHOLE]),
+    ] {
+        for call in 0..=CALLS {
+            goes_wrong(&rt, call, trick, beginnings)?;
+        }
+    }
+    Ok(())
+}

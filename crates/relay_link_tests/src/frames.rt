@@ -1,0 +1,172 @@
+//! What an open link makes of frames (RFC 6455, section 5). All frames of the client are masked by zeros.
+use crate::side::Act::{Comes, Draws, Ends, Idle, Says};
+use crate::side::play_open;
+use std::test::Fail;
+
+pub(crate) const BINARY: &[u8] = b"\x82\x81\x00\x00\x00\x00x";
+
+pub(crate) const CLOSE: &[u8] = b"\x88\x82\x00\x00\x00\x00\x03\xe8";
+
+const PING: &[u8] = b"\x89\x80\x00\x00\x00\x00";
+
+const PONG: &[u8] = b"\x8a\x80\x00\x00\x00\x00";
+
+const PING_OF_126: &[u8] =
+    b"\x89\xfe\x00\x7e\x00\x00\x00\x00xxxxxxxxxxxxxxxxxxxxxxxxxxxxxxxxxxxxxxxxxxxxxxxxxxxxxxxxxxxxxxxxxxxxxxxxxxxxxxxxxxxxxxxxxxxxxxxxxxxxxxxxxxxxxxxxxxxxxxxxxxxxxx";
+
+const PING_AND_CLOSE: &[u8] = b"\x89\x80\x00\x00\x00\x00\x88\x82\x00\x00\x00\x00\x03\xe8";
+
+#[test]
+fn closes_after_a_binary_message(rt: HostRuntime) -> Result<(), Fail> {
+    play_open(
+        &rt,
+        &[
+            (1, Comes(BINARY), "close 1; Closing by Binary > close 1003"),
+            (15, Idle, "Closing"),
+            (1, Idle, "Gone by Silent"),
+            (1, Idle, "Gone"),
+        ],
+    )
+}
+
+#[test]
+fn answers_a_close(rt: HostRuntime) -> Result<(), Fail> {
+    play_open(
+        &rt,
+        &[
+            (1, Comes(PING_AND_CLOSE), "Open as 1"),
+            (1, Idle, "close 1; Closing by Peer > pong > close 1000"),
+            (1, Idle, "Gone by Peer"),
+        ],
+    )
+}
+
+/// A closing link lets go what comes before the other side's close.
+#[test]
+fn hears_the_answer_to_its_close(rt: HostRuntime) -> Result<(), Fail> {
+    play_open(
+        &rt,
+        &[
+            (1, Comes(BINARY), "close 1; Closing by Binary > close 1003"),
+            (1, Says("{}"), "Closing"),
+            (1, Comes(CLOSE), "Closing"),
+            (1, Idle, "Gone by Peer"),
+        ],
+    )
+}
+
+#[test]
+fn ends_where_the_other_side_does(rt: HostRuntime) -> Result<(), Fail> {
+    for row in [
+        (1, Ends(b""), "close 1; Gone by Peer"),
+        (1, Ends(b"\x81"), "close 1; Gone by Peer"),
+        (
+            1,
+            Ends(b"\x81\x82\x00\x00\x00\x00x"),
+            "close 1; Gone by Peer",
+        ),
+        (1, Comes(CLOSE), "close 1; Closing by Peer > close 1000"),
+    ] {
+        play_open(&rt, &[row])?;
+    }
+    Ok(())
+}
+
+#[test]
+fn ends_at_a_broken_frame(rt: HostRuntime) -> Result<(), Fail> {
+    for bytes in [
+        // No mask.
+        &b"\x81\x01x"[..],
+        // A reserved bit, a reserved opcode, and one of a control frame.
+        b"\xc1\x81\x00\x00\x00\x00x",
+        b"\x83\x81\x00\x00\x00\x00x",
+        b"\x8b\x80\x00\x00\x00\x00",
+        // A continuation of nothing, and a message inside another.
+        b"\x80\x81\x00\x00\x00\x00x",
+        b"\x01\x81\x00\x00\x00\x00x\x81\x81\x00\x00\x00\x00x",
+        // A ping in fragments, and one that is too long.
+        b"\x09\x80\x00\x00\x00\x00",
+        PING_OF_126,
+        // A close with half a code.
+        b"\x88\x81\x00\x00\x00\x00\x03",
+    ] {
+        play_open(
+            &rt,
+            &[
+                (1, Comes(bytes), "close 1; Gone by Broken"),
+                (1, Idle, "Gone"),
+            ],
+        )?;
+    }
+    Ok(())
+}
+
+#[test]
+fn ends_at_a_text_that_is_not_utf8(rt: HostRuntime) -> Result<(), Fail> {
+    for bytes in [
+        &b"\x81\x81\x00\x00\x00\x00\xff"[..],
+        // Half a character.
+        b"\x81\x81\x00\x00\x00\x00\xc3",
+        // The reason of a close.
+        b"\x88\x83\x00\x00\x00\x00\x03\xe8\xff",
+    ] {
+        play_open(&rt, &[(1, Comes(bytes), "close 1; Gone by Broken")])?;
+    }
+    Ok(())
+}
+
+/// The length that a frame announces is enough.
+#[test]
+fn ends_at_a_frame_above_16_mib(rt: HostRuntime) -> Result<(), Fail> {
+    for (bytes, said) in [
+        (
+            &b"\x81\xff\x00\x00\x00\x00\x01\x00\x00\x00\x00\x00\x00\x00"[..],
+            "Open as 1",
+        ),
+        (
+            b"\x81\xff\x00\x00\x00\x00\x01\x00\x00\x01\x00\x00\x00\x00",
+            "close 1; Gone by Broken",
+        ),
+        (
+            b"\x81\xff\x7f\xff\xff\xff\xff\xff\xff\xff\x00\x00\x00\x00",
+            "close 1; Gone by Broken",
+        ),
+    ] {
+        play_open(&rt, &[(1, Comes(bytes), said)])?;
+    }
+    Ok(())
+}
+
+#[test]
+fn answers_a_ping_and_no_pong(rt: HostRuntime) -> Result<(), Fail> {
+    play_open(
+        &rt,
+        &[
+            (1, Comes(PONG), "Open as 1"),
+            (1, Comes(PING), "Open as 1"),
+            (1, Idle, "Open as 1 > pong"),
+        ],
+    )
+}
+
+/// A character may be cut in two, and a ping may come between the fragments.
+#[test]
+fn joins_fragments(rt: HostRuntime) -> Result<(), Fail> {
+    play_open(
+        &rt,
+        &[
+            (1, Comes(b"\x01\x82\x00\x00\x00\x00\"\xc3"), "Open as 1"),
+            (1, Comes(PING), "Open as 1"),
+            (
+                1,
+                Comes(b"\x80\x82\x00\x00\x00\x00\xa9\""),
+                "receive 1; Open as 1 > pong",
+            ),
+            (
+                1,
+                Draws(9),
+                r#"draw 1; draw 1; draw 1; Open as 1 > {"epoch":1,"kind":"welcome","rev":0,"session":1} > {"at":null,"fault":"shape","id":null,"kind":"refused"}"#,
+            ),
+        ],
+    )
+}

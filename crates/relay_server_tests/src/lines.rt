@@ -1,0 +1,103 @@
+//! What lines ask for, and how many there may be.
+use crate::story::{played, plays};
+use std::alloc::Global;
+use std::test::Fail;
+
+/// Lines of no name, of no room, of another form, and of a session that is closed.
+pub const REFUSALS: &str = r#"x draw
+> x unknown
+a open a/b
+> a refused room-name
+a open r
+> a opened 1
+a open r
+> a refused name-taken
+a say {"do":"edit","id":1,"patch":{}}
+> a answered
+a say [1
+> a answered
+a frob
+> ? 7
+# a comment
+a draw 
+> ? 9
+abcdefghijklmnopq draw
+> ? 10
+a draw
+> a {"epoch":1,"kind":"welcome","rev":0,"session":1}
+a draw
+> a {"at":null,"fault":"shape","id":1,"kind":"refused"}
+a draw
+> a {"at":null,"fault":"not-json","id":null,"kind":"refused"}
+a draw
+> a nothing
+a truth
+> a truth nothing
+a close
+> a closed
+a draw
+> a unknown
+a truth
+> a unknown
+a held
+> a held nothing
+"#;
+
+#[test]
+fn refuses_lines_by_name(rt: HostRuntime) -> Result<(), Fail> {
+    plays(&rt, 64, 32, REFUSALS)
+}
+
+/// A comment may be anything; the last line needs no line feed.
+#[test]
+fn a_line_that_is_no_utf8_has_no_form(rt: HostRuntime) -> Result<(), Fail> {
+    let rows: [(&[u8], &str); 4] = [
+        (b"# \xff\n\xff draw\na say \xff", "? 2\n? 3\n"),
+        (b"# \xff", ""),
+        (b"\n\n\xff\n", "? 3\n"),
+        (b"x draw\ny draw", "x unknown\ny unknown\n"),
+    ];
+    for (script, wanted) in rows {
+        let written = played(rt.alloc(), 64, 32, script)?;
+        assert_eq!(rt; written.as_str(), wanted, "{script:?}");
+    }
+    Ok(())
+}
+
+/// What comes of a script of one byte, many times.
+fn repeated(alloc: Global, byte: u8, count: usize) -> Result<String, Fail> {
+    let script = vec![in alloc; byte; count]?;
+    played(alloc, 64, 32, script.as_slice())
+}
+
+/// 270,336 bytes in a line, and 65,536 lines.
+#[test]
+fn keeps_to_its_limits(rt: HostRuntime) -> Result<(), Fail> {
+    for (byte, count, wanted) in [
+        (b'#', 270_336, ""),
+        (b'#', 270_337, "fault: line too long"),
+        (b'\n', 65_536, ""),
+        (b'\n', 65_537, "fault: too many lines"),
+    ] {
+        let written = repeated(rt.alloc(), byte, count)?;
+        assert_eq!(rt; written.as_str(), wanted, "{count} bytes");
+    }
+    Ok(())
+}
+
+/// A history of 1 to 1,024 revisions, and 1 to 256 waiting patches.
+#[test]
+fn reads_nothing_where_a_limit_is_out_of_range(rt: HostRuntime) -> Result<(), Fail> {
+    for (history, outbox, wanted) in [
+        (0, 32, "fault: a limit out of range"),
+        (1_025, 32, "fault: a limit out of range"),
+        (64, 0, "fault: a limit out of range"),
+        (64, 257, "fault: a limit out of range"),
+        (1, 1, "a opened 1\n"),
+        (1_024, 256, "a opened 1\n"),
+    ] {
+        let written = played(rt.alloc(), history, outbox, b"a open r\n")?;
+        assert_eq!(rt; written.as_str(), wanted, "{history} and {outbox}");
+    }
+    Ok(())
+}

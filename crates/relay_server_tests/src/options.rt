@@ -1,0 +1,145 @@
+//! What the words of a command line ask for.
+use relay_options::{Job, Settings, Stop, job_of};
+use std::alloc::{AllocError, Global};
+use std::test::Fail;
+
+/// The words of a line, the first of which is the program's name.
+pub fn words_of(alloc: Global, line: &str) -> Result<Vec<String>, AllocError> {
+    let mut words = Vec::new(alloc);
+    for word in line.split_whitespace() {
+        words.push(String::from_str(alloc, word)?)?;
+    }
+    Ok(words)
+}
+
+/// What a line asks for.
+fn asked(alloc: Global, line: &str) -> Result<Result<Job, Stop>, AllocError> {
+    let words = words_of(alloc, line)?;
+    Ok(job_of(alloc, words.as_slice()))
+}
+
+/// The job that a line asks for.
+fn job(alloc: Global, line: &str) -> Result<Job, Fail> {
+    match asked(alloc, line)? {
+        Ok(job) => Ok(job),
+        Err(_stop) => Err(Fail::from("no job")),
+    }
+}
+
+/// The help that a line asks for.
+fn help(alloc: Global, line: &str) -> Result<String, Fail> {
+    match asked(alloc, line)? {
+        Err(Stop::Help(text)) => Ok(text),
+        Err(_stop) => Err(Fail::from("no help")),
+        Ok(_job) => Err(Fail::from("a job")),
+    }
+}
+
+/// Whether a line is refused, with words for standard error.
+fn is_misuse(alloc: Global, line: &str) -> Result<bool, AllocError> {
+    match asked(alloc, line)? {
+        Err(Stop::Misuse(text)) => Ok(!text.is_empty()),
+        Err(_stop) => Ok(false),
+        Ok(_job) => Ok(false),
+    }
+}
+
+fn settings(history: u64, outbox: u64, epoch: u64) -> Settings {
+    Settings {
+        history,
+        outbox,
+        epoch,
+    }
+}
+
+#[test]
+fn reads_scripts(rt: HostRuntime) -> Result<(), Fail> {
+    for (line, wanted) in [
+        ("relay", Settings::DEFAULT),
+        ("relay script", Settings::DEFAULT),
+        ("relay script --epoch 7", settings(64, 32, 7)),
+        (
+            "relay script --history 2 --outbox 256 --epoch 0",
+            settings(2, 256, 0),
+        ),
+        (
+            "relay script --history 1024 --outbox 1 --epoch 9007199254740991",
+            settings(1_024, 1, 9_007_199_254_740_991),
+        ),
+    ] {
+        assert_eq!(rt; job(rt.alloc(), line)?, Job::Script(wanted), "{line}");
+    }
+    Ok(())
+}
+
+fn serve(port: u16, turns: u64) -> Job {
+    Job::Serve {
+        port,
+        turns,
+        settings: Settings::DEFAULT,
+    }
+}
+
+#[test]
+fn reads_the_other_jobs(rt: HostRuntime) -> Result<(), Fail> {
+    for (line, wanted) in [
+        ("relay follow", Job::Follow),
+        ("relay loop", Job::Loop(Settings::DEFAULT)),
+        ("relay loop --outbox 2", Job::Loop(settings(64, 2, 1))),
+        ("relay serve --port 0 --turns 1", serve(0, 1)),
+        (
+            "relay serve --turns 1000000000000 --port 65535",
+            serve(65_535, 1_000_000_000_000),
+        ),
+    ] {
+        assert_eq!(rt; job(rt.alloc(), line)?, wanted, "{line}");
+    }
+    Ok(())
+}
+
+#[test]
+fn refuses_what_is_out_of_range(rt: HostRuntime) -> Result<(), Fail> {
+    for line in [
+        "relay script --outbox 0",
+        "relay script --outbox 257",
+        "relay script --history 0",
+        "relay script --history 1025",
+        "relay script --epoch 9007199254740992",
+        "relay script --epoch -1",
+        "relay loop --outbox 257",
+        "relay serve --port 65536 --turns 1",
+        "relay serve --port 0 --turns 0",
+        "relay serve --port 0 --turns 1000000000001",
+    ] {
+        assert!(rt; is_misuse(rt.alloc(), line)?, "{line}");
+    }
+    Ok(())
+}
+
+#[test]
+fn refuses_words_that_belong_to_no_job(rt: HostRuntime) -> Result<(), Fail> {
+    for line in [
+        "relay frob",
+        "relay follow --epoch 1",
+        "relay script --port 0",
+        "relay serve --port 0",
+        "relay serve --turns 1",
+    ] {
+        assert!(rt; is_misuse(rt.alloc(), line)?, "{line}");
+    }
+    Ok(())
+}
+
+#[test]
+fn explains_each_job(rt: HostRuntime) -> Result<(), Fail> {
+    for (line, part) in [
+        ("relay --help", "relay < examples/first.script"),
+        ("relay script --help", "--history"),
+        ("relay loop --help", "relay loop < examples/first.script"),
+        ("relay follow --help", "| relay follow"),
+        ("relay serve --help", "--turns"),
+    ] {
+        assert!(rt; help(rt.alloc(), line)?.contains(part), "{line}");
+    }
+    Ok(())
+}

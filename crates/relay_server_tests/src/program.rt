@@ -1,0 +1,171 @@
+//! The program's jobs, and how they end.
+use crate::options::words_of;
+use crate::story::{Story, with_end};
+use relay_server::{ScriptFault, report, run_follow, start};
+use std::alloc::{AllocGlobal, Global};
+use std::net::Net;
+use std::str;
+use std::test::Fail;
+
+/// What is complained of, and behind it the status.
+fn reported(alloc: Global, ended: Result<(), ScriptFault>) -> Result<String, Fail> {
+    let mut errors = Vec::new(alloc);
+    let code = report(ended, &mut errors).code();
+    let complaint = str::from_utf8(errors.as_slice())?;
+    Ok(format!(in alloc; "{complaint}status {code}")?)
+}
+
+#[test]
+fn ends_with_a_status(rt: HostRuntime) -> Result<(), Fail> {
+    for (ended, wanted) in [
+        (Ok(()), "status 0"),
+        (Err(ScriptFault::Input), "relay: input\nstatus 1"),
+        (Err(ScriptFault::Output), "relay: output\nstatus 1"),
+        (
+            Err(ScriptFault::LineTooLong),
+            "relay: line too long\nstatus 1",
+        ),
+        (
+            Err(ScriptFault::TooManyLines),
+            "relay: too many lines\nstatus 1",
+        ),
+        (
+            Err(ScriptFault::BadLimit),
+            "relay: a limit out of range\nstatus 2",
+        ),
+        (Err(ScriptFault::NoMemory), "relay: no memory\nstatus 3"),
+    ] {
+        let told = reported(rt.alloc(), ended)?;
+        assert_eq!(rt; told.as_str(), wanted);
+    }
+    Ok(())
+}
+
+/// What a follower says of texts, one a line, and behind it the fault that ended it, if there was one.
+fn followed(alloc: Global, texts: &str) -> Result<String, Fail> {
+    let mut input = texts.as_bytes();
+    let mut output = Vec::new(alloc);
+    let ended = run_follow(alloc, &mut input, &mut output);
+    with_end(alloc, output.as_slice(), ended)
+}
+
+/// Messages, each with what the follower says of it: of an empty line nothing. The last has no line feed.
+#[test]
+fn a_follower_holds_what_it_hears(rt: HostRuntime) -> Result<(), Fail> {
+    let story = Story::told(rt.alloc(), HEARD)?;
+    let said = followed(rt.alloc(), story.lines.as_str().trim_end())?;
+    assert_eq!(rt; said.as_str(), story.answers.as_str());
+    Ok(())
+}
+
+const HEARD: &str = r#"{"epoch":1,"kind":"welcome","rev":0,"session":1}
+> held nothing
+{"id":1,"kind":"watching"}
+> held nothing
+{"id":2,"kind":"done","rev":1}
+> held nothing
+{"at":1,"fault":"missing","id":3,"kind":"refused"}
+> held nothing
+{"kind":"snapshot","rev":1,"view":[[1]]}
+> held 1 [[1]]
+
+{"kind":"patch","patch":[],"rev":1}
+> off order
+{"kind":"patch","patch":[{"op":"remove","path":"/0/0/x"}],"rev":2}
+> off apply
+# no comment
+> off not-message
+{"kind":"patch","patch":[],"rev":2}
+> held 2 [[1]]
+"#;
+
+/// A run of the program.
+#[derive(Drop)]
+pub struct Ran {
+    pub status: u8,
+    output: Vec<u8>,
+    errors: Vec<u8>,
+}
+
+impl Ran {
+    /// Does what a line of words asks for, over an input.
+    pub fn of(rt: &(impl AllocGlobal + Net), line: &str, input: &str) -> Result<Ran, Fail> {
+        let words = words_of(rt.alloc(), line)?;
+        let mut input = input.as_bytes();
+        let mut output = Vec::new(rt.alloc());
+        let mut errors = Vec::new(rt.alloc());
+        let status = start(rt, words.as_slice(), &mut input, &mut output, &mut errors);
+        Ok(Ran {
+            status,
+            output,
+            errors,
+        })
+    }
+
+    /// What it wrote.
+    pub fn output(&self) -> Result<&str, Fail> {
+        Ok(str::from_utf8(self.output.as_slice())?)
+    }
+
+    /// What it complained of.
+    pub fn errors(&self) -> Result<&str, Fail> {
+        Ok(str::from_utf8(self.errors.as_slice())?)
+    }
+}
+
+/// What the program writes, whether it complains, and its status.
+fn done(rt: &(impl AllocGlobal + Net), line: &str, input: &str) -> Result<String, Fail> {
+    let ran = Ran::of(rt, line, input)?;
+    let output = ran.output()?;
+    let complaint = if ran.errors.is_empty() {
+        ""
+    } else {
+        "complaint, "
+    };
+    let status = ran.status;
+    Ok(format!(in rt.alloc(); "{output}{complaint}status {status}")?)
+}
+
+#[test]
+fn does_what_its_words_say(rt: HostRuntime) -> Result<(), Fail> {
+    for (line, input, wanted) in [
+        ("relay", "a open r\n", "a opened 1\nstatus 0"),
+        (
+            "relay script --history 3",
+            "a open r\n",
+            "a opened 1\nstatus 0",
+        ),
+        ("relay follow", "a open r\n", "off not-message\nstatus 0"),
+        ("relay follow", "", "status 0"),
+        (
+            "relay script --outbox 0",
+            "a open r\n",
+            "complaint, status 2",
+        ),
+        (
+            "relay script --history 1025",
+            "a open r\n",
+            "complaint, status 2",
+        ),
+        ("relay frob", "a open r\n", "complaint, status 2"),
+        ("relay serve", "a open r\n", "complaint, status 2"),
+        (
+            "relay follow --epoch 1",
+            "a open r\n",
+            "complaint, status 2",
+        ),
+    ] {
+        let found = done(&rt, line, input)?;
+        assert_eq!(rt; found.as_str(), wanted, "{line}");
+    }
+    Ok(())
+}
+
+#[test]
+fn helps_on_standard_output(rt: HostRuntime) -> Result<(), Fail> {
+    let ran = Ran::of(&rt, "relay --help", "")?;
+    assert_eq!(rt; ran.status, 0);
+    assert!(rt; ran.output()?.contains("relay < examples/first.script"));
+    assert!(rt; ran.errors.is_empty());
+    Ok(())
+}
