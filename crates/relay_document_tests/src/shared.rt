@@ -41,8 +41,12 @@ pub(crate) fn text_of(rt: &(impl Abort + AllocGlobal), tree: &Tree) -> String {
 pub(crate) fn part_text(rt: &(impl Abort + AllocGlobal), part: Option<&Tree>) -> String {
     match part {
         Some(part) => text_of(rt, part),
-        None => repeated(rt, "nothing", 1),
+        None => owned(rt, "nothing"),
     }
+}
+
+pub(crate) fn owned(rt: &(impl Abort + AllocGlobal), text: &str) -> String {
+    String::from_str(rt.alloc(), text).expect(rt, "memory")
 }
 
 pub(crate) fn repeated(rt: &(impl Abort + AllocGlobal), text: &str, count: usize) -> String {

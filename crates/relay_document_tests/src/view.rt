@@ -1,4 +1,4 @@
-use crate::shared::{gives, is, repeated, text_of, tree_of, view_of};
+use crate::shared::{gives, is, owned, repeated, text_of, tree_of, view_of};
 use relay_view::{View, ViewFault};
 use std::alloc::AllocGlobal;
 use std::process::Abort;
@@ -67,7 +67,7 @@ fn takes_64_tokens(rt: HostRuntime) {
 fn slot_pointer(rt: &(impl Abort + AllocGlobal), pointers: &str, slot: u64) -> String {
     match view_of(rt, pointers).pointer(slot) {
         Some(pointer) => pointer.text(rt.alloc()).expect(rt, "memory"),
-        None => repeated(rt, "none", 1),
+        None => owned(rt, "none"),
     }
 }
 

@@ -100,7 +100,8 @@ impl Hub {
     }
 
     /// Opens a session in a room, which is made where there is none of that name: with document null, at revision 0. Its
-    /// number, which is never used again; a `Welcome` is in its line.
+    /// number, which is never used again; a `Welcome` is in its line. A fault leaves the hub as it was; NoMemory comes only where
+    /// no other one would.
     pub fn open(&mut self, alloc: Global, room: &str) -> Result<u64, OpenFault>
         ensures step { StepIf self.old (Open room.now) (opening result) self.new }
         ensures stands { (b : Beginning) (E : Log) → StandsFor b E self.old →

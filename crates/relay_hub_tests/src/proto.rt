@@ -126,12 +126,12 @@ fn refusal_of(alloc: Global, text: &str) -> Option<Refusal> {
     }
 }
 
-/// Each text is refused with the word, the id and the place beside it.
-fn refuses(rt: &(impl Abort + AllocGlobal), rows: &[(&str, Word, Option<u64>, Option<u64>)]) {
-    for (text, fault, id, at) in rows {
+/// Each text is refused under that id, with the word and the place beside it.
+fn refuses(rt: &(impl Abort + AllocGlobal), id: Option<u64>, rows: &[(&str, Word, Option<u64>)]) {
+    for (text, fault, at) in rows {
         let expected = Refusal {
             fault: *fault,
-            id: *id,
+            id,
             at: *at,
         };
         assert_eq!(rt; refusal_of(rt.alloc(), *text), Some(expected), "of {text}");
@@ -139,66 +139,75 @@ fn refuses(rt: &(impl Abort + AllocGlobal), rows: &[(&str, Word, Option<u64>, Op
 }
 
 #[test]
-fn refuses_requests_in_order(rt: HostRuntime) {
+fn refuses_what_has_no_id(rt: HostRuntime) {
     refuses(
         &rt,
+        None,
         &[
-            ("", Word::NotJson, None, None),
-            ("[1", Word::NotJson, None, None),
-            (r#"{"do":"edit","id":1,"x":1.0}"#, Word::Number, None, None),
-            ("null", Word::Shape, None, None),
-            ("{}", Word::Shape, None, None),
-            (r#"{"do":"unwatch","id":"1"}"#, Word::Shape, None, None),
+            ("", Word::NotJson, None),
+            ("[1", Word::NotJson, None),
+            (r#"{"do":"edit","id":1,"x":1.0}"#, Word::Number, None),
+            ("null", Word::Shape, None),
+            ("{}", Word::Shape, None),
+            (r#"{"do":"unwatch","id":"1"}"#, Word::Shape, None),
             (
                 r#"{"do":"unwatch","id":9007199254740992}"#,
                 Word::Shape,
                 None,
-                None,
             ),
-            (r#"{"do":"unwatch","id":-1}"#, Word::Shape, None, None),
-            (r#"{"do":"frob","id":1}"#, Word::Shape, Some(1), None),
+            (r#"{"do":"unwatch","id":-1}"#, Word::Shape, None),
+        ],
+    );
+}
+
+#[test]
+fn refuses_what_has_another_form(rt: HostRuntime) {
+    refuses(
+        &rt,
+        Some(1),
+        &[
+            (r#"{"do":"frob","id":1}"#, Word::Shape, None),
             (
                 r#"{"do":"resume","epoch":1,"id":1,"rev":-1,"view":[]}"#,
                 Word::Shape,
-                Some(1),
                 None,
             ),
-            (r#"{"do":"watch","id":1}"#, Word::Shape, Some(1), None),
-            (r#"{"do":"edit","id":1}"#, Word::Shape, Some(1), None),
-            (
-                r#"{"do":"edit","id":1,"patch":{}}"#,
-                Word::Shape,
-                Some(1),
-                None,
-            ),
+            (r#"{"do":"watch","id":1}"#, Word::Shape, None),
+            (r#"{"do":"edit","id":1}"#, Word::Shape, None),
+            (r#"{"do":"edit","id":1,"patch":{}}"#, Word::Shape, None),
+        ],
+    );
+}
+
+#[test]
+fn refuses_parts_by_their_place(rt: HostRuntime) {
+    refuses(
+        &rt,
+        Some(5),
+        &[
             (
                 r#"{"do":"watch","id":5,"view":["/a",5]}"#,
                 Word::Shape,
-                Some(5),
                 Some(1),
             ),
             (
                 r#"{"do":"watch","id":5,"view":["a"]}"#,
                 Word::Pointer,
-                Some(5),
                 Some(0),
             ),
             (
                 r#"{"do":"edit","id":5,"patch":[{"op":"put","path":""}]}"#,
                 Word::UnknownOp,
-                Some(5),
                 Some(0),
             ),
             (
                 r#"{"do":"edit","id":5,"patch":[{"op":"add","path":"a","value":1},{"op":"zap"}]}"#,
                 Word::Pointer,
-                Some(5),
                 Some(0),
             ),
             (
                 r#"{"do":"watch","id":5,"view":[1,2,3,4,5,6,7,8,9,10,11,12,13,14,15,16,17]}"#,
                 Word::TooMany,
-                Some(5),
                 None,
             ),
         ],

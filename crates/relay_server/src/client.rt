@@ -26,7 +26,7 @@ pub struct Knocking<S> {
 }
 
 impl<S: Read + Write + Drop> Knocking<S> {
-    /// Asks for a room. None where the request cannot be sent.
+    /// Asks for a room. None where the request cannot be sent. Want of memory: nothing was sent.
     pub fn at(alloc: Global, mut stream: S, room: &str) -> Result<Option<Knocking<S>>, AllocError> {
         let head = format!(in alloc;
             "GET /rooms/{room} HTTP/1.1\r\nHost: localhost\r\nUpgrade: websocket\r\nConnection: Upgrade\r\nSec-WebSocket-Key: dGhlIHNhbXBsZSBub25jZQ==\r\nSec-WebSocket-Version: 13\r\n\r\n"
@@ -38,8 +38,10 @@ impl<S: Read + Write + Drop> Knocking<S> {
         Ok(Some(Knocking { stream, reply }))
     }
 
-    /// The status of the reply, where its head is whole; else what has come is read.
+    /// The status of the reply, where its head is whole; else what has come is read. Where memory is refused nothing is read, and
+    /// the next call tries again.
     pub fn status(&mut self) -> Option<u16> {
+        self.reply.reserve(READ_MOST).ok()?;
         let mut part = [0; READ_MOST];
         if let Ok(count) = self.stream.read(&mut part) {
             let _ = self.reply.extend_from_slice(&part[..count.min(READ_MOST)]);
@@ -66,7 +68,7 @@ pub struct Client<S> {
 }
 
 impl<S: Read + Write + Drop> Client<S> {
-    /// Sends a text; what the stream does not take goes with [`Client::send_rest`].
+    /// Sends a text; what the stream does not take goes with [`Client::send_rest`]. Want of memory: nothing was sent.
     pub fn send(&mut self, alloc: Global, text: &str) -> Result<(), AllocError> {
         let _ = self.socket.send(Message::text(alloc, text)?);
         Ok(())

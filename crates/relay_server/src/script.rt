@@ -22,7 +22,9 @@ pub struct Script {
 }
 
 impl Script {
-    /// A new hub, whose first session has number 1, and no names. `history` and `outbox` are H and K.
+    /// A new hub, whose first session has number 1, and no names. `history` is how many revisions a room holds (1 to 1,024),
+    /// `outbox` how many patches wait for a name at most (1 to 256). BadLimit: one of them is out of its range, or `epoch` is no
+    /// count.
     pub fn new(alloc: Global, epoch: u64, history: u64, outbox: u64) -> Result<Script, ScriptFault>
         ensures ok { IfOk result (λ script. stage_of script ≡ new_stage epoch history outbox) }
         ensures fault { IfErr result (λ fault. (fault ≡ ScriptFault.BadLimit) ⊎ (fault ≡ ScriptFault.NoMemory)) }

@@ -12,56 +12,34 @@ fn refuses(rt: &(impl Abort + AllocGlobal), rows: &[(&str, PatchFault)]) {
     }
 }
 
+const SHAPE: PatchFault = PatchFault::Shape { at: Some(0) };
+
+const POINTER: PatchFault = PatchFault::Pointer { at: 0 };
+
 #[test]
 fn refuses_what_is_no_patch(rt: HostRuntime) {
+    let second = PatchFault::Shape { at: Some(1) };
     refuses(
         &rt,
         &[
             ("{}", PatchFault::Shape { at: None }),
             ("[1,2,3]", PatchFault::TooManyOps),
-            (
-                r#"[{"op":"remove","path":""},1]"#,
-                PatchFault::Shape { at: Some(1) },
-            ),
-            (r#"[{"op":1,"path":""}]"#, PatchFault::Shape { at: Some(0) }),
-            (r#"[{"path":""}]"#, PatchFault::Shape { at: Some(0) }),
+            (r#"[{"op":"remove","path":""},1]"#, second),
+            (r#"[{"op":1,"path":""}]"#, SHAPE),
+            (r#"[{"path":""}]"#, SHAPE),
             (r#"[{"op":"put"}]"#, PatchFault::UnknownOp { at: 0 }),
-            (
-                r#"[{"op":"remove","path":1}]"#,
-                PatchFault::Shape { at: Some(0) },
-            ),
-            (
-                r#"[{"op":"add","path":"a"}]"#,
-                PatchFault::Shape { at: Some(0) },
-            ),
-            (
-                r#"[{"op":"replace","path":"/a"}]"#,
-                PatchFault::Shape { at: Some(0) },
-            ),
-            (
-                r#"[{"op":"test","path":"/a"}]"#,
-                PatchFault::Shape { at: Some(0) },
-            ),
-            (
-                r#"[{"op":"move","path":"a","from":1}]"#,
-                PatchFault::Shape { at: Some(0) },
-            ),
-            (
-                r#"[{"op":"copy","path":"/a"}]"#,
-                PatchFault::Shape { at: Some(0) },
-            ),
+            (r#"[{"op":"remove","path":1}]"#, SHAPE),
+            (r#"[{"op":"add","path":"a"}]"#, SHAPE),
+            (r#"[{"op":"replace","path":"/a"}]"#, SHAPE),
+            (r#"[{"op":"test","path":"/a"}]"#, SHAPE),
+            (r#"[{"op":"move","path":"a","from":1}]"#, SHAPE),
+            (r#"[{"op":"copy","path":"/a"}]"#, SHAPE),
             (
                 r#"[{"op":"add","path":"a","value":1},{"op":"zap"}]"#,
-                PatchFault::Pointer { at: 0 },
+                POINTER,
             ),
-            (
-                r#"[{"op":"remove","path":"/a/b/c"}]"#,
-                PatchFault::Pointer { at: 0 },
-            ),
-            (
-                r#"[{"op":"copy","path":"/a","from":"/~2"}]"#,
-                PatchFault::Pointer { at: 0 },
-            ),
+            (r#"[{"op":"remove","path":"/a/b/c"}]"#, POINTER),
+            (r#"[{"op":"copy","path":"/a","from":"/~2"}]"#, POINTER),
         ],
     );
 }

@@ -16,25 +16,20 @@ fn makes(rt: &(impl Abort + AllocGlobal), rows: &[(&str, &str, &str)]) {
     }
 }
 
-// Asserts which operation of each patch is refused on its document, and why.
-fn refuses(rt: &(impl Abort + AllocGlobal), rows: &[(&str, &str, u64, Cause)]) {
-    for (document, patch, at, cause) in rows {
-        let fault = ApplyFault {
-            at: *at,
-            cause: *cause,
-        };
-        is(
-            rt,
-            refused(rt, document, patch, Bounds::DOCUMENT),
-            fault,
-            patch,
-        );
-    }
+// Asserts which operation of a patch is refused on a document, and why.
+fn refuses(rt: &(impl Abort + AllocGlobal), document: &str, patch: &str, at: u64, cause: Cause) {
+    let fault = ApplyFault { at, cause };
+    is(
+        rt,
+        refused(rt, document, patch, Bounds::DOCUMENT),
+        fault,
+        patch,
+    );
 }
 
 // RFC 6902, appendix A, where it stays within whole numbers.
 #[test]
-fn applies_the_examples_of_the_rfc(rt: HostRuntime) {
+fn adds_as_in_the_rfc(rt: HostRuntime) {
     makes(
         &rt,
         &[
@@ -48,6 +43,30 @@ fn applies_the_examples_of_the_rfc(rt: HostRuntime) {
                 r#"[{"op":"add","path":"/foo/1","value":"qux"}]"#,
                 r#"{"foo":["bar","qux","baz"]}"#,
             ),
+            (
+                r#"{"foo":"bar"}"#,
+                r#"[{"op":"add","path":"/child","value":{"grandchild":{}}}]"#,
+                r#"{"child":{"grandchild":{}},"foo":"bar"}"#,
+            ),
+            (
+                r#"{"foo":"bar"}"#,
+                r#"[{"op":"add","path":"/baz","value":"qux","xyz":123}]"#,
+                r#"{"baz":"qux","foo":"bar"}"#,
+            ),
+            (
+                r#"{"foo":["bar"]}"#,
+                r#"[{"op":"add","path":"/foo/-","value":["abc","def"]}]"#,
+                r#"{"foo":["bar",["abc","def"]]}"#,
+            ),
+        ],
+    );
+}
+
+#[test]
+fn removes_replaces_and_moves_as_in_the_rfc(rt: HostRuntime) {
+    makes(
+        &rt,
+        &[
             (
                 r#"{"baz":"qux","foo":"bar"}"#,
                 r#"[{"op":"remove","path":"/baz"}]"#,
@@ -73,273 +92,154 @@ fn applies_the_examples_of_the_rfc(rt: HostRuntime) {
                 r#"[{"op":"move","from":"/foo/1","path":"/foo/3"}]"#,
                 r#"{"foo":["all","cows","eat","grass"]}"#,
             ),
+        ],
+    );
+}
+
+#[test]
+fn tests_as_in_the_rfc(rt: HostRuntime) {
+    makes(
+        &rt,
+        &[
             (
                 r#"{"baz":"qux","foo":["a",2,"c"]}"#,
                 r#"[{"op":"test","path":"/baz","value":"qux"},{"op":"test","path":"/foo/1","value":2}]"#,
                 r#"{"baz":"qux","foo":["a",2,"c"]}"#,
             ),
             (
-                r#"{"foo":"bar"}"#,
-                r#"[{"op":"add","path":"/child","value":{"grandchild":{}}}]"#,
-                r#"{"child":{"grandchild":{}},"foo":"bar"}"#,
-            ),
-            (
-                r#"{"foo":"bar"}"#,
-                r#"[{"op":"add","path":"/baz","value":"qux","xyz":123}]"#,
-                r#"{"baz":"qux","foo":"bar"}"#,
-            ),
-            (
                 r#"{"/":9,"~1":10}"#,
                 r#"[{"op":"test","path":"/~01","value":10}]"#,
                 r#"{"/":9,"~1":10}"#,
             ),
-            (
-                r#"{"foo":["bar"]}"#,
-                r#"[{"op":"add","path":"/foo/-","value":["abc","def"]}]"#,
-                r#"{"foo":["bar",["abc","def"]]}"#,
-            ),
         ],
     );
 }
 
 #[test]
-fn refuses_the_examples_of_the_rfc(rt: HostRuntime) {
-    refuses(
-        &rt,
-        &[
-            (
-                r#"{"baz":"qux"}"#,
-                r#"[{"op":"test","path":"/baz","value":"bar"}]"#,
-                0,
-                Cause::TestFailed,
-            ),
-            (
-                r#"{"foo":"bar"}"#,
-                r#"[{"op":"add","path":"/baz/bat","value":"qux"}]"#,
-                0,
-                Cause::Missing,
-            ),
-            (
-                r#"{"/":9,"~1":10}"#,
-                r#"[{"op":"test","path":"/~01","value":"10"}]"#,
-                0,
-                Cause::TestFailed,
-            ),
-        ],
-    );
+fn refuses_as_in_the_rfc(rt: HostRuntime) {
+    let other = r#"[{"op":"test","path":"/baz","value":"bar"}]"#;
+    refuses(&rt, r#"{"baz":"qux"}"#, other, 0, Cause::TestFailed);
+    let nowhere = r#"[{"op":"add","path":"/baz/bat","value":"qux"}]"#;
+    refuses(&rt, r#"{"foo":"bar"}"#, nowhere, 0, Cause::Missing);
+    let text = r#"[{"op":"test","path":"/~01","value":"10"}]"#;
+    refuses(&rt, r#"{"/":9,"~1":10}"#, text, 0, Cause::TestFailed);
 }
+
+// Asserts why the first operation of each patch is refused on a document.
+fn refuses_first(rt: &(impl Abort + AllocGlobal), document: &str, rows: &[(&str, Cause)]) {
+    for (patch, cause) in rows {
+        refuses(rt, document, patch, 0, *cause);
+    }
+}
+
+const TWO_ITEMS: &str = r#"{"a":[1,2]}"#;
 
 #[test]
 fn indexes_are_exact_and_in_range(rt: HostRuntime) {
-    refuses(
+    refuses_first(
         &rt,
+        TWO_ITEMS,
         &[
+            (r#"[{"op":"remove","path":"/a/01"}]"#, Cause::NotIndex),
+            (r#"[{"op":"remove","path":"/a/2"}]"#, Cause::Missing),
             (
-                r#"{"a":[1,2]}"#,
-                r#"[{"op":"remove","path":"/a/01"}]"#,
-                0,
-                Cause::NotIndex,
-            ),
-            (
-                r#"{"a":[1,2]}"#,
-                r#"[{"op":"remove","path":"/a/2"}]"#,
-                0,
-                Cause::Missing,
-            ),
-            (
-                r#"{"a":[1,2]}"#,
                 r#"[{"op":"replace","path":"/a/-","value":0}]"#,
-                0,
                 Cause::Missing,
             ),
+            (r#"[{"op":"add","path":"/a/3","value":0}]"#, Cause::PastEnd),
             (
-                r#"{"a":[1,2]}"#,
-                r#"[{"op":"add","path":"/a/3","value":0}]"#,
-                0,
-                Cause::PastEnd,
-            ),
-            (
-                r#"{"a":[1,2]}"#,
                 r#"[{"op":"add","path":"/a/18446744073709551616","value":0}]"#,
-                0,
                 Cause::PastEnd,
             ),
+            (r#"[{"op":"add","path":"/a/x","value":0}]"#, Cause::NotIndex),
+            (r#"[{"op":"add","path":"/b/c","value":0}]"#, Cause::Missing),
             (
-                r#"{"a":[1,2]}"#,
-                r#"[{"op":"add","path":"/a/x","value":0}]"#,
-                0,
-                Cause::NotIndex,
-            ),
-            (
-                r#"{"a":[1,2]}"#,
-                r#"[{"op":"add","path":"/b/c","value":0}]"#,
-                0,
-                Cause::Missing,
-            ),
-            (
-                r#"{"a":[1,2]}"#,
                 r#"[{"op":"add","path":"/a/0/x","value":0}]"#,
-                0,
                 Cause::NoContainer,
             ),
             (
-                r#"{"a":[1,2]}"#,
                 r#"[{"op":"move","from":"/a/0","path":"/a/2"}]"#,
-                0,
                 Cause::PastEnd,
             ),
             (
-                r#"{"a":[1,2]}"#,
                 r#"[{"op":"copy","from":"/b","path":"/a/x"}]"#,
-                0,
                 Cause::Missing,
             ),
             (
-                r#"{"a":[1,2]}"#,
                 r#"[{"op":"copy","from":"/a","path":"/a/x"}]"#,
-                0,
                 Cause::NotIndex,
             ),
         ],
     );
     let end = r#"[{"op":"add","path":"/a/2","value":0}]"#;
-    makes(&rt, &[(r#"{"a":[1,2]}"#, end, r#"{"a":[1,2,0]}"#)]);
+    makes(&rt, &[(TWO_ITEMS, end, r#"{"a":[1,2,0]}"#)]);
+}
+
+// The patch of one move.
+fn moving(rt: &(impl Abort + AllocGlobal), from: &str, path: &str) -> String {
+    let patch = format!(in rt.alloc(); r#"[{{"op":"move","from":"{from}","path":"{path}"}}]"#);
+    patch.expect(rt, "memory")
+}
+
+// Asserts what each move, from a path to another, makes of its document.
+fn moves(rt: &(impl Abort + AllocGlobal), rows: &[(&str, &str, &str, &str)]) {
+    for (document, from, path, wanted) in rows {
+        let patch = moving(rt, from, path);
+        makes(rt, &[(document, patch.as_str(), wanted)]);
+    }
+}
+
+// Asserts why each move is refused on its document.
+fn refuses_moves(rt: &(impl Abort + AllocGlobal), rows: &[(&str, &str, &str, Cause)]) {
+    for (document, from, path, cause) in rows {
+        let patch = moving(rt, from, path);
+        refuses(rt, document, patch.as_str(), 0, *cause);
+    }
 }
 
 #[test]
 fn a_move_lands_where_its_value_is_gone(rt: HostRuntime) {
-    makes(
+    moves(
         &rt,
         &[
-            (
-                r#"{"a":[1,2]}"#,
-                r#"[{"op":"move","from":"/a/0","path":"/a/1"}]"#,
-                r#"{"a":[2,1]}"#,
-            ),
-            (
-                r#"{"a":[1,2]}"#,
-                r#"[{"op":"move","from":"/a/0","path":"/a/-"}]"#,
-                r#"{"a":[2,1]}"#,
-            ),
-            (
-                r#"{"a":[1,2]}"#,
-                r#"[{"op":"move","from":"/a/1","path":"/a/-"}]"#,
-                r#"{"a":[1,2]}"#,
-            ),
-            (
-                r#"{"a":[1,2]}"#,
-                r#"[{"op":"move","from":"/a/1","path":"/a/1"}]"#,
-                r#"{"a":[1,2]}"#,
-            ),
-            (
-                "[{},1,[]]",
-                r#"[{"op":"move","from":"/1","path":"/0/x"}]"#,
-                r#"[{"x":1},[]]"#,
-            ),
-            (
-                "[1,{},[]]",
-                r#"[{"op":"move","from":"/0","path":"/1/-"}]"#,
-                "[{},[1]]",
-            ),
-            (
-                r#"{"a":{}}"#,
-                r#"[{"op":"move","from":"/a","path":"/a"}]"#,
-                r#"{"a":{}}"#,
-            ),
-            (
-                r#"{"a":{}}"#,
-                r#"[{"op":"move","from":"","path":""}]"#,
-                r#"{"a":{}}"#,
-            ),
-            (
-                r#"{"a":{"b":1}}"#,
-                r#"[{"op":"move","from":"/a/b","path":""}]"#,
-                "1",
-            ),
-            (
-                r#"{"a":{"b":1}}"#,
-                r#"[{"op":"move","from":"/a/b","path":"/a"}]"#,
-                r#"{"a":1}"#,
-            ),
-            (
-                r#"{"a":{"b":1}}"#,
-                r#"[{"op":"move","from":"/a/b","path":"/a/c"}]"#,
-                r#"{"a":{"c":1}}"#,
-            ),
+            (TWO_ITEMS, "/a/0", "/a/1", r#"{"a":[2,1]}"#),
+            (TWO_ITEMS, "/a/0", "/a/-", r#"{"a":[2,1]}"#),
+            (TWO_ITEMS, "/a/1", "/a/-", TWO_ITEMS),
+            (TWO_ITEMS, "/a/1", "/a/1", TWO_ITEMS),
+            ("[{},1,[]]", "/1", "/0/x", r#"[{"x":1},[]]"#),
+            ("[1,{},[]]", "/0", "/1/-", "[{},[1]]"),
+            (r#"{"a":{}}"#, "/a", "/a", r#"{"a":{}}"#),
+            (r#"{"a":{}}"#, "", "", r#"{"a":{}}"#),
+            (r#"{"a":{"b":1}}"#, "/a/b", "", "1"),
+            (r#"{"a":{"b":1}}"#, "/a/b", "/a", r#"{"a":1}"#),
+            (r#"{"a":{"b":1}}"#, "/a/b", "/a/c", r#"{"a":{"c":1}}"#),
         ],
     );
 }
 
 #[test]
 fn a_move_needs_a_value_and_a_place(rt: HostRuntime) {
-    refuses(
+    refuses_moves(
         &rt,
         &[
-            (
-                r#"{"a":{}}"#,
-                r#"[{"op":"move","from":"/a","path":"/a/b"}]"#,
-                0,
-                Cause::IntoItself,
-            ),
-            (
-                r#"{"a":{}}"#,
-                r#"[{"op":"move","from":"","path":"/a"}]"#,
-                0,
-                Cause::IntoItself,
-            ),
-            (
-                "[1,{}]",
-                r#"[{"op":"move","from":"/0","path":"/1/x"}]"#,
-                0,
-                Cause::Missing,
-            ),
-            (
-                "[1,{}]",
-                r#"[{"op":"move","from":"/0","path":"/0/x"}]"#,
-                0,
-                Cause::IntoItself,
-            ),
-            (
-                r#"{"a":1}"#,
-                r#"[{"op":"move","from":"/a","path":"/b/c"}]"#,
-                0,
-                Cause::Missing,
-            ),
-            (
-                r#"{"a":1}"#,
-                r#"[{"op":"move","from":"/b","path":"/a"}]"#,
-                0,
-                Cause::Missing,
-            ),
-            (
-                r#"{"a":[0],"b":1}"#,
-                r#"[{"op":"move","from":"/b","path":"/a/2"}]"#,
-                0,
-                Cause::PastEnd,
-            ),
+            (r#"{"a":{}}"#, "/a", "/a/b", Cause::IntoItself),
+            (r#"{"a":{}}"#, "", "/a", Cause::IntoItself),
+            ("[1,{}]", "/0", "/1/x", Cause::Missing),
+            ("[1,{}]", "/0", "/0/x", Cause::IntoItself),
+            (r#"{"a":1}"#, "/a", "/b/c", Cause::Missing),
+            (r#"{"a":1}"#, "/b", "/a", Cause::Missing),
+            (r#"{"a":[0],"b":1}"#, "/b", "/a/2", Cause::PastEnd),
         ],
     );
 }
 
 #[test]
 fn a_refused_operation_refuses_the_patch(rt: HostRuntime) {
-    refuses(
-        &rt,
-        &[
-            (
-                r#"{"a":1}"#,
-                r#"[{"op":"replace","path":"/a","value":2},{"op":"add","path":"/b","value":3},{"op":"test","path":"/a","value":1}]"#,
-                2,
-                Cause::TestFailed,
-            ),
-            (
-                r#"{"a":{}}"#,
-                r#"[{"op":"remove","path":""}]"#,
-                0,
-                Cause::Root,
-            ),
-        ],
-    );
+    let third =
+        r#"[{"op":"replace","path":"/a","value":2},{"op":"add","path":"/b","value":3},{"op":"test","path":"/a","value":1}]"#;
+    refuses(&rt, r#"{"a":1}"#, third, 2, Cause::TestFailed);
+    let root = r#"[{"op":"remove","path":""}]"#;
+    refuses(&rt, r#"{"a":{}}"#, root, 0, Cause::Root);
 }
 
 // RFC 6902, section 4.6: the written order of members has no meaning, and texts are equal code point by code point.
@@ -349,8 +249,5 @@ fn a_test_compares_documents(rt: HostRuntime) {
     let same = r#"{"v":{"a":1,"b":2}}"#;
     makes(&rt, &[(same, members, same)]);
     let decomposed = r#"[{"op":"test","path":"/v","value":"e\u0301"}]"#;
-    refuses(
-        &rt,
-        &[(r#"{"v":"\u00e9"}"#, decomposed, 0, Cause::TestFailed)],
-    );
+    refuses(&rt, r#"{"v":"\u00e9"}"#, decomposed, 0, Cause::TestFailed);
 }
