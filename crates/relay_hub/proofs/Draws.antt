@@ -6,7 +6,7 @@ use Rattle.std.proofs.lemmas.Bool.Decides.{nat_tests}
 use Rattle.relay_outbox.specs.Outbox.{line, first_of, rest_of}
 use Rattle.relay_patch.specs.declared.op.Op.{Op}
 use Rattle.relay_patch.proofs.Fits.{within_flat}
-use Rattle.relay_pointer.specs.Path.{Path}
+use Rattle.relay_view.specs.View.{View}
 use Rattle.relay_proto.specs.MessageRead.{message_of_text}
 use Rattle.relay_proto.specs.Written.{HasCounts}
 use Rattle.relay_proto.specs.declared.message.Message.{Message}
@@ -33,7 +33,7 @@ Reads (Some m) = message_of_text (message_text m) ≡ Some m
 Reads None = ⊤
 
 -- what stands at the front of a line that fits reads as itself
-front_reads : (room : Room) (pointers : Option (List Path)) (replies : List Reply) (patches : List (ℕ × List Op)) (due : Bool) → IsRoom room
+front_reads : (room : Room) (pointers : Option View) (replies : List Reply) (patches : List (ℕ × List Op)) (due : Bool) → IsRoom room
     → AllByRecursion HasCounts replies → AllByRecursion PatchFits patches → ReadsBack (message_of room pointers (first_of replies patches due)) → Reads (message_of room pointers (first_of replies patches due))
 front_reads room pointers (r ∷ replies) patches due is counts fit back = reply_text_back r counts.0
 front_reads room pointers [] (p ∷ patches) due is counts fit back = back (patch_is_writable p.0 p.1 fit.0.0 fit.0.1)
@@ -56,7 +56,7 @@ after_message w m = Some (record { view = w.view; start = w.start; heard = w.hea
 heard_message : (w : Watching) (m : Message) → message_of_text (message_text m) ≡ Some m → hearing (Some (message_text m)) (Some w) ≡ after_message w m
 heard_message w m reads = ap (λ o. Some (record { view = w.view; start = w.start; heard = w.heard ++ view_message o })) reads
 
-watch_drawn : (ds : List Document) (room : Room) (number : ℕ) (pointers : Option (List Path)) (replies : List Reply) (patches : List (ℕ × List Op)) (due : Bool) (k : ℕ) (w : Option Watching)
+watch_drawn : (ds : List Document) (room : Room) (number : ℕ) (pointers : Option View) (replies : List Reply) (patches : List (ℕ × List Op)) (due : Bool) (k : ℕ) (w : Option Watching)
     → Reads (message_of room pointers (first_of replies patches due)) → WatchStands ds room (session_with number pointers (line replies patches due k)) w
     → WatchStands ds room (session_with number pointers (rest_of replies patches due k)) (hearing (option_map message_text (message_of room pointers (first_of replies patches due))) w)
 watch_drawn ds room number pointers (r ∷ replies) patches due k (Some w) reads h =

@@ -8,7 +8,7 @@ use Rattle.relay_patch.specs.Patch.{after}
 use Rattle.relay_patch.specs.declared.change.Change.{Change}
 use Rattle.relay_patch.specs.declared.fault.ApplyFault.{ApplyFault}
 use Rattle.relay_patch.specs.declared.op.Op.{Op}
-use Rattle.relay_pointer.specs.Path.{Path}
+use Rattle.relay_view.specs.View.{View}
 use Rattle.relay_proto.specs.Request.{request_of_text}
 use Rattle.relay_proto.specs.Written.{IsCount, IsCountOrNull}
 use Rattle.relay_proto.specs.declared.reply.Reply.TheVariants.{Done}
@@ -59,7 +59,7 @@ module _ (most k : ℕ) (ds : List Document) (d : Document) (room next : Room) (
       let up = telling changes next w.view in
       rw told.0 (line_told k (revision next) up x is.is.history.last told.2 line, (watch.0, told_follows most ds d w room next was is x.outbox up told.1 watch.1))
 
-  told_stands : (v : Option (List Path)) (short : Bool) (x y : Session) (w : Option Watching) → x.view ≡ v → ToldAs room.document changes next v short x y → LineStands k x → WatchStands ds room x w
+  told_stands : (v : Option View) (short : Bool) (x y : Session) (w : Option Watching) → x.view ≡ v → ToldAs room.document changes next v short x y → LineStands k x → WatchStands ds room x w
       → LineStands k y × WatchStands (ds ++ d ∷ []) next y w
   told_stands (Some v) short x y (Some w) e told line watch = let same : v ≡ w.view = cc in told_view short x y w (rw same at told) line watch
   told_stands (Some v) short x y None e told line watch = absurd (cc (e, watch.0))

@@ -7,7 +7,6 @@ use Rattle.std.proofs.lemmas.Option.{slice_get_within}
 use Rattle.relay_outbox.specs.Outbox.{Line, line, folded, with_patch}
 use Rattle.relay_patch.specs.Patch.{after, free}
 use Rattle.relay_patch.specs.declared.op.Op.{Op}
-use Rattle.relay_pointer.specs.Path.{Path}
 use Rattle.relay_proto.specs.Client.{Client, nothing, holds, lost, client, client_after}
 use Rattle.relay_proto.specs.declared.message.Message.{Message}
 use Rattle.relay_proto.specs.declared.message.Message.TheVariants.{Reply, Patch, Snapshot}
@@ -17,7 +16,7 @@ use Rattle.relay_room.specs.Room.{State as Room, revision}
 use Rattle.relay_room.specs.declared.catch_up.CatchUp.{CatchUp}
 use Rattle.relay_room.specs.declared.catch_up.CatchUp.TheVariants as how
 use Rattle.relay_tree.specs.Document.{Document}
-use Rattle.relay_view.specs.View.{view}
+use Rattle.relay_view.specs.View.{View, view}
 use Rattle.relay_hub.specs.Log.{Watching, begun}
 use Rattle.relay_hub.specs.Session.{told_line, snapshot_of, patch_message, later}
 use Rattle.relay_hub.specs.Stands.{HoldsRevision, IsAtNamed, EachLeads, HoldsPresent, Follows, RoomStands}
@@ -31,43 +30,43 @@ pub client_after-append : (c : Client) (xs ys : List Message) → client_after c
 client_after-append c [] ys = refl
 client_after-append c (x ∷ xs) ys = client_after-append (client c x) xs ys
 
-EachLeads-left : (ds : List Document) (v : List Path) (c : Client) (xs ys : List Message) → EachLeads ds v c (xs ++ ys) → EachLeads ds v c xs
+EachLeads-left : (ds : List Document) (v : View) (c : Client) (xs ys : List Message) → EachLeads ds v c (xs ++ ys) → EachLeads ds v c xs
 EachLeads-left ds v c [] ys h = tt
 EachLeads-left ds v c (x ∷ xs) ys h = (h.0, EachLeads-left ds v (client c x) xs ys h.1)
 
-EachLeads-append : (ds : List Document) (v : List Path) (c : Client) (xs ys : List Message) → EachLeads ds v c xs → EachLeads ds v (client_after c xs) ys → EachLeads ds v c (xs ++ ys)
+EachLeads-append : (ds : List Document) (v : View) (c : Client) (xs ys : List Message) → EachLeads ds v c xs → EachLeads ds v (client_after c xs) ys → EachLeads ds v c (xs ++ ys)
 EachLeads-append ds v c [] ys h k = k
 EachLeads-append ds v c (x ∷ xs) ys h k = (h.0, EachLeads-append ds v (client c x) xs ys h.1 k)
 
 -- One more document changes nothing that was said.
 
-document_newer : (ds : List Document) (d : Document) (v : List Path) (r : ℕ) (tree : Document) (o : Option Document) → slice_get ds r ≡ o
+document_newer : (ds : List Document) (d : Document) (v : View) (r : ℕ) (tree : Document) (o : Option Document) → slice_get ds r ≡ o
     → option_map (view v) o ≡ Some tree → option_map (view v) (slice_get (ds ++ d ∷ []) r) ≡ Some tree
 document_newer ds d v r tree (Some x) e h = rw (slice_get-earlier ds d x r e) h
 document_newer ds d v r tree None e h = absurd cc
 
-HoldsRevision-newer : (ds : List Document) (d : Document) (v : List Path) (r : ℕ) (c : Client) → HoldsRevision ds v r c → HoldsRevision (ds ++ d ∷ []) v r c
+HoldsRevision-newer : (ds : List Document) (d : Document) (v : View) (r : ℕ) (c : Client) → HoldsRevision ds v r c → HoldsRevision (ds ++ d ∷ []) v r c
 HoldsRevision-newer ds d v r (holds held tree) h = (h.0, document_newer ds d v r tree (slice_get ds r) refl h.1)
 HoldsRevision-newer ds d v r nothing h = h
 HoldsRevision-newer ds d v r lost h = h
 
-IsAtNamed-newer : (ds : List Document) (d : Document) (v : List Path) (m : Message) (c : Client) → IsAtNamed ds v m c → IsAtNamed (ds ++ d ∷ []) v m c
+IsAtNamed-newer : (ds : List Document) (d : Document) (v : View) (m : Message) (c : Client) → IsAtNamed ds v m c → IsAtNamed (ds ++ d ∷ []) v m c
 IsAtNamed-newer ds d v (Reply r) c h = tt
 IsAtNamed-newer ds d v (Patch rev ops) c h = HoldsRevision-newer ds d v rev c h
 IsAtNamed-newer ds d v (Snapshot rev tree) c h = HoldsRevision-newer ds d v rev c h
 
-EachLeads-newer : (ds : List Document) (d : Document) (v : List Path) (c : Client) (ms : List Message) → EachLeads ds v c ms → EachLeads (ds ++ d ∷ []) v c ms
+EachLeads-newer : (ds : List Document) (d : Document) (v : View) (c : Client) (ms : List Message) → EachLeads ds v c ms → EachLeads (ds ++ d ∷ []) v c ms
 EachLeads-newer ds d v c [] h = tt
 EachLeads-newer ds d v c (m ∷ ms) h = (IsAtNamed-newer ds d v m (client c m) h.0, EachLeads-newer ds d v (client c m) ms h.1)
 
 -- Snapshots.
 
 -- a snapshot leads any client to the present document
-snapshot_leads : (most : ℕ) (ds : List Document) (v : List Path) (room : Room) → RoomStands most ds room
+snapshot_leads : (most : ℕ) (ds : List Document) (v : View) (room : Room) → RoomStands most ds room
     → HoldsRevision ds v (revision room) (holds (revision room) (view v room.document))
 snapshot_leads most ds v room h = (refl, rw (slice_get-present ds (revision room) h.made, h.document) refl)
 
-snapshot_present : (most : ℕ) (ds : List Document) (v : List Path) (room : Room) → RoomStands most ds room
+snapshot_present : (most : ℕ) (ds : List Document) (v : View) (room : Room) → RoomStands most ds room
     → HoldsPresent ds v (holds (revision room) (view v room.document))
 snapshot_present most ds v room h = (omega (arith, h.made), ap (view v) h.document)
 
@@ -173,11 +172,11 @@ module _ (most : ℕ) (ds : List Document) (d : Document) (w : Watching) (room n
 
 -- One who resumes from an earlier document.
 
-pub level_follows : (most : ℕ) (ds : List Document) (v : List Path) (room : Room) (rev : ℕ) (d : Document) → RoomStands most ds room → slice_get ds rev ≡ Some d
+pub level_follows : (most : ℕ) (ds : List Document) (v : View) (room : Room) (rev : ℕ) (d : Document) → RoomStands most ds room → slice_get ds rev ≡ Some d
     → view v d ≡ view v room.document → Follows ds (begun v (holds rev (view v d))) []
 level_follows most ds v room rev d h at same = record { each = tt; exactly = (slice_get_within ds rev d at, same ∙ ap (view v) h.document) }
 
-patch_follows : (most : ℕ) (ds : List Document) (v : List Path) (room : Room) (rev : ℕ) (d : Document) (ops : List Op) → RoomStands most ds room → rev < revision room
+patch_follows : (most : ℕ) (ds : List Document) (v : View) (room : Room) (rev : ℕ) (d : Document) (ops : List Op) → RoomStands most ds room → rev < revision room
     → after (view v d) ops free ≡ Ok (view v room.document) → Follows ds (begun v (holds rev (view v d))) (Patch (revision room) ops ∷ [])
 patch_follows most ds v room rev d ops h earlier leads =
     let above : nat_lt rev (revision room) ≡ true = grind (arith, nat_tests, earlier) in
@@ -185,7 +184,7 @@ patch_follows most ds v room rev d ops h earlier leads =
     record { each = (rw is (snapshot_leads most ds v room h), tt); exactly = rw is (snapshot_present most ds v room h) }
 
 -- a line in which no patch waits, and to which one comes that makes the present view
-pub resumed_follows : (most : ℕ) (ds : List Document) (v : List Path) (room : Room) (rev : ℕ) (d : Document) (ops : List Op) (o : Line AnyReply) → RoomStands most ds room → rev < revision room
+pub resumed_follows : (most : ℕ) (ds : List Document) (v : View) (room : Room) (rev : ℕ) (d : Document) (ops : List Op) (o : Line AnyReply) → RoomStands most ds room → rev < revision room
     → after (view v d) ops free ≡ Ok (view v room.document) → o.patches ≡ [] → o.due ≡ false
     → Follows ds (begun v (holds rev (view v d))) (later room v (with_patch (revision room) ops o))
 resumed_follows most ds v room rev d ops o h earlier leads none not_due =

@@ -4,7 +4,7 @@ use Rattle.std.specs.Prelude.{slice_get, slice_set, nat_le, if◌then◌else◌}
 use Rattle.std.proofs.lemmas.Bool.Decides.{nat_tests}
 use Rattle.relay_patch.specs.Change.{all_changes}
 use Rattle.relay_patch.specs.declared.op.Op.{Op}
-use Rattle.relay_pointer.specs.Path.{Path}
+use Rattle.relay_view.specs.View.{View}
 use Rattle.relay_proto.specs.Request.{request_of_text}
 use Rattle.relay_proto.specs.declared.refusal.Refusal.{Refusal}
 use Rattle.relay_proto.specs.declared.reply.Reply.TheVariants.{Done, Refused}
@@ -86,7 +86,7 @@ edit_enters s short id x patch (Ok d) old new e h t none =
     none_told old.room.document changes new.room (session_in h.1 t) (session_in new.sessions t) (each_told old.room.document changes new.room h.1 new.sessions short h.3 t)
     (only_enters s x (replied (Done id (revision new.room)) x) old.sessions h.1 e h.2 t none)
 
-resume_enters : (present past : Bool) (id rev s : ℕ) (pointers : List Path) (x : Session) (old new : Group) → session_in old.sessions s ≡ Some x
+resume_enters : (present past : Bool) (id rev s : ℕ) (pointers : View) (x : Session) (old new : Group) → session_in old.sessions s ≡ Some x
     → ResumeServed present past id rev pointers s x old new → NoneEnters old new
 resume_enters false past id rev s pointers x old new e h t none = only_enters s x (resumes (revision old.room) id pointers Snapshot x) old.sessions new.sessions e h.1 t none
 resume_enters true false id rev s pointers x old new e h t none = only_enters s x (replied (Refused (Some id) word.Future None) x) old.sessions new.sessions e h.1 t none

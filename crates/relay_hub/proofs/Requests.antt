@@ -6,7 +6,6 @@ use Rattle.std.proofs.lemmas.Bool.Decides.{nat_tests}
 use Rattle.std.proofs.lemmas.Option.{slice_get-get_or, slice_get_past}
 use Rattle.relay_history.specs.History.{Reaches, oldest}
 use Rattle.relay_outbox.specs.Outbox.{with_reply, cleared}
-use Rattle.relay_pointer.specs.Path.{Path}
 use Rattle.relay_proto.specs.Client.{nothing, holds}
 use Rattle.relay_proto.specs.Request.{request_of_text}
 use Rattle.relay_proto.specs.Written.{IsCount, IsCountOrNull}
@@ -24,7 +23,7 @@ use Rattle.relay_room.specs.declared.catch_up.CatchUp.{CatchUp}
 use Rattle.relay_room.specs.declared.catch_up.CatchUp.TheVariants.{Nothing, Patch, Snapshot}
 use Rattle.relay_room.proofs.Missed.{caught_up_present}
 use Rattle.relay_tree.specs.Document.{Document, null}
-use Rattle.relay_view.specs.View.{view}
+use Rattle.relay_view.specs.View.{View, view}
 use Rattle.relay_hub.specs.Log.{Log, Watching as Watched, begun, entry, home, documents, requested, asked, watching}
 use Rattle.relay_hub.specs.Session.{session_with, replied, watches, unwatches, resumes}
 use Rattle.relay_hub.specs.Stands.{Beginning, RoomStands, LineStands, WatchStands, StandsFor}
@@ -45,21 +44,21 @@ watch_replied ds room x r (Some w) h = h
 watch_replied ds room x r None h = h
 
 -- who watches from now on, with a snapshot due
-watch_begun : (most : ℕ) (ds : List Document) (room : Room) (v : List Path) → RoomStands most ds room → (id : ℕ) (x : Session)
+watch_begun : (most : ℕ) (ds : List Document) (room : Room) (v : View) → RoomStands most ds room → (id : ℕ) (x : Session)
     → WatchStands ds room (watches id v x) (Some (begun v nothing))
 watch_begun most ds room v h id x = (refl, Follows-snapshot most ds (begun v nothing) room h tt)
 
 -- Resuming.
 
 -- what leads on from a revision, if it is no snapshot, goes over changes that are held
-reached : (room : Room) (rev : ℕ) (v : List Path) → caught_up room rev v ≢ Snapshot → rev ≤ revision room → Reaches room.history rev
+reached : (room : Room) (rev : ℕ) (v : View) → caught_up room rev v ≢ Snapshot → rev ≤ revision room → Reaches room.history rev
 reached room rev v other past = go (nat_lt rev (oldest room.history)) refl
   where
     go : (x : Bool) → nat_lt rev (oldest room.history) ≡ x → Reaches room.history rev
     go true e = absurd (other (rw e refl))
     go false e = record { back = grind (arith, nat_tests, e); made = past }
 
-watch_resumed : (most : ℕ) (ds : List Document) (room : Room) (rev id : ℕ) (v : List Path) (d : Document) (up : CatchUp) (x : Session) → RoomStands most ds room → slice_get ds rev ≡ Some d
+watch_resumed : (most : ℕ) (ds : List Document) (room : Room) (rev id : ℕ) (v : View) (d : Document) (up : CatchUp) (x : Session) → RoomStands most ds room → slice_get ds rev ≡ Some d
     → rev ≤ revision room → caught_up room rev v ≡ up → LeadsOn room rev v up → WatchStands ds room (resumes (revision room) id v up x) (Some (begun v (holds rev (view v d))))
 watch_resumed most ds room rev id v d Nothing x h at past is leads =
     let reach = reached room rev v (λ e. absurd (cc (is, e))) past in
@@ -74,7 +73,7 @@ watch_resumed most ds room rev id v d (Patch ops) x h at past is leads =
     (refl, resumed_follows most ds v room rev d ops (cleared (with_reply (Resumed id how.Patch) x.outbox)) h earlier (leads d (h.led rev d at reach)) refl refl)
 watch_resumed most ds room rev id v d Snapshot x h at past is leads = (refl, Follows-snapshot most ds (begun v (holds rev (view v d))) room h tt)
 
-line_resumed : (most rev id : ℕ) (v : List Path) (up : CatchUp) (x : Session) → IsCount id → IsCount rev → Fits up → LineStands most x → LineStands most (resumes rev id v up x)
+line_resumed : (most rev id : ℕ) (v : View) (up : CatchUp) (x : Session) → IsCount id → IsCount rev → Fits up → LineStands most x → LineStands most (resumes rev id v up x)
 line_resumed most rev id v Nothing x i r fits h = line_cleared most (replied (Resumed id how.Nothing) x) (Some v) (line_replied most x (Resumed id how.Nothing) i h)
 line_resumed most rev id v (Patch ops) x i r fits h =
     line_patched most rev ops (session_with x.number (Some v) (cleared (with_reply (Resumed id how.Patch) x.outbox))) (Some v) (r, fits) (line_cleared most (replied (Resumed id how.Patch) x) (Some v) (line_replied most x (Resumed id how.Patch) i h))
@@ -109,7 +108,7 @@ module _ (b : Beginning) (E : Log) (old : State) (place : ℕ) (name : List ℕ)
       served r (replied (Refused id w n) x) read none changes (line_replied b.waiting x (Refused id w n) (i, k) here.1)
       (rw same (watch_replied (documents E name) g.room x (Refused id w n) (watching b.epoch E s) here.2))
 
-  pub served_watch : (id : ℕ) (v : List Path) → request_of_text text ≡ Ok (Watch id v) → ChangesOnly s (Some (watches id v x)) g h → IsCount id
+  pub served_watch : (id : ℕ) (v : View) → request_of_text text ≡ Ok (Watch id v) → ChangesOnly s (Some (watches id v x)) g h → IsCount id
       → StandsFor b (entry (Receive s text) (Heard (Answered short)) ∷ E) (with_group place name h old)
   served_watch id v read changes i =
       served (Ok (Watch id v)) (watches id v x) read refl changes
@@ -123,7 +122,7 @@ module _ (b : Beginning) (E : Log) (old : State) (place : ℕ) (name : List ℕ)
       (line_cleared b.waiting (replied (Unwatched id) x) None (line_replied b.waiting x (Unwatched id) i here.1))
       (refl, refl, refl)
 
-  pub served_resume : (id e rev : ℕ) (v : List Path) (present past : Bool) → request_of_text text ≡ Ok (Resume id e rev v) → (e == b.epoch) ≡ present → nat_le rev (revision g.room) ≡ past
+  pub served_resume : (id e rev : ℕ) (v : View) (present past : Bool) → request_of_text text ≡ Ok (Resume id e rev v) → (e == b.epoch) ≡ present → nat_le rev (revision g.room) ≡ past
       → ResumeServed present past id rev v s x g h → IsCount id → StandsFor b (entry (Receive s text) (Heard (Answered short)) ∷ E) (with_group place name h old)
   served_resume id e rev v false past read p q step i =
       served (Ok (Resume id e rev v)) (resumes (revision g.room) id v Snapshot x) read refl step

@@ -1,7 +1,7 @@
 -- What becomes of one request.
 use Rattle.std.proofs.Common.{◌≡◌, ℕ, ◌<◌, true, List, Some, Result, position, nat_le, refl, arith}
 use Rattle.std.proofs.lemmas.Bool.Decides.{nat_tests}
-use Rattle.relay_pointer.specs.Path.{Path}
+use Rattle.relay_view.specs.View.{View}
 use Rattle.relay_proto.specs.Request.{request_of_text}
 use Rattle.relay_proto.specs.declared.refusal.Refusal.{Refusal}
 use Rattle.relay_proto.specs.declared.request.Request.{Request}
@@ -28,13 +28,13 @@ answered epoch s i short text asked old new at space read serves =
     rw (there.1, read) (space there.0 there.1, serves there.0 there.1)
 
 -- a session that resumes keeps its number
-pub resumes-number : (rev id : ℕ) (pointers : List Path) (how : CatchUp) (x : Session) → (resumes rev id pointers how x).number ≡ x.number
+pub resumes-number : (rev id : ℕ) (pointers : View) (how : CatchUp) (x : Session) → (resumes rev id pointers how x).number ≡ x.number
 resumes-number rev id pointers Nothing x = refl
 resumes-number rev id pointers (Patch ops) x = refl
 resumes-number rev id pointers Snapshot x = refl
 
 -- a session resumes from a revision that there is
-pub resume_served : (room : Room) (s id rev : ℕ) (pointers : List Path) (how : CatchUp) (x : Session) (xs ys : List Session) →
+pub resume_served : (room : Room) (s id rev : ℕ) (pointers : View) (how : CatchUp) (x : Session) (xs ys : List Session) →
     (revision room < rev → ⊥) → how ≡ caught_up room rev pointers → LeadsOn room rev pointers how → Fits how →
     OnlyAt s (Some (resumes (revision room) id pointers how x)) xs ys →
     ResumeServed true (nat_le rev (revision room)) id rev pointers s x (group room xs) (group room ys)

@@ -2,7 +2,7 @@
 use Rattle.std.proofs.Common.{◌≡◌, ℕ, ◌==◌, Bool, true, false, List, [], ◌∷◌, Option, Some, None, refl, sym, ap}
 use Rattle.std.specs.Prelude.{⊤, if◌then◌else◌}
 use Rattle.relay_patch.specs.declared.change.Change.{Change}
-use Rattle.relay_pointer.specs.Path.{Path}
+use Rattle.relay_view.specs.View.{View}
 use Rattle.relay_room.specs.Room.{State as Room}
 use Rattle.relay_tree.specs.Document.{Document}
 use Rattle.relay_hub.specs.State.{session_in}
@@ -16,7 +16,7 @@ IsTold d changes room None None = ⊤
 IsTold d changes room (Some x) None = ⊥
 IsTold d changes room None (Some y) = ⊥
 
-told_number : (d : Document) (changes : List Change) (room : Room) (v : Option (List Path)) (short : Bool) (x y : Session) → ToldAs d changes room v short x y → y.number ≡ x.number
+told_number : (d : Document) (changes : List Change) (room : Room) (v : Option View) (short : Bool) (x y : Session) → ToldAs d changes room v short x y → y.number ≡ x.number
 told_number d changes room None short x y h = ap (λ (z : Session). z.number) h.0
 told_number d changes room (Some v) true x y h = ap (λ (z : Session). z.number) h
 told_number d changes room (Some v) false x y h = ap (λ (z : Session). z.number) h.0

@@ -4,7 +4,7 @@ use Rattle.std.specs.List.{AllByRecursion}
 use Rattle.std.specs.Prelude.{nat_lt, if◌then◌else◌}
 use Rattle.relay_outbox.specs.Outbox.{Line, line, folded, cleared, with_patch, rest_of}
 use Rattle.relay_patch.specs.declared.op.Op.{Op}
-use Rattle.relay_pointer.specs.Path.{Path}
+use Rattle.relay_view.specs.View.{View}
 use Rattle.relay_proto.specs.Written.{IsCount, HasCounts}
 use Rattle.relay_proto.specs.declared.reply.Reply.{Reply}
 use Rattle.relay_room.specs.CatchUp.{Fits}
@@ -31,16 +31,16 @@ all_more P (y ∷ ys) x h k = (h.0, all_more P ys x h.1 k)
 pub line_replied : (most : ℕ) (x : Session) (r : Reply) → HasCounts r → LineStands most x → LineStands most (replied r x)
 line_replied most x r counts h = record { limit = h.limit; replies = all_more HasCounts x.outbox.replies r h.replies counts; patches = h.patches }
 
-pub line_folded : (most : ℕ) (x : Session) (v : Option (List Path)) → LineStands most x → LineStands most (session_with x.number v (folded x.outbox))
+pub line_folded : (most : ℕ) (x : Session) (v : Option View) → LineStands most x → LineStands most (session_with x.number v (folded x.outbox))
 line_folded most x v h = record { limit = h.limit; replies = h.replies; patches = tt }
 
-pub line_cleared : (most : ℕ) (x : Session) (v : Option (List Path)) → LineStands most x → LineStands most (session_with x.number v (cleared x.outbox))
+pub line_cleared : (most : ℕ) (x : Session) (v : Option View) → LineStands most x → LineStands most (session_with x.number v (cleared x.outbox))
 line_cleared most x v h = record { limit = h.limit; replies = h.replies; patches = tt }
 
-line_viewed : (most : ℕ) (x : Session) (v : Option (List Path)) → LineStands most x → LineStands most (session_with x.number v x.outbox)
+line_viewed : (most : ℕ) (x : Session) (v : Option View) → LineStands most x → LineStands most (session_with x.number v x.outbox)
 line_viewed most x v h = record { limit = h.limit; replies = h.replies; patches = h.patches }
 
-pub line_patched : (most rev : ℕ) (ops : List Op) (x : Session) (v : Option (List Path)) → PatchFits (rev, ops) → LineStands most x
+pub line_patched : (most rev : ℕ) (ops : List Op) (x : Session) (v : Option View) → PatchFits (rev, ops) → LineStands most x
     → LineStands most (session_with x.number v (with_patch rev ops x.outbox))
 line_patched most rev ops x v fits h =
     by_waiting (λ o. LineStands most (session_with x.number v o)) rev ops x.outbox

@@ -3,7 +3,7 @@ use Rattle.std.proofs.Common.{◌≡◌, ◌≢◌, ℕ, zero, suc, ◌==◌, tr
 use Rattle.std.specs.Prelude.{slice_get, slice_set}
 use Rattle.std.proofs.lemmas.Bool.Decides.{eqb_tells, nat_tests}
 use Rattle.relay_patch.specs.declared.op.Op.{Op}
-use Rattle.relay_pointer.specs.Path.{Path}
+use Rattle.relay_view.specs.View.{View}
 use Rattle.relay_proto.specs.Client.{Client, client, client_after}
 use Rattle.relay_proto.specs.Request.{request_of_text}
 use Rattle.relay_proto.specs.declared.message.Message.{Message}
@@ -49,7 +49,7 @@ module _ (b : Beginning) (E : Log) (hub : State) (s : ℕ) (name : List ℕ) (g 
   pub exactly_held : HoldsPresent (documents E name) w.view (client_after w.start (w.heard ++ later g.room w.view x.outbox))
   exactly_held = watcher.exactly
 
-  at_each : (ds : List Document) (v : List Path) (c : Client) (before after : List Message) (m : Message) → EachLeads ds v c (before ++ m ∷ after) → IsAtNamed ds v m (client (client_after c before) m)
+  at_each : (ds : List Document) (v : View) (c : Client) (before after : List Message) (m : Message) → EachLeads ds v c (before ++ m ∷ after) → IsAtNamed ds v m (client (client_after c before) m)
   at_each ds v c [] after m h = h.0
   at_each ds v c (first ∷ before) after m h = at_each ds v (client c first) before after m h.1
 

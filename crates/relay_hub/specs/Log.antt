@@ -6,7 +6,6 @@ use Rattle.relay_tree.specs.Document.{Document, null}
 use Rattle.relay_history.specs.declared.history.TheConstants.{LAST_REVISION}
 use Rattle.relay_patch.specs.Patch.{after}
 use Rattle.relay_patch.specs.declared.op.Op.{Op}
-use Rattle.relay_pointer.specs.Path.{Path}
 use Rattle.relay_proto.specs.Client.{Client, nothing, holds}
 use Rattle.relay_proto.specs.MessageRead.{message_of_text}
 use Rattle.relay_proto.specs.Request.{request_of_text}
@@ -16,7 +15,7 @@ use Rattle.relay_proto.specs.declared.refusal.Refusal.{Refusal}
 use Rattle.relay_proto.specs.declared.request.Request.{Request}
 use Rattle.relay_proto.specs.declared.request.Request.TheVariants.{Edit, Watch, Resume, Unwatch}
 use Rattle.relay_room.specs.Room.{document_bounds}
-use Rattle.relay_view.specs.View.{view}
+use Rattle.relay_view.specs.View.{View, view}
 use Rattle.relay_hub.specs.declared.event.Answer.{Answer}
 use Rattle.relay_hub.specs.declared.event.Answer.TheVariants.{Opened, Heard, Drawn, Closed}
 use Rattle.relay_hub.specs.declared.event.Event.{Event}
@@ -87,11 +86,11 @@ present E name = present_of (documents E name)
 
 -- the pointers of a session's view, what its client held as it began to watch, and the snapshots and patches drawn since
 pub record Watching : Type 0 where
-  pub view : List Path
+  pub view : View
   pub start : Client
   pub heard : List Message
 
-abbrev pub begun : List Path → Client → Watching
+abbrev pub begun : View → Client → Watching
 begun pointers start = record { view = pointers; start = start; heard = [] }
 
 -- the message, where it is a snapshot or a patch
@@ -106,7 +105,7 @@ hearing (Some text) (Some w) = Some (record { view = w.view; start = w.start; he
 hearing _ was = was
 
 -- a client that resumes from a revision holds its view of that revision's document
-abbrev pub resumes_from : Option Watching → ℕ → List Path → Option Document → Option Watching
+abbrev pub resumes_from : Option Watching → ℕ → View → Option Document → Option Watching
 resumes_from was rev pointers (Some d) = Some (begun pointers (holds rev (view pointers d)))
 resumes_from was rev pointers None = was
 

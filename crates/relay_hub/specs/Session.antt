@@ -2,7 +2,6 @@
 use Rattle.std.specs.Prelude.{ℕ, ◌≡◌, ⊤, ◌+◌, length, List, [], ◌∷◌, ◌++◌, map, Option, Some, None, option_map, if◌then◌else◌}
 use Rattle.relay_outbox.specs.Outbox.{Line, Foremost, reply, patch, snapshot, nothing, empty, with_reply, with_patch, folded, cleared, front_of, without_front}
 use Rattle.relay_patch.specs.declared.op.Op.{Op}
-use Rattle.relay_pointer.specs.Path.{Path}
 use Rattle.relay_proto.specs.Message.{message_document}
 use Rattle.relay_proto.specs.MessageRead.{message_of_text}
 use Rattle.relay_proto.specs.Written.{IsWritable}
@@ -15,10 +14,10 @@ use Rattle.relay_room.specs.Room.{State as Room, revision}
 use Rattle.relay_room.specs.declared.catch_up.CatchUp.{CatchUp}
 use Rattle.relay_room.specs.declared.catch_up.CatchUp.TheVariants.{Nothing, Patch, Snapshot}
 use Rattle.relay_tree.specs.Text.{text_of}
-use Rattle.relay_view.specs.View.{view}
+use Rattle.relay_view.specs.View.{View, view}
 use Rattle.relay_hub.specs.declared.session.Session.{Session}
 
-abbrev pub session_with : ℕ → Option (List Path) → Line Reply → Session
+abbrev pub session_with : ℕ → Option View → Line Reply → Session
 session_with number pointers line = record { number = number; view = pointers; outbox = line }
 
 -- the session with another line
@@ -34,14 +33,14 @@ abbrev pub newcomer : ℕ → ℕ → ℕ → ℕ → Session
 newcomer epoch rev number limit = session_with number None (with_reply (Welcome epoch rev number) (empty limit))
 
 -- the session as it begins to watch, and as it ends to
-abbrev pub watches : ℕ → List Path → Session → Session
+abbrev pub watches : ℕ → View → Session → Session
 watches id pointers x = session_with x.number (Some pointers) (folded (with_reply (Watching id) x.outbox))
 
 abbrev pub unwatches : ℕ → Session → Session
 unwatches id x = session_with x.number None (cleared (with_reply (Unwatched id) x.outbox))
 
 -- the session as it resumes in a room of that revision: with nothing missed, with one patch, or with a snapshot
-abbrev pub resumes : ℕ → ℕ → List Path → CatchUp → Session → Session
+abbrev pub resumes : ℕ → ℕ → View → CatchUp → Session → Session
 resumes rev id pointers Nothing x = session_with x.number (Some pointers) (cleared (with_reply (Resumed id how.Nothing) x.outbox))
 resumes rev id pointers (Patch ops) x = session_with x.number (Some pointers) (with_patch rev ops (cleared (with_reply (Resumed id how.Patch) x.outbox)))
 resumes rev id pointers Snapshot x = session_with x.number (Some pointers) (folded (with_reply (Resumed id how.Snapshot) x.outbox))
@@ -55,11 +54,11 @@ told_line rev Snapshot line = folded line
 -- What is drawn.
 
 -- the snapshot of a room for a view
-abbrev pub snapshot_of : Room → List Path → Message
+abbrev pub snapshot_of : Room → View → Message
 snapshot_of room pointers = message.Snapshot (revision room) (view pointers room.document)
 
 -- what stands at the front, as a message; a session without a view has no snapshot
-abbrev pub message_of : Room → Option (List Path) → Foremost Reply → Option Message
+abbrev pub message_of : Room → Option View → Foremost Reply → Option Message
 message_of room pointers (reply r) = Some (message.Reply r)
 message_of room pointers (patch rev ops) = Some (message.Patch rev ops)
 message_of room pointers snapshot = option_map (snapshot_of room) pointers
@@ -88,5 +87,5 @@ drawn x = with_line (without_front x.outbox) x
 abbrev pub patch_message : ℕ × List Op → Message
 patch_message p = message.Patch p.0 p.1
 
-abbrev pub later : Room → List Path → Line Reply → List Message
+abbrev pub later : Room → View → Line Reply → List Message
 later room pointers line = map patch_message line.patches ++ (if line.due then snapshot_of room pointers ∷ [] else [])

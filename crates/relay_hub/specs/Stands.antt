@@ -7,14 +7,13 @@ use Rattle.relay_history.specs.declared.history.TheConstants.{MOST_REVISIONS}
 use Rattle.relay_patch.specs.Change.{Leads}
 use Rattle.relay_patch.specs.Sizes.{OpFits}
 use Rattle.relay_patch.specs.declared.op.Op.{Op}
-use Rattle.relay_pointer.specs.Path.{Path}
 use Rattle.relay_proto.specs.Client.{Client, nothing, holds, lost, client, client_after}
 use Rattle.relay_proto.specs.Written.{IsCount, HasCounts}
 use Rattle.relay_proto.specs.declared.message.Message.{Message}
 use Rattle.relay_proto.specs.declared.message.Message.TheVariants.{Reply, Patch, Snapshot}
 use Rattle.relay_room.specs.Room.{State as Room, IsRoom, revision}
 use Rattle.relay_tree.specs.Document.{Document, null}
-use Rattle.relay_view.specs.View.{view}
+use Rattle.relay_view.specs.View.{View, view}
 use Rattle.relay_hub.specs.Log.{Log, Watching, home, documents, present_of, watching, opened, open_count}
 use Rattle.relay_hub.specs.Session.{later}
 use Rattle.relay_hub.specs.State.{State, Group, place_of, home_of, place_named, session_in}
@@ -23,24 +22,24 @@ use Rattle.relay_hub.specs.declared.session.Session.{Session}
 -- What a client holds.
 
 -- the view of the document of that revision
-abbrev pub HoldsRevision : List Document → List Path → ℕ → Client → Type 0
+abbrev pub HoldsRevision : List Document → View → ℕ → Client → Type 0
 HoldsRevision documents pointers rev (holds held tree) = (held ≡ rev) × (option_map (view pointers) (slice_get documents rev) ≡ Some tree)
 HoldsRevision documents pointers rev nothing = ⊥
 HoldsRevision documents pointers rev lost = ⊥
 
 -- the view of the revision that the message names
-abbrev pub IsAtNamed : List Document → List Path → Message → Client → Type 0
+abbrev pub IsAtNamed : List Document → View → Message → Client → Type 0
 IsAtNamed documents pointers (Reply r) c = ⊤
 IsAtNamed documents pointers (Patch rev ops) c = HoldsRevision documents pointers rev c
 IsAtNamed documents pointers (Snapshot rev tree) c = HoldsRevision documents pointers rev c
 
 -- each of the messages leaves the client at the view of the revision that it names
-abbrev pub EachLeads : List Document → List Path → Client → List Message → Type 0
+abbrev pub EachLeads : List Document → View → Client → List Message → Type 0
 EachLeads documents pointers c [] = ⊤
 EachLeads documents pointers c (m ∷ ms) = IsAtNamed documents pointers m (client c m) × EachLeads documents pointers (client c m) ms
 
 -- the view of the present document, under a revision that there is
-abbrev pub HoldsPresent : List Document → List Path → Client → Type 0
+abbrev pub HoldsPresent : List Document → View → Client → Type 0
 HoldsPresent documents pointers (holds held tree) = (held < length documents) × (tree ≡ view pointers (present_of documents))
 HoldsPresent documents pointers nothing = ⊥
 HoldsPresent documents pointers lost = ⊥

@@ -11,7 +11,7 @@ use Rattle.relay_patch.specs.declared.fault.ApplyFault.{ApplyFault}
 use Rattle.relay_patch.specs.declared.fault.Cause.{Cause}
 use Rattle.relay_patch.specs.declared.fault.Cause.TheVariants as cause
 use Rattle.relay_patch.specs.declared.op.Op.{Op}
-use Rattle.relay_pointer.specs.Path.{Path}
+use Rattle.relay_view.specs.View.{View}
 use Rattle.relay_proto.specs.Request.{request_of_text}
 use Rattle.relay_proto.specs.RoomName.{is_room_name}
 use Rattle.relay_proto.specs.declared.refusal.Refusal.{Refusal}
@@ -90,19 +90,19 @@ pub record GoesOn (old : Room) (patch : List Op) (d : Document) (new : Room) : T
   pub is : IsRoom new
 
 -- what an edit from the document d by some changes tells a view: nothing, or the local patch
-abbrev pub telling : List Change → Room → List Path → CatchUp
+abbrev pub telling : List Change → Room → View → CatchUp
 telling changes room pointers = told (local changes room.document pointers)
 
 -- a watcher is told of an edit, in one of three ways: its line stays, where its view does; a patch that leads its view to the
 -- new one goes in line; or, where memory was refused, the line folds
-abbrev pub ToldView : Document → List Change → Room → List Path → Bool → Session → Session → Type 0
+abbrev pub ToldView : Document → List Change → Room → View → Bool → Session → Session → Type 0
 ToldView d changes room pointers true x y = y ≡ with_line (folded x.outbox) x
 ToldView d changes room pointers false x y =
     (y ≡ with_line (told_line (revision room) (telling changes room pointers) x.outbox) x)
     × MakesPresent room pointers d (telling changes room pointers) × Fits (telling changes room pointers)
 
 -- who watches nothing is told nothing
-abbrev pub ToldAs : Document → List Change → Room → Option (List Path) → Bool → Session → Session → Type 0
+abbrev pub ToldAs : Document → List Change → Room → Option View → Bool → Session → Session → Type 0
 ToldAs d changes room (Some pointers) short x y = ToldView d changes room pointers short x y
 ToldAs d changes room None short x y = (y ≡ x) × (short ≡ false)
 
@@ -128,7 +128,7 @@ EditServed s x id patch (Err fault) short old new = (short ≡ 0)
 -- Other requests.
 
 -- a resume. Is the epoch the present one, and is there that revision
-abbrev pub ResumeServed : Bool → Bool → ℕ → ℕ → List Path → ℕ → Session → Group → Group → Type 0
+abbrev pub ResumeServed : Bool → Bool → ℕ → ℕ → View → ℕ → Session → Group → Group → Type 0
 ResumeServed false past id rev pointers s x old new = ChangesOnly s (Some (resumes (revision old.room) id pointers Snapshot x)) old new
 ResumeServed true false id rev pointers s x old new = ChangesOnly s (Some (replied (Refused (Some id) word.Future None) x)) old new
 ResumeServed true true id rev pointers s x old new =

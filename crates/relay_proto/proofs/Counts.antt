@@ -9,6 +9,7 @@ use Rattle.relay_tree.specs.Document.{Document, whole, list, text}
 use Rattle.relay_tree.specs.Part.{object_member}
 use Rattle.relay_tree.specs.Text.{tree_of}
 use Rattle.relay_pointer.specs.Path.{Path}
+use Rattle.relay_view.specs.View.{View}
 use Rattle.relay_pointer.specs.Spelling.{path_of_text}
 use Rattle.relay_patch.proofs.Places.{place, IsBelow, few-place, patch_of-length, patch_of-place}
 use Rattle.relay_patch.specs.Form.{text_in, patch_of}
@@ -136,7 +137,7 @@ view_reads : (id : ℕ) (d : Document) → IsCount id → Reads Anything (view_i
 view_reads id d counts =
     part_reads Anything Anything (Some id) (object_member d (codes "view")) _ counts (some_anything _) (λ v _. go (view_of v) (view_of_place v))
   where
-    go : (r : Result (List Path) ViewFault) → IfErr r (λ fault. IsBelow 16 (pointer_place fault)) → Reads Anything (view_read id r)
+    go : (r : Result View ViewFault) → IfErr r (λ fault. IsBelow 16 (pointer_place fault)) → Reads Anything (view_read id r)
     go (Ok pointers) h = tt
     go (Err fault) h = view_refused id fault counts h
 

@@ -14,7 +14,7 @@ use Rattle.relay_patch.specs.declared.op.Op.{Op}
 use Rattle.relay_patch.specs.declared.op.Op.TheVariants.{Add, Remove, Replace, Move, Copy, Test}
 use Rattle.relay_patch.proofs.Depths.{walk_depth}
 use Rattle.relay_patch.proofs.Walks.{at-walk}
-use Rattle.relay_view.specs.View.{slot_of, slots, view}
+use Rattle.relay_view.specs.View.{View, slot_of, slots, view}
 use Rattle.relay_proto.specs.MessageRead.{is_slot, are_slots}
 use Rattle.relay_proto.specs.Written.{IsCount, HasShortPaths, IsWritable}
 use Rattle.relay_proto.specs.declared.message.Message.TheVariants as message
@@ -70,7 +70,7 @@ slot_is_slot : (o : Option Document) → is_slot (slot_of o) ≡ true
 slot_is_slot None = refl
 slot_is_slot (Some v) = refl
 
-are_slots_slots : (pointers : List Path) (d : Document) → are_slots (slots pointers d) ≡ true
+are_slots_slots : (pointers : View) (d : Document) → are_slots (slots pointers d) ≡ true
 are_slots_slots [] d = refl
 are_slots_slots (q ∷ pointers) d = rw (slot_is_slot (at d q), are_slots_slots pointers d) refl
 
@@ -85,9 +85,9 @@ part_depth q d v h = go (walk d q) refl (at-walk q d ∙ h)
     go (Ok w) there same = let is : w ≡ v = cc in omega (arith, walk_depth q d w there, ap depth is)
     go (Err e) there same = absurd cc
 
-slots_depth : (pointers : List Path) (d : Document) → items_depth (slots pointers d) ≤ suc (depth d)
+slots_depth : (pointers : View) (d : Document) → items_depth (slots pointers d) ≤ suc (depth d)
 slots_depth [] d = omega arith
 slots_depth (q ∷ pointers) d = omega (arith, slot_depth (at d q) (depth d) (part_depth q d), slots_depth pointers d)
 
-pub snapshot_is_writable : (rev : ℕ) (pointers : List Path) (d : Document) → IsCount rev → depth d ≤ 64 → IsWritable (message.Snapshot rev (view pointers d))
+pub snapshot_is_writable : (rev : ℕ) (pointers : View) (d : Document) → IsCount rev → depth d ≤ 64 → IsWritable (message.Snapshot rev (view pointers d))
 snapshot_is_writable rev pointers d count flat = ((count, are_slots_slots pointers d), omega (arith, nests (view pointers d), slots_depth pointers d, flat))

@@ -6,7 +6,7 @@ use Rattle.relay_tree.specs.Document.{Document}
 use Rattle.relay_tree.specs.Count.{count_of}
 use Rattle.relay_tree.specs.Part.{object_member}
 use Rattle.relay_tree.specs.Text.{tree_of}
-use Rattle.relay_pointer.specs.Path.{Path}
+use Rattle.relay_view.specs.View.{View}
 use Rattle.relay_patch.specs.Form.{text_in, patch_of}
 use Rattle.relay_patch.specs.declared.limits.PatchFault.{PatchFault}
 use Rattle.relay_patch.specs.declared.limits.PatchFault.TheVariants as patch
@@ -59,11 +59,11 @@ view_refusal id (view.Shape at) = refusal Shape (Some id) at
 view_refusal id (view.Pointer at) = refusal Pointer (Some id) (Some at)
 view_refusal id view.NoMemory = refusal Shape (Some id) None
 
-abbrev pub view_read : ℕ → Result (List Path) ViewFault → Result (List Path) Refusal
+abbrev pub view_read : ℕ → Result View ViewFault → Result View Refusal
 view_read id (Ok pointers) = Ok pointers
 view_read id (Err fault) = Err (view_refusal id fault)
 
-abbrev pub view_in : ℕ → Document → Result (List Path) Refusal
+abbrev pub view_in : ℕ → Document → Result View Refusal
 view_in id d = with_part (Some id) (object_member d (codes "view")) (λ v. view_read id (view_of v))
 
 abbrev pub resume_of : ℕ → Document → Result Request Refusal

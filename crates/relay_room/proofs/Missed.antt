@@ -3,7 +3,7 @@ use Rattle.std.proofs.Common.{◌≡◌, ℕ, zero, suc, ◌-◌, List, [], ◌�
 use Rattle.std.proofs.lemmas.Bool.Decides.{nat_tests}
 use Rattle.std.specs.List.{AllByRecursion}
 use Rattle.relay_tree.specs.Document.{Document}
-use Rattle.relay_pointer.specs.Path.{Path}
+use Rattle.relay_view.specs.View.{View}
 use Rattle.relay_patch.specs.declared.op.Op.{Op}
 use Rattle.relay_patch.specs.declared.change.Change.{Change}
 use Rattle.relay_patch.specs.Sizes.{OpFits}
@@ -16,15 +16,15 @@ use Rattle.relay_room.specs.Room.{State, IsRoom, Fit, document_bounds, revision}
 use Rattle.relay_room.specs.CatchUp.{missed, told, caught_up, Fits}
 use Rattle.relay_room.specs.declared.catch_up.CatchUp.TheVariants.{Nothing, Snapshot}
 
-nothing_from : (k : ℕ) (now : Document) (pointers : List Path) → local_from k [] now pointers ≡ []
+nothing_from : (k : ℕ) (now : Document) (pointers : View) → local_from k [] now pointers ≡ []
 nothing_from k now [] = refl
 nothing_from k now (q ∷ pointers) = nothing_from (suc k) now pointers
 
-missed_present : (room : State) (pointers : List Path) → missed room (revision room) pointers ≡ []
+missed_present : (room : State) (pointers : View) → missed room (revision room) pointers ≡ []
 missed_present room pointers = rw (changes_since-newest room.history) (nothing_from 0 room.document pointers)
 
 -- nothing was missed since the present revision
-pub caught_up_present : (room : State) (rev : ℕ) (pointers : List Path) → rev ≡ revision room → caught_up room rev pointers ≡ Nothing
+pub caught_up_present : (room : State) (rev : ℕ) (pointers : View) → rev ≡ revision room → caught_up room rev pointers ≡ Nothing
 caught_up_present room rev pointers now = rw (now, missed_present room pointers, held) refl
   where
     held : nat_lt (revision room) (oldest room.history) ≡ false
@@ -44,7 +44,7 @@ fit_told [] h = tt
 fit_told (op ∷ ops) h = h
 
 -- what was missed is short and flat
-pub caught_up_fits : (room : State) (rev : ℕ) (pointers : List Path) → IsRoom room → Fits (caught_up room rev pointers)
+pub caught_up_fits : (room : State) (rev : ℕ) (pointers : View) → IsRoom room → Fits (caught_up room rev pointers)
 caught_up_fits room rev pointers is = go (nat_lt rev (oldest room.history))
   where
     changes : List Change

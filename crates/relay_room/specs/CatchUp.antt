@@ -2,12 +2,11 @@
 use Rattle.std.specs.Prelude.{◌≡◌, ⊤, ℕ, List, [], ◌∷◌, Ok, nat_lt, if◌then◌else◌}
 use Rattle.std.specs.List.{AllByRecursion}
 use Rattle.relay_tree.specs.Document.{Document}
-use Rattle.relay_pointer.specs.Path.{Path}
 use Rattle.relay_patch.specs.declared.op.Op.{Op}
 use Rattle.relay_patch.specs.Patch.{after, free}
 use Rattle.relay_patch.specs.Change.{Leads}
 use Rattle.relay_patch.specs.Sizes.{OpFits}
-use Rattle.relay_view.specs.View.{view}
+use Rattle.relay_view.specs.View.{View, view}
 use Rattle.relay_translate.specs.Translate.{local}
 use Rattle.relay_history.specs.History.{oldest, changes_since}
 use Rattle.relay_room.specs.Room.{State}
@@ -15,7 +14,7 @@ use Rattle.relay_room.specs.declared.catch_up.CatchUp.{CatchUp}
 use Rattle.relay_room.specs.declared.catch_up.CatchUp.TheVariants.{Nothing, Patch, Snapshot}
 
 -- what the changes since a revision come to in a view
-abbrev pub missed : State → ℕ → List Path → List Op
+abbrev pub missed : State → ℕ → View → List Op
 missed room rev pointers = local (changes_since rev room.history) room.document pointers
 
 -- no patch where it would have no operation
@@ -24,17 +23,17 @@ told [] = Nothing
 told (op ∷ ops) = Patch (op ∷ ops)
 
 -- what leads the view of a revision, which is none to come, to the view of the present one
-abbrev pub caught_up : State → ℕ → List Path → CatchUp
+abbrev pub caught_up : State → ℕ → View → CatchUp
 caught_up room rev pointers = if nat_lt rev (oldest room.history) then Snapshot else told (missed room rev pointers)
 
 -- it makes the present view of the view of a document
-abbrev pub MakesPresent : State → List Path → Document → CatchUp → Type 0
+abbrev pub MakesPresent : State → View → Document → CatchUp → Type 0
 MakesPresent room pointers d Nothing = view pointers d ≡ view pointers room.document
 MakesPresent room pointers d (Patch ops) = after (view pointers d) ops free ≡ Ok (view pointers room.document)
 MakesPresent room pointers d Snapshot = ⊤
 
 -- it makes the present view of the view of whatever document the changes since the revision led from
-abbrev pub LeadsOn : State → ℕ → List Path → CatchUp → Type 0
+abbrev pub LeadsOn : State → ℕ → View → CatchUp → Type 0
 LeadsOn room rev pointers how =
     (d : Document) → Leads d (changes_since rev room.history) room.document → MakesPresent room pointers d how
 

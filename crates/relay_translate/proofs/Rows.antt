@@ -3,7 +3,7 @@ use Rattle.std.proofs.Common.{◌≡◌, ℕ, List, [], ◌∷◌, pos, Result, 
 use Rattle.relay_tree.specs.Document.{Document, whole, text, list, object, items_of, Members, no_members, member}
 use Rattle.relay_tree.specs.Part.{put_member}
 use Rattle.relay_pointer.specs.Index.{index_of, index_text}
-use Rattle.relay_pointer.specs.Path.{Path}
+use Rattle.relay_view.specs.View.{View}
 use Rattle.relay_patch.specs.declared.fault.Cause.{Cause}
 use Rattle.relay_patch.specs.declared.op.Op.{Op}
 use Rattle.relay_patch.specs.declared.op.Op.TheVariants.{Add, Remove, Replace, Move, Copy}
@@ -20,11 +20,11 @@ abbrev num : ℕ → Document
 num n = whole (pos n)
 
 -- what one operation comes to in the view through some pointers
-abbrev relayed_from : Result Document Cause → Document → Op → List Path → Result (List Op) Cause
+abbrev relayed_from : Result Document Cause → Document → Op → View → Result (List Op) Cause
 relayed_from (Ok now) d op pointers = Ok (local (changes_of d op) now pointers)
 relayed_from (Err e) d op pointers = Err e
 
-abbrev relayed : Document → Op → List Path → Result (List Op) Cause
+abbrev relayed : Document → Op → View → Result (List Op) Cause
 relayed d op = relayed_from (effect d op) d op
 
 two_items : Document

@@ -14,7 +14,7 @@ use Rattle.relay_patch.specs.declared.change.Change.TheVariants as change
 use Rattle.relay_patch.specs.Sizes.{IsShort, IsFlat, OpFits, ChangeFits}
 use Rattle.relay_patch.proofs.Depths.{walk_depth}
 use Rattle.relay_patch.proofs.Walks.{at-walk}
-use Rattle.relay_view.specs.View.{slot, slot_of}
+use Rattle.relay_view.specs.View.{View, slot, slot_of}
 use Rattle.relay_translate.specs.Touch.{Touch, Apart, Inside, Reset, touch, touch_place}
 use Rattle.relay_translate.specs.Translate.{is_reset, op_of, move_op, with_paths, in_slot, when_inside, slot_op, slot_ops, local_from}
 use Rattle.relay_translate.specs.Sizes.{FitsWithChanges}
@@ -81,7 +81,7 @@ slot_fits n m k q changes now h flat = go (list_any (λ c. is_reset (touch c q))
     go true = ((omega arith, slot_flat m q now flat), tt)
     go false = changes_fit n m k q changes h
 
-local_fits : (n m k : ℕ) (changes : List Change) (now : Document) (pointers : List Path) → AllByRecursion (ChangeFits n m) changes → IsFlat m now → AllByRecursion (OpFits (n + 2) (m + 1)) (local_from k changes now pointers)
+local_fits : (n m k : ℕ) (changes : List Change) (now : Document) (pointers : View) → AllByRecursion (ChangeFits n m) changes → IsFlat m now → AllByRecursion (OpFits (n + 2) (m + 1)) (local_from k changes now pointers)
 local_fits n m k changes now [] h flat = tt
 local_fits n m k changes now (q ∷ pointers) h flat = All-append (n + 2) (m + 1) (slot_ops k q changes now) (local_from (suc k) changes now pointers) (slot_fits n m k q changes now h flat) (local_fits n m (suc k) changes now pointers h flat)
 

@@ -14,7 +14,7 @@ use Rattle.relay_patch.specs.Patch.{effect, after_from, free}
 use Rattle.relay_patch.specs.declared.change.Change.{Change}
 use Rattle.relay_patch.specs.Change.{Makes, Leads}
 use Rattle.relay_patch.proofs.Walks.{at-walk, at_reached}
-use Rattle.relay_view.specs.View.{slot, slot_of, slots, view}
+use Rattle.relay_view.specs.View.{View, slot, slot_of, slots, view}
 use Rattle.relay_translate.specs.Touch.{Touch, Apart, Inside, Reset, touch}
 use Rattle.relay_translate.specs.Translate.{is_reset, op_of, with_paths, first, in_slot, when_inside, slot_op, slot_ops, local_from, local, IsTranslation}
 use Rattle.relay_translate.proofs.Bounds.{within_free}
@@ -108,7 +108,7 @@ slot_passes done todo q changes d now leads = go (list_any (λ c. is_reset (touc
     go true e = rw e (with_slot done todo (slot q now), reset_op done todo (slot q d) (slot q now), refl)
     go false e = rw e (changes_pass done todo q changes d now leads e)
 
-slots_pass : (pointers : List Path) (done : Items) (changes : List Change) (d now : Document) → Leads d changes now → Passes (list (items_append done (slots pointers d))) (local_from (items_length done) changes now pointers) (list (items_append done (slots pointers now)))
+slots_pass : (pointers : View) (done : Items) (changes : List Change) (d now : Document) → Leads d changes now → Passes (list (items_append done (slots pointers d))) (local_from (items_length done) changes now pointers) (list (items_append done (slots pointers now)))
 slots_pass [] done changes d now leads = refl
 slots_pass (q ∷ pointers) done changes d now leads =
     let one : Items = item (slot q now) no_items in

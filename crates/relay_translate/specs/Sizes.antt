@@ -2,7 +2,7 @@
 use Rattle.std.specs.Prelude.{ℕ, ◌+◌, List}
 use Rattle.std.specs.List.{AllByRecursion}
 use Rattle.relay_tree.specs.Document.{Document}
-use Rattle.relay_pointer.specs.Path.{Path}
+use Rattle.relay_view.specs.View.{View}
 use Rattle.relay_patch.specs.declared.change.Change.{Change}
 use Rattle.relay_patch.specs.declared.op.Op.{Op}
 use Rattle.relay_patch.specs.Sizes.{IsFlat, OpFits, ChangeFits}
@@ -15,4 +15,4 @@ FitsWith changes now ops =
 
 -- What changes come to in a view fits with them.
 abbrev pub FitsWithChanges : Type 0
-FitsWithChanges = (changes : List Change) (now : Document) (pointers : List Path) → FitsWith changes now (local changes now pointers)
+FitsWithChanges = (changes : List Change) (now : Document) (pointers : View) → FitsWith changes now (local changes now pointers)

@@ -10,7 +10,7 @@ use Rattle.relay_patch.specs.Patch.{after, free}
 use Rattle.relay_patch.specs.declared.change.Change.{Change}
 use Rattle.relay_patch.specs.Change.{Leads}
 use Rattle.relay_patch.specs.declared.change.Change.TheVariants as change
-use Rattle.relay_view.specs.View.{slot, view}
+use Rattle.relay_view.specs.View.{View, slot, view}
 use Rattle.relay_translate.specs.Touch.{Touch, Apart, Inside, Reset, touch_place, touch}
 
 abbrev pub is_reset : Touch → Bool
@@ -72,18 +72,18 @@ slot_ops k q changes now =
     if list_any (λ c. is_reset (touch c q)) changes then Replace (index_text k ∷ []) (slot q now) ∷ [] else flat_map (slot_op k q) changes
 
 -- slot by slot, from slot k on
-abbrev pub local_from : ℕ → List Change → Document → List Path → List Op
+abbrev pub local_from : ℕ → List Change → Document → View → List Op
 local_from k changes now [] = []
 local_from k changes now (q ∷ pointers) = slot_ops k q changes now ++ local_from (suc k) changes now pointers
 
 -- what the changes, which led to the present document, come to in the view through some pointers
-abbrev pub local : List Change → Document → List Path → List Op
+abbrev pub local : List Change → Document → View → List Op
 local changes now pointers = local_from 0 changes now pointers
 
 -- Whatever document the changes led from, the operations lead its view to the view of the present document.
-abbrev pub LeadsViews : List Change → Document → List Path → List Op → Type 0
+abbrev pub LeadsViews : List Change → Document → View → List Op → Type 0
 LeadsViews changes now pointers ops = (d : Document) → Leads d changes now → after (view pointers d) ops free ≡ Ok (view pointers now)
 
 -- What the changes come to leads every view.
 abbrev pub IsTranslation : Type 0
-IsTranslation = (changes : List Change) (now : Document) (pointers : List Path) → LeadsViews changes now pointers (local changes now pointers)
+IsTranslation = (changes : List Change) (now : Document) (pointers : View) → LeadsViews changes now pointers (local changes now pointers)

@@ -4,6 +4,7 @@ use Rattle.relay_tree.specs.Document.{Document, text, list}
 use Rattle.relay_tree.specs.Each.{each_from}
 use Rattle.relay_tree.specs.Part.{items_length}
 use Rattle.relay_pointer.specs.Path.{Path}
+use Rattle.relay_view.specs.View.{View}
 use Rattle.relay_pointer.specs.Spelling.{path_of_text}
 use Rattle.relay_view.specs.declared.fault.ViewFault.{ViewFault}
 use Rattle.relay_view.specs.declared.fault.ViewFault.TheVariants.{TooMany, Shape, Pointer}
@@ -19,6 +20,6 @@ path_at k (text s) = path_within k (path_of_text s)
 path_at k _ = Err (Shape (Some k))
 
 -- the view that a document is: a list of at most 16 pointer texts
-abbrev pub view_of : Document → Result (List Path) ViewFault
+abbrev pub view_of : Document → Result View ViewFault
 view_of (list ds) = if nat_lt 16 (items_length ds) then Err TooMany else each_from path_at 0 ds
 view_of _ = Err (Shape None)

@@ -17,9 +17,9 @@ pub struct View {
 }
 
 impl Model for View {
-    ghost use Rattle.std.specs.Prelude.{ℕ, List};
+    ghost use Rattle.relay_view.specs.View.{View};
 
-    ghost Value = { List (List (List ℕ)) };
+    ghost Value = { View };
 
     ghost view = { λ v. v.pointers.items };
 }
