@@ -6,6 +6,7 @@ pub mod Under
 pub mod Changes
 pub mod Slots
 pub mod Sizes
+pub mod Local
 pub mod Table
 pub mod Lent
 pub mod Rows

@@ -2,3 +2,4 @@ pub mod Touch
 pub mod Table
 pub mod Translate
 pub mod Sizes
+pub mod Local

@@ -1,6 +1,7 @@
 //! What changes come to in a view.
 ghost use Rattle.std.specs.Prelude.{◌≡◌, ◌++◌, map, IfOk, OnOk};
 ghost use Rattle.std.specs.List.{list_any};
+ghost use Rattle.relay_translate.specs.Local.{LeavesApart, FollowsInside, ReplacesReset};
 ghost use Rattle.relay_translate.specs.Sizes.{FitsWith};
 ghost use Rattle.relay_translate.specs.Touch.{touch};
 ghost use Rattle.relay_translate.specs.Translate.{LeadsViews, is_reset, local, slot_ops};
@@ -26,6 +27,9 @@ pub fn translate(
     view: &View,
 ) -> Result<Patch, AllocError>
     ensures exact { IfOk result (λ patch. patch ≡ local (map (λ c. c.now) changes.now) now.now view.now) }
+    ensures apart { IfOk result (LeavesApart (map (λ c. c.now) changes.now) view.now) }
+    ensures inside { IfOk result (FollowsInside (map (λ c. c.now) changes.now) view.now) }
+    ensures reset { IfOk result (ReplacesReset (map (λ c. c.now) changes.now) now.now view.now) }
     ensures leads { IfOk result (λ patch. LeadsViews (map (λ c. c.now) changes.now) now.now view.now patch) }
     ensures sizes { IfOk result (λ patch. FitsWith (map (λ c. c.now) changes.now) now.now patch) }
 {

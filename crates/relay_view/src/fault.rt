@@ -5,13 +5,13 @@ use thiserror::Error;
 /// first in the list that is refused gives the fault, and `at` is its place, counted from 0.
 #[derive(Clone, Copy, Debug, PartialEq, Eq, Error)]
 pub enum ViewFault {
-    /// More than 16 pointers.
+    /// More than [`crate::SLOTS_MOST`] pointers.
     #[error("a view of more than 16 pointers")]
     TooMany,
     /// The tree is no list (no place), or an element is no text.
     #[error("a view is a list of texts")]
     Shape { at: Option<u64> },
-    /// A text that is no JSON Pointer (RFC 6901), or one of more than 64 tokens.
+    /// A text that is no JSON Pointer (RFC 6901), or one of more than [`crate::TOKENS_MOST`] tokens.
     #[error("element {at} is no pointer of at most 64 tokens")]
     Pointer { at: u64 },
     #[error("out of memory")]

@@ -11,4 +11,4 @@ mod view;
 
 pub use fault::ViewFault;
 pub use of::slot_of;
-pub use view::{TOKENS_MOST, View};
+pub use view::{SLOTS_MOST, TOKENS_MOST, View};

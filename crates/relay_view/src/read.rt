@@ -1,26 +1,28 @@
 //! Views of trees: how a request says what it wants to see.
-ghost use Rattle.std.specs.Prelude.{◌≡◌, ◌≢◌, Ok, Err, IfOk, IfErr};
+ghost use Rattle.std.specs.Prelude.{◌≡◌, ◌≢◌, true, Ok, Err, IfOk, IfErr, IsErrOf};
 ghost use Rattle.relay_tree.specs.Document.{items_of};
 ghost use Rattle.relay_tree.specs.Each.{each_from};
-ghost use Rattle.relay_view.specs.Form.{view_of, path_at};
+ghost use Rattle.relay_view.specs.Form.{view_of, path_at, is_short_list};
 ghost use Rattle.relay_view.specs.declared.fault.ViewFault.TheVariants.{NoMemory};
 
 use crate::fault::ViewFault;
-use crate::view::{POINTERS_MOST, TOKENS_MOST, View};
+use crate::view::{SLOTS_MOST, TOKENS_MOST, View};
 use relay_pointer::{Pointer, PointerFault};
 use relay_tree::{Node, Tree};
 use std::alloc::Global;
 
 impl View {
-    /// The view that a tree is: a list of at most 16 pointer texts, each of at most 64 tokens.
+    /// The view that a tree is: a list of at most [`SLOTS_MOST`] pointer texts, each of at most [`TOKENS_MOST`] tokens. NoMemory comes
+    /// only where the tree is a list of so many elements.
     pub fn read(alloc: Global, tree: &Tree) -> Result<View, ViewFault>
         ensures ok { IfOk result (λ view. view_of tree.now ≡ Ok view) }
         ensures err { IfErr result (λ fault. fault ≢ NoMemory → view_of tree.now ≡ Err fault) }
+        ensures no_memory { IsErrOf result NoMemory → is_short_list tree.now ≡ true }
     {
         let Node::List(items) = &tree.node else {
             return Err(ViewFault::Shape { at: None });
         };
-        if items.len() as u64 > POINTERS_MOST {
+        if items.len() as u64 > SLOTS_MOST {
             return Err(ViewFault::TooMany);
         }
         match pointers_of(alloc, items.as_slice()) {

@@ -4,8 +4,8 @@ ghost use Rattle.std.specs.Prelude.{◌≡◌, length, option_copied, slice_get}
 use relay_pointer::Pointer;
 use std::marker::Model;
 
-/// How many pointers a view has at most.
-pub const POINTERS_MOST: u64 = 16;
+/// How many slots a view has at most.
+pub const SLOTS_MOST: u64 = 16;
 
 /// How many tokens a pointer of a request has at most.
 pub const TOKENS_MOST: u64 = 64;

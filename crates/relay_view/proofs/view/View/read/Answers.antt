@@ -2,26 +2,34 @@ use Rattle.std.proofs.Common.{◌≡◌, ◌<◌, ◌≤◌, Ok, length, sym, ap
 use Rattle.relay_tree.specs.Document.{list, items_of}
 use Rattle.relay_tree.specs.Each.{each_from}
 use Rattle.relay_view.specs.Form.{path_at}
-use Rattle.relay_view.proofs.Paths.{few, many}
+use Rattle.relay_view.specs.declared.view.TheConstants.{SLOTS_MOST}
+use Rattle.relay_view.proofs.Paths.{few, many, short}
 use Rattle.relay_view.proofs.view.View.read.Goals as goal
 
-pub returns-then-len-gt-POINTERS_MOST-clause-err : goal.returns-then-len-gt-POINTERS_MOST-clause-err
-returns-then-len-gt-POINTERS_MOST-clause-err c is_refused =
+pub returns-then-len-gt-SLOTS_MOST-clause-err : goal.returns-then-len-gt-SLOTS_MOST-clause-err
+returns-then-len-gt-SLOTS_MOST-clause-err c is_refused =
     let items = c.in-List.items in
     let ok = items.ok in
-    let long : 16 < length items.items = omega (arith, ok.0, c.len.ensures, c.if-len-gt-POINTERS_MOST.true) in
+    let long : SLOTS_MOST < length items.items = omega (arith, ok.0, c.len.ensures, c.if-len-gt-SLOTS_MOST.true) in
     rw (← c.tree.view_is, c.in-List.is) (many items.items long)
 
 pub returns-in-Ok-clause-ok : goal.returns-in-Ok-clause-ok
 returns-in-Ok-clause-ok c =
     let items = c.in-List.items in
     let ok = items.ok in
-    let short : length items.items ≤ 16 = omega (arith, ok.0, c.len.ensures, c.if-len-gt-POINTERS_MOST.false) in
+    let short : length items.items ≤ SLOTS_MOST = omega (arith, ok.0, c.len.ensures, c.if-len-gt-SLOTS_MOST.false) in
     rw (← c.tree.view_is, c.in-List.is) (few items.items short ∙ ap (λ xs. each_from path_at 0 (items_of xs)) (sym c.as_slice.ensures.value) ∙ c.in-Ok.ensures.ok ∙ ap Ok (sym c.of_pointers.ensures))
 
 pub returns-in-Err-clause-err : goal.returns-in-Err-clause-err
 returns-in-Err-clause-err c is_refused =
     let items = c.in-List.items in
     let ok = items.ok in
-    let short : length items.items ≤ 16 = omega (arith, ok.0, c.len.ensures, c.if-len-gt-POINTERS_MOST.false) in
+    let short : length items.items ≤ SLOTS_MOST = omega (arith, ok.0, c.len.ensures, c.if-len-gt-SLOTS_MOST.false) in
     rw (← c.tree.view_is, c.in-List.is) (few items.items short ∙ ap (λ xs. each_from path_at 0 (items_of xs)) (sym c.as_slice.ensures.value) ∙ c.in-Err.ensures.err is_refused)
+
+pub returns-in-Err-clause-no_memory : goal.returns-in-Err-clause-no_memory
+returns-in-Err-clause-no_memory c is_no_memory =
+    let items = c.in-List.items in
+    let ok = items.ok in
+    let few_items : length items.items ≤ SLOTS_MOST = omega (arith, ok.0, c.len.ensures, c.if-len-gt-SLOTS_MOST.false) in
+    rw (← c.tree.view_is, c.in-List.is) (short items.items few_items)

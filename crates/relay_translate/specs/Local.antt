@@ -1,0 +1,70 @@
+-- What a translation says of each slot: nothing where no change touches it, one operation for each change inside its value, or one
+-- exchange where a change reset it.
+use Rattle.std.specs.Prelude.{◌≡◌, ℕ, List, [], ◌∷◌, map, Bool, true, false, ◌||◌, Some, bytes_eq, slice_get}
+use Rattle.std.specs.List.{filter, list_all, list_any}
+use Rattle.relay_tree.specs.Document.{Document}
+use Rattle.relay_pointer.specs.Index.{index_text}
+use Rattle.relay_pointer.specs.Path.{Path}
+use Rattle.relay_patch.specs.declared.op.Op.{Op}
+use Rattle.relay_patch.specs.declared.op.Op.TheVariants.{Add, Remove, Replace, Move, Copy, Test}
+use Rattle.relay_patch.specs.declared.change.Change.{Change}
+use Rattle.relay_view.specs.View.{View, slot}
+use Rattle.relay_translate.specs.Touch.{Touch, Apart, Inside, Reset, touch}
+use Rattle.relay_translate.specs.Translate.{is_reset, op_of, in_view}
+
+abbrev pub is_apart : Touch → Bool
+is_apart Apart = true
+is_apart Inside = false
+is_apart Reset = false
+
+abbrev pub is_inside : Touch → Bool
+is_inside Apart = false
+is_inside Inside = true
+is_inside Reset = false
+
+-- every change is apart from what the pointer leads to
+abbrev pub all_apart : Path → List Change → Bool
+all_apart q changes = list_all (λ c. is_apart (touch c q)) changes
+
+-- some change resets it
+abbrev pub some_reset : Path → List Change → Bool
+some_reset q changes = list_any (λ c. is_reset (touch c q)) changes
+
+-- the changes inside it, in order
+abbrev pub changes_inside : Path → List Change → List Change
+changes_inside q changes = filter (λ c. is_inside (touch c q)) changes
+
+-- the path goes through slot k
+abbrev pub goes_through : ℕ → Path → Bool
+goes_through k [] = false
+goes_through k (t ∷ path) = bytes_eq t (index_text k)
+
+-- the operation names slot k
+abbrev pub names : ℕ → Op → Bool
+names k (Add path v) = goes_through k path
+names k (Remove path) = goes_through k path
+names k (Replace path v) = goes_through k path
+names k (Move from path) = goes_through k from || goes_through k path
+names k (Copy from path) = goes_through k from || goes_through k path
+names k (Test path v) = goes_through k path
+
+-- the operations that name slot k, in order
+abbrev pub on_slot : ℕ → List Op → List Op
+on_slot k ops = filter (names k) ops
+
+-- No operation names a slot from which every change is apart.
+abbrev pub LeavesApart : List Change → View → List Op → Type 0
+LeavesApart changes pointers ops =
+    (k : ℕ) (q : Path) → slice_get pointers k ≡ Some q → all_apart q changes ≡ true → on_slot k ops ≡ []
+
+-- A slot that no change resets has one operation for each change inside its value, in order.
+abbrev pub FollowsInside : List Change → View → List Op → Type 0
+FollowsInside changes pointers ops =
+    (k : ℕ) (q : Path) → slice_get pointers k ≡ Some q → some_reset q changes ≡ false
+    → on_slot k ops ≡ map (λ c. in_view k q (op_of q c)) (changes_inside q changes)
+
+-- A slot that some change resets has one operation, which exchanges it for what it shows now.
+abbrev pub ReplacesReset : List Change → Document → View → List Op → Type 0
+ReplacesReset changes now pointers ops =
+    (k : ℕ) (q : Path) → slice_get pointers k ≡ Some q → some_reset q changes ≡ true
+    → on_slot k ops ≡ Replace (index_text k ∷ []) (slot q now) ∷ []
