@@ -19,6 +19,8 @@ use Rattle.relay_patch.specs.declared.op.Op.{Op}
 use Rattle.relay_view.specs.Form.{path_within, path_at, view_of}
 use Rattle.relay_view.specs.declared.fault.ViewFault.{ViewFault}
 use Rattle.relay_view.specs.declared.fault.ViewFault.TheVariants as view
+use Rattle.relay_view.specs.declared.view.TheConstants.{SLOTS_MOST, TOKENS_MOST}
+use Rattle.relay_proto.specs.declared.reading.TheConstants.{REQUEST_MOST}
 use Rattle.relay_proto.specs.Request.{with_part, and_then, count_in, patch_refusal, patch_read, patch_in, view_refusal, view_read, view_in, resume_of, asked, request_of, request_of_tree, request_of_json, request_of_text}
 use Rattle.relay_proto.specs.Written.{IsCount, IsCountOrNull, HasCounts}
 use Rattle.relay_proto.specs.declared.refusal.Refusal.{Refusal}
@@ -120,24 +122,24 @@ path_at_names n (text s) = go (path_of_text s)
 
     go : (o : Option Path) → IfErr (path_within n o) (λ fault. pointer_place fault ≡ Some n)
     go None = refl
-    go (Some path) = short (nat_le (length path) 64) path
+    go (Some path) = short (nat_le (length path) TOKENS_MOST) path
 path_at_names n _ = refl
 
-view_of_place : (d : Document) → IfErr (view_of d) (λ fault. IsBelow 16 (pointer_place fault))
-view_of_place (list ds) = few-place path_at pointer_place path_at_names 16 view.TooMany tt ds
+view_of_place : (d : Document) → IfErr (view_of d) (λ fault. IsBelow SLOTS_MOST (pointer_place fault))
+view_of_place (list ds) = few-place path_at pointer_place path_at_names SLOTS_MOST view.TooMany tt ds
 view_of_place _ = tt
 
-view_refused : (id : ℕ) (fault : ViewFault) → IsCount id → IsBelow 16 (pointer_place fault) → IsRefusal (view_refusal id fault)
+view_refused : (id : ℕ) (fault : ViewFault) → IsCount id → IsBelow SLOTS_MOST (pointer_place fault) → IsRefusal (view_refusal id fault)
 view_refused id view.TooMany counts h = (counts, tt)
-view_refused id (view.Shape at) counts h = (counts, below_is 16 at (omega arith) h)
-view_refused id (view.Pointer at) counts h = (counts, below_is 16 (Some at) (omega arith) h)
+view_refused id (view.Shape at) counts h = (counts, below_is SLOTS_MOST at (omega arith) h)
+view_refused id (view.Pointer at) counts h = (counts, below_is SLOTS_MOST (Some at) (omega arith) h)
 view_refused id view.NoMemory counts h = (counts, tt)
 
 view_reads : (id : ℕ) (d : Document) → IsCount id → Reads Anything (view_in id d)
 view_reads id d counts =
     part_reads Anything Anything (Some id) (object_member d (codes "view")) _ counts (some_anything _) (λ v _. go (view_of v) (view_of_place v))
   where
-    go : (r : Result View ViewFault) → IfErr r (λ fault. IsBelow 16 (pointer_place fault)) → Reads Anything (view_read id r)
+    go : (r : Result View ViewFault) → IfErr r (λ fault. IsBelow SLOTS_MOST (pointer_place fault)) → Reads Anything (view_read id r)
     go (Ok pointers) h = tt
     go (Err fault) h = view_refused id fault counts h
 
@@ -162,7 +164,7 @@ request_reads d =
     part_reads Anything IsRequest (Some id) (text_in d (codes "do")) _ counts (some_anything _) (λ name _. asked_reads name id d counts))
 
 text_reads : (s : List ℕ) → Reads IsRequest (request_of_text s)
-text_reads s = either_reads IsRequest (nat_lt 262144 (length s)) _ _ (tt, tt) (data_reads (json.read s))
+text_reads s = either_reads IsRequest (nat_lt REQUEST_MOST (length s)) _ _ (tt, tt) (data_reads (json.read s))
   where
     tree_reads : (d : Option Document) → Reads IsRequest (request_of_tree d)
     tree_reads None = (tt, tt)

@@ -14,6 +14,7 @@ use Rattle.relay_patch.specs.declared.op.Op.{Op}
 use Rattle.relay_view.specs.Form.{view_of}
 use Rattle.relay_view.specs.declared.fault.ViewFault.{ViewFault}
 use Rattle.relay_view.specs.declared.fault.ViewFault.TheVariants as view
+use Rattle.relay_proto.specs.declared.reading.TheConstants.{REQUEST_MOST}
 use Rattle.relay_proto.specs.declared.refusal.Refusal.{Refusal}
 use Rattle.relay_proto.specs.declared.refusal.RequestFault.{RequestFault}
 use Rattle.relay_proto.specs.declared.refusal.RequestFault.TheVariants.{Refused, NoMemory}
@@ -93,7 +94,7 @@ request_of_json (Some value) = request_of_tree (tree_of value)
 
 -- the request that a text is
 abbrev pub request_of_text : List ℕ → Result Request Refusal
-request_of_text s = if nat_lt 262144 (length s) then Err (refusal TooLong None None) else request_of_json (json.read s)
+request_of_text s = if nat_lt REQUEST_MOST (length s) then Err (refusal TooLong None None) else request_of_json (json.read s)
 
 -- the fault is that refusal, or want of memory
 abbrev pub IsRefusedAs : {A : Type 0} → RequestFault → Result A Refusal → Type 0

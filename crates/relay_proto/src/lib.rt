@@ -21,6 +21,6 @@ pub use reading::REQUEST_MOST;
 pub use refusal::{Refusal, RequestFault};
 pub use reply::{How, Reply};
 pub use request::Request;
-pub use room_name::is_room_name;
+pub use room_name::{NAME_MOST, is_room_name};
 pub use text::{patch_text, snapshot_text};
 pub use word::Word;

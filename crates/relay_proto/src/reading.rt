@@ -1,6 +1,7 @@
 //! Requests of texts. The checks come in one order, and the first that fails is the answer: the text's length, JSON, its
 //! numbers, an object with `id`, `do`, the counts that the request needs, and then its patch or its view.
-ghost use Rattle.std.specs.Prelude.{◌≡◌, Ok, Err, IfOk, IfErr};
+ghost use Rattle.std.specs.Prelude.{◌≡◌, ◌≤◌, Ok, Err, IfOk, IfErr, IsErrOf, length};
+ghost use Rattle.relay_proto.specs.declared.reading.TheConstants.{REQUEST_MOST};
 ghost use Rattle.relay_proto.specs.Request.{request_of_text, request_of, resume_of, patch_in, view_in, refusal, IsRefusedAs};
 
 use crate::part::{count_at, text_at};
@@ -16,10 +17,12 @@ use std::alloc::Global;
 pub const REQUEST_MOST: u64 = 262_144;
 
 impl Request {
-    /// The request that a text is, or its first fault. Members that a request does not need are ignored.
+    /// The request that a text is, or its first fault. Members that a request does not need are ignored. NoMemory comes only for a
+    /// text that is not too long.
     pub fn read(alloc: Global, text: &str) -> Result<Request, RequestFault>
         ensures ok { IfOk result (λ request. request_of_text text.now ≡ Ok request) }
         ensures refused { IfErr result (λ fault. IsRefusedAs fault (request_of_text text.now)) }
+        ensures no_memory { IsErrOf result RequestFault.NoMemory → length text.now ≤ REQUEST_MOST }
     {
         if text.len() as u64 > REQUEST_MOST {
             return refuse(Word::TooLong, None, None);

@@ -6,9 +6,10 @@ ghost use Rattle.std.specs.Prelude.{◌≡◌};
 ghost use Rattle.std.specs.List.{list_all};
 ghost use Rattle.relay_proto.specs.RoomName.{is_room_name, is_room_byte};
 
-const NAME_MOST: usize = 64;
+/// How many bytes the name of a room has at most.
+pub const NAME_MOST: usize = 64;
 
-/// Whether the text is the name of a room: 1 to 64 bytes, each an ASCII letter, an ASCII digit, `-` or `_`.
+/// Whether the text is the name of a room: 1 to [`NAME_MOST`] bytes, each an ASCII letter, an ASCII digit, `-` or `_`.
 /// No memory is taken.
 pub fn is_room_name(name: &str) -> bool
     ensures { result ≡ is_room_name name.now }
