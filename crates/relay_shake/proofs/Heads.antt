@@ -8,8 +8,9 @@ use Rattle.httparse.specs.Grammar.{RequestHead, Field, IsField, LineEnd, crlf, l
 use Rattle.httparse.specs.Spans.{RequestExceeds}
 use Rattle.std.proofs.lemmas.List.Elements.{All-head, All-tail}
 use Rattle.httparse.proofs.GrammarLemmas.{request_unique}
+use Rattle.relay_shake.specs.declared.reading.TheConstants.{FIELDS_ROOM, HEAD_MOST}
 use Rattle.relay_shake.specs.declared.answer.Shake.{Shake}
-use Rattle.relay_shake.specs.Head.{Lines, parts_of}
+use Rattle.relay_shake.specs.Head.{Fields, parts_of}
 use Rattle.relay_shake.specs.Handshake.{window, refuse, verdict_before_head, verdict_of, verdict_on}
 use Rattle.relay_shake.specs.Shaken.{Shows, AnswersHead}
 
@@ -19,17 +20,17 @@ none_from_never bytes never = subst HasNoRequest (append-nil bytes) (never [])
 
 -- the verdict on the one head that is there is that on every head that is
 pub every_head : (bytes : List ℕ) (answer : Shake) (head : RequestHead) (rest : List ℕ) → ReadsRequest (window bytes) head rest
-    → Shows answer (verdict_of head (rest ++ drop 8192 bytes)) → AnswersHead bytes answer
+    → Shows answer (verdict_of head (rest ++ drop HEAD_MOST bytes)) → AnswersHead bytes answer
 every_head bytes answer head rest reads shows = λ other behind found.
     let same = request_unique (window bytes) head other rest behind reads found in
-    let at_head : Shows answer (verdict_of other (rest ++ drop 8192 bytes)) = subst (λ h. Shows answer (verdict_of h (rest ++ drop 8192 bytes))) same.0 shows in
-    subst (λ r. Shows answer (verdict_of other (r ++ drop 8192 bytes))) same.1 at_head
+    let at_head : Shows answer (verdict_of other (rest ++ drop HEAD_MOST bytes)) = subst (λ h. Shows answer (verdict_of h (rest ++ drop HEAD_MOST bytes))) same.0 shows in
+    subst (λ r. Shows answer (verdict_of other (r ++ drop HEAD_MOST bytes))) same.1 at_head
 
 length-end : (e : LineEnd) → 1 ≤ length (print_end e)
 length-end crlf = omega arith
 length-end lf = omega arith
 
--- each header line takes three bytes
+-- each header field takes three bytes
 length-field : (f : Field) → IsField f → 3 ≤ length (print_field f)
 length-field f fit =
     simp length-append (omega (arith, fit.name.0, length-end f.end))
@@ -41,20 +42,20 @@ length-fields (f ∷ fields) fit =
     let rest = length-fields fields (All-tail IsField f fields fit) in
     omega (arith, rest, first, length-append (print_field f) (flat_map print_field fields))
 
--- a head is longer than its header lines
+-- a head is longer than its header fields
 length-head : (head : RequestHead) (rest : List ℕ) → All IsField head.fields → 3 * length head.fields < length (print_request head ++ rest)
 unfolding print_request
 length-head head rest fit = simp length-append (omega (arith, length-fields head.fields fit, length-end head.last))
 
--- the lines of the window fit the room
-pub no_excess : (bytes buffer : List ℕ) (room : ℕ) → buffer ≡ window bytes → room ≡ 2730 → RequestExceeds room buffer → ⊥
+-- the fields of the window fit the room
+pub no_excess : (bytes buffer : List ℕ) (room : ℕ) → buffer ≡ window bytes → room ≡ FIELDS_ROOM → RequestExceeds room buffer → ⊥
 no_excess bytes buffer room same enough (front, rest, parts, head, reads, many) =
     let long : 3 * length head.fields < length (front ++ print_end lf) =
     subst (λ b. 3 * length head.fields < length b) (sym reads.1) (length-head head [] reads.0.fields) in
-    omega (arith, many, long, enough, length-append front (print_end lf), ap length parts, ap length same, length-append front rest, length-take 8192 bytes)
+    omega (arith, many, long, enough, length-append front (print_end lf), ap length parts, ap length same, length-append front rest, length-take HEAD_MOST bytes)
 
 -- past the limit the verdict is 431
-pub past_limit : (bytes : List ℕ) → 8192 < length bytes → verdict_before_head bytes ≡ refuse 431
+pub past_limit : (bytes : List ℕ) → HEAD_MOST < length bytes → verdict_before_head bytes ≡ refuse 431
 past_limit bytes long = grind (arith, nat_tests)
 
 nat_lt-minus : (m n k : ℕ) → k ≡ n - m → nat_lt m n ≡ nat_lt 0 k
@@ -62,10 +63,10 @@ nat_lt-minus m n k e = rw e (grind (arith, nat_tests))
 
 -- bytes follow a head of the window just where the bytes go on behind it
 pub nat_lt-behind : (len : ℕ) (bytes : List ℕ) → len ≤ length (window bytes)
-    → nat_lt len (length bytes) ≡ nat_lt 0 (length (drop len (window bytes) ++ drop 8192 bytes))
+    → nat_lt len (length bytes) ≡ nat_lt 0 (length (drop len (window bytes) ++ drop HEAD_MOST bytes))
 nat_lt-behind len bytes within =
     nat_lt-minus len (length bytes) _
-    (omega (arith, within, length-append (drop len (window bytes)) (drop 8192 bytes), length-drop len (window bytes), length-drop 8192 bytes, length-take 8192 bytes))
+    (omega (arith, within, length-append (drop len (window bytes)) (drop HEAD_MOST bytes), length-drop len (window bytes), length-drop HEAD_MOST bytes, length-take HEAD_MOST bytes))
 
 -- what a copied option holds
 pub now-from_copied : (o : Option (Bor (List ℕ))) (d : Bor (List ℕ)) (x : List ℕ) → option_copied o ≡ Some x → (unwrap_or o d).now ≡ x
@@ -76,12 +77,12 @@ pub value-from_some : (o : Option ℕ) (d x : ℕ) → o ≡ Some x → unwrap_o
 value-from_some o d x e = ap (λ p. unwrap_or p d) e
 
 -- the verdict over equal parts
-pub same_verdict : (method target : List ℕ) (minor : ℕ) (lines : Lines) (more : Bool) (head : RequestHead) (surplus : List ℕ)
-    → method ≡ head.method → target ≡ head.target → minor ≡ head.minor → lines ≡ (parts_of head surplus).lines → more ≡ nat_lt 0 (length surplus)
-    → verdict_on (record { method = method; target = target; minor = minor; lines = lines; has_surplus = more }) ≡ verdict_of head surplus
-same_verdict method target minor lines more head surplus m t n l k =
-    ap (λ x. verdict_on (record { method = x; target = target; minor = minor; lines = lines; has_surplus = more })) m
-    ∙ ap (λ x. verdict_on (record { method = head.method; target = x; minor = minor; lines = lines; has_surplus = more })) t
-    ∙ ap (λ x. verdict_on (record { method = head.method; target = head.target; minor = x; lines = lines; has_surplus = more })) n
-    ∙ ap (λ x. verdict_on (record { method = head.method; target = head.target; minor = head.minor; lines = x; has_surplus = more })) l
-    ∙ ap (λ x. verdict_on (record { method = head.method; target = head.target; minor = head.minor; lines = (parts_of head surplus).lines; has_surplus = x })) k
+pub same_verdict : (method target : List ℕ) (minor : ℕ) (fields : Fields) (more : Bool) (head : RequestHead) (surplus : List ℕ)
+    → method ≡ head.method → target ≡ head.target → minor ≡ head.minor → fields ≡ (parts_of head surplus).fields → more ≡ nat_lt 0 (length surplus)
+    → verdict_on (record { method = method; target = target; minor = minor; fields = fields; has_surplus = more }) ≡ verdict_of head surplus
+same_verdict method target minor fields more head surplus m t n l k =
+    ap (λ x. verdict_on (record { method = x; target = target; minor = minor; fields = fields; has_surplus = more })) m
+    ∙ ap (λ x. verdict_on (record { method = head.method; target = x; minor = minor; fields = fields; has_surplus = more })) t
+    ∙ ap (λ x. verdict_on (record { method = head.method; target = head.target; minor = x; fields = fields; has_surplus = more })) n
+    ∙ ap (λ x. verdict_on (record { method = head.method; target = head.target; minor = head.minor; fields = x; has_surplus = more })) l
+    ∙ ap (λ x. verdict_on (record { method = head.method; target = head.target; minor = head.minor; fields = (parts_of head surplus).fields; has_surplus = x })) k

@@ -11,7 +11,7 @@ use Rattle.relay_shake.specs.declared.fault.Fault.TheVariants.{Refused, NoMemory
 
 -- the parts that a borrowed head shows
 abbrev pub parts : Head → Parts
-parts head = record { method = head.method.now; target = head.target.now; minor = head.minor; lines = map header_parts head.lines.now; has_surplus = head.has_surplus }
+parts head = record { method = head.method.now; target = head.target.now; minor = head.minor; fields = map header_parts head.fields.now; has_surplus = head.has_surplus }
 
 -- the outcome is the verdict, if there was memory for it
 abbrev pub Judges : Result Accepted Fault → Verdict → Type 0

@@ -29,9 +29,9 @@ status_text status =
     if status == 503 then codes "503 Service Unavailable" else
     codes "400 Bad Request"
 
--- the header lines of a refusal, from the end of the status line on
-abbrev pub refusal_lines : ℕ → List ℕ
-refusal_lines status =
+-- the header fields of a refusal, from the end of the status line on
+abbrev pub refusal_fields : ℕ → List ℕ
+refusal_fields status =
     if status == 405 then codes "\r\nAllow: GET\r\nContent-Length: 0\r\nConnection: close\r\n\r\n" else
     if status == 426 then
     codes "\r\nUpgrade: websocket\r\nSec-WebSocket-Version: 13\r\nContent-Length: 0\r\nConnection: close, Upgrade\r\n\r\n"
@@ -39,4 +39,4 @@ refusal_lines status =
 
 -- the reply that refuses a handshake
 abbrev pub refusal_of : ℕ → List ℕ
-refusal_of status = codes "HTTP/1.1 " ++ status_text status ++ refusal_lines status
+refusal_of status = codes "HTTP/1.1 " ++ status_text status ++ refusal_fields status

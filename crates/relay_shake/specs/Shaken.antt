@@ -1,6 +1,7 @@
 -- What is answered to the bytes that came so far.
 use Rattle.std.specs.Prelude.{◌≡◌, ◌⊎◌, ℕ, List, ◌++◌, drop, string_bytes}
 use Rattle.httparse.specs.Grammar.{RequestHead, ReadsRequest, HasNoRequest, NeverHasRequest, MayBecomeRequest}
+use Rattle.relay_shake.specs.declared.reading.TheConstants.{HEAD_MOST}
 use Rattle.relay_shake.specs.Handshake.{Verdict, wait, accept, refuse, verdict_of, window, verdict_before_head}
 use Rattle.relay_shake.specs.Replies.{accept_reply, refusal_of}
 use Rattle.relay_shake.specs.declared.answer.Shake.{Shake}
@@ -17,7 +18,7 @@ Shows _ _ = ⊥
 abbrev pub AnswersHead : List ℕ → Shake → Type 0
 AnswersHead bytes answer =
     (head : RequestHead) (rest : List ℕ) → ReadsRequest (window bytes) head rest
-    → Shows answer (verdict_of head (rest ++ drop 8192 bytes))
+    → Shows answer (verdict_of head (rest ++ drop HEAD_MOST bytes))
 
 -- where none is there: more is waited for, up to the limit, only while a head can come or the bytes end in a target;
 -- 400 only where none can come

@@ -4,13 +4,14 @@ ghost use Rattle.relay_shake.specs.Judged.{parts, Judges, HasReply};
 ghost use Rattle.relay_shake.specs.Handshake.{verdict_on};
 
 use crate::fault::Fault;
+use crate::fields::{has_element, only_value};
 use crate::head::Head;
 use crate::key::key_of;
-use crate::lines::{has_element, only_value};
 use crate::route::room_of;
 use std::alloc::Global;
 
-const LINES_MOST: usize = 32;
+/// How many header fields a head has at most.
+pub(crate) const FIELDS_MOST: usize = 32;
 
 /// What an accepted head asks for.
 #[derive(Drop)]
@@ -24,16 +25,16 @@ pub(crate) fn judge<'b>(alloc: Global, head: &Head<'_, 'b>) -> Result<Accepted<'
     ensures verdict { Judges result (verdict_on (parts head.now)) }
     ensures status { IfErr result HasReply }
 {
-    demand(head.lines.len() <= LINES_MOST, 431)?;
+    demand(head.fields.len() <= FIELDS_MOST, 431)?;
     demand(head.method == "GET", 405)?;
     let room = room_of(alloc, head.target)?.ok_or(Fault::Refused(404))?;
     demand(head.minor == 1, 400)?;
-    demand(only_value(head.lines, "Host").is_some(), 400)?;
-    demand(has_element(head.lines, "Upgrade", "websocket"), 400)?;
-    demand(has_element(head.lines, "Connection", "Upgrade"), 400)?;
-    let version = only_value(head.lines, "Sec-WebSocket-Version").ok_or(Fault::Refused(400))?;
+    demand(only_value(head.fields, "Host").is_some(), 400)?;
+    demand(has_element(head.fields, "Upgrade", "websocket"), 400)?;
+    demand(has_element(head.fields, "Connection", "Upgrade"), 400)?;
+    let version = only_value(head.fields, "Sec-WebSocket-Version").ok_or(Fault::Refused(400))?;
     demand(version == "13".as_bytes(), 426)?;
-    let key = key_of(head.lines).ok_or(Fault::Refused(400))?;
+    let key = key_of(head.fields).ok_or(Fault::Refused(400))?;
     // A client waits for the reply.
     demand(!head.has_surplus, 400)?;
     Ok(Accepted { room, key })

@@ -8,7 +8,7 @@ pub(crate) struct Head<'h, 'b> {
     pub target: &'b str,
     /// The digit behind `HTTP/1.`.
     pub minor: u8,
-    pub lines: &'h [Header<'b>],
+    pub fields: &'h [Header<'b>],
     /// Whether a byte stands behind the head.
     pub has_surplus: bool,
 }

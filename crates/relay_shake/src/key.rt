@@ -4,17 +4,17 @@ ghost use Rattle.std.specs.List.{list_all};
 ghost use Rattle.httparse.specs.Borrowed.{header_parts};
 ghost use Rattle.relay_shake.specs.Key.{is_base64_byte, is_key, key_of};
 
-use crate::lines::only_value;
+use crate::fields::only_value;
 use httparse::Header;
 
 /// Base64 writes 16 bytes as so many characters, and then `==`.
 const DIGITS: usize = 22;
 
-/// The value of the one key line, where it has the form of 16 bytes in base64.
-pub(crate) fn key_of<'b>(lines: &[Header<'b>]) -> Option<&'b [u8]>
-    ensures { option_map (λ key. key.now) result ≡ key_of (map header_parts lines.now) }
+/// The value of the one key field, where it has the form of 16 bytes in base64.
+pub(crate) fn key_of<'b>(fields: &[Header<'b>]) -> Option<&'b [u8]>
+    ensures { option_map (λ key. key.now) result ≡ key_of (map header_parts fields.now) }
 {
-    only_value(lines, "Sec-WebSocket-Key").filter(|key| is_key(key))
+    only_value(fields, "Sec-WebSocket-Key").filter(|key| is_key(key))
 }
 
 fn is_key(value: &[u8]) -> bool

@@ -11,9 +11,9 @@
 mod answer;
 mod checks;
 mod fault;
+mod fields;
 mod head;
 mod key;
-mod lines;
 mod reading;
 mod reply;
 mod route;

@@ -15,25 +15,26 @@ use crate::reply::{accept_reply, refusal};
 use httparse::{EMPTY_HEADER, Error, Request, Status};
 use std::alloc::{AllocError, Global};
 
-const HEAD_MOST: usize = 8_192;
+/// In how many bytes a head is looked for.
+pub(crate) const HEAD_MOST: usize = 8_192;
 
-/// A head of that many bytes has no more header lines, since each takes three.
-const LINES_ROOM: usize = 2_730;
+/// A head of that many bytes has no more header fields, since each takes three.
+pub(crate) const FIELDS_ROOM: usize = 2_730;
 
 /// The answer to all bytes that came so far.
 ///
 /// A head is looked for in the first 8,192 bytes. Where they begin with one, the first check that fails gives the
 /// status of [`Shake::Refuse`]:
 ///
-/// 1. at most 32 header lines, else 431;
+/// 1. at most 32 header fields, else 431;
 /// 2. the method `GET`, else 405;
 /// 3. the target `/rooms/` and a room name, with no query, else 404;
 /// 4. HTTP/1.1, else 400;
-/// 5. one line `Host`, else 400;
-/// 6. the element `websocket` in a line `Upgrade`, else 400;
-/// 7. the element `Upgrade` in a line `Connection`, else 400;
-/// 8. one line `Sec-WebSocket-Version`, else 400; it says `13`, else 426;
-/// 9. one line `Sec-WebSocket-Key`, whose value is 16 bytes in base64, else 400;
+/// 5. one field `Host`, else 400;
+/// 6. the element `websocket` in a field `Upgrade`, else 400;
+/// 7. the element `Upgrade` in a field `Connection`, else 400;
+/// 8. one field `Sec-WebSocket-Version`, else 400; it says `13`, else 426;
+/// 9. one field `Sec-WebSocket-Key`, whose value is 16 bytes in base64, else 400;
 /// 10. no byte behind the head, since a client waits for the reply, else 400.
 ///
 /// A head that passes is accepted, and other headers are ignored: no extension and no protocol is agreed on.
@@ -42,19 +43,19 @@ const LINES_ROOM: usize = 2_730;
 /// it is 400 where none can. One place is open: where the bytes end in a target that no head can have, as one that is
 /// not UTF-8, either answer may come until the target has ended.
 ///
-/// Each call reads from the first byte, and takes about 90 KB for the header lines while it does. `AllocError` comes where
+/// Each call reads from the first byte, and takes about 90 KB for the header fields while it does. `AllocError` comes where
 /// memory was refused, and nothing is left of the call.
 pub fn shake(alloc: Global, bytes: &[u8]) -> Result<Shake, AllocError>
     ensures head { IfOk result (AnswersHead bytes.now) }
     // Both parts hold only where the bytes end in a target that no head can have.
     ensures no_head { IfOk result (AnswersNoHead bytes.now) }
 {
-    let mut lines = vec![in alloc; EMPTY_HEADER; LINES_ROOM]?;
-    let mut request = Request::new(&mut lines);
+    let mut fields = vec![in alloc; EMPTY_HEADER; FIELDS_ROOM]?;
+    let mut request = Request::new(&mut fields);
     match request.parse(window(bytes)) {
         Ok(Status::Complete(len)) => with_head(alloc, bytes, &request, len),
         Ok(Status::Partial) => without_head(alloc, bytes),
-        // There is room for each line that the window can hold, so that this never comes.
+        // There is room for each field that the window can hold, so that this never comes.
         Err(Error::TooManyHeaders) => without_head(alloc, bytes),
         Err(_) => hopeless(alloc, bytes),
     }
@@ -85,7 +86,7 @@ fn with_head(
         method: request.method.unwrap_or(""),
         target: request.path.unwrap_or(""),
         minor: request.version.unwrap_or(0),
-        lines: &*request.headers,
+        fields: &*request.headers,
         has_surplus: len < bytes.len(),
     };
     answer(alloc, &head)

@@ -1,6 +1,6 @@
 //! The bytes of the replies.
 ghost use Rattle.std.specs.Prelude.{◌≡◌, ◌++◌, IfOk, OnOk, IsTrue, codes, string_bytes};
-ghost use Rattle.relay_shake.specs.Replies.{accept_value, accept_reply, status_text, refusal_lines, refusal_of, is_refusal};
+ghost use Rattle.relay_shake.specs.Replies.{accept_value, accept_reply, status_text, refusal_fields, refusal_of, is_refusal};
 
 use base64::engine::general_purpose::STANDARD;
 use http::StatusCode;
@@ -45,7 +45,7 @@ pub fn refusal(alloc: Global, status: u16) -> Result<Vec<u8>, AllocError>
     let mut reply = Vec::new(alloc);
     reply.extend_from_slice(b"HTTP/1.1 ")?;
     write_status(&mut reply, status)?;
-    reply.extend_from_slice(refusal_lines(status).as_bytes())?;
+    reply.extend_from_slice(refusal_fields(status).as_bytes())?;
     Ok(reply)
 }
 
@@ -61,8 +61,8 @@ fn write_status(reply: &mut Vec<u8>, status: u16) -> Result<(), AllocError>
     Ok(())
 }
 
-fn refusal_lines(status: u16) -> &'static str
-    ensures { result.now ≡ refusal_lines status }
+fn refusal_fields(status: u16) -> &'static str
+    ensures { result.now ≡ refusal_fields status }
 {
     match status {
         405 => "\r\nAllow: GET\r\nContent-Length: 0\r\nConnection: close\r\n\r\n",

@@ -3,6 +3,7 @@ use Rattle.std.proofs.Common.{◌≡◌, ◌++◌, length, nat_lt, drop, map, su
 use Rattle.std.proofs.lemmas.Result.{IfOk-weaker}
 use Rattle.httparse.specs.Borrowed.{header_parts}
 use Rattle.httparse.specs.Grammar.{print_request}
+use Rattle.relay_shake.specs.declared.reading.TheConstants.{HEAD_MOST}
 use Rattle.relay_shake.specs.Handshake.{window}
 use Rattle.relay_shake.specs.Shaken.{Shows}
 use Rattle.relay_shake.proofs.Heads.{every_head, same_verdict, now-from_copied, value-from_some, nat_lt-behind}
@@ -16,10 +17,10 @@ returns-clause-head c =
     let method : c.unwrap_or.result.now ≡ head.method = ap (λ m. m.now) c.unwrap_or.ensures ∙ now-from_copied _ _ head.method holds.method in
     let target : c.unwrap_or-2.result.now ≡ head.target = ap (λ m. m.now) c.unwrap_or-2.ensures ∙ now-from_copied _ _ head.target holds.path in
     let minor : c.unwrap_or-3.result ≡ head.minor = c.unwrap_or-3.ensures ∙ value-from_some _ 0 head.minor holds.version in
-    let more : nat_lt c.args.len (length bytes) ≡ nat_lt 0 (length (rest ++ drop 8192 bytes)) =
+    let more : nat_lt c.args.len (length bytes) ≡ nat_lt 0 (length (rest ++ drop HEAD_MOST bytes)) =
     nat_lt-behind c.args.len bytes (omega (arith, holds.len_is, ap length holds.reads.1, length-append (print_request head) rest)) in
     IfOk-weaker c.answer.result _ _
     (λ answer shows. every_head bytes answer head rest holds.reads (subst (Shows answer)
     (same_verdict c.unwrap_or.result.now c.unwrap_or-2.result.now c.unwrap_or-3.result (map header_parts c.args.request.now.headers.now) (nat_lt c.args.len (length bytes))
-    head (rest ++ drop 8192 bytes) method target minor holds.fields more) shows))
+    head (rest ++ drop HEAD_MOST bytes) method target minor holds.fields more) shows))
     c.answer.ensures

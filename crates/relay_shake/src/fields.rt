@@ -1,4 +1,4 @@
-//! Header lines by name.
+//! Header fields by name.
 //!
 //! Names, and the elements of a list, compare without regard to ASCII case (RFC 9110, sections 5.1 and 5.6.1). A value
 //! has lost the spaces and tabs round it already; an element loses them too.
@@ -10,47 +10,45 @@ ghost use Rattle.relay_shake.specs.Head.{count_of, first_value, only_value, list
 
 use httparse::Header;
 
-/// The value of the line of that name, where there is exactly one.
-pub(crate) fn only_value<'b>(lines: &[Header<'b>], name: &str) -> Option<&'b [u8]>
-    ensures { option_map (λ value. value.now) result ≡ only_value name.now (map header_parts lines.now) }
+/// The value of the field of that name, where there is exactly one.
+pub(crate) fn only_value<'b>(fields: &[Header<'b>], name: &str) -> Option<&'b [u8]>
+    ensures { option_map (λ value. value.now) result ≡ only_value name.now (map header_parts fields.now) }
 {
-    if count(lines, name) == 1 {
-        first_value(lines, name)
+    if count(fields, name) == 1 {
+        first_value(fields, name)
     } else {
         None
     }
 }
 
-/// Whether a line of that name lists the element.
-pub(crate) fn has_element(lines: &[Header<'_>], name: &str, element: &str) -> bool
-    ensures { result ≡ has_element name.now element.now (map header_parts lines.now) }
+/// Whether a field of that name lists the element.
+pub(crate) fn has_element(fields: &[Header<'_>], name: &str, element: &str) -> bool
+    ensures { result ≡ has_element name.now element.now (map header_parts fields.now) }
 {
-    lines
-        .iter()
-        .any(|line| is_named(line, name) && lists(line.value, element))
+    fields.iter().any(|field| is_named(field, name) && lists(field.value, element))
 }
 
-fn count(lines: &[Header<'_>], name: &str) -> usize
-    ensures { result ≡ count_of name.now (map header_parts lines.now) }
+fn count(fields: &[Header<'_>], name: &str) -> usize
+    ensures { result ≡ count_of name.now (map header_parts fields.now) }
 {
-    lines.iter().filter(|line| is_named(line, name)).count()
+    fields.iter().filter(|field| is_named(field, name)).count()
 }
 
-fn first_value<'b>(lines: &[Header<'b>], name: &str) -> Option<&'b [u8]>
-    ensures { option_map (λ value. value.now) result ≡ first_value name.now (map header_parts lines.now) }
+fn first_value<'b>(fields: &[Header<'b>], name: &str) -> Option<&'b [u8]>
+    ensures { option_map (λ value. value.now) result ≡ first_value name.now (map header_parts fields.now) }
 {
-    for line in lines {
-        if is_named(line, name) {
-            return Some(line.value);
+    for field in fields {
+        if is_named(field, name) {
+            return Some(field.value);
         }
     }
     None
 }
 
-fn is_named(line: &Header<'_>, name: &str) -> bool
-    ensures { result ≡ str_eq_ignore_ascii_case line.now.name.now name.now }
+fn is_named(field: &Header<'_>, name: &str) -> bool
+    ensures { result ≡ str_eq_ignore_ascii_case field.now.name.now name.now }
 {
-    line.name.eq_ignore_ascii_case(name)
+    field.name.eq_ignore_ascii_case(name)
 }
 
 fn lists(value: &[u8], element: &str) -> bool

@@ -1,7 +1,7 @@
 -- What was passed over is space.
 use Rattle.std.proofs.Common.{◌≡◌, length, reverse}
 use Rattle.httparse.specs.Grammar.{skip_ows}
-use Rattle.relay_shake.proofs.lines.trimmed_end.Given as goal
+use Rattle.relay_shake.proofs.fields.trimmed_end.Given as goal
 
 abbrev pub invariant-loop-rest : goal.invariant-loop-rest
 invariant-loop-rest l = skip_ows (reverse l.fn.bytes) ≡ skip_ows (reverse l.rest)
