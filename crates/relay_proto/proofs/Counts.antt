@@ -4,7 +4,7 @@ use Rattle.std.specs.Prelude.{IfOk, IfErr, IfSome, MatchResult, codes}
 use Rattle.std.proofs.lemmas.Bool.Decides.{nat_tests}
 use Rattle.serde_json.specs.Data.{Data}
 use Rattle.serde_json.specs.Read as json
-use Rattle.relay_tree.specs.Count.{count_of, is_count}
+use Rattle.relay_tree.specs.Count.{count_of, count_most, is_count}
 use Rattle.relay_tree.specs.Document.{Document, whole, list, text}
 use Rattle.relay_tree.specs.Part.{object_member}
 use Rattle.relay_tree.specs.Text.{tree_of}
@@ -15,6 +15,7 @@ use Rattle.relay_patch.proofs.Places.{place, IsBelow, few-place, patch_of-length
 use Rattle.relay_patch.specs.Form.{text_in, patch_of}
 use Rattle.relay_patch.specs.declared.limits.PatchFault.{PatchFault}
 use Rattle.relay_patch.specs.declared.limits.PatchFault.TheVariants as patch
+use Rattle.relay_patch.specs.declared.limits.TheConstants.PatchLimits.{REQUEST}
 use Rattle.relay_patch.specs.declared.op.Op.{Op}
 use Rattle.relay_view.specs.Form.{path_within, path_at, view_of}
 use Rattle.relay_view.specs.declared.fault.ViewFault.{ViewFault}
@@ -28,9 +29,9 @@ use Rattle.relay_proto.specs.declared.reply.Reply.TheVariants.{Refused}
 use Rattle.relay_proto.specs.declared.request.Request.{Request}
 use Rattle.relay_proto.specs.declared.request.Request.TheVariants.{Edit, Watch, Resume, Unwatch}
 
--- a request's numbers are counts, and it has at most 64 operations
+-- a request's numbers are counts, and it has no more operations than it may
 abbrev pub IsRequest : Request → Type 0
-IsRequest (Edit id ops) = IsCount id × (length ops ≤ 64)
+IsRequest (Edit id ops) = IsCount id × (length ops ≤ REQUEST.ops)
 IsRequest (Watch id pointers) = IsCount id
 IsRequest (Resume id epoch rev pointers) = IsCount id × IsCount epoch × IsCount rev
 IsRequest (Unwatch id) = IsCount id
@@ -82,25 +83,25 @@ count_in_is d name = go (object_member d name)
     go None = tt
     go (Some v) = count_of_is v
 
-below_is : (most : ℕ) (o : Option ℕ) → most ≤ 64 → IsBelow most o → IsCountOrNull o
+below_is : (most : ℕ) (o : Option ℕ) → most ≤ count_most → IsBelow most o → IsCountOrNull o
 below_is most None few h = tt
 below_is most (Some n) few h = omega (arith, few, h)
 
 -- Patches.
 
-patch_refused : (id : ℕ) (fault : PatchFault) → IsCount id → IsBelow 64 (place fault) → IsRefusal (patch_refusal id fault)
+patch_refused : (id : ℕ) (fault : PatchFault) → IsCount id → IsBelow REQUEST.ops (place fault) → IsRefusal (patch_refusal id fault)
 patch_refused id patch.TooManyOps counts h = (counts, tt)
-patch_refused id (patch.Shape at) counts h = (counts, below_is 64 at (omega arith) h)
-patch_refused id (patch.UnknownOp at) counts h = (counts, below_is 64 (Some at) (omega arith) h)
-patch_refused id (patch.Pointer at) counts h = (counts, below_is 64 (Some at) (omega arith) h)
+patch_refused id (patch.Shape at) counts h = (counts, below_is REQUEST.ops at (omega arith) h)
+patch_refused id (patch.UnknownOp at) counts h = (counts, below_is REQUEST.ops (Some at) (omega arith) h)
+patch_refused id (patch.Pointer at) counts h = (counts, below_is REQUEST.ops (Some at) (omega arith) h)
 patch_refused id patch.NoMemory counts h = (counts, tt)
 
-patch_reads : (id : ℕ) (d : Document) → IsCount id → Reads (λ ops. length ops ≤ 64) (patch_in id d)
+patch_reads : (id : ℕ) (d : Document) → IsCount id → Reads (λ ops. length ops ≤ REQUEST.ops) (patch_in id d)
 patch_reads id d counts =
-    part_reads Anything (λ ops. length ops ≤ 64) (Some id) (object_member d (codes "patch")) _ counts (some_anything _)
-    (λ p _. go (patch_of 64 64 p) (patch_of-length 64 64 p) (patch_of-place 64 64 p))
+    part_reads Anything (λ ops. length ops ≤ REQUEST.ops) (Some id) (object_member d (codes "patch")) _ counts (some_anything _)
+    (λ p _. go (patch_of REQUEST.ops REQUEST.tokens p) (patch_of-length REQUEST.ops REQUEST.tokens p) (patch_of-place REQUEST.ops REQUEST.tokens p))
   where
-    go : (r : Result (List Op) PatchFault) → IfOk r (λ ops. length ops ≤ 64) → IfErr r (λ fault. IsBelow 64 (place fault)) → Reads (λ ops. length ops ≤ 64) (patch_read id r)
+    go : (r : Result (List Op) PatchFault) → IfOk r (λ ops. length ops ≤ REQUEST.ops) → IfErr r (λ fault. IsBelow REQUEST.ops (place fault)) → Reads (λ ops. length ops ≤ REQUEST.ops) (patch_read id r)
     go (Ok ops) h k = h
     go (Err fault) h k = patch_refused id fault counts k
 
@@ -153,7 +154,7 @@ resume_reads id d counts =
 
 asked_reads : (name : List ℕ) (id : ℕ) (d : Document) → IsCount id → Reads IsRequest (asked name id d)
 asked_reads name id d counts =
-    either_reads IsRequest (bytes_eq name (codes "edit")) _ _ (then_reads (λ ops. length ops ≤ 64) IsRequest (patch_in id d) _ (patch_reads id d counts) (λ ops short. (counts, short)))
+    either_reads IsRequest (bytes_eq name (codes "edit")) _ _ (then_reads (λ ops. length ops ≤ REQUEST.ops) IsRequest (patch_in id d) _ (patch_reads id d counts) (λ ops short. (counts, short)))
     (either_reads IsRequest (bytes_eq name (codes "watch")) _ _ (then_reads Anything IsRequest (view_in id d) _ (view_reads id d counts) (λ v _. counts))
     (either_reads IsRequest (bytes_eq name (codes "resume")) _ _ (resume_reads id d counts)
     (either_reads IsRequest (bytes_eq name (codes "unwatch")) _ _ counts (counts, tt))))

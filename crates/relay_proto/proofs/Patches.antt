@@ -1,5 +1,5 @@
 -- A patch that was written reads back as itself, where its paths are short.
-use Rattle.std.proofs.Common.{◌≡◌, ℕ, suc, ◌<◌, ◌^◌, ◌-◌, List, [], ◌∷◌, length, true, false, nat_le, nat_lt, Ok, refl, ap, ◌∙◌, arith}
+use Rattle.std.proofs.Common.{◌≡◌, ℕ, suc, ◌<◌, ◌^◌, List, [], ◌∷◌, length, true, false, nat_le, nat_lt, Ok, refl, ap, ◌∙◌, arith}
 use Rattle.std.proofs.lemmas.Bool.Decides.{nat_tests}
 use Rattle.std.specs.List.{AllByRecursion}
 use Rattle.relay_tree.specs.Document.{object}
@@ -10,16 +10,17 @@ use Rattle.relay_pointer.specs.Spelling.{spelling}
 use Rattle.relay_pointer.proofs.Spellings.{path_of_text-spelling}
 use Rattle.relay_patch.specs.Form.{path_in, path_within, op_at, op_members, ops_items, patch_of, patch_document}
 use Rattle.relay_patch.specs.Sizes.{IsShort}
+use Rattle.relay_patch.specs.declared.limits.TheConstants.PatchLimits.{RELAYED}
 use Rattle.relay_patch.specs.declared.op.Op.{Op}
 use Rattle.relay_patch.specs.declared.op.Op.TheVariants.{Add, Remove, Replace, Move, Copy, Test}
 use Rattle.relay_proto.specs.Written.{HasShortPaths}
 
-path_back : (n : ℕ) (path : Path) → IsShort 66 path → path_in 66 n (spelling path) ≡ Ok path
+path_back : (n : ℕ) (path : Path) → IsShort RELAYED.tokens path → path_in RELAYED.tokens n (spelling path) ≡ Ok path
 path_back n path h =
-    let short : nat_le (length path) 66 ≡ true = grind (arith, nat_tests) in
-    ap (path_within 66 n) (path_of_text-spelling path) ∙ rw short refl
+    let short : nat_le (length path) RELAYED.tokens ≡ true = grind (arith, nat_tests) in
+    ap (path_within RELAYED.tokens n) (path_of_text-spelling path) ∙ rw short refl
 
-op_back : (n : ℕ) (o : Op) → HasShortPaths o → op_at 66 n (object (op_members o)) ≡ Ok o
+op_back : (n : ℕ) (o : Op) → HasShortPaths o → op_at RELAYED.tokens n (object (op_members o)) ≡ Ok o
 op_back n (Add path v) h = rw (path_back n path h) refl
 op_back n (Remove path) h = rw (path_back n path h) refl
 op_back n (Replace path v) h = rw (path_back n path h) refl
@@ -27,7 +28,7 @@ op_back n (Move from path) h = rw (path_back n path h.1, path_back n from h.0) r
 op_back n (Copy from path) h = rw (path_back n path h.1, path_back n from h.0) refl
 op_back n (Test path v) h = rw (path_back n path h) refl
 
-ops_back : (n : ℕ) (ops : List Op) → AllByRecursion HasShortPaths ops → each_from (op_at 66) n (ops_items ops) ≡ Ok ops
+ops_back : (n : ℕ) (ops : List Op) → AllByRecursion HasShortPaths ops → each_from (op_at RELAYED.tokens) n (ops_items ops) ≡ Ok ops
 ops_back n [] h = refl
 ops_back n (o ∷ ops) h = rw (op_back n o h.0, ops_back (suc n) ops h.1) refl
 
@@ -35,7 +36,7 @@ items_length-ops_items : (ops : List Op) → items_length (ops_items ops) ≡ le
 items_length-ops_items [] = refl
 items_length-ops_items (o ∷ ops) = ap suc (items_length-ops_items ops)
 
-pub patch_back : (ops : List Op) → AllByRecursion HasShortPaths ops → length ops < 2 ^ 64 → patch_of (2 ^ 64 - 1) 66 (patch_document ops) ≡ Ok ops
+pub patch_back : (ops : List Op) → AllByRecursion HasShortPaths ops → length ops < 2 ^ 64 → patch_of RELAYED.ops RELAYED.tokens (patch_document ops) ≡ Ok ops
 patch_back ops short few =
-    let test : nat_lt (2 ^ 64 - 1) (length ops) ≡ false = grind (arith, nat_tests) in
+    let test : nat_lt RELAYED.ops (length ops) ≡ false = grind (arith, nat_tests) in
     rw (items_length-ops_items ops, test) (ops_back 0 ops short)

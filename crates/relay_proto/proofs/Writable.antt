@@ -1,5 +1,5 @@
 -- The messages that bring a view up to date are writable, where the document and the patch keep to the relay's bounds.
-use Rattle.std.proofs.Common.{◌≡◌, ℕ, suc, ◌≤◌, List, [], ◌∷◌, true, Option, Some, None, Result, Ok, Err, refl, ap, ◌∙◌, arith}
+use Rattle.std.proofs.Common.{◌≡◌, ℕ, suc, ◌+◌, ◌≤◌, List, [], ◌∷◌, true, Option, Some, None, Result, Ok, Err, refl, ap, ◌∙◌, arith}
 use Rattle.std.specs.List.{AllByRecursion}
 use Rattle.std.specs.Result.{result_ok}
 use Rattle.serde_json.specs.Data as seen
@@ -8,6 +8,8 @@ use Rattle.relay_tree.specs.Text.{data_of, items_data, members_data}
 use Rattle.relay_pointer.specs.Path.{Path, at}
 use Rattle.relay_patch.specs.Form.{ops_items, op_members}
 use Rattle.relay_patch.specs.Sizes.{OpFits}
+use Rattle.relay_patch.specs.declared.bounds.TheConstants.Bounds.{DOCUMENT}
+use Rattle.relay_patch.specs.declared.limits.TheConstants.PatchLimits.{RELAYED}
 use Rattle.relay_patch.specs.Walk.{walk}
 use Rattle.relay_patch.specs.declared.fault.Cause.{Cause}
 use Rattle.relay_patch.specs.declared.op.Op.{Op}
@@ -40,7 +42,7 @@ mutual
 
 -- Patches.
 
-short_paths : (m : ℕ) (ops : List Op) → AllByRecursion (OpFits 66 m) ops → AllByRecursion HasShortPaths ops
+short_paths : (m : ℕ) (ops : List Op) → AllByRecursion (OpFits RELAYED.tokens m) ops → AllByRecursion HasShortPaths ops
 short_paths m [] h = tt
 short_paths m (Add path v ∷ ops) h = (h.0.0, short_paths m ops h.1)
 short_paths m (Remove path ∷ ops) h = (h.0, short_paths m ops h.1)
@@ -49,7 +51,7 @@ short_paths m (Move from path ∷ ops) h = (h.0, short_paths m ops h.1)
 short_paths m (Copy from path ∷ ops) h = (h.0, short_paths m ops h.1)
 short_paths m (Test path v ∷ ops) h = (h.0.0, short_paths m ops h.1)
 
-op_nests : (m : ℕ) (o : Op) → OpFits 66 m o → seen.members_depth (members_data (op_members o)) ≤ m
+op_nests : (m : ℕ) (o : Op) → OpFits RELAYED.tokens m o → seen.members_depth (members_data (op_members o)) ≤ m
 op_nests m (Add path v) h = omega (arith, nests v, h.1)
 op_nests m (Remove path) h = omega arith
 op_nests m (Replace path v) h = omega (arith, nests v, h.1)
@@ -57,12 +59,12 @@ op_nests m (Move from path) h = omega arith
 op_nests m (Copy from path) h = omega arith
 op_nests m (Test path v) h = omega (arith, nests v, h.1)
 
-ops_nest : (m : ℕ) (ops : List Op) → AllByRecursion (OpFits 66 m) ops → seen.items_depth (items_data (ops_items ops)) ≤ suc m
+ops_nest : (m : ℕ) (ops : List Op) → AllByRecursion (OpFits RELAYED.tokens m) ops → seen.items_depth (items_data (ops_items ops)) ≤ suc m
 ops_nest m [] h = omega arith
 ops_nest m (o ∷ ops) h = omega (arith, op_nests m o h.0, ops_nest m ops h.1)
 
-pub patch_is_writable : (rev : ℕ) (ops : List Op) → IsCount rev → AllByRecursion (OpFits 66 65) ops → IsWritable (message.Patch rev ops)
-patch_is_writable rev ops count fits = ((count, short_paths 65 ops fits), omega (arith, ops_nest 65 ops fits))
+pub patch_is_writable : (rev : ℕ) (ops : List Op) → IsCount rev → AllByRecursion (OpFits RELAYED.tokens (DOCUMENT.depth + 1)) ops → IsWritable (message.Patch rev ops)
+patch_is_writable rev ops count fits = ((count, short_paths (DOCUMENT.depth + 1) ops fits), omega (arith, ops_nest (DOCUMENT.depth + 1) ops fits))
 
 -- Views.
 
@@ -89,5 +91,5 @@ slots_depth : (pointers : View) (d : Document) → items_depth (slots pointers d
 slots_depth [] d = omega arith
 slots_depth (q ∷ pointers) d = omega (arith, slot_depth (at d q) (depth d) (part_depth q d), slots_depth pointers d)
 
-pub snapshot_is_writable : (rev : ℕ) (pointers : View) (d : Document) → IsCount rev → depth d ≤ 64 → IsWritable (message.Snapshot rev (view pointers d))
+pub snapshot_is_writable : (rev : ℕ) (pointers : View) (d : Document) → IsCount rev → depth d ≤ DOCUMENT.depth → IsWritable (message.Snapshot rev (view pointers d))
 snapshot_is_writable rev pointers d count flat = ((count, are_slots_slots pointers d), omega (arith, nests (view pointers d), slots_depth pointers d, flat))

@@ -1,11 +1,12 @@
 -- How a text reads as a message: the members of its kind have their forms, and others are ignored.
-use Rattle.std.specs.Prelude.{ℕ, ◌^◌, ◌-◌, List, codes, bytes_eq, Bool, true, false, ◌&&◌, nat_le, Option, Some, None, option_map, if◌then◌else◌}
+use Rattle.std.specs.Prelude.{ℕ, List, codes, bytes_eq, Bool, true, false, ◌&&◌, nat_le, Option, Some, None, option_map, if◌then◌else◌}
 use Rattle.std.specs.Result.{result_ok}
 use Rattle.relay_tree.specs.Document.{Document, null, list, Items, no_items, item}
 use Rattle.relay_tree.specs.Count.{count_of}
 use Rattle.relay_tree.specs.Part.{items_length, object_member}
 use Rattle.relay_tree.specs.Text.{tree_of_text}
 use Rattle.relay_patch.specs.Form.{text_in, patch_of}
+use Rattle.relay_patch.specs.declared.limits.TheConstants.PatchLimits.{RELAYED}
 use Rattle.relay_patch.specs.declared.op.Op.{Op}
 use Rattle.relay_proto.specs.declared.message.Message.{Message}
 use Rattle.relay_proto.specs.declared.message.Message.TheVariants as message
@@ -91,9 +92,9 @@ is_view _ = false
 abbrev pub when_view : Document → Option Document
 when_view d = if is_view d then Some d else None
 
--- a patch of any length, each path of at most 66 tokens
+-- a patch within the limits of one that is relayed, which has any length
 abbrev pub relayed_patch : Document → Option (List Op)
-relayed_patch d = result_ok (patch_of (2 ^ 64 - 1) 66 d)
+relayed_patch d = result_ok (patch_of RELAYED.ops RELAYED.tokens d)
 
 abbrev pub patch_message_in : Document → Option Message
 patch_message_in d =

@@ -10,6 +10,7 @@ use Rattle.relay_view.specs.View.{View}
 use Rattle.relay_patch.specs.Form.{text_in, patch_of}
 use Rattle.relay_patch.specs.declared.limits.PatchFault.{PatchFault}
 use Rattle.relay_patch.specs.declared.limits.PatchFault.TheVariants as patch
+use Rattle.relay_patch.specs.declared.limits.TheConstants.PatchLimits.{REQUEST}
 use Rattle.relay_patch.specs.declared.op.Op.{Op}
 use Rattle.relay_view.specs.Form.{view_of}
 use Rattle.relay_view.specs.declared.fault.ViewFault.{ViewFault}
@@ -39,7 +40,7 @@ and_then (Err r) f = Err r
 abbrev pub count_in : Document → List ℕ → Option ℕ
 count_in d name = option_and_then count_of (object_member d name)
 
--- a patch of at most 64 operations, each path of at most 64 tokens
+-- a patch within the limits of a request
 abbrev pub patch_refusal : ℕ → PatchFault → Refusal
 patch_refusal id patch.TooManyOps = refusal TooMany (Some id) None
 patch_refusal id (patch.Shape at) = refusal Shape (Some id) at
@@ -52,7 +53,7 @@ patch_read id (Ok ops) = Ok ops
 patch_read id (Err fault) = Err (patch_refusal id fault)
 
 abbrev pub patch_in : ℕ → Document → Result (List Op) Refusal
-patch_in id d = with_part (Some id) (object_member d (codes "patch")) (λ p. patch_read id (patch_of 64 64 p))
+patch_in id d = with_part (Some id) (object_member d (codes "patch")) (λ p. patch_read id (patch_of REQUEST.ops REQUEST.tokens p))
 
 abbrev pub view_refusal : ℕ → ViewFault → Refusal
 view_refusal id view.TooMany = refusal TooMany (Some id) None

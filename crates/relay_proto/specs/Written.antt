@@ -6,6 +6,7 @@ use Rattle.serde_json.specs.Read.{max_depth}
 use Rattle.relay_tree.specs.Count.{count_most}
 use Rattle.relay_tree.specs.Text.{data_of}
 use Rattle.relay_patch.specs.Sizes.{IsShort}
+use Rattle.relay_patch.specs.declared.limits.TheConstants.PatchLimits.{RELAYED}
 use Rattle.relay_patch.specs.declared.op.Op.{Op}
 use Rattle.relay_patch.specs.declared.op.Op.TheVariants.{Add, Remove, Replace, Move, Copy, Test}
 use Rattle.relay_proto.specs.Message.{message_document}
@@ -30,14 +31,14 @@ HasCounts (reply.Watching id) = IsCount id
 HasCounts (reply.Resumed id how) = IsCount id
 HasCounts (reply.Unwatched id) = IsCount id
 
--- each path has at most 66 tokens
+-- each path is as short as those of a relayed patch
 abbrev pub HasShortPaths : Op → Type 0
-HasShortPaths (Add path v) = IsShort 66 path
-HasShortPaths (Remove path) = IsShort 66 path
-HasShortPaths (Replace path v) = IsShort 66 path
-HasShortPaths (Move from path) = IsShort 66 from × IsShort 66 path
-HasShortPaths (Copy from path) = IsShort 66 from × IsShort 66 path
-HasShortPaths (Test path v) = IsShort 66 path
+HasShortPaths (Add path v) = IsShort RELAYED.tokens path
+HasShortPaths (Remove path) = IsShort RELAYED.tokens path
+HasShortPaths (Replace path v) = IsShort RELAYED.tokens path
+HasShortPaths (Move from path) = IsShort RELAYED.tokens from × IsShort RELAYED.tokens path
+HasShortPaths (Copy from path) = IsShort RELAYED.tokens from × IsShort RELAYED.tokens path
+HasShortPaths (Test path v) = IsShort RELAYED.tokens path
 
 -- the members have the forms of their kind
 abbrev pub HasForms : Message → Type 0
