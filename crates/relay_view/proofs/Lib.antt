@@ -1,2 +1,3 @@
 pub mod Slots
-pub mod Paths
+pub mod Reading
+pub mod Sizes

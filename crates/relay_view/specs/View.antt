@@ -1,23 +1,47 @@
--- A view: for each of some pointers, `[v]` where it leads to v, and `[]` where it leads to nothing.
-use Rattle.std.specs.Prelude.{List, [], ◌∷◌, Option, Some, None}
-use Rattle.relay_tree.specs.Document.{Document, list, Items, no_items, item}
+-- A view: for each of its slots, what a pointer leads to, or how many parts that has.
+use Rattle.std.specs.Prelude.{ℕ, suc, ◌-◌, ◌^◌, min, pos, List, [], ◌∷◌, Option, Some, None, option_map, option_and_then}
+use Rattle.relay_tree.specs.Document.{Document, whole, list, object, Items, no_items, item, Members, no_members, member}
+use Rattle.relay_tree.specs.Part.{items_length}
 use Rattle.relay_pointer.specs.Path.{Path, at}
+pub use Rattle.relay_view.specs.declared.slot.Slot.{Slot}
+pub use Rattle.relay_view.specs.declared.slot.SlotKind.{SlotKind}
+pub use Rattle.relay_view.specs.declared.slot.SlotKind.TheVariants.{Value, Size}
 
--- the pointers of a view, one for each of its slots
+-- the slots that a client asks for, in order
 abbrev pub View : Type 0
-View = List Path
+View = List Slot
 
+abbrev pub members_length : Members → ℕ
+members_length no_members = 0
+members_length (member k d ms) = suc (members_length ms)
+
+-- how many elements a list has, or members an object; a value without parts has no size
+abbrev pub size : Document → Option ℕ
+size (list ds) = Some (items_length ds)
+size (object ms) = Some (members_length ms)
+size _ = None
+
+-- a size as a document holds it: the largest number of 64 bits stands for all above it
+abbrev pub counted : ℕ → Document
+counted n = whole (pos (min n (2 ^ 63 - 1)))
+
+-- what a slot of that kind shows of the value that its pointer leads to
+abbrev pub shown : SlotKind → Document → Option Document
+shown Value v = Some v
+shown Size v = option_map counted (size v)
+
+-- `[v]` where there is something to show, else `[]`
 abbrev pub slot_of : Option Document → Document
 slot_of None = list no_items
 slot_of (Some v) = list (item v no_items)
 
--- what a pointer's slot shows of a document
-abbrev pub slot : Path → Document → Document
-slot q d = slot_of (at d q)
+-- what a slot shows of a document
+abbrev pub slot : Slot → Document → Document
+slot s d = slot_of (option_and_then (shown s.kind) (at d s.pointer))
 
 abbrev pub slots : View → Document → Items
 slots [] d = no_items
-slots (q ∷ pointers) d = item (slot q d) (slots pointers d)
+slots (s ∷ pointers) d = item (slot s d) (slots pointers d)
 
 abbrev pub view : View → Document → Document
 view pointers d = list (slots pointers d)

@@ -5,11 +5,11 @@ use thiserror::Error;
 /// first in the list that is refused gives the fault, and `at` is its place, counted from 0.
 #[derive(Clone, Copy, Debug, PartialEq, Eq, Error)]
 pub enum ViewFault {
-    /// More than [`crate::SLOTS_MOST`] pointers.
-    #[error("a view of more than 16 pointers")]
+    /// More than [`crate::SLOTS_MOST`] slots.
+    #[error("a view of more than 16 slots")]
     TooMany,
-    /// The tree is no list (no place), or an element is no text.
-    #[error("a view is a list of texts")]
+    /// The tree is no list (no place), or an element is neither a text nor an object with a text `size`.
+    #[error("a view is a list of texts, or of objects with a text `size`")]
     Shape { at: Option<u64> },
     /// A text that is no JSON Pointer (RFC 6901), or one of more than [`crate::TOKENS_MOST`] tokens.
     #[error("element {at} is no pointer of at most 64 tokens")]

@@ -1,14 +1,16 @@
-//! What a watcher sees of a document: a list of slots, one for each pointer of its view.
+//! What a watcher sees of a document: a list of slots, each of which shows what a pointer leads to, or how many parts that has.
 //!
 //! The promise: slot `k` is `[v]` where pointer `k` leads to `v`, and `[]` where it leads to nothing, so null and absent
-//! differ. Contracts see a [`View`] as the list of its paths.
+//! differ; of a size, `[n]` where it leads to a list of n elements or an object of n members, else `[]`. Contracts see a [`View`] as
+//! the list of its slots.
 #![tactic(auto)]
 
 mod fault;
 mod of;
 mod read;
+mod slot;
 mod view;
 
 pub use fault::ViewFault;
-pub use of::slot_of;
+pub use slot::{Slot, SlotKind};
 pub use view::{SLOTS_MOST, TOKENS_MOST, View};

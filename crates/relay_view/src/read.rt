@@ -2,18 +2,20 @@
 ghost use Rattle.std.specs.Prelude.{◌≡◌, ◌≢◌, true, Ok, Err, IfOk, IfErr, IsErrOf};
 ghost use Rattle.relay_tree.specs.Document.{items_of};
 ghost use Rattle.relay_tree.specs.Each.{each_from};
-ghost use Rattle.relay_view.specs.Form.{view_of, path_at, is_short_list};
+ghost use Rattle.relay_view.specs.Form.{view_of, slot_at, slot_spelled, is_short_list};
 ghost use Rattle.relay_view.specs.declared.fault.ViewFault.TheVariants.{NoMemory};
 
 use crate::fault::ViewFault;
+use crate::slot::{Slot, SlotKind};
 use crate::view::{SLOTS_MOST, TOKENS_MOST, View};
 use relay_pointer::{Pointer, PointerFault};
 use relay_tree::{Node, Tree};
 use std::alloc::Global;
 
 impl View {
-    /// The view that a tree is: a list of at most [`SLOTS_MOST`] pointer texts, each of at most [`TOKENS_MOST`] tokens. NoMemory comes
-    /// only where the tree is a list of so many elements.
+    /// The view that a tree is: a list of at most [`SLOTS_MOST`] slots, each a pointer text of at most [`TOKENS_MOST`] tokens, or an
+    /// object whose member `size` is one; other members are ignored. NoMemory comes only where the tree is a list of so many
+    /// elements.
     pub fn read(alloc: Global, tree: &Tree) -> Result<View, ViewFault>
         ensures ok { IfOk result (λ view. view_of tree.now ≡ Ok view) }
         ensures err { IfErr result (λ fault. fault ≢ NoMemory → view_of tree.now ≡ Err fault) }
@@ -25,39 +27,54 @@ impl View {
         if items.len() as u64 > SLOTS_MOST {
             return Err(ViewFault::TooMany);
         }
-        match pointers_of(alloc, items.as_slice()) {
-            Ok(pointers) => Ok(View::of_pointers(pointers)),
+        match slots_of(alloc, items.as_slice()) {
+            Ok(slots) => Ok(View::of_slots(slots)),
             Err(fault) => Err(fault),
         }
     }
 }
 
-fn pointers_of(alloc: Global, items: &[Tree]) -> Result<Vec<Pointer>, ViewFault>
-    ensures ok { IfOk result (λ pointers. each_from path_at 0 (items_of items.now) ≡ Ok pointers.items) }
-    ensures err { IfErr result (λ fault. fault ≢ NoMemory → each_from path_at 0 (items_of items.now) ≡ Err fault) }
+fn slots_of(alloc: Global, items: &[Tree]) -> Result<Vec<Slot>, ViewFault>
+    ensures ok { IfOk result (λ slots. each_from slot_at 0 (items_of items.now) ≡ Ok slots.items) }
+    ensures err { IfErr result (λ fault. fault ≢ NoMemory → each_from slot_at 0 (items_of items.now) ≡ Err fault) }
 {
-    let Ok(mut pointers) = Vec::with_capacity(alloc, items.len()) else {
+    let Ok(mut slots) = Vec::with_capacity(alloc, items.len()) else {
         return Err(ViewFault::NoMemory);
     };
     for (k, item) in items.iter().enumerate() {
-        match pointer_at(alloc, k as u64, item) {
-            Ok(pointer) => pointers.push_reserved(pointer),
+        match slot_at(alloc, k as u64, item) {
+            Ok(slot) => slots.push_reserved(slot),
             Err(fault) => return Err(fault),
         }
     }
-    Ok(pointers)
+    Ok(slots)
 }
 
-/// The pointer that the element at place `k` is.
-fn pointer_at(alloc: Global, k: u64, item: &Tree) -> Result<Pointer, ViewFault>
-    ensures ok { IfOk result (λ pointer. path_at k item.now ≡ Ok pointer) }
-    ensures err { IfErr result (λ fault. fault ≢ NoMemory → path_at k item.now ≡ Err fault) }
+/// The slot that the element at place `k` is.
+fn slot_at(alloc: Global, k: u64, item: &Tree) -> Result<Slot, ViewFault>
+    ensures ok { IfOk result (λ slot. slot_at k item.now ≡ Ok slot) }
+    ensures err { IfErr result (λ fault. fault ≢ NoMemory → slot_at k item.now ≡ Err fault) }
 {
-    let Node::Text(text) = &item.node else {
+    let (kind, spelled) = match &item.node {
+        Node::Members(_) => (SlotKind::Size, item.member("size")),
+        _ => (SlotKind::Value, Some(item)),
+    };
+    let Some(spelled) = spelled else {
         return Err(ViewFault::Shape { at: Some(k) });
     };
-    match Pointer::read(alloc, text.as_str(), TOKENS_MOST) {
-        Ok(pointer) => Ok(pointer),
+    match &spelled.node {
+        Node::Text(text) => slot_spelled(alloc, k, kind, text.as_str()),
+        _ => Err(ViewFault::Shape { at: Some(k) }),
+    }
+}
+
+/// The slot at place `k`, by the text of its pointer.
+fn slot_spelled(alloc: Global, k: u64, kind: SlotKind, text: &str) -> Result<Slot, ViewFault>
+    ensures ok { IfOk result (λ slot. slot_spelled k kind text.now ≡ Ok slot) }
+    ensures err { IfErr result (λ fault. fault ≢ NoMemory → slot_spelled k kind text.now ≡ Err fault) }
+{
+    match Pointer::read(alloc, text, TOKENS_MOST) {
+        Ok(pointer) => Ok(Slot { pointer, kind }),
         Err(PointerFault::BadPointer | PointerFault::TooManyTokens) => {
             Err(ViewFault::Pointer { at: k })
         }

@@ -1,6 +1,7 @@
-//! The pointers of a view.
-ghost use Rattle.std.specs.Prelude.{◌≡◌, length, option_copied, slice_get};
+//! The slots of a view.
+ghost use Rattle.std.specs.Prelude.{◌≡◌, length, option_copied, option_map, slice_get};
 
+use crate::slot::{Slot, SlotKind};
 use relay_pointer::Pointer;
 use std::marker::Model;
 
@@ -10,10 +11,10 @@ pub const SLOTS_MOST: u64 = 16;
 /// How many tokens a pointer of a request has at most.
 pub const TOKENS_MOST: u64 = 64;
 
-/// A list of pointers into a document. Contracts see each as its path.
+/// A list of slots, each of which shows a part of a document, or its size. Contracts see it as that list.
 #[derive(Drop)]
 pub struct View {
-    pointers: Vec<Pointer>,
+    slots: Vec<Slot>,
 }
 
 impl Model for View {
@@ -21,35 +22,53 @@ impl Model for View {
 
     ghost Value = { View };
 
-    ghost view = { λ v. v.pointers.items };
+    ghost use Rattle.std.specs.Coded.{codes};
+    ghost use Rattle.relay_view.specs.contracts.slot.Slot as slot;
+
+    ghost coded = { Prim.hlevel (codes, slot.the_row.coded) };
+
+    ghost view = { λ v. v.slots.items };
 }
 
 impl View {
-    /// The view through these pointers. No memory is taken.
-    pub fn of_pointers(list: Vec<Pointer>) -> View
+    /// The view of these slots. No memory is taken.
+    pub fn of_slots(list: Vec<Slot>) -> View
         ensures { result ≡ list.items }
     {
-        View { pointers: list }
+        View { slots: list }
     }
 
     /// How many slots it has. No memory is taken.
     pub fn len(&self) -> u64
         ensures { result ≡ length self.now }
     {
-        self.pointers.len() as u64
+        self.slots.len() as u64
     }
 
     /// The pointer of slot `k`, counted from 0; None past the last. No memory is taken.
     pub fn pointer(&self, k: u64) -> Option<&Pointer>
-        ensures { option_copied result ≡ slice_get self.now k }
+        ensures { option_copied result ≡ option_map (λ s. s.pointer) (slice_get self.now k) }
     {
-        self.pointers.get(k as usize)
+        match self.slots.get(k as usize) {
+            Some(slot) => Some(&slot.pointer),
+            None => None,
+        }
     }
 
-    /// The pointers, in the order of their slots.
-    pub fn pointers(&self) -> &[Pointer]
+    /// What slot `k` shows, counted from 0; None past the last. No memory is taken.
+    pub fn kind(&self, k: u64) -> Option<SlotKind>
+        ensures { result ≡ option_map (λ s. s.kind) (slice_get self.now k) }
+    {
+        match self.slots.get(k as usize) {
+            Some(slot) => Some(slot.kind),
+            None => None,
+        }
+    }
+
+    /// The slots, in order.
+    pub fn slots(&self) -> &[Slot]
         ensures { result.now ≡ self.now }
     {
-        self.pointers.as_slice()
+        self.slots.as_slice()
     }
 }

@@ -7,8 +7,8 @@ use Rattle.relay_view.proofs.view.View.of.Goals as goal
 
 pub returns : goal.returns
 returns c =
-    let pointers = c.pointers-pointer-items.result.now in
-    let past : length pointers ≤ c.loop-pointer.pointer-index = grind arith in
-    let whole : take c.loop-pointer.pointer-index pointers ≡ pointers = take_all _ pointers past in
+    let pointers = c.slots-slot-items.result.now in
+    let past : length pointers ≤ c.loop-slot.slot-index = grind arith in
+    let whole : take c.loop-slot.slot-index pointers ≡ pointers = take_all _ pointers past in
     let d = c.args.document.now in
-    c.from.ensures ∙ ap (λ ds. list (items_of ds)) (c.loop-pointer.invariant ∙ ap (map (λ q. slot q d)) (whole ∙ c.pointers-pointer-items.ensures)) ∙ ap list (slots-map c.args.self.now d)
+    c.from.ensures ∙ ap (λ ds. list (items_of ds)) (c.loop-slot.invariant ∙ ap (map (λ s. slot s d)) (whole ∙ c.slots-slot-items.ensures)) ∙ ap list (slots-map c.args.self.now d)
