@@ -9,8 +9,8 @@ ghost use Rattle.relay_patch.specs.Measure.{displaced, gone};
 
 use crate::change::{Change, Place};
 use crate::container::{drop_child, insert_child};
-use crate::exchange::{child_mut, exchange};
-use relay_pointer::resolve;
+use crate::exchange::exchange;
+use relay_pointer::{child_mut, resolve};
 use relay_tree::{Node, Tree};
 use std::alloc::{AllocError, Global};
 
@@ -27,7 +27,7 @@ pub(crate) fn make(
     match change {
         Change::Set { path, value } => {
             let value = value.copy(alloc)?;
-            Ok(Some(exchange(tree, path.tokens(), value)))
+            Ok(Some(exchange(tree, path, value)))
         }
         Change::AddMember { path, value } => insert_copy(alloc, tree, path.tokens(), value),
         Change::AddItem { path, value } => insert_copy(alloc, tree, path.tokens(), value),
@@ -56,7 +56,7 @@ fn put(
     ensures went { IfOk result (λ went. went ≡ displaced place.now tree.old) }
 {
     if is_taken(tree, place) {
-        return Ok(Some(exchange(tree, place.path.tokens(), value)));
+        return Ok(Some(exchange(tree, &place.path, value)));
     }
     insert_at(alloc, tree, place.path.tokens(), value)?;
     Ok(None)

@@ -18,4 +18,4 @@ pub use lent::resolve_mut;
 pub use pointer::Pointer;
 pub use put::{exchange, set, take};
 pub use reading::PointerFault;
-pub use walk::{child, resolve};
+pub use walk::{child, child_mut, resolve};

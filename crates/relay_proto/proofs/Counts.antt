@@ -11,7 +11,7 @@ use Rattle.relay_tree.specs.Text.{tree_of}
 use Rattle.relay_pointer.specs.Path.{Path}
 use Rattle.relay_view.specs.View.{View}
 use Rattle.relay_pointer.specs.Spelling.{path_of_text}
-use Rattle.relay_patch.proofs.Places.{place, IsBelow, few-place, patch_of-length, patch_of-place}
+use Rattle.relay_patch.proofs.Places.{place, patch_of-length, patch_of-place}
 use Rattle.relay_patch.specs.Form.{text_in, patch_of}
 use Rattle.relay_patch.specs.declared.limits.PatchFault.{PatchFault}
 use Rattle.relay_patch.specs.declared.limits.PatchFault.TheVariants as patch
@@ -25,6 +25,7 @@ use Rattle.relay_proto.specs.declared.refusal.Refusal.{Refusal}
 use Rattle.relay_proto.specs.declared.reply.Reply.TheVariants.{Refused}
 use Rattle.relay_proto.specs.declared.request.Request.{Request}
 use Rattle.relay_proto.specs.declared.request.Request.TheVariants.{Edit, Watch, Resume, Unwatch}
+use Rattle.relay_tree.proofs.Each.{IsBelow, few-place}
 
 -- a request's numbers are counts, and it has at most 64 operations
 abbrev pub IsRequest : Request → Type 0

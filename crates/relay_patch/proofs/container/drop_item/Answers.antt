@@ -1,6 +1,7 @@
 use Rattle.std.proofs.Common.{sym, ◌∙◌, arith}
-use Rattle.relay_patch.proofs.Contained.{named, index_is, element_taken, element_drops}
+use Rattle.relay_patch.proofs.Contained.{named, element_taken, element_drops}
 use Rattle.relay_patch.proofs.container.drop_item.Goals as goal
+use Rattle.relay_pointer.proofs.Indexes.{index_is}
 
 pub remove-requires : goal.remove-requires
 remove-requires c =

@@ -4,8 +4,8 @@ use Rattle.relay_tree.specs.Part.{items_length}
 use Rattle.relay_tree.proofs.Elements.{items_length-items_of}
 use Rattle.relay_patch.proofs.Contained.{inserts}
 use Rattle.relay_patch.proofs.Landed.{list_refuses}
-use Rattle.relay_patch.proofs.Refusals.{refused_not_ok}
 use Rattle.relay_patch.proofs.container.insert_item.Goals as goal
+use Rattle.relay_tree.proofs.Outcomes.{refused_not_ok}
 
 pub returns-in_ok-insert-in-Ok : goal.returns-in_ok-insert-in-Ok
 returns-in_ok-insert-in-Ok c =

@@ -4,11 +4,10 @@ use Rattle.relay_pointer.specs.Path.{with_child}
 use Rattle.relay_patch.specs.Walk.{step}
 use Rattle.relay_patch.specs.Patch.{insert_child}
 use Rattle.relay_patch.proofs.Acts.{acts_below}
-use Rattle.relay_patch.proofs.Landings.{some_tokens}
-use Rattle.relay_patch.proofs.Refusals.{on_ok}
-use Rattle.relay_patch.proofs.Tokens.{tokens_front}
 use Rattle.relay_patch.proofs.Walks.{found_step}
 use Rattle.relay_patch.proofs.making.+insert_at.Goals as goal
+use Rattle.relay_pointer.proofs.Tokens.{some_tokens, tokens_front}
+use Rattle.relay_tree.proofs.Outcomes.{on_ok}
 
 pub returns : goal.returns
 returns t c =

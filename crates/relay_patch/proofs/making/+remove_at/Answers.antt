@@ -4,10 +4,9 @@ use Rattle.relay_pointer.specs.Path.{with_child}
 use Rattle.relay_patch.specs.Walk.{step}
 use Rattle.relay_patch.specs.Patch.{drop_child}
 use Rattle.relay_patch.proofs.Acts.{droppable, acts_below}
-use Rattle.relay_patch.proofs.Landings.{no_tokens, some_tokens}
-use Rattle.relay_patch.proofs.Tokens.{tokens_front}
 use Rattle.relay_patch.proofs.Walks.{found_step}
 use Rattle.relay_patch.proofs.making.+remove_at.Goals as goal
+use Rattle.relay_pointer.proofs.Tokens.{no_tokens, some_tokens, tokens_front}
 
 pub drop_child-requires : goal.drop_child-requires
 drop_child-requires t c =

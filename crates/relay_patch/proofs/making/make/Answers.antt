@@ -1,15 +1,15 @@
 use Rattle.std.proofs.Common.{sym, ◌∙◌}
 use Rattle.relay_patch.proofs.Carried.{passes_as, makes_as, move_leaves, move_lands, move_made, move_gone}
 use Rattle.relay_patch.proofs.Exchanges.{replaced_needs}
-use Rattle.relay_patch.proofs.Refusals.{on_ok, if_ok}
 use Rattle.relay_patch.proofs.Walks.{at_reached}
 use Rattle.relay_patch.proofs.making.make.Goals as goal
+use Rattle.relay_tree.proofs.Outcomes.{on_ok, if_ok}
 
 pub exchange-requires : goal.exchange-requires
-exchange-requires c = rw c.tokens.ensures (replaced_needs c.in-Set.path c.in-Set.value c.args.tree.now (passes_as c.args.change.now _ c.args.tree.now c.in-Set.is c.requires))
+exchange-requires c = replaced_needs c.in-Set.path c.in-Set.value c.args.tree.now (passes_as c.args.change.now _ c.args.tree.now c.in-Set.is c.requires)
 
 pub insert_copy-requires : goal.insert_copy-requires
-insert_copy-requires c = rw c.tokens-in-AddMember.ensures (passes_as c.args.change.now _ c.args.tree.now c.in-AddMember.is c.requires)
+insert_copy-requires c = rw c.tokens.ensures (passes_as c.args.change.now _ c.args.tree.now c.in-AddMember.is c.requires)
 
 pub insert_copy-requires-in-AddItem : goal.insert_copy-requires-in-AddItem
 insert_copy-requires-in-AddItem c = rw c.tokens-in-AddItem.ensures (passes_as c.args.change.now _ c.args.tree.now c.in-AddItem.is c.requires)
@@ -30,7 +30,7 @@ put-requires c =
     move_lands c.args.change.now c.args.tree.now c.in-Move.from c.in-Move.to c.in-Move.value c.remove_at-value.result c.remove_at-value.new.tree c.in-Move.is c.requires there went
 
 pub returns-in-AddMember-clause-made : goal.returns-in-AddMember-clause-made
-returns-in-AddMember-clause-made c = on_ok c.insert_copy.result (rw c.tokens-in-AddMember.ensures at c.insert_copy.ensures.made) (makes_as c.args.change.now _ c.args.tree.now c.insert_copy.new.tree c.in-AddMember.is c.requires)
+returns-in-AddMember-clause-made c = on_ok c.insert_copy.result (rw c.tokens.ensures at c.insert_copy.ensures.made) (makes_as c.args.change.now _ c.args.tree.now c.insert_copy.new.tree c.in-AddMember.is c.requires)
 
 pub returns-in-AddItem-clause-made : goal.returns-in-AddItem-clause-made
 returns-in-AddItem-clause-made c = on_ok c.insert_copy-in-AddItem.result (rw c.tokens-in-AddItem.ensures at c.insert_copy-in-AddItem.ensures.made) (makes_as c.args.change.now _ c.args.tree.now c.insert_copy-in-AddItem.new.tree c.in-AddItem.is c.requires)
@@ -57,7 +57,7 @@ returns-in_ok-value-in-Copy-clause-made c =
     on_ok c.put-in-Copy.result (rw c.in_ok-value-in-Copy.ensures at c.put-in-Copy.ensures.made) (makes_as c.args.change.now _ c.args.tree.now c.put-in-Copy.new.tree c.in-Copy.is c.requires)
 
 pub returns-in_ok-value-in-Set-clause-went : goal.returns-in_ok-value-in-Set-clause-went
-returns-in_ok-value-in-Set-clause-went c = rw c.in-Set.is (sym (at_reached c.in-Set.path c.args.tree.now c.exchange.result (rw c.tokens.ensures at c.exchange.ensures.old)))
+returns-in_ok-value-in-Set-clause-went c = rw c.in-Set.is (sym (at_reached c.in-Set.path c.args.tree.now c.exchange.result c.exchange.ensures.old))
 
 pub returns-in-DropMember-clause-went : goal.returns-in-DropMember-clause-went
 returns-in-DropMember-clause-went c = rw c.in-DropMember.is (sym (at_reached c.in-DropMember.path c.args.tree.now c.remove_at.result (rw c.tokens-in-DropMember.ensures at c.remove_at.ensures.value)))

@@ -1,7 +1,7 @@
 use Rattle.std.proofs.Common.{sym, ◌∙◌}
 use Rattle.relay_patch.proofs.Measures.{lost_known, weight_known, judged_fit, judged_excess}
-use Rattle.relay_patch.proofs.Refusals.{on_ok, if_ok, if_err}
 use Rattle.relay_patch.proofs.measuring.bound.Goals as goal
+use Rattle.relay_tree.proofs.Outcomes.{on_ok, if_ok, if_err}
 
 pub judge-requires : goal.judge-requires
 judge-requires c = lost_known c.args.bounds c.in-Some.weight c.args.change.now c.args.went.now c.args.tree.now (rw c.in-Some.is at c.requires)

@@ -1,9 +1,9 @@
 use Rattle.std.proofs.Common.{◌∷◌, string_bytes, sym, ap, ◌∙◌}
 use Rattle.relay_tree.proofs.Names.{equal_bytes}
 use Rattle.relay_pointer.specs.Path.{path_of}
-use Rattle.relay_patch.proofs.Tokens.{tokens_front}
-use Rattle.relay_patch.proofs.Landings.{no_tokens, some_tokens, path_ends, from_ends, from_ends_refused, both_go_on, paths_part, path_breaks}
+use Rattle.relay_patch.proofs.Landings.{path_ends, from_ends, from_ends_refused, both_go_on, paths_part, path_breaks}
 use Rattle.relay_patch.proofs.moving.+land_without.Goals as goal
+use Rattle.relay_pointer.proofs.Tokens.{tokens_front, no_tokens, some_tokens}
 
 pub returns-else-is_empty-2-clause-spot : goal.returns-else-is_empty-2-clause-spot
 returns-else-is_empty-2-clause-spot t c =

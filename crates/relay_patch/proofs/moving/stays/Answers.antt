@@ -1,9 +1,10 @@
 use Rattle.std.proofs.Common.{◌-◌, length, take, sym, ◌∙◌}
 use Rattle.relay_pointer.specs.Path.{path_of}
 use Rattle.relay_patch.specs.Walk.{walk}
-use Rattle.relay_patch.proofs.Tokens.{tokens_back}
-use Rattle.relay_patch.proofs.Stays.{comes_back, goes_elsewhere, other_end, other_parent}
+use Rattle.relay_patch.proofs.Stays.{comes_back, goes_elsewhere, other_end}
 use Rattle.relay_patch.proofs.moving.stays.Goals as goal
+use Rattle.relay_pointer.proofs.Tokens.{tokens_back}
+use Rattle.relay_pointer.proofs.Prefixes.{other_parent}
 
 pub returns-then-same_path-clause-place : goal.returns-then-same_path-clause-place
 returns-then-same_path-clause-place c =

@@ -1,8 +1,9 @@
 use Rattle.std.proofs.Common.{sym, ◌∙◌}
 use Rattle.relay_patch.specs.Walk.{Missing}
 use Rattle.relay_patch.proofs.Drops.{steps_behind, steps_beside}
-use Rattle.relay_patch.proofs.Refusals.{if_ok, if_err, if_found, if_missing}
+use Rattle.relay_patch.proofs.Refusals.{if_found, if_missing}
 use Rattle.relay_patch.proofs.moving.step_beside.Goals as goal
+use Rattle.relay_tree.proofs.Outcomes.{if_ok, if_err}
 
 pub returns-in-Some-clause-ok : goal.returns-in-Some-clause-ok
 returns-in-Some-clause-ok c =

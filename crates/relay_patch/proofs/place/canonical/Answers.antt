@@ -1,8 +1,8 @@
 use Rattle.std.proofs.Common.{◌≡◌, true, string_bytes, sym, ap, ◌∙◌, arith}
 use Rattle.relay_pointer.proofs.Indexes.{index_text-decimal}
 use Rattle.relay_patch.specs.Walk.{is_dash}
-use Rattle.relay_patch.proofs.Refusals.{if_ok}
 use Rattle.relay_patch.proofs.place.canonical.Goals as goal
+use Rattle.relay_tree.proofs.Outcomes.{if_ok}
 
 pub returns-then-is_dash : goal.returns-then-is_dash
 returns-then-is_dash c =

@@ -2,8 +2,8 @@ use Rattle.std.proofs.Common.{◌≡◌, ◌-◌, ◌++◌, [], ◌∷◌, lengt
 use Rattle.relay_pointer.specs.Path.{path_of}
 use Rattle.relay_patch.specs.Steps.{final}
 use Rattle.relay_patch.proofs.Landed.{placed_at}
-use Rattle.relay_patch.proofs.Tokens.{tokens_back, path_of-push}
 use Rattle.relay_patch.proofs.place.place.Goals as goal
+use Rattle.relay_pointer.proofs.Tokens.{tokens_back, path_of-push}
 
 pub returns : goal.returns
 returns c =

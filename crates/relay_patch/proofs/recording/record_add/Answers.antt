@@ -1,7 +1,8 @@
 use Rattle.std.proofs.Common.{sym, ap, ◌∙◌, ◌∷◌, []}
 use Rattle.relay_patch.proofs.Landed.{landing_passes, landing_refuses, insertion-change}
-use Rattle.relay_patch.proofs.Refusals.{err_and, refused_by, starved_by}
+use Rattle.relay_patch.proofs.Refusals.{refused_by, starved_by}
 use Rattle.relay_patch.proofs.recording.record_add.Goals as goal
+use Rattle.relay_tree.proofs.Outcomes.{err_and}
 
 pub returns-in_err-spot-clause-err : goal.returns-in_err-spot-clause-err
 returns-in_err-spot-clause-err c =

@@ -1,7 +1,8 @@
 use Rattle.std.proofs.Common.{sym, ap, ◌∙◌, ◌∷◌, []}
 use Rattle.relay_patch.proofs.Recorded.{move_stays, move_passes, move_refuses, move-change}
-use Rattle.relay_patch.proofs.Refusals.{err_and, refused_by, starved_by}
+use Rattle.relay_patch.proofs.Refusals.{refused_by, starved_by}
 use Rattle.relay_patch.proofs.recording.record_move.Goals as goal
+use Rattle.relay_tree.proofs.Outcomes.{err_and}
 
 pub returns-then-stays-clause-ok : goal.returns-then-stays-clause-ok
 returns-then-stays-clause-ok c =

@@ -1,7 +1,8 @@
 use Rattle.std.proofs.Common.{sym, ap, ◌∙◌, ◌∷◌, []}
 use Rattle.relay_patch.proofs.Landed.{standing_passes, standing_refuses, removal-change}
-use Rattle.relay_patch.proofs.Refusals.{err_and, refused_by, starved_by}
+use Rattle.relay_patch.proofs.Refusals.{refused_by, starved_by}
 use Rattle.relay_patch.proofs.recording.record_remove.Goals as goal
+use Rattle.relay_tree.proofs.Outcomes.{err_and}
 
 pub returns-in_err-item-clause-err : goal.returns-in_err-item-clause-err
 returns-in_err-item-clause-err c =

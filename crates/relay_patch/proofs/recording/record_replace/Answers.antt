@@ -1,6 +1,7 @@
 use Rattle.relay_patch.proofs.Exchanges.{replaced_fails, replaced_passes}
-use Rattle.relay_patch.proofs.Refusals.{err_and, refused_by, starved_by}
+use Rattle.relay_patch.proofs.Refusals.{refused_by, starved_by}
 use Rattle.relay_patch.proofs.recording.record_replace.Goals as goal
+use Rattle.relay_tree.proofs.Outcomes.{err_and}
 
 pub returns-in_err-walk-clause-err : goal.returns-in_err-walk-clause-err
 returns-in_err-walk-clause-err c =
