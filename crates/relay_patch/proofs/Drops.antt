@@ -6,7 +6,7 @@ use Rattle.relay_tree.specs.Part.{items_length, item_at, drop_item, drop_member,
 use Rattle.relay_tree.proofs.Elements.{item_at-past, item_at-drop_below, drop_item-shorter, item_at-drop_behind}
 use Rattle.relay_tree.proofs.Members.{member_at-drop_other}
 use Rattle.relay_pointer.specs.Index.{Token, index_of}
-use Rattle.relay_patch.specs.declared.spot.Spot.TheVariants as spot
+use Rattle.relay_patch.specs.declared.applying.spot.Spot.TheVariants as spot
 use Rattle.relay_patch.specs.Walk.{Missing, then_do, element, step}
 use Rattle.relay_patch.specs.Patch.{drop_child, drop_element}
 use Rattle.relay_patch.specs.Steps.{insertion_index, landing_in, shifted, shifted_index}

@@ -11,7 +11,7 @@ use Rattle.relay_patch.specs.Place.{parent, last, place_within, place_of}
 use Rattle.relay_patch.specs.Patch.{at_path, added, insert_child, insert_element, drop_child}
 use Rattle.relay_patch.specs.Change.{added_change, removed_change}
 use Rattle.relay_patch.specs.declared.change.Change.TheVariants as change
-use Rattle.relay_patch.specs.declared.spot.Spot.TheVariants as spot
+use Rattle.relay_patch.specs.declared.applying.spot.Spot.TheVariants as spot
 use Rattle.relay_patch.specs.Steps.{Spot, index_within, insertion_index, landing_in, landing, is_list, standing_in, standing, final, is_item, landed, insertion, removal}
 use Rattle.relay_patch.proofs.Refusals.{then_ok, ok_or_found}
 use Rattle.relay_patch.proofs.Walks.{at_reached}

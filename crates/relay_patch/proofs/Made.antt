@@ -4,7 +4,7 @@ use Rattle.std.specs.Result.{result_ok}
 use Rattle.relay_patch.specs.declared.change.Change.TheVariants as change
 use Rattle.relay_tree.specs.Document.{Document, null, truth, whole, text, list, object, Items, Members, depth, weight}
 use Rattle.relay_tree.specs.Part.{items_length, member_at, set_member}
-use Rattle.relay_patch.specs.Same.{same}
+use Rattle.relay_tree.specs.Same.{same}
 use Rattle.relay_pointer.specs.Index.{Token, index_of}
 use Rattle.relay_pointer.specs.Path.{Path, at, is_proper_prefix, same_path}
 use Rattle.relay_patch.specs.Walk.{Cause, Missing, IntoItself, TestFailed, TooDeep, TooHeavy, then_do, step, walk, dash}

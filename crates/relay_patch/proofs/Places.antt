@@ -4,14 +4,14 @@ use Rattle.std.specs.Prelude.{IfOk, IfErr, codes}
 use Rattle.std.proofs.lemmas.Bool.Decides.{nat_tests}
 use Rattle.relay_tree.specs.Document.{Document, list, Items, no_items, item}
 use Rattle.relay_tree.specs.Each.{onto, each_from}
-use Rattle.relay_tree.specs.Part.{items_length}
+use Rattle.relay_tree.specs.Part.{items_length, text_in}
 use Rattle.relay_pointer.specs.Path.{Path}
 use Rattle.relay_pointer.specs.Spelling.{path_of_text}
-use Rattle.relay_patch.specs.Form.{with_part, and_then, text_in, kind_of, path_within, path_in, valued, sourced, op_of_kind, op_at, patch_of}
+use Rattle.relay_patch.specs.Form.{with_part, and_then, kind_of, path_within, path_in, valued, sourced, op_of_kind, op_at, patch_of}
 use Rattle.relay_patch.specs.Patch.{Op, Bounds, ApplyFault, effect, within, refused_at, go_on, after_from, after}
 use Rattle.relay_patch.specs.Walk.{Cause, then_do}
-use Rattle.relay_patch.specs.declared.kind.Kind.{Kind}
-use Rattle.relay_patch.specs.declared.kind.Kind.TheVariants as kind
+use Rattle.relay_patch.specs.declared.form.kind.Kind.{Kind}
+use Rattle.relay_patch.specs.declared.form.kind.Kind.TheVariants as kind
 use Rattle.relay_patch.specs.declared.limits.PatchFault.{PatchFault}
 use Rattle.relay_patch.specs.declared.limits.PatchFault.TheVariants.{TooManyOps, Shape, UnknownOp, Pointer, NoMemory}
 use Rattle.relay_tree.proofs.Outcomes.{if_err}

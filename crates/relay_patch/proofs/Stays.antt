@@ -8,7 +8,8 @@ use Rattle.relay_tree.proofs.Elements.{items_length-items_of, drop_item-shorter}
 use Rattle.relay_tree.proofs.Names.{bytes_same, equal_bytes}
 use Rattle.relay_pointer.specs.Index.{Token, index_of, number_of, index_text}
 use Rattle.relay_pointer.specs.Path.{Path, at, same_path}
-use Rattle.relay_pointer.proofs.Indexes.{both, index_of_injective, index_of-index_text, last_index}
+use Rattle.relay_pointer.proofs.Indexes.{index_of_injective, index_of-index_text, last_index}
+use Rattle.relay_tree.proofs.Equal.{both}
 use Rattle.relay_pointer.proofs.Walks.{some_index}
 use Rattle.relay_patch.specs.Walk.{Cause, then_do, dash, is_dash, walk}
 use Rattle.relay_patch.specs.Place.{place_within, place_of, canonical}

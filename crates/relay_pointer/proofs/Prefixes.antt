@@ -3,7 +3,7 @@ use Rattle.std.proofs.Common.{◌≡◌, [], ◌∷◌, ◌++◌, Bool, true, fa
 use Rattle.relay_tree.proofs.Names.{bytes_same, equal_bytes}
 use Rattle.relay_pointer.specs.Index.{Token}
 use Rattle.relay_pointer.specs.Path.{Path, same_path, is_proper_prefix}
-use Rattle.relay_pointer.proofs.Indexes.{both}
+use Rattle.relay_tree.proofs.Equal.{both}
 
 pub same_path-end : (a b : Path) (t u : Token) → same_path (a ++ t ∷ []) (b ++ u ∷ []) ≡ (same_path a b && bytes_eq t u)
 same_path-end [] [] t u = go (bytes_eq t u)

@@ -4,7 +4,7 @@ use Rattle.std.specs.Prelude.{IfOk, IfErr, IfSome, MatchResult, codes}
 use Rattle.std.proofs.lemmas.Bool.Decides.{nat_tests}
 use Rattle.serde_json.specs.Data.{Data}
 use Rattle.serde_json.specs.Read as json
-use Rattle.relay_tree.specs.Count.{count_of, is_count}
+use Rattle.relay_tree.specs.Count.{count_of, count_in, is_count}
 use Rattle.relay_tree.specs.Document.{Document, whole, list, text}
 use Rattle.relay_tree.specs.Part.{object_member}
 use Rattle.relay_tree.specs.Text.{tree_of}
@@ -12,14 +12,15 @@ use Rattle.relay_pointer.specs.Path.{Path}
 use Rattle.relay_view.specs.View.{View}
 use Rattle.relay_pointer.specs.Spelling.{path_of_text}
 use Rattle.relay_patch.proofs.Places.{place, patch_of-length, patch_of-place}
-use Rattle.relay_patch.specs.Form.{text_in, patch_of}
+use Rattle.relay_tree.specs.Part.{text_in}
+use Rattle.relay_patch.specs.Form.{patch_of}
 use Rattle.relay_patch.specs.declared.limits.PatchFault.{PatchFault}
 use Rattle.relay_patch.specs.declared.limits.PatchFault.TheVariants as patch
 use Rattle.relay_patch.specs.declared.op.Op.{Op}
 use Rattle.relay_view.specs.Form.{path_within, path_at, view_of}
 use Rattle.relay_view.specs.declared.fault.ViewFault.{ViewFault}
 use Rattle.relay_view.specs.declared.fault.ViewFault.TheVariants as view
-use Rattle.relay_proto.specs.Request.{with_part, and_then, count_in, patch_refusal, patch_read, patch_in, view_refusal, view_read, view_in, resume_of, asked, request_of, request_of_tree, request_of_json, request_of_text}
+use Rattle.relay_proto.specs.Request.{with_part, and_then, patch_refusal, patch_read, patch_in, view_refusal, view_read, view_in, resume_of, asked, request_of, request_of_tree, request_of_json, request_of_text}
 use Rattle.relay_proto.specs.Written.{IsCount, IsCountOrNull, HasCounts}
 use Rattle.relay_proto.specs.declared.refusal.Refusal.{Refusal}
 use Rattle.relay_proto.specs.declared.reply.Reply.TheVariants.{Refused}
