@@ -3,11 +3,14 @@ use Rattle.std.proofs.Common.{◌≡◌, ℕ, zero, suc, List, [], ◌∷◌, �
 use Rattle.relay_tree.specs.Document.{Document, null, truth, whole, text, list, object, Items, no_items, item, Members, no_members, member}
 use Rattle.relay_tree.specs.Part.{item_at, drop_item, member_at, drop_member}
 use Rattle.relay_pointer.specs.Index.{Token, index_of}
-use Rattle.relay_pointer.specs.Path.{Path, with_child}
+use Rattle.relay_pointer.specs.Path.{put, Path, with_child}
 use Rattle.relay_patch.specs.Walk.{Cause, Missing, then_do, element, step, walk}
 use Rattle.relay_patch.specs.Patch.{Act, at_path, added, insert_child, drop_child, drop_element, replaced}
-use Rattle.relay_patch.proofs.Refusals.{then_ok, is_ok_then, some_ok}
-use Rattle.relay_patch.proofs.Exchanges.{at_end, exchanges, walk-replaced, replaced-twice}
+use Rattle.relay_patch.proofs.Refusals.{then_ok}
+use Rattle.relay_patch.proofs.Exchanges.{at_end, replaced-put, walk-replaced, replaced-twice}
+use Rattle.relay_tree.proofs.Outcomes.{is_ok_then, some_ok}
+use Rattle.relay_tree.proofs.Elements.{drop_item-there, drop_item-none}
+use Rattle.relay_tree.proofs.Members.{drop_member-none, drop_member-there}
 
 pub added-at : (before : Path) (t : Token) (v d : Document) → added (before ++ t ∷ []) v d ≡ at_path (insert_child v) (before ++ t ∷ []) d
 added-at [] t v d = refl
@@ -25,8 +28,7 @@ at_stops act before t d c e there acted = rw (at_end act before t d, there, acte
 pub at_passes : (act : Act) (before : Path) (t : Token) (d c : Document) → walk d before ≡ Ok c → IsOk (act t c) → IsOk (at_path act (before ++ t ∷ []) d)
 at_passes act before t d c there acted =
     let a = some_ok (act t c) acted in
-    let e = exchanges before a.0 d c there in
-    is_ok_then _ e.0 (at_ok act before t d c a.0 e.0 there a.1 e.1)
+    is_ok_then _ _ (at_ok act before t d c a.0 (put d before a.0) there a.1 (replaced-put before a.0 d c there))
 
 -- what an act that passes stands on
 pub record Passed (act : Act) (before : Path) (t : Token) (d : Document) : Type 0 where
@@ -44,39 +46,13 @@ passed act before t d h =
 
 -- a child can be dropped where it is there
 
-drop_there : (ds : Items) (i : ℕ) (c : Document) → item_at ds i ≡ Some c → (es : Items) × (drop_item ds i ≡ Some es)
-drop_there no_items i c h = cc
-drop_there (item d ds) zero c h = (ds, refl)
-drop_there (item d ds) (suc i) c h = let r = drop_there ds i c h in (item d r.0, ap (option_map (item d)) r.1)
-
-drop_gone : (ds : Items) (i : ℕ) → item_at ds i ≡ None → drop_item ds i ≡ None
-drop_gone no_items i h = refl
-drop_gone (item d ds) zero h = cc
-drop_gone (item d ds) (suc i) h = ap (option_map (item d)) (drop_gone ds i h)
-
-member_gone : (ms : Members) (k : List ℕ) → member_at ms k ≡ None → drop_member ms k ≡ None
-member_gone no_members k h = refl
-member_gone (member n d ms) k h = go (bytes_eq n k) refl h (member_gone ms k)
-  where
-    go : (x : Bool) → bytes_eq n k ≡ x → (if x then Some d else member_at ms k) ≡ None → (member_at ms k ≡ None → drop_member ms k ≡ None) → (if x then Some ms else option_map (member n d) (drop_member ms k)) ≡ None
-    go true e h ih = cc
-    go false e h ih = ap (option_map (member n d)) (ih h)
-
-member_there : (ms : Members) (k : List ℕ) (c : Document) → member_at ms k ≡ Some c → (ns : Members) × (drop_member ms k ≡ Some ns)
-member_there no_members k c h = cc
-member_there (member n d ms) k c h = go (bytes_eq n k) refl h (member_there ms k c)
-  where
-    go : (x : Bool) → bytes_eq n k ≡ x → (if x then Some d else member_at ms k) ≡ Some c → (member_at ms k ≡ Some c → (ns : Members) × (drop_member ms k ≡ Some ns)) → (ns : Members) × ((if x then Some ms else option_map (member n d) (drop_member ms k)) ≡ Some ns)
-    go true e h ih = (ms, refl)
-    go false e h ih = let r = ih h in (member n d r.0, ap (option_map (member n d)) r.1)
-
 drops_element : (ds : Items) (t : Token) (o : Option ℕ) → IsOk (element ds t o) → IsOk (drop_element ds t o)
 drops_element ds t None h = cc
 drops_element ds t (Some i) h = go (item_at ds i) refl h
   where
     go : (o : Option Document) → item_at ds i ≡ o → IsOk (ok_or o Missing) → IsOk (drop_element ds t (Some i))
     go None e k = cc
-    go (Some c) e k = let r = drop_there ds i c e in rw r.1 refl
+    go (Some c) e k = let r = drop_item-there ds i c e in rw r.1 refl
 
 pub drops : (d : Document) (t : Token) → IsOk (step d t) → IsOk (drop_child t d)
 drops null t h = cc
@@ -88,14 +64,14 @@ drops (object ms) t h = go (member_at ms t) refl h
   where
     go : (o : Option Document) → member_at ms t ≡ o → IsOk (ok_or o Missing) → IsOk (drop_child t (object ms))
     go None e k = cc
-    go (Some c) e k = let r = member_there ms t c e in rw r.1 refl
+    go (Some c) e k = let r = drop_member-there ms t c e in rw r.1 refl
 
 no_element_dropped : (ds : Items) (t : Token) (o : Option ℕ) (e : Cause) → element ds t o ≡ Err e → drop_element ds t o ≡ Err e
 no_element_dropped ds t None e h = h
 no_element_dropped ds t (Some i) e h = go (item_at ds i) refl h
   where
     go : (o : Option Document) → item_at ds i ≡ o → ok_or o Missing ≡ Err e → drop_element ds t (Some i) ≡ Err e
-    go None g k = rw (drop_gone ds i g) k
+    go None g k = rw (drop_item-none ds i g) k
     go (Some c) g k = cc
 
 pub drop_refused : (d : Document) (t : Token) (e : Cause) → step d t ≡ Err e → drop_child t d ≡ Err e
@@ -107,7 +83,7 @@ drop_refused (list ds) t e h = no_element_dropped ds t (index_of t) e h
 drop_refused (object ms) t e h = go (member_at ms t) refl h
   where
     go : (o : Option Document) → member_at ms t ≡ o → ok_or o Missing ≡ Err e → drop_child t (object ms) ≡ Err e
-    go None g k = rw (member_gone ms t g) k
+    go None g k = rw (drop_member-none ms t g) k
     go (Some c) g k = cc
 
 -- and what can be dropped is there

@@ -4,8 +4,8 @@ use Rattle.relay_tree.specs.Document.{Document}
 use Rattle.relay_pointer.specs.Path.{Path}
 use Rattle.relay_patch.specs.Walk.{TestFailed, walk}
 use Rattle.relay_patch.specs.Patch.{effect, Test}
-use Rattle.relay_patch.specs.Same.{same}
-use Rattle.relay_patch.proofs.Equal.{same-Decides}
+use Rattle.relay_tree.specs.Same.{same}
+use Rattle.relay_tree.proofs.Equal.{same-Decides}
 
 pub passed_test : (p : Path) (d v c : Document) → walk d p ≡ Ok c → c ≡ v → effect d (Test p v) ≡ Ok d
 passed_test p d v c there is = let t : same c v ≡ true = (same-Decides c v).1 is in rw (there, t) refl

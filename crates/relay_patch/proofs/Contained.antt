@@ -18,6 +18,7 @@ use Rattle.relay_pointer.specs.Index.{Token, index_of, number_of}
 use Rattle.relay_patch.specs.Walk.{Missing, NotIndex, PastEnd, is_dash, element, step}
 use Rattle.relay_patch.specs.Patch.{insert_child, insert_element, drop_child}
 use Rattle.relay_patch.specs.Steps.{insertion_index, index_within}
+use Rattle.relay_pointer.proofs.Indexes.{Named}
 
 -- Insertions.
 
@@ -45,14 +46,6 @@ inserts xs t v n i long is = go (is_dash t) refl
 
 -- Removals.
 
--- the element that a token names
-pub record Named (xs : List Document) (t : Token) : Type 0 where
-  pub index : ℕ
-  pub is : index_of t ≡ Some index
-  pub within : index < length xs
-  pub value : Document
-  pub there : slice_get xs index ≡ Some value
-
 found_at : (xs : List Document) (t : Token) (i : ℕ) (o : Option Document) → index_of t ≡ Some i → item_at (items_of xs) i ≡ o → IsOk (ok_or o Missing) → Named xs t
 found_at xs t i None is h there = cc
 found_at xs t i (Some v) is h there = record { index = i; is = is; within = inside (nat_le (length xs) i) refl; value = v; there = slice_get-items_of xs i ∙ h }
@@ -71,14 +64,6 @@ named xs t there = go (index_of t) refl there
     go : (o : Option ℕ) → index_of t ≡ o → IsOk (element (items_of xs) t o) → Named xs t
     go None e k = cc
     go (Some i) e k = found_at xs t i (item_at (items_of xs) i) e refl k
-
--- the number that 64 bits hold is the index
-pub index_is : (xs : List Document) (t : Token) (n : ℕ) → length xs < 2 ^ 64 → Some n ≡ number_of t → (m : Named xs t) → n ≡ m.index
-index_is xs t n few is m =
-    let least : Some n ≡ Some (min (2 ^ 64 - 1) m.index) = is ∙ ap (option_map (min (2 ^ 64 - 1))) m.is in
-    let same : n ≡ min (2 ^ 64 - 1) m.index = cc in
-    let within = m.within in
-    omega (arith, same, within)
 
 pub element_is : (xs : List Document) (t : Token) (m : Named xs t) → step (list (items_of xs)) t ≡ Ok m.value
 element_is xs t m = let there : item_at (items_of xs) m.index ≡ Some m.value = sym (slice_get-items_of xs m.index) ∙ m.there in rw (m.is, there) refl

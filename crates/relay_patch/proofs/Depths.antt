@@ -6,19 +6,7 @@ use Rattle.relay_pointer.specs.Index.{Token, index_of}
 use Rattle.relay_pointer.specs.Path.{Path}
 use Rattle.relay_patch.specs.Walk.{element, step, walk}
 use Rattle.relay_patch.proofs.Refusals.{then_ok, ok_or_some}
-
-item_depth : (ds : Items) (i : ℕ) (c : Document) → item_at ds i ≡ Some c → depth c ≤ items_depth ds
-item_depth no_items i c h = cc
-item_depth (item d ds) zero c h = let same : d ≡ c = cc in let e = ap depth same in omega (arith, e)
-item_depth (item d ds) (suc i) c h = let ih = item_depth ds i c h in omega (arith, ih)
-
-member_depth : (ms : Members) (n : List ℕ) (c : Document) → member_at ms n ≡ Some c → depth c ≤ members_depth ms
-member_depth no_members n c h = cc
-member_depth (member m d ms) n c h = go (bytes_eq m n) h (member_depth ms n c)
-  where
-    go : (x : Bool) → (if x then Some d else member_at ms n) ≡ Some c → (member_at ms n ≡ Some c → depth c ≤ members_depth ms) → depth c ≤ max (depth d) (members_depth ms)
-    go true k ih = let same : d ≡ c = cc in let e = ap depth same in omega (arith, e)
-    go false k ih = let below = ih k in omega (arith, below)
+use Rattle.relay_tree.proofs.Sizes.{item_depth, member_depth}
 
 element_depth : (ds : Items) (t : Token) (o : Option ℕ) (c : Document) → element ds t o ≡ Ok c → depth c ≤ items_depth ds
 element_depth ds t None c h = cc

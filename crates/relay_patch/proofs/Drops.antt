@@ -3,44 +3,16 @@ use Rattle.std.proofs.Common.{◌≡◌, ℕ, zero, suc, ◌+◌, ◌-◌, ◌<�
 use Rattle.std.proofs.lemmas.Bool.Decides.{nat_tests}
 use Rattle.relay_tree.specs.Document.{Document, null, truth, whole, text, list, object, Items, no_items, item, Members}
 use Rattle.relay_tree.specs.Part.{items_length, item_at, drop_item, drop_member, list_len, list_item}
-use Rattle.relay_tree.proofs.Elements.{item_at-past, item_at-drop_below}
+use Rattle.relay_tree.proofs.Elements.{item_at-past, item_at-drop_below, drop_item-shorter, item_at-drop_behind}
 use Rattle.relay_tree.proofs.Members.{member_at-drop_other}
 use Rattle.relay_pointer.specs.Index.{Token, index_of}
-use Rattle.relay_patch.specs.declared.spot.Spot.TheVariants as spot
+use Rattle.relay_patch.specs.declared.applying.spot.Spot.TheVariants as spot
 use Rattle.relay_patch.specs.Walk.{Missing, then_do, element, step}
 use Rattle.relay_patch.specs.Patch.{drop_child, drop_element}
 use Rattle.relay_patch.specs.Steps.{insertion_index, landing_in, shifted, shifted_index}
 use Rattle.relay_patch.proofs.Refusals.{then_ok, ok_or_some}
 
 -- Lists.
-
-pub drop_item-shorter : (ds : Items) (i : ℕ) (es : Items) → drop_item ds i ≡ Some es → (suc (items_length es) ≡ items_length ds) × (i < items_length ds)
-drop_item-shorter no_items i es h = cc
-drop_item-shorter (item d ds) zero es h = let same : ds ≡ es = cc in (ap (λ x. suc (items_length x)) (sym same), omega arith)
-drop_item-shorter (item d ds) (suc i) es h = go (drop_item ds i) refl (drop_item-shorter ds i)
-  where
-    go : (o : Option Items) → drop_item ds i ≡ o → ((fs : Items) → drop_item ds i ≡ Some fs → (suc (items_length fs) ≡ items_length ds) × (i < items_length ds)) → (suc (items_length es) ≡ items_length (item d ds)) × (suc i < items_length (item d ds))
-    go None f ih = let found : None ≡ Some es = rw f at h in cc
-    go (Some fs) f ih =
-        let found : Some (item d fs) ≡ Some es = rw f at h in
-        let is : es ≡ item d fs = cc in
-        let k = ih fs f in
-        let a = k.0 in
-        let b = k.1 in
-        (rw is (omega (arith, a)), omega (arith, b))
-
-pub item_at-drop_behind : (ds : Items) (i j : ℕ) (es : Items) → i ≤ j → drop_item ds i ≡ Some es → item_at es j ≡ item_at ds (suc j)
-item_at-drop_behind no_items i j es h k = cc
-item_at-drop_behind (item d ds) zero j es h k = let same : ds ≡ es = cc in ap (λ x. item_at x j) (sym same)
-item_at-drop_behind (item d ds) (suc i) zero es h k = absurd (omega arith)
-item_at-drop_behind (item d ds) (suc i) (suc j) es h k = go (drop_item ds i) refl (item_at-drop_behind ds i j)
-  where
-    go : (o : Option Items) → drop_item ds i ≡ o → ((fs : Items) → i ≤ j → drop_item ds i ≡ Some fs → item_at fs j ≡ item_at ds (suc j)) → item_at es (suc j) ≡ item_at (item d ds) (suc (suc j))
-    go None f ih = let found : None ≡ Some es = rw f at k in cc
-    go (Some fs) f ih =
-        let found : Some (item d fs) ≡ Some es = rw f at k in
-        let is : es ≡ item d fs = cc in
-        rw is (ih fs (omega arith) f)
 
 -- a list that lost an element
 pub record Shorter (ds : Items) (t : Token) (rest : Document) : Type 0 where

@@ -10,7 +10,7 @@ use Rattle.std.proofs.lemmas.Map.Text.{is_eq-slice_cmp}
 use Rattle.relay_tree.specs.Document.{Document, null, truth, whole, text, list, object, Items, no_items, item, Members, no_members, member, depth, weight}
 use Rattle.relay_tree.specs.Part.{item_at, insert_item, member_at, add_member, put_member}
 use Rattle.relay_tree.proofs.Names.{bytes_same}
-use Rattle.relay_tree.proofs.Members.{member_at-set_same}
+use Rattle.relay_tree.proofs.Members.{member_at-set_same, member_at-put_same}
 use Rattle.relay_pointer.specs.Index.{Token, index_of}
 use Rattle.relay_pointer.specs.Path.{Path, at, same_path}
 use Rattle.relay_patch.specs.declared.change.Change.TheVariants as change
@@ -19,7 +19,7 @@ use Rattle.relay_patch.specs.Place.{Place, parent, last, place_of}
 use Rattle.relay_patch.specs.Patch.{Bounds, Op, Add, Remove, Replace, Move, Copy, Test, at_path, insert_child, insert_element, drop_child, effect, exceeds, within, after_from}
 use Rattle.relay_patch.specs.Change.{Change, Makes, Leads, in_list, in_object, placed, inserted, inserted_at, moved_changes, copied_changes, changes_of, all_changes}
 use Rattle.relay_patch.specs.Sizes.{ChangeFits}
-use Rattle.relay_patch.proofs.Refusals.{then_ok, then_itself, ok_or_some, not_refused, is_ok_then, some_ok}
+use Rattle.relay_patch.proofs.Refusals.{then_ok, then_itself, ok_or_some, not_refused}
 use Rattle.relay_patch.proofs.Parts.{at_index, place_in_at_index}
 use Rattle.relay_patch.proofs.Sites.{site, parent-last}
 use Rattle.relay_patch.proofs.Walks.{walk-append}
@@ -28,40 +28,10 @@ use Rattle.relay_patch.proofs.Exchanges.{walk-replaced}
 use Rattle.relay_patch.proofs.Acts.{droppable}
 use Rattle.relay_patch.proofs.Carried.{placed_act}
 use Rattle.relay_patch.proofs.Made.{effect_leads, within_same, went_on}
+use Rattle.relay_tree.proofs.Outcomes.{is_ok_then, some_ok}
+use Rattle.relay_tree.proofs.Elements.{item_at-insert_same}
 
 -- What was inserted stands.
-
-item_at-insert_same : (ds : Items) (i : ℕ) (v : Document) (es : Items) → insert_item ds i v ≡ Some es → item_at es i ≡ Some v
-item_at-insert_same ds zero v es h = let same : item v ds ≡ es = cc in ap (λ x. item_at x zero) (sym same)
-item_at-insert_same no_items (suc i) v es h = cc
-item_at-insert_same (item d ds) (suc i) v es h = go (insert_item ds i v) refl (item_at-insert_same ds i v)
-  where
-    go : (o : Option Items) → insert_item ds i v ≡ o → ((fs : Items) → insert_item ds i v ≡ Some fs → item_at fs i ≡ Some v) → item_at es (suc i) ≡ Some v
-    go None f ih = let found : None ≡ Some es = rw f at h in cc
-    go (Some fs) f ih =
-        let found : Some (item d fs) ≡ Some es = rw f at h in
-        let is : es ≡ item d fs = cc in
-        rw is (ih fs f)
-
-added_step : (o : Ordering) (n a : List ℕ) (d e : Document) (ms rest : Members) → is_eq o ≡ bytes_eq a n → member_at rest a ≡ Some e → bytes_eq n a ≡ false → member_at (match_ordering o (member a e (member n d ms)) (member a e ms) (member n d rest)) a ≡ Some e
-added_step Less n a d e ms rest o ih other = rw (bytes_same a) refl
-added_step Equal n a d e ms rest o ih other = rw (bytes_same a) refl
-added_step Greater n a d e ms rest o ih other = rw other ih
-
-member_at-add_same : (ms : Members) (a : List ℕ) (e : Document) → member_at ms a ≡ None → member_at (add_member ms a e) a ≡ Some e
-member_at-add_same no_members a e h = rw (bytes_same a) refl
-member_at-add_same (member n d ms) a e h = go (bytes_eq n a) refl h (member_at-add_same ms a e)
-  where
-    go : (x : Bool) → bytes_eq n a ≡ x → (if x then Some d else member_at ms a) ≡ None → (member_at ms a ≡ None → member_at (add_member ms a e) a ≡ Some e) → member_at (add_member (member n d ms) a e) a ≡ Some e
-    go true k none ih = cc
-    go false k none ih = added_step (slice_cmp nat_cmp a n) n a d e ms (add_member ms a e) (is_eq-slice_cmp a n) (ih none) k
-
-member_at-put_same : (ms : Members) (a : List ℕ) (e : Document) → member_at (put_member ms a e) a ≡ Some e
-member_at-put_same ms a e = go (member_at ms a) refl
-  where
-    go : (o : Option Document) → member_at ms a ≡ o → member_at (put_member ms a e) a ≡ Some e
-    go None h = rw h (member_at-add_same ms a e h)
-    go (Some c) h = rw h (member_at-set_same ms a c e h)
 
 element_stands : (v : Document) (t : Token) (ds es : Items) (i : ℕ) (c' : Document) → index_of t ≡ Some i → insert_item ds i v ≡ Some es → c' ≡ list es → step c' t ≡ Ok v
 element_stands v t ds es i c' named inserted is = rw (is, named, item_at-insert_same ds i v es inserted) refl

@@ -11,34 +11,26 @@ use Rattle.relay_patch.specs.Place.{parent, last, place_within, place_of}
 use Rattle.relay_patch.specs.Patch.{at_path, added, insert_child, insert_element, drop_child}
 use Rattle.relay_patch.specs.Change.{added_change, removed_change}
 use Rattle.relay_patch.specs.declared.change.Change.TheVariants as change
-use Rattle.relay_patch.specs.declared.spot.Spot.TheVariants as spot
+use Rattle.relay_patch.specs.declared.applying.spot.Spot.TheVariants as spot
 use Rattle.relay_patch.specs.Steps.{Spot, index_within, insertion_index, landing_in, landing, is_list, standing_in, standing, final, is_item, landed, insertion, removal}
-use Rattle.relay_patch.proofs.Refusals.{then_ok, is_ok_then, ok_or_found}
+use Rattle.relay_patch.proofs.Refusals.{then_ok, ok_or_found}
 use Rattle.relay_patch.proofs.Walks.{at_reached}
 use Rattle.relay_patch.proofs.Parts.{no_dash}
 use Rattle.relay_patch.proofs.Sites.{parent-last}
 use Rattle.relay_patch.proofs.Acts.{at_passes, at_stops, at_no_container, drops, drop_refused}
 use Rattle.relay_patch.proofs.Made.{at_last}
 use Rattle.relay_patch.proofs.Tokens.{parent_end, last_end}
+use Rattle.relay_tree.proofs.Outcomes.{is_ok_then}
+use Rattle.relay_tree.proofs.Elements.{insert_item-there, insert_item-none}
 
 -- Insertions in a container.
-
-insert_fits : (ds : Items) (i : ℕ) (v : Document) → i ≤ items_length ds → (es : Items) × (insert_item ds i v ≡ Some es)
-insert_fits ds zero v h = (item v ds, refl)
-insert_fits no_items (suc i) v h = absurd (omega arith)
-insert_fits (item d ds) (suc i) v h = let r = insert_fits ds i v (omega arith) in (item d r.0, ap (option_map (item d)) r.1)
-
-insert_beyond : (ds : Items) (i : ℕ) (v : Document) → items_length ds < i → insert_item ds i v ≡ None
-insert_beyond ds zero v h = absurd (omega arith)
-insert_beyond no_items (suc i) v h = refl
-insert_beyond (item d ds) (suc i) v h = ap (option_map (item d)) (insert_beyond ds i v (omega arith))
 
 index_passes : (ds : Items) (o : Option ℕ) (i : ℕ) → index_within (items_length ds) o ≡ Ok i → (v : Document) → IsOk (insert_element v ds o)
 index_passes ds None i h v = cc
 index_passes ds (Some j) i h v = go (nat_le j (items_length ds)) refl
   where
     go : (x : Bool) → nat_le j (items_length ds) ≡ x → IsOk (insert_element v ds (Some j))
-    go true e = let r = insert_fits ds j v (grind (arith, nat_tests)) in rw r.1 refl
+    go true e = let r = insert_item-there ds j v (grind (arith, nat_tests)) in rw r.1 refl
     go false e = let k : Err PastEnd ≡ Ok i = rw e at h in cc
 
 index_refuses : (ds : Items) (o : Option ℕ) (e : Cause) → index_within (items_length ds) o ≡ Err e → (v : Document) → insert_element v ds o ≡ Err e
@@ -51,10 +43,10 @@ index_refuses ds (Some j) e h v = go (nat_le j (items_length ds)) refl
         let k : Err PastEnd ≡ Err e = rw f at h in
         let past : items_length ds < j = grind (arith, nat_tests) in
         let same : PastEnd ≡ e = cc in
-        rw (insert_beyond ds j v past) (ap Err same)
+        rw (insert_item-none ds j v past) (ap Err same)
 
 end_passes : (ds : Items) (v : Document) → IsOk (insert_element v ds (Some (items_length ds)))
-end_passes ds v = let r = insert_fits ds (items_length ds) v (omega arith) in rw r.1 refl
+end_passes ds v = let r = insert_item-there ds (items_length ds) v (omega arith) in rw r.1 refl
 
 list_passes : (ds : Items) (t : Token) (i : ℕ) → insertion_index (items_length ds) t ≡ Ok i → (v : Document) → IsOk (insert_child v t (list ds))
 list_passes ds t i h v = go (is_dash t) refl

@@ -12,38 +12,12 @@ use Rattle.relay_patch.specs.Patch.{at_path, below, drop_child}
 use Rattle.relay_patch.specs.Steps.{Spot, landing_in, landing}
 use Rattle.relay_patch.proofs.Parts.{step-with_other}
 use Rattle.relay_patch.proofs.Inside.{was_inside, step-was_inside}
+use Rattle.relay_pointer.proofs.Puts.{put_element-length}
+use Rattle.relay_tree.proofs.Members.{set_member-names}
 
 -- Slices of tokens.
 
-pub no_tokens : (ts : List (String Global)) → (length ts == 0) ≡ true → path_of ts ≡ []
-no_tokens [] h = refl
-no_tokens (t ∷ ts) h = absurd (grind (arith, nat_tests))
-
-pub some_tokens : (ts : List (String Global)) → (length ts == 0) ≡ false → (t : Token) × (path : Path) × (path_of ts ≡ t ∷ path)
-some_tokens [] h = cc
-some_tokens (t ∷ ts) h = (_, _, refl)
-
 -- A part that was exchanged leaves its container's length and names.
-
-put_item-length : (ds : Items) (i : ℕ) (e : Document) → items_length (put_item ds i e) ≡ items_length ds
-put_item-length no_items i e = refl
-put_item-length (item d ds) zero e = refl
-put_item-length (item d ds) (suc i) e = ap suc (put_item-length ds i e)
-
-put_element-length : (ds : Items) (o : Option ℕ) (e : Document) → items_length (put_element ds o e) ≡ items_length ds
-put_element-length ds None e = refl
-put_element-length ds (Some i) e = put_item-length ds i e
-
-set_member-names : (ms : Members) (a b : List ℕ) (e : Document) → is_some (member_at (set_member ms a e) b) ≡ is_some (member_at ms b)
-set_member-names no_members a b e = refl
-set_member-names (member n d ms) a b e = go (bytes_eq n a) (bytes_eq n b) refl (set_member-names ms a b e)
-  where
-    go : (x y : Bool) → bytes_eq n b ≡ y → is_some (member_at (set_member ms a e) b) ≡ is_some (member_at ms b) → is_some (member_at (if x then member n e ms else member n d (set_member ms a e)) b) ≡ is_some (if y then Some d else member_at ms b)
-    go true true k ih = rw k refl
-    go true false k ih = rw k refl
-    go false true k ih = rw k refl
-    go false false k ih = rw k ih
-
 landing_in-with_child : (d : Document) (g u : Token) (e : Document) → landing_in (with_child d g e) u ≡ landing_in d u
 landing_in-with_child null g u e = refl
 landing_in-with_child (truth b) g u e = refl

@@ -6,7 +6,6 @@ pub mod Tokens
 pub mod Exchanges
 pub mod Sites
 pub mod Depths
-pub mod Equal
 pub mod Moved
 pub mod Made
 pub mod Spots

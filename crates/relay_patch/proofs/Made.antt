@@ -4,7 +4,7 @@ use Rattle.std.specs.Result.{result_ok}
 use Rattle.relay_patch.specs.declared.change.Change.TheVariants as change
 use Rattle.relay_tree.specs.Document.{Document, null, truth, whole, text, list, object, Items, Members, depth, weight}
 use Rattle.relay_tree.specs.Part.{items_length, member_at, set_member}
-use Rattle.relay_patch.specs.Same.{same}
+use Rattle.relay_tree.specs.Same.{same}
 use Rattle.relay_pointer.specs.Index.{Token, index_of}
 use Rattle.relay_pointer.specs.Path.{Path, at, is_proper_prefix, same_path}
 use Rattle.relay_patch.specs.Walk.{Cause, Missing, IntoItself, TestFailed, TooDeep, TooHeavy, then_do, step, walk, dash}
@@ -17,6 +17,7 @@ use Rattle.relay_patch.proofs.Walks.{at-walk, at_reached, walk-append}
 use Rattle.relay_patch.proofs.Parts.{no_dash, place_in_at_index}
 use Rattle.relay_patch.proofs.Sites.{site, parent-last}
 use Rattle.relay_patch.proofs.Moved.{did_move, DidMove}
+use Rattle.relay_pointer.proofs.Prefixes.{and_false, proper_prefix_last}
 
 index_of-canonical : (ds : Items) (t : Token) → index_of (canonical ds t) ≡ place_in ds t
 index_of-canonical ds t = go (bytes_eq t dash) refl
@@ -122,17 +123,6 @@ add_makes (t ∷ path) v d d' h =
 remove_makes : (path : Path) (d d' : Document) → at_path drop_child path d ≡ Ok d' → Makes d (removed_change (place_of d path)) d'
 remove_makes [] d d' h = cc
 remove_makes (t ∷ path) d d' h = remove_leads (place_of d (t ∷ path)).item (place_of d (t ∷ path)).path d d' (drops_at t path d d' h).gone
-
-pub and_false : (x : Bool) → (x && false) ≡ false
-and_false true = refl
-and_false false = refl
-
-proper_prefix_last : (f before : Path) (a b : Token) → is_proper_prefix f (before ++ a ∷ []) ≡ is_proper_prefix f (before ++ b ∷ [])
-proper_prefix_last [] [] a b = refl
-proper_prefix_last [] (t ∷ before) a b = refl
-proper_prefix_last (u ∷ []) [] a b = rw (and_false (bytes_eq u a), and_false (bytes_eq u b)) refl
-proper_prefix_last (u ∷ w ∷ f) [] a b = rw (and_false (bytes_eq u a), and_false (bytes_eq u b)) refl
-proper_prefix_last (u ∷ f) (t ∷ before) a b = ap (λ x. bytes_eq u t && x) (proper_prefix_last f before a b)
 
 test_leads : (b : Bool) (d d' : Document) → (if b then Ok d else Err TestFailed) ≡ Ok d' → d ≡ d'
 test_leads true d d' h = cc

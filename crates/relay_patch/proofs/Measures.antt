@@ -6,7 +6,7 @@ use Rattle.std.proofs.lemmas.Map.Text.{is_eq-slice_cmp}
 use Rattle.relay_tree.specs.Document.{Document, null, truth, whole, text, list, object, Items, no_items, item, Members, no_members, member, depth, items_depth, members_depth, weight, items_weight, members_weight}
 use Rattle.relay_tree.specs.Part.{item_at, put_item, insert_item, drop_item, member_at, set_member, add_member, put_member, drop_member}
 use Rattle.relay_pointer.specs.Index.{Token, index_of}
-use Rattle.relay_pointer.specs.Path.{Path, path_of, at, put_element, with_child}
+use Rattle.relay_pointer.specs.Path.{Path, path_of, at, put, put_element, with_child}
 use Rattle.relay_tree.proofs.Names.{bytes_same, equal_bytes}
 use Rattle.relay_patch.specs.Walk.{Cause, TooDeep, TooHeavy, Missing, PastEnd, then_do, element, step, walk}
 use Rattle.relay_patch.specs.Place.{Place, parent, last}
@@ -14,26 +14,25 @@ use Rattle.relay_patch.specs.Patch.{Bounds, exceeds, within, Act, at_path, below
 use Rattle.relay_patch.specs.Change.{Change, Makes, in_list, in_object, placed, inserted_at}
 use Rattle.relay_patch.specs.declared.change.Change.TheVariants as change
 use Rattle.relay_patch.specs.Measure.{reach, displaced, gone, part_weight, name_weight, place_weight, new_name, lost, gained, judged, Became}
-use Rattle.relay_patch.proofs.Refusals.{then_ok, then_itself, ok_or_some, ok_or_found, some_ok, not_refused}
+use Rattle.relay_patch.proofs.Refusals.{then_ok, then_itself, ok_or_some, ok_or_found, not_refused}
 use Rattle.relay_patch.proofs.Parts.{at_index, place_in_at_index}
 use Rattle.relay_patch.proofs.Sites.{parent-last}
 use Rattle.relay_patch.proofs.Inside.{was_inside}
-use Rattle.relay_patch.proofs.Exchanges.{replaced-step, walk-replaced, at_end, exchanges, replaced_needs}
+use Rattle.relay_patch.proofs.Exchanges.{replaced-step, walk-replaced, at_end, replaced-put, replaced_needs}
 use Rattle.relay_patch.proofs.Depths.{walk_depth}
-use Rattle.relay_patch.proofs.Tokens.{last_end, tokens_back}
+use Rattle.relay_patch.proofs.Tokens.{last_end}
 use Rattle.relay_patch.proofs.Walks.{at_reached, at_refused, walk-append}
 use Rattle.relay_patch.proofs.Carried.{plainly}
 use Rattle.relay_patch.proofs.Made.{at_last}
 use Rattle.relay_patch.proofs.Fits.{stands_at, stood_at, inserted_stands}
 use Rattle.std.specs.Result.{result_ok}
 use Rattle.std.proofs.lemmas.Bool.Decides.{nat_tests}
+use Rattle.relay_tree.proofs.Outcomes.{some_ok}
+use Rattle.relay_pointer.proofs.Tokens.{tokens_back}
+use Rattle.relay_tree.proofs.Sizes.{weight-least, put_item-weight, insert_item-sizes, add_member-weight, put_member-depth, drop_item-sizes, drop_member-sizes}
+use Rattle.relay_pointer.proofs.Puts.{with_child-depth}
 
 -- A part exchanged.
-
-item_weighs : (ds : Items) (i : ℕ) (c e : Document) → item_at ds i ≡ Some c → items_weight (put_item ds i e) + weight c ≡ items_weight ds + weight e
-item_weighs no_items i c e h = cc
-item_weighs (item d ds) zero c e h = let same : d ≡ c = cc in let w = ap weight same in omega (arith, w)
-item_weighs (item d ds) (suc i) c e h = let ih = item_weighs ds i c e h in omega (arith, ih)
 
 member_weighs : (ms : Members) (k : List ℕ) (c e : Document) → member_at ms k ≡ Some c → members_weight (set_member ms k e) + weight c ≡ members_weight ms + weight e
 member_weighs no_members k c e h = cc
@@ -45,7 +44,7 @@ member_weighs (member n d ms) k c e h = go (bytes_eq n k) h (member_weighs ms k 
 
 element_weighs : (ds : Items) (t : Token) (o : Option ℕ) (c e : Document) → element ds t o ≡ Ok c → items_weight (put_element ds o e) + weight c ≡ items_weight ds + weight e
 element_weighs ds t None c e h = cc
-element_weighs ds t (Some i) c e h = item_weighs ds i c e (ok_or_some _ _ _ h)
+element_weighs ds t (Some i) c e h = put_item-weight ds i c e (ok_or_some _ _ _ h)
 
 child_weighs : (d : Document) (t : Token) (c e : Document) → step d t ≡ Ok c → weight (with_child d t e) + weight c ≡ weight d + weight e
 child_weighs null t c e h = cc
@@ -66,38 +65,13 @@ replaced_weighs (t ∷ p) v d c e h k =
     let whole = ap weight w.whole in
     omega (arith, ih, one, whole)
 
-item_deep : (ds : Items) (i : ℕ) (e : Document) → items_depth (put_item ds i e) ≤ max (items_depth ds) (depth e)
-item_deep no_items i e = omega arith
-item_deep (item d ds) zero e = omega arith
-item_deep (item d ds) (suc i) e = let ih = item_deep ds i e in omega (arith, ih)
-
-member_deep : (ms : Members) (k : List ℕ) (e : Document) → members_depth (set_member ms k e) ≤ max (members_depth ms) (depth e)
-member_deep no_members k e = omega arith
-member_deep (member n d ms) k e = go (bytes_eq n k) (member_deep ms k e)
-  where
-    go : (x : Bool) → members_depth (set_member ms k e) ≤ max (members_depth ms) (depth e) → members_depth (if x then member n e ms else member n d (set_member ms k e)) ≤ max (members_depth (member n d ms)) (depth e)
-    go true ih = omega arith
-    go false ih = omega (arith, ih)
-
-element_deep : (ds : Items) (o : Option ℕ) (e : Document) → items_depth (put_element ds o e) ≤ max (items_depth ds) (depth e)
-element_deep ds None e = omega arith
-element_deep ds (Some i) e = item_deep ds i e
-
-child_deep : (d : Document) (t : Token) (e : Document) → depth (with_child d t e) ≤ max (depth d) (suc (depth e))
-child_deep null t e = omega arith
-child_deep (truth b) t e = omega arith
-child_deep (whole z) t e = omega arith
-child_deep (text s) t e = omega arith
-child_deep (list ds) t e = let w = element_deep ds (index_of t) e in omega (arith, w)
-child_deep (object ms) t e = let w = member_deep ms t e in omega (arith, w)
-
 -- a document within a bound stays within it where the new part, at its place, does
 pub replaced_deep : (p : Path) (v d e : Document) → replaced p v d ≡ Ok e → depth e ≤ max (depth d) (length p + depth v)
 replaced_deep [] v d e k = let b : v ≡ e = cc in let y = ap depth b in omega (arith, y)
 replaced_deep (t ∷ p) v d e k =
     let w = was_inside (replaced p v) t d e (rw (replaced-step t p v d) at k) in
     let ih = replaced_deep p v w.before w.later w.changed in
-    let one = child_deep d t w.later in
+    let one = with_child-depth d t w.later in
     let below = walk_depth (t ∷ []) d w.before (rw w.stood refl) in
     let whole = ap depth w.whole in
     omega (arith, ih, one, below, whole)
@@ -112,104 +86,8 @@ tokens_named ts t h is = ap name_weight (tokens_back ts t h is) ∙ name_weight-
 
 -- An element or a member inserted.
 
-item_inserted : (ds : Items) (i : ℕ) (v : Document) (es : Items) → insert_item ds i v ≡ Some es → (items_weight es ≡ items_weight ds + weight v) × (items_depth es ≤ max (items_depth ds) (depth v))
-item_inserted ds zero v es h = let same : item v ds ≡ es = cc in let w = ap items_weight same in let e = ap items_depth same in (omega (arith, w), omega (arith, e))
-item_inserted no_items (suc i) v es h = cc
-item_inserted (item d ds) (suc i) v es h = go (insert_item ds i v) h (item_inserted ds i v)
-  where
-    go : (o : Option Items) → option_map (item d) o ≡ Some es → ((fs : Items) → o ≡ Some fs → (items_weight fs ≡ items_weight ds + weight v) × (items_depth fs ≤ max (items_depth ds) (depth v))) → (items_weight es ≡ items_weight (item d ds) + weight v) × (items_depth es ≤ max (items_depth (item d ds)) (depth v))
-    go None h ih = cc
-    go (Some fs) h ih =
-        let same : item d fs ≡ es = cc in
-        let w = ap items_weight same in
-        let e = ap items_depth same in
-        let r = ih fs refl in
-        let rw_ = r.0 in
-        let rd = r.1 in
-        (omega (arith, w, rw_), omega (arith, e, rd))
-
-unlike : (a n : List ℕ) → bytes_eq n a ≡ false → bytes_eq a n ≡ false
-unlike a n h = go (bytes_eq a n) refl
-  where
-    go : (x : Bool) → bytes_eq a n ≡ x → x ≡ false
-    go false e = refl
-    go true e = let same : n ≡ a = sym (equal_bytes a n e) in sym (bytes_same a) ∙ subst (λ s. bytes_eq s a ≡ false) same h
-
-added_weighs : (o : Ordering) (n a : List ℕ) (d v : Document) (ms rest : Members) → is_eq o ≡ false → members_weight rest ≡ members_weight ms + weight v + length a → members_weight (match_ordering o (member a v (member n d ms)) (member a v ms) (member n d rest)) ≡ members_weight (member n d ms) + weight v + length a
-added_weighs Less n a d v ms rest other ih = omega arith
-added_weighs Equal n a d v ms rest other ih = cc
-added_weighs Greater n a d v ms rest other ih = omega (arith, ih)
-
-added_deep : (o : Ordering) (n a : List ℕ) (d v : Document) (ms rest : Members) → members_depth rest ≤ max (members_depth ms) (depth v) → members_depth (match_ordering o (member a v (member n d ms)) (member a v ms) (member n d rest)) ≤ max (members_depth (member n d ms)) (depth v)
-added_deep Less n a d v ms rest ih = omega arith
-added_deep Equal n a d v ms rest ih = omega arith
-added_deep Greater n a d v ms rest ih = omega (arith, ih)
-
-member_added : (ms : Members) (a : List ℕ) (v : Document) → member_at ms a ≡ None → members_weight (add_member ms a v) ≡ members_weight ms + weight v + length a
-member_added no_members a v h = omega arith
-member_added (member n d ms) a v h = go (bytes_eq n a) refl h (member_added ms a v)
-  where
-    go : (x : Bool) → bytes_eq n a ≡ x → (if x then Some d else member_at ms a) ≡ None → (member_at ms a ≡ None → members_weight (add_member ms a v) ≡ members_weight ms + weight v + length a) → members_weight (add_member (member n d ms) a v) ≡ members_weight (member n d ms) + weight v + length a
-    go true k none ih = cc
-    go false k none ih = added_weighs (slice_cmp nat_cmp a n) n a d v ms (add_member ms a v) (is_eq-slice_cmp a n ∙ unlike a n k) (ih none)
-
-member_added_deep : (ms : Members) (a : List ℕ) (v : Document) → members_depth (add_member ms a v) ≤ max (members_depth ms) (depth v)
-member_added_deep no_members a v = omega arith
-member_added_deep (member n d ms) a v = added_deep (slice_cmp nat_cmp a n) n a d v ms (add_member ms a v) (member_added_deep ms a v)
-
-member_put_deep : (ms : Members) (a : List ℕ) (v : Document) → members_depth (put_member ms a v) ≤ max (members_depth ms) (depth v)
-member_put_deep ms a v = go (is_some (member_at ms a))
-  where
-    go : (x : Bool) → members_depth (if x then set_member ms a v else add_member ms a v) ≤ max (members_depth ms) (depth v)
-    go true = member_deep ms a v
-    go false = member_added_deep ms a v
-
 -- An element or a member dropped.
-
-item_dropped : (ds : Items) (i : ℕ) (c : Document) (es : Items) → item_at ds i ≡ Some c → drop_item ds i ≡ Some es → (items_weight es + weight c ≡ items_weight ds) × (items_depth es ≤ items_depth ds)
-item_dropped no_items i c es h k = cc
-item_dropped (item d ds) zero c es h k = let a : d ≡ c = cc in let b : ds ≡ es = cc in let x = ap weight a in let y = ap items_weight b in let z = ap items_depth b in (omega (arith, x, y), omega (arith, z))
-item_dropped (item d ds) (suc i) c es h k = go (drop_item ds i) k (λ fs. item_dropped ds i c fs h)
-  where
-    go : (o : Option Items) → option_map (item d) o ≡ Some es → ((fs : Items) → o ≡ Some fs → (items_weight fs + weight c ≡ items_weight ds) × (items_depth fs ≤ items_depth ds)) → (items_weight es + weight c ≡ items_weight (item d ds)) × (items_depth es ≤ items_depth (item d ds))
-    go None k ih = cc
-    go (Some fs) k ih =
-        let same : item d fs ≡ es = cc in
-        let y = ap items_weight same in
-        let z = ap items_depth same in
-        let r = ih fs refl in
-        let a = r.0 in
-        let b = r.1 in
-        (omega (arith, y, a), omega (arith, z, b))
-
-member_dropped : (ms : Members) (a : List ℕ) (c : Document) (ns : Members) → member_at ms a ≡ Some c → drop_member ms a ≡ Some ns → (members_weight ns + weight c + length a ≡ members_weight ms) × (members_depth ns ≤ members_depth ms)
-member_dropped no_members a c ns h k = cc
-member_dropped (member n d ms) a c ns h k = go (bytes_eq n a) refl h k (member_dropped ms a c)
-  where
-    rest : (o : Option Members) → option_map (member n d) o ≡ Some ns → ((fs : Members) → o ≡ Some fs → (members_weight fs + weight c + length a ≡ members_weight ms) × (members_depth fs ≤ members_depth ms)) → (members_weight ns + weight c + length a ≡ members_weight (member n d ms)) × (members_depth ns ≤ members_depth (member n d ms))
-    rest None k ih = cc
-    rest (Some fs) k ih =
-        let same : member n d fs ≡ ns = cc in
-        let y = ap members_weight same in
-        let z = ap members_depth same in
-        let r = ih fs refl in
-        let u = r.0 in
-        let v = r.1 in
-        (omega (arith, y, u), omega (arith, z, v))
-
-    go : (x : Bool) → bytes_eq n a ≡ x → (if x then Some d else member_at ms a) ≡ Some c → (if x then Some ms else option_map (member n d) (drop_member ms a)) ≡ Some ns → ((fs : Members) → member_at ms a ≡ Some c → drop_member ms a ≡ Some fs → (members_weight fs + weight c + length a ≡ members_weight ms) × (members_depth fs ≤ members_depth ms)) → (members_weight ns + weight c + length a ≡ members_weight (member n d ms)) × (members_depth ns ≤ members_depth (member n d ms))
-    go true e h k ih =
-        let s : d ≡ c = cc in
-        let m : ms ≡ ns = cc in
-        let l = ap length (equal_bytes n a e) in
-        let x = ap weight s in
-        let y = ap members_weight m in
-        let z = ap members_depth m in
-        (omega (arith, l, x, y), omega (arith, z))
-    go false e h k ih = rest (drop_member ms a) k (λ fs. ih fs h)
-
 -- In a container.
-
 inserted_in_list : (v : Document) (t : Token) (c c' : Document) → in_list (insert_child v) t c ≡ Ok c' → (weight c' ≡ weight c + weight v) × (depth c' ≤ max (depth c) (suc (depth v)))
 inserted_in_list v t (list ds) c' h =
     let a = at_index (insert_child v) t (list ds) c' (index_of t) h in
@@ -217,7 +95,7 @@ inserted_in_list v t (list ds) c' h =
     let s = then_ok (ok_or (insert_item ds a.0 v) PastEnd) (λ es. Ok (list es)) c' done in
     let k : Ok (list s.0) ≡ Ok c' = s.2 in
     let is : c' ≡ list s.0 = cc in
-    let r = item_inserted ds a.0 v s.0 (ok_or_some _ _ _ s.1) in
+    let r = insert_item-sizes ds a.0 v s.0 (ok_or_some _ _ _ s.1) in
     let w = ap weight is in
     let z = ap depth is in
     let heavy = r.0 in
@@ -230,14 +108,14 @@ inserted_in_list v t (text s) c' h = cc
 inserted_in_list v t (object ms) c' h = cc
 
 member_put : (ms : Members) (a : List ℕ) (v : Document) (o : Option Document) → member_at ms a ≡ o → members_weight (put_member ms a v) + part_weight o ≡ members_weight ms + weight v + new_name (length a) o
-member_put ms a v None h = rw h (let w = member_added ms a v h in omega (arith, w))
+member_put ms a v None h = rw h (let w = add_member-weight ms a v h in omega (arith, w))
 member_put ms a v (Some c) h = rw h (let w = member_weighs ms a c v h in omega (arith, w))
 
 put_in_object : (v : Document) (t : Token) (c c' : Document) (o : Option Document) → in_object (insert_child v) t c ≡ Ok c' → result_ok (step c t) ≡ o → (weight c' + part_weight o ≡ weight c + weight v + new_name (length t) o) × (depth c' ≤ max (depth c) (suc (depth v)))
 put_in_object v t (object ms) c' o h found =
     let is : c' ≡ object (put_member ms t v) = cc in
     let heavy = member_put ms t v o (sym (ok_or_found (member_at ms t) Missing) ∙ found) in
-    let deep = member_put_deep ms t v in
+    let deep = put_member-depth ms t v in
     let w = ap weight is in
     let z = ap depth is in
     (omega (arith, w, heavy), omega (arith, z, deep))
@@ -255,7 +133,7 @@ dropped_from_list t (list ds) c' v h there =
     let s = then_ok (ok_or (drop_item ds a.0) Missing) (λ es. Ok (list es)) c' done in
     let k : Ok (list s.0) ≡ Ok c' = s.2 in
     let is : c' ≡ list s.0 = cc in
-    let r = item_dropped ds a.0 v s.0 (ok_or_some _ _ _ stood) (ok_or_some _ _ _ s.1) in
+    let r = drop_item-sizes ds a.0 v s.0 (ok_or_some _ _ _ stood) (ok_or_some _ _ _ s.1) in
     let w = ap weight is in
     let z = ap depth is in
     let light = r.0 in
@@ -272,7 +150,7 @@ dropped_from_object t (object ms) c' v h there =
     let s = then_ok (ok_or (drop_member ms t) Missing) (λ ns. Ok (object ns)) c' h in
     let k : Ok (object s.0) ≡ Ok c' = s.2 in
     let is : c' ≡ object s.0 = cc in
-    let r = member_dropped ms t v s.0 (ok_or_some _ _ _ there) (ok_or_some _ _ _ s.1) in
+    let r = drop_member-sizes ms t v s.0 (ok_or_some _ _ _ there) (ok_or_some _ _ _ s.1) in
     let w = ap weight is in
     let z = ap depth is in
     let light = r.0 in
@@ -377,19 +255,10 @@ dropped_weighs false (t ∷ path) d e v h there =
 
 -- What a path leads to weighs no more than the whole.
 
-least : (d : Document) → 8 ≤ weight d
-least null = omega arith
-least (truth b) = omega arith
-least (whole z) = omega arith
-least (text s) = omega arith
-least (list ds) = omega arith
-least (object ms) = omega arith
-
 part_fits : (path : Path) (d v : Document) → walk d path ≡ Ok v → weight v ≤ weight d
 part_fits path d v h =
-    let e = exchanges path null d v h in
-    let w = replaced_weighs path null d v e.0 h e.1 in
-    omega (arith, w, least e.0)
+    let w = replaced_weighs path null d v (put d path null) h (replaced-put path null d v h) in
+    omega (arith, w, weight-least (put d path null))
 
 displaced_fits : (place : Place) (d : Document) → part_weight (displaced place d) ≤ weight d
 displaced_fits place d = go place.item (walk d place.path) refl

@@ -4,17 +4,18 @@ use Rattle.std.specs.Prelude.{IfOk, IfErr, codes}
 use Rattle.std.proofs.lemmas.Bool.Decides.{nat_tests}
 use Rattle.relay_tree.specs.Document.{Document, list, Items, no_items, item}
 use Rattle.relay_tree.specs.Each.{onto, each_from}
-use Rattle.relay_tree.specs.Part.{items_length}
+use Rattle.relay_tree.specs.Part.{items_length, text_in}
 use Rattle.relay_pointer.specs.Path.{Path}
 use Rattle.relay_pointer.specs.Spelling.{path_of_text}
-use Rattle.relay_patch.proofs.Refusals.{if_err}
-use Rattle.relay_patch.specs.Form.{with_part, and_then, text_in, kind_of, path_within, path_in, valued, sourced, op_of_kind, op_at, patch_of}
+use Rattle.relay_patch.specs.Form.{with_part, and_then, kind_of, path_within, path_in, valued, sourced, op_of_kind, op_at, patch_of}
 use Rattle.relay_patch.specs.Patch.{Op, Bounds, ApplyFault, effect, within, refused_at, go_on, after_from, after}
 use Rattle.relay_patch.specs.Walk.{Cause, then_do}
-use Rattle.relay_patch.specs.declared.kind.Kind.{Kind}
-use Rattle.relay_patch.specs.declared.kind.Kind.TheVariants as kind
+use Rattle.relay_patch.specs.declared.form.kind.Kind.{Kind}
+use Rattle.relay_patch.specs.declared.form.kind.Kind.TheVariants as kind
 use Rattle.relay_patch.specs.declared.limits.PatchFault.{PatchFault}
 use Rattle.relay_patch.specs.declared.limits.PatchFault.TheVariants.{TooManyOps, Shape, UnknownOp, Pointer, NoMemory}
+use Rattle.relay_tree.proofs.Outcomes.{if_err}
+use Rattle.relay_tree.proofs.Each.{IsBelow, few-length, few-place}
 
 -- A patch that is refused names one of its operations.
 
@@ -34,62 +35,6 @@ after-place d ops bounds fault h =
     omega (arith, place)
 
 -- A list that is read element by element, where each refused element is named by its place.
-
--- a number below another, if there is one
-abbrev pub IsBelow : ℕ → Option ℕ → Type 0
-IsBelow most (Some n) = n < most
-IsBelow most None = Unit {0}
-
-module _ {A E : Type 0} where
-  onto-length : (r : Result A E) (rest : Result (List A) E) (m : ℕ) → IfOk rest (λ xs. length xs ≡ m) → IfOk (onto r rest) (λ xs. length xs ≡ suc m)
-  onto-length (Ok x) (Ok xs) m h = rw h refl
-  onto-length (Ok x) (Err e) m h = tt
-  onto-length (Err e) rest m h = tt
-
-  each-length : (reads : ℕ → Document → Result A E) (n : ℕ) (ds : Items) → IfOk (each_from reads n ds) (λ xs. length xs ≡ items_length ds)
-  each-length reads n no_items = refl
-  each-length reads n (item d ds) = onto-length (reads n d) (each_from reads (suc n) ds) (items_length ds) (each-length reads (suc n) ds)
-
-  -- a list of few elements, as long as what is read of it
-  pub few-length : (reads : ℕ → Document → Result A E) (most : ℕ) (many : E) (ds : Items)
-      → IfOk (if nat_lt most (items_length ds) then Err many else each_from reads 0 ds) (λ xs. length xs ≤ most)
-  few-length reads most many ds = go (nat_lt most (items_length ds)) (each_from reads 0 ds) refl (each-length reads 0 ds)
-    where
-      go : (b : Bool) (read : Result (List A) E) → b ≡ nat_lt most (items_length ds) → IfOk read (λ xs. length xs ≡ items_length ds)
-          → IfOk (if b then Err many else read) (λ xs. length xs ≤ most)
-      go true read e h = tt
-      go false (Err fault) e h = tt
-      go false (Ok xs) e h = let few : items_length ds ≤ most = grind (arith, nat_tests, e) in omega (arith, few, h)
-
-module _ {A E : Type 0} (reads : ℕ → Document → Result A E) (named : E → Option ℕ) (names : (n : ℕ) (d : Document) → IfErr (reads n d) (λ fault. named fault ≡ Some n)) where
-  abbrev NamesBelow : ℕ → E → Type 0
-  NamesBelow most fault = (k : ℕ) × (k < most) × (named fault ≡ Some k)
-
-  onto-refused : (Q : E → Type 0) (r : Result A E) (rest : Result (List A) E) → IfErr r Q → IfErr rest Q → IfErr (onto r rest) Q
-  onto-refused Q (Ok x) (Ok xs) h k = tt
-  onto-refused Q (Ok x) (Err e) h k = k
-  onto-refused Q (Err e) rest h k = h
-
-  each-place : (n : ℕ) (ds : Items) → IfErr (each_from reads n ds) (NamesBelow (n + items_length ds))
-  each-place n no_items = tt
-  each-place n (item d ds) =
-      onto-refused (NamesBelow (n + suc (items_length ds))) (reads n d) (each_from reads (suc n) ds)
-      (if_err (reads n d) (names n d) (λ fault is. (n, omega arith, is)))
-      (if_err (each_from reads (suc n) ds) (each-place (suc n) ds) (λ fault k. (k.0, (let below = k.1 in omega (arith, below)), k.2)))
-
-  -- a list of few elements is refused for one of them
-  pub few-place : (most : ℕ) (many : E) → IsBelow most (named many) → (ds : Items)
-      → IfErr (if nat_lt most (items_length ds) then Err many else each_from reads 0 ds) (λ fault. IsBelow most (named fault))
-  few-place most many free ds = go (nat_lt most (items_length ds)) (each_from reads 0 ds) refl (each-place 0 ds)
-    where
-      go : (b : Bool) (read : Result (List A) E) → b ≡ nat_lt most (items_length ds) → IfErr read (NamesBelow (0 + items_length ds))
-          → IfErr (if b then Err many else read) (λ fault. IsBelow most (named fault))
-      go true read e h = free
-      go false (Ok xs) e h = tt
-      go false (Err fault) e h =
-          let few : items_length ds ≤ most = grind (arith, nat_tests, e) in
-          let below = h.1 in
-          rw h.2 (omega (arith, few, below))
 
 -- A document that is read as a patch.
 

@@ -11,10 +11,11 @@ use Rattle.relay_patch.specs.Change.{in_object, inserted, inserted_at}
 use Rattle.relay_patch.specs.Measure.{displaced}
 use Rattle.relay_patch.proofs.Carried.{inserts_plainly}
 use Rattle.relay_patch.proofs.Made.{at_last}
-use Rattle.relay_patch.proofs.Refusals.{some_ok, is_ok_then, ok_or_some}
+use Rattle.relay_patch.proofs.Refusals.{ok_or_some}
 use Rattle.relay_patch.proofs.Sites.{site, parent-last}
 use Rattle.relay_patch.proofs.Walks.{was_found, at_reached}
 use Rattle.relay_patch.proofs.Exchanges.{replaced_needs}
+use Rattle.relay_tree.proofs.Outcomes.{some_ok, is_ok_then}
 
 -- to put a member that is there is to set it
 put_sets : (v : Document) (t : Token) (c c' w : Document) → in_object (insert_child v) t c ≡ Ok c' → step c t ≡ Ok w → set_child v t c ≡ Ok c'

@@ -9,12 +9,13 @@ use Rattle.relay_patch.specs.Patch.{at_path, drop_child, added, effect, Move, Co
 use Rattle.relay_patch.specs.Change.{changes_of}
 use Rattle.relay_patch.specs.declared.change.Change.TheVariants as change
 use Rattle.relay_patch.specs.Steps.{Spot, landing, landed}
-use Rattle.relay_patch.proofs.Refusals.{then_ok, then_itself, is_ok_then, some_ok}
+use Rattle.relay_patch.proofs.Refusals.{then_ok, then_itself}
 use Rattle.relay_patch.proofs.Walks.{at_reached, walk-append}
 use Rattle.relay_patch.proofs.Sites.{parent-last}
 use Rattle.relay_patch.proofs.Acts.{at_passes, drops}
 use Rattle.relay_patch.proofs.Made.{drops_at}
 use Rattle.relay_patch.proofs.Landed.{landing_passes, landing_refuses, landed-place}
+use Rattle.relay_tree.proofs.Outcomes.{is_ok_then, some_ok}
 
 -- Copies.
 

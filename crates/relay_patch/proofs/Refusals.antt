@@ -26,35 +26,7 @@ pub not_refused : (b : Bool) (e : Cause) (r : Result Document Cause) (d : Docume
 not_refused true e r d h = cc
 not_refused false e r d h = (refl, h)
 
-pub is_ok_then : {A E : Type 0} (r : Result A E) (x : A) → r ≡ Ok x → IsOk r
-is_ok_then r x h = rw h refl
-
-pub some_ok : {A E : Type 0} (r : Result A E) → IsOk r → (x : A) × (r ≡ Ok x)
-some_ok (Ok x) h = (x, refl)
-some_ok (Err e) h = cc
-
-pub refused_not_ok : {A E : Type 0} (r : Result A E) (e : E) → r ≡ Err e → IsOk r → ⊥
-refused_not_ok (Ok x) e h k = cc
-refused_not_ok (Err x) e h k = cc
-
 -- Clauses on a result.
-
-pub on_ok : {A E : Type 0} {P Q : Type 0} (r : Result A E) → OnOk r P → (P → Q) → OnOk r Q
-on_ok (Ok x) p f = f p
-on_ok (Err e) p f = tt
-
-pub if_ok : {A E : Type 0} {P Q : A → Type 0} (r : Result A E) → IfOk r P → ((x : A) → P x → Q x) → IfOk r Q
-if_ok (Ok x) p f = f x p
-if_ok (Err e) p f = tt
-
-pub if_both : {A E : Type 0} {P Q R : A → Type 0} (r : Result A E) → IfOk r P → IfOk r Q → ((x : A) → P x → Q x → R x) → IfOk r R
-if_both (Ok x) p q f = f x p q
-if_both (Err e) p q f = tt
-
-pub if_err : {A E : Type 0} {P Q : E → Type 0} (r : Result A E) → IfErr r P → ((e : E) → P e → Q e) → IfErr r Q
-if_err (Ok x) p f = tt
-if_err (Err e) p f = f e p
-
 pub if_found : {D : Type 0} {Q : Bor D → Type 0} (r : Result (Bor D) Cause) (o : Option (Bor D)) (e : Cause) (s : Option D) → r ≡ ok_or o e → option_copied o ≡ s → ((part : Bor D) → ok_or s e ≡ Ok part.now → Q part) → IfOk r Q
 if_found (Ok x) (Some y) e s h k f = let same : x ≡ y = cc in f x (rw (← k, same) refl)
 if_found (Ok x) None e s h k f = cc
@@ -72,7 +44,3 @@ refused_by r cause h other = (λ _. h, λ e. absurd (other e))
 
 pub starved_by : (r : Result Document Cause) (cause : Cause) → IsOk r → cause ≡ NoMemory → Refuses r cause
 starved_by r cause h is = (λ other. absurd (other is), λ _. h)
-
-pub err_and : {A E : Type 0} {P Q : E → Type 0} (r : Result A E) → IsErrAnd r P → ((e : E) → P e → Q e) → IfErr r Q
-err_and (Ok x) p f = tt
-err_and (Err e) p f = f e p

@@ -11,9 +11,10 @@ use Rattle.relay_tree.specs.Part.{member_at, object_member}
 use Rattle.relay_pointer.specs.Index.{Token}
 use Rattle.relay_pointer.specs.Path.{Path, path_of}
 use Rattle.relay_patch.specs.Walk.{Cause, then_do, walk}
-use Rattle.relay_patch.specs.declared.spot.Spot.TheVariants as spot
+use Rattle.relay_patch.specs.declared.applying.spot.Spot.TheVariants as spot
 use Rattle.relay_patch.specs.Steps.{landing_in, landing, standing_in, standing}
-use Rattle.relay_patch.proofs.Tokens.{tokens_back, tokens_last, place_of-end, parent_end, last_end}
+use Rattle.relay_patch.proofs.Tokens.{place_of-end, parent_end, last_end}
+use Rattle.relay_pointer.proofs.Tokens.{tokens_back, tokens_last}
 
 pub landing_end : (d : Document) (before : Path) (t : Token) → landing d (before ++ t ∷ []) ≡ then_do (walk d before) (λ c. landing_in c t)
 landing_end d [] t = refl

@@ -4,11 +4,12 @@ use Rattle.std.proofs.lemmas.Bool.Decides.{nat_tests}
 use Rattle.std.proofs.lemmas.Slice.Eq.{bytes_eq-Decides}
 use Rattle.relay_tree.specs.Document.{Document, null, truth, whole, text, list, object, Items, items_of}
 use Rattle.relay_tree.specs.Part.{items_length}
-use Rattle.relay_tree.proofs.Elements.{items_length-items_of}
+use Rattle.relay_tree.proofs.Elements.{items_length-items_of, drop_item-shorter}
 use Rattle.relay_tree.proofs.Names.{bytes_same, equal_bytes}
 use Rattle.relay_pointer.specs.Index.{Token, index_of, number_of, index_text}
 use Rattle.relay_pointer.specs.Path.{Path, at, same_path}
-use Rattle.relay_pointer.proofs.Indexes.{both, index_of_injective, index_of-index_text}
+use Rattle.relay_pointer.proofs.Indexes.{index_of_injective, index_of-index_text, last_index}
+use Rattle.relay_tree.proofs.Equal.{both}
 use Rattle.relay_pointer.proofs.Walks.{some_index}
 use Rattle.relay_patch.specs.Walk.{Cause, then_do, dash, is_dash, walk}
 use Rattle.relay_patch.specs.Place.{place_within, place_of, canonical}
@@ -19,40 +20,9 @@ use Rattle.relay_patch.proofs.Parts.{no_dash}
 use Rattle.relay_patch.proofs.Tokens.{place_of-end}
 use Rattle.relay_patch.proofs.Walks.{at_reached}
 use Rattle.relay_patch.proofs.Exchanges.{at_end, walk-replaced}
-use Rattle.relay_patch.proofs.Drops.{shorter, fewer, drop_item-shorter}
+use Rattle.relay_patch.proofs.Drops.{shorter, fewer}
 use Rattle.relay_patch.proofs.Made.{within_last}
-
-pub same_path-end : (a b : Path) (t u : Token) → same_path (a ++ t ∷ []) (b ++ u ∷ []) ≡ (same_path a b && bytes_eq t u)
-same_path-end [] [] t u = go (bytes_eq t u)
-  where
-    go : (x : Bool) → (x && true) ≡ x
-    go true = refl
-    go false = refl
-same_path-end [] (y ∷ []) t u = never (bytes_eq t y)
-  where
-    never : (x : Bool) → (x && false) ≡ false
-    never true = refl
-    never false = refl
-same_path-end [] (y ∷ z ∷ b) t u = never (bytes_eq t y)
-  where
-    never : (x : Bool) → (x && false) ≡ false
-    never true = refl
-    never false = refl
-same_path-end (x ∷ []) [] t u = never (bytes_eq x u)
-  where
-    never : (y : Bool) → (y && false) ≡ false
-    never true = refl
-    never false = refl
-same_path-end (x ∷ z ∷ a) [] t u = never (bytes_eq x u)
-  where
-    never : (y : Bool) → (y && false) ≡ false
-    never true = refl
-    never false = refl
-same_path-end (x ∷ a) (y ∷ b) t u = ap (λ r. bytes_eq x y && r) (same_path-end a b t u) ∙ sym (and_assoc (bytes_eq x y) (same_path a b) (bytes_eq t u))
-  where
-    and_assoc : (p q r : Bool) → ((p && q) && r) ≡ (p && (q && r))
-    and_assoc true q r = refl
-    and_assoc false q r = refl
+use Rattle.relay_pointer.proofs.Prefixes.{same_path-end, same_itself, equal_paths, other_parent}
 
 -- the last token of a place in a container
 abbrev token_within : Document → Token → Token
@@ -70,24 +40,6 @@ place_within-token (object ms) before t = refl
 or_false : (x : Bool) → (x || false) ≡ x
 or_false true = refl
 or_false false = refl
-
--- the token of the last of n + 1 elements
-last_index : (t : Token) (i n : ℕ) → index_of t ≡ Some i → bytes_eq t (index_text n) ≡ (i + 1 == suc n)
-last_index t i n named = go (i + 1 == suc n) refl
-  where
-    go : (x : Bool) → (i + 1 == suc n) ≡ x → bytes_eq t (index_text n) ≡ x
-    go true e =
-        let same : i ≡ n = grind (arith, nat_tests) in
-        (bytes_eq-Decides t (index_text n)).1 (index_of_injective t (index_text n) n (named ∙ ap Some same) (index_of-index_text n))
-    go false e = unlike (bytes_eq t (index_text n)) refl
-      where
-        unlike : (y : Bool) → bytes_eq t (index_text n) ≡ y → y ≡ false
-        unlike false k = refl
-        unlike true k =
-            let spelt : Some i ≡ Some n = sym named ∙ ap index_of (equal_bytes t (index_text n) k) ∙ index_of-index_text n in
-            let same : i ≡ n = cc in
-            let yes : (i + 1 == suc n) ≡ true = grind (arith, nat_tests) in
-            cc
 
 same_end : (c c' : Document) (t l : Token) → drop_child t c ≡ Ok c' → bytes_eq t (token_within c' l) ≡ is_same_end (Ok c) t l
 same_end (list ds) c' t l h =
@@ -112,20 +64,6 @@ same_end (truth b) c' t l h = cc
 same_end (whole z) c' t l h = cc
 same_end (text s) c' t l h = cc
 
-same_itself : (p : Path) → same_path p p ≡ true
-same_itself [] = refl
-same_itself (t ∷ p) = rw (bytes_same t) (same_itself p)
-
-pub equal_paths : (p q : Path) → same_path p q ≡ true → p ≡ q
-equal_paths [] [] h = refl
-equal_paths [] (u ∷ q) h = cc
-equal_paths (t ∷ p) [] h = cc
-equal_paths (t ∷ p) (u ∷ q) h =
-    let b = both (bytes_eq t u) (same_path p q) h in
-    let first : t ≡ u = equal_bytes t u b.0 in
-    let rest : p ≡ q = equal_paths p q b.1 in
-    cc
-
 pub comes_back : (from path before parent : Path) (t l : Token) (d : Document) → from ≡ before ++ t ∷ [] → path ≡ parent ++ l ∷ [] → same_path before parent ≡ true → (rest : Document) → at_path drop_child from d ≡ Ok rest → is_same_end (walk d before) t l ≡ same_path from (place_of rest path).path
 comes_back from path before parent t l d is goes same rest dropped =
     let whole = sym (at_end drop_child before t d) ∙ rw is at dropped in
@@ -149,9 +87,6 @@ other_end from path before parent t l r is goes other = rw (is, goes, same_path-
     never : (x : Bool) → (x && false) ≡ false
     never true = refl
     never false = refl
-
-pub other_parent : (from path before parent : Path) (t l : Token) → from ≡ before ++ t ∷ [] → path ≡ parent ++ l ∷ [] → same_path before parent ≡ false → same_path from path ≡ false
-other_parent from path before parent t l is goes other = rw (is, goes, same_path-end before parent t l, other) refl
 
 -- the last element of a vector
 pub is_end-items_of : (xs : List Document) (t : Token) (n k : ℕ) → length xs < 2 ^ 63 → Some n ≡ number_of t → k ≡ min (n + 1) (2 ^ 64 - 1) → nat_eq k (length xs) ≡ is_end (list (items_of xs)) t

@@ -2,13 +2,13 @@
 use Rattle.std.specs.Prelude.{ℕ, List, [], ◌∷◌, length, codes, bytes_eq, Option, Some, None, Result, Ok, Err, nat_le, nat_lt, if◌then◌else◌}
 use Rattle.relay_tree.specs.Document.{Document, text, list, object, Items, no_items, item, Members, no_members, member}
 use Rattle.relay_tree.specs.Each.{each_from}
-use Rattle.relay_tree.specs.Part.{items_length, object_member}
+use Rattle.relay_tree.specs.Part.{items_length, object_member, text_in}
 use Rattle.relay_pointer.specs.Path.{Path}
 use Rattle.relay_pointer.specs.Spelling.{path_of_text, spelling}
 use Rattle.relay_patch.specs.declared.op.Op.{Op}
 use Rattle.relay_patch.specs.declared.op.Op.TheVariants as op
-use Rattle.relay_patch.specs.declared.kind.Kind.{Kind}
-use Rattle.relay_patch.specs.declared.kind.Kind.TheVariants as kind
+use Rattle.relay_patch.specs.declared.form.kind.Kind.{Kind}
+use Rattle.relay_patch.specs.declared.form.kind.Kind.TheVariants as kind
 use Rattle.relay_patch.specs.declared.limits.PatchFault.{PatchFault}
 use Rattle.relay_patch.specs.declared.limits.PatchFault.TheVariants.{TooManyOps, Shape, UnknownOp, Pointer}
 
@@ -22,14 +22,6 @@ with_part None fault f = Err fault
 abbrev pub and_then : {A B : Type 0} → Result A PatchFault → (A → Result B PatchFault) → Result B PatchFault
 and_then (Ok x) f = f x
 and_then (Err fault) f = Err fault
-
-abbrev pub as_text : Option Document → Option (List ℕ)
-as_text (Some (text s)) = Some s
-as_text _ = None
-
--- the text that a member is
-abbrev pub text_in : Document → List ℕ → Option (List ℕ)
-text_in d name = as_text (object_member d name)
 
 abbrev pub kind_of : List ℕ → Option Kind
 kind_of name =

@@ -1,5 +1,4 @@
 pub mod Walk
-pub mod Same
 pub mod Place
 pub mod Patch
 pub mod Change

@@ -4,7 +4,7 @@ use Rattle.relay_tree.specs.Document.{Document, list, object, Items, depth, weig
 use Rattle.relay_tree.specs.Part.{items_length, insert_item, drop_item, put_member, drop_member}
 use Rattle.relay_pointer.specs.Index.{Token, index_of}
 use Rattle.relay_pointer.specs.Path.{Path, with_child, is_proper_prefix, same_path}
-use Rattle.relay_patch.specs.Same.{same}
+use Rattle.relay_tree.specs.Same.{same}
 use Rattle.relay_patch.specs.Walk.{Cause, Missing, NotIndex, PastEnd, NoContainer, Root, IntoItself, TestFailed, TooDeep, TooHeavy, then_do, dash, no_element, step, walk}
 use Rattle.relay_patch.specs.Place.{place_of}
 pub use Rattle.relay_patch.specs.declared.op.Op.{Op}

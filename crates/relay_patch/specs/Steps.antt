@@ -9,8 +9,8 @@ use Rattle.relay_patch.specs.Place.{Place, parent, last}
 use Rattle.relay_patch.specs.Patch.{Op, Bounds, effect, after}
 use Rattle.relay_patch.specs.Change.{Change}
 use Rattle.relay_patch.specs.declared.change.Change.TheVariants as change
-pub use Rattle.relay_patch.specs.declared.spot.Spot.{Spot}
-use Rattle.relay_patch.specs.declared.spot.Spot.TheVariants as spot
+pub use Rattle.relay_patch.specs.declared.applying.spot.Spot.{Spot}
+use Rattle.relay_patch.specs.declared.applying.spot.Spot.TheVariants as spot
 
 -- a fault: memory was refused to a step that passes, or the step is refused
 abbrev pub Refuses : {A : Type 0} → Result A Cause → Cause → Type 0

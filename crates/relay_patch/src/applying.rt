@@ -10,14 +10,24 @@ ghost use Rattle.relay_patch.specs.Measure.{Known};
 ghost use Rattle.relay_patch.specs.Steps.{listed, present, Reaches};
 ghost use Rattle.relay_patch.specs.declared.fault.Cause.TheVariants.{NoMemory};
 
+mod container;
+mod exchange;
+mod making;
+mod measuring;
+mod moving;
+mod place;
+mod recording;
+mod spot;
+mod walk;
+
+use self::making::make;
+use self::measuring::{bound, measure};
+use self::recording::record;
 use crate::bounds::Bounds;
 use crate::change::Change;
 use crate::fault::{ApplyFault, Cause};
-use crate::making::make;
-use crate::measuring::{bound, measure};
 use crate::op::Op;
 use crate::patch::Patch;
-use crate::recording::record;
 use relay_tree::Tree;
 use std::alloc::{AllocError, Global};
 

@@ -1,5 +1,11 @@
 //! How large a document may grow.
 
+/// The most levels of a shared document.
+pub const DEPTH_MOST: u64 = 64;
+
+/// The most that a shared document weighs.
+pub const WEIGHT_MOST: u64 = 65_536;
+
 /// How deep and how heavy a document may be after each operation. `u64::MAX` bounds nothing.
 #[derive(Clone, Copy, Debug, PartialEq, Eq)]
 pub struct Bounds {
@@ -8,10 +14,10 @@ pub struct Bounds {
 }
 
 impl Bounds {
-    /// What a shared document keeps to: 64 levels and a weight of 65,536.
+    /// What a shared document keeps to.
     pub const DOCUMENT: Bounds = Bounds {
-        depth: 64,
-        weight: 65_536,
+        depth: DEPTH_MOST,
+        weight: WEIGHT_MOST,
     };
 
     /// No bound at all.

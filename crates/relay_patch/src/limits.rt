@@ -1,5 +1,12 @@
 //! How large a patch may be that is read, and why one is refused.
+use relay_pointer::TOKENS_MOST;
 use thiserror::Error;
+
+/// The most operations of a patch in a request.
+pub const OPS_MOST: u64 = 64;
+
+/// The most tokens of a path in a patch that the relay sends: two more, which name a slot of a view.
+pub const RELAYED_TOKENS_MOST: u64 = TOKENS_MOST + 2;
 
 /// How many operations a patch has at most, and how many tokens each of its paths.
 #[derive(Clone, Copy, Debug, PartialEq, Eq)]
@@ -11,14 +18,14 @@ pub struct PatchLimits {
 impl PatchLimits {
     /// Those of a request.
     pub const REQUEST: PatchLimits = PatchLimits {
-        ops: 64,
-        tokens: 64,
+        ops: OPS_MOST,
+        tokens: TOKENS_MOST,
     };
 
-    /// Those of a patch that the relay sends: any number of operations, and two tokens more, which name a slot of a view.
+    /// Those of a patch that the relay sends: any number of operations.
     pub const RELAYED: PatchLimits = PatchLimits {
         ops: u64::MAX,
-        tokens: 66,
+        tokens: RELAYED_TOKENS_MOST,
     };
 }
 

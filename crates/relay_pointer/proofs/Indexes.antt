@@ -1,14 +1,16 @@
 -- A number has one index that spells it, and its decimal text is that index.
-use Rattle.std.proofs.Common.{◌≡◌, ◌⊎◌, ℕ, zero, suc, ◌+◌, ◌-◌, ◌*◌, ◌/◌, ◌%◌, ◌<◌, ◌≤◌, ◌^◌, List, [], ◌∷◌, ◌++◌, length, Bool, true, false, ◌&&◌, ◌||◌, ◌==◌, nat_lt, nat_le, Some, None, decimal, refl, sym, ap, subst, ◌∙◌, inl, inr, ⊎_elim, arith, div-add-mod', mod-lt}
+use Rattle.std.proofs.Common.{◌≡◌, ◌⊎◌, ℕ, zero, suc, ◌+◌, ◌-◌, ◌*◌, ◌/◌, ◌%◌, ◌<◌, ◌≤◌, ◌^◌, List, [], ◌∷◌, ◌++◌, length, Bool, true, false, ◌&&◌, ◌||◌, ◌==◌, nat_lt, nat_le, Some, None, decimal, refl, sym, ap, subst, ◌∙◌, inl, inr, ⊎_elim, arith, div-add-mod', mod-lt, min, Option, option_map, bytes_eq}
 use Rattle.std.specs.List.{list_all}
 use Rattle.std.proofs.lemmas.Bool.{cases_lt}
 use Rattle.std.proofs.lemmas.List.Folds.{list_all-append}
 use Rattle.std.proofs.lemmas.Fmt.{decimal_by_steps}
-use Rattle.relay_pointer.specs.Index.{Token, is_digit, is_index, number_onto, index_of, spell, index_text}
-
-pub both : (a b : Bool) → (a && b) ≡ true → (a ≡ true) × (b ≡ true)
-both true b h = (refl, h)
-both false b h = cc
+use Rattle.relay_pointer.specs.Index.{Token, is_digit, is_index, number_onto, index_of, spell, index_text, number_of}
+use Rattle.std.specs.Prelude.{slice_get}
+use Rattle.relay_tree.specs.Document.{Document}
+use Rattle.std.proofs.lemmas.Bool.Decides.{nat_tests}
+use Rattle.std.proofs.lemmas.Slice.Eq.{bytes_eq-Decides}
+use Rattle.relay_tree.proofs.Names.{equal_bytes}
+use Rattle.relay_tree.proofs.Equal.{both}
 
 either : (a b : Bool) → (a || b) ≡ true → (a ≡ true) ⊎ (b ≡ true)
 either true b h = inl refl
@@ -188,3 +190,37 @@ index_of-index_text n = from_spells (spell n n) n (spell_spells n n (omega arith
 -- what `{}` writes for a number of 64 bits is the index that spells it
 pub index_text-decimal : (n : ℕ) → n < 2 ^ 64 → index_text n ≡ decimal n
 index_text-decimal n h = index_of_injective (index_text n) (decimal n) n (index_of-index_text n) (from_spells (decimal n) n (decimal_by_steps (λ n ds. Spells ds n) one_digit one_more n h))
+
+-- the element that a token names
+pub record Named (xs : List Document) (t : Token) : Type 0 where
+  pub index : ℕ
+  pub is : index_of t ≡ Some index
+  pub within : index < length xs
+  pub value : Document
+  pub there : slice_get xs index ≡ Some value
+
+-- the number that 64 bits hold is the index
+pub index_is : (xs : List Document) (t : Token) (n : ℕ) → length xs < 2 ^ 64 → Some n ≡ number_of t → (m : Named xs t) → n ≡ m.index
+index_is xs t n few is m =
+    let least : Some n ≡ Some (min (2 ^ 64 - 1) m.index) = is ∙ ap (option_map (min (2 ^ 64 - 1))) m.is in
+    let same : n ≡ min (2 ^ 64 - 1) m.index = cc in
+    let within = m.within in
+    omega (arith, same, within)
+
+-- the token of the last of n + 1 elements
+pub last_index : (t : Token) (i n : ℕ) → index_of t ≡ Some i → bytes_eq t (index_text n) ≡ (i + 1 == suc n)
+last_index t i n named = go (i + 1 == suc n) refl
+  where
+    go : (x : Bool) → (i + 1 == suc n) ≡ x → bytes_eq t (index_text n) ≡ x
+    go true e =
+        let same : i ≡ n = grind (arith, nat_tests) in
+        (bytes_eq-Decides t (index_text n)).1 (index_of_injective t (index_text n) n (named ∙ ap Some same) (index_of-index_text n))
+    go false e = unlike (bytes_eq t (index_text n)) refl
+      where
+        unlike : (y : Bool) → bytes_eq t (index_text n) ≡ y → y ≡ false
+        unlike false k = refl
+        unlike true k =
+            let spelt : Some i ≡ Some n = sym named ∙ ap index_of (equal_bytes t (index_text n) k) ∙ index_of-index_text n in
+            let same : i ≡ n = cc in
+            let yes : (i + 1 == suc n) ≡ true = grind (arith, nat_tests) in
+            cc

@@ -1,9 +1,11 @@
 pub mod Indexes
+pub mod Prefixes
 pub mod Numbers
 pub mod Walks
 pub mod Reaching
 pub mod Puts
 pub mod Paths
+pub mod Tokens
 pub mod Parts
 pub mod Spellings
 pub mod Rows

@@ -1,34 +1,21 @@
 -- What was put at a path stands there; of two values put at one place the last stands; the old value put back gives the old document.
-use Rattle.std.proofs.Common.{◌≡◌, ℕ, zero, suc, [], ◌∷◌, List, Bool, true, false, bytes_eq, Option, Some, None, refl, sym, ap, ◌∙◌}
-use Rattle.relay_tree.specs.Document.{Document, null, truth, whole, text, list, object, Items, no_items, item, Members, no_members, member}
-use Rattle.relay_tree.specs.Part.{item_at, put_item, set_member}
-use Rattle.relay_tree.proofs.Elements.{item_at-put_same}
-use Rattle.relay_tree.proofs.Members.{member_at-set_same}
+use Rattle.std.proofs.Common.{◌≡◌, ℕ, zero, suc, [], ◌∷◌, List, Bool, true, false, bytes_eq, Option, Some, None, refl, sym, ap, ◌∙◌, max, ◌≤◌, arith}
+use Rattle.relay_tree.specs.Document.{Document, null, truth, whole, text, list, object, Items, no_items, item, Members, no_members, member, depth, items_depth}
+use Rattle.relay_tree.specs.Part.{item_at, put_item, set_member, items_length}
+use Rattle.relay_tree.proofs.Elements.{item_at-put_same, put_item-twice, put_item-length}
+use Rattle.relay_tree.proofs.Members.{member_at-set_same, set_member-twice}
 use Rattle.relay_pointer.specs.Index.{Token, index_of}
 use Rattle.relay_pointer.specs.Path.{Path, child, put_element, with_child, at, put}
 use Rattle.relay_pointer.proofs.Walks.{with_child-same}
+use Rattle.relay_tree.proofs.Sizes.{put_item-depth, set_member-depth}
 
 -- Elements and members.
-
-put_item-twice : (ds : Items) (i : ℕ) (a b : Document) → put_item (put_item ds i a) i b ≡ put_item ds i b
-put_item-twice no_items i a b = refl
-put_item-twice (item d ds) zero a b = refl
-put_item-twice (item d ds) (suc i) a b = ap (item d) (put_item-twice ds i a b)
 
 put_element-twice : (ds : Items) (o : Option ℕ) (a b : Document) → put_element (put_element ds o a) o b ≡ put_element ds o b
 put_element-twice ds None a b = refl
 put_element-twice ds (Some i) a b = put_item-twice ds i a b
 
-set_member-twice : (ms : Members) (name : List ℕ) (a b : Document) → set_member (set_member ms name a) name b ≡ set_member ms name b
-set_member-twice no_members name a b = refl
-set_member-twice (member n d ms) name a b = go (bytes_eq n name) refl (set_member-twice ms name a b)
-  where
-    go : (x : Bool) → bytes_eq n name ≡ x → set_member (set_member ms name a) name b ≡ set_member ms name b → set_member (set_member (member n d ms) name a) name b ≡ set_member (member n d ms) name b
-    go true e rest = rw e (rw e refl)
-    go false e rest = rw e (rw e (ap (member n d) rest))
-
 -- Children.
-
 pub with_child-twice : (d : Document) (t : Token) (a b : Document) → with_child (with_child d t a) t b ≡ with_child d t b
 with_child-twice null t a b = refl
 with_child-twice (truth x) t a b = refl
@@ -85,3 +72,21 @@ put-same d (t ∷ path) old h =
 
 pub put-back : (d : Document) (path : Path) (old v : Document) → at d path ≡ Some old → put (put d path v) path old ≡ d
 put-back d path old v h = put-twice d path old v old h ∙ put-same d path old h
+
+-- Depths.
+
+put_element-depth : (ds : Items) (o : Option ℕ) (e : Document) → items_depth (put_element ds o e) ≤ max (items_depth ds) (depth e)
+put_element-depth ds None e = omega arith
+put_element-depth ds (Some i) e = put_item-depth ds i e
+
+pub with_child-depth : (d : Document) (t : Token) (e : Document) → depth (with_child d t e) ≤ max (depth d) (suc (depth e))
+with_child-depth null t e = omega arith
+with_child-depth (truth b) t e = omega arith
+with_child-depth (whole z) t e = omega arith
+with_child-depth (text s) t e = omega arith
+with_child-depth (list ds) t e = let w = put_element-depth ds (index_of t) e in omega (arith, w)
+with_child-depth (object ms) t e = let w = set_member-depth ms t e in omega (arith, w)
+
+pub put_element-length : (ds : Items) (o : Option ℕ) (e : Document) → items_length (put_element ds o e) ≡ items_length ds
+put_element-length ds None e = refl
+put_element-length ds (Some i) e = put_item-length ds i e

@@ -15,7 +15,7 @@ mod walk;
 
 pub use index::index_of;
 pub use lent::resolve_mut;
-pub use pointer::Pointer;
+pub use pointer::{Pointer, copy_tokens, same_path};
 pub use put::{exchange, set, take};
-pub use reading::PointerFault;
-pub use walk::{child, resolve};
+pub use reading::{PointerFault, TOKENS_MOST};
+pub use walk::{child, child_mut, resolve};

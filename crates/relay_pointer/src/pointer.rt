@@ -1,6 +1,6 @@
 //! A path into a document.
 ghost use Rattle.std.specs.Prelude.{◌≡◌, IfOk};
-ghost use Rattle.relay_pointer.specs.Path.{path_of};
+ghost use Rattle.relay_pointer.specs.Path.{path_of, is_proper_prefix, same_path};
 
 use std::alloc::{AllocError, Global};
 use std::marker::Model;
@@ -22,7 +22,7 @@ impl Model for Pointer {
 
 impl Pointer {
     ghost use Rattle.std.specs.Prelude.{◌≡◌, [], IfOk};
-    ghost use Rattle.relay_pointer.specs.Path.{path_of, is_prefix};
+    ghost use Rattle.relay_pointer.specs.Path.{path_of, is_prefix, is_proper_prefix};
 
     /// The path of no token, which leads to the whole document. No memory is taken.
     pub fn root(alloc: Global) -> Pointer
@@ -68,9 +68,17 @@ impl Pointer {
     {
         other.tokens().starts_with(self.tokens())
     }
+
+    /// Whether the other path begins with this one and goes on. No memory is taken.
+    pub fn is_proper_prefix(&self, other: &Pointer) -> bool
+        ensures { result ≡ is_proper_prefix self.now other.now }
+    {
+        is_proper_prefix(self.tokens(), other.tokens())
+    }
 }
 
-fn copy_tokens(alloc: Global, tokens: &[String]) -> Result<Vec<String>, AllocError>
+/// Equal tokens, in memory of their own.
+pub fn copy_tokens(alloc: Global, tokens: &[String]) -> Result<Vec<String>, AllocError>
     ensures { IfOk result (λ copies. path_of copies.items ≡ path_of tokens.now) }
 {
     let mut copies = Vec::with_capacity(alloc, tokens.len())?;
@@ -78,4 +86,29 @@ fn copy_tokens(alloc: Global, tokens: &[String]) -> Result<Vec<String>, AllocErr
         copies.push(token.clone()?)?;
     }
     Ok(copies)
+}
+
+fn is_proper_prefix(path: &[String], other: &[String]) -> bool
+    ensures { result ≡ is_proper_prefix (path_of path.now) (path_of other.now) }
+{
+    let [next, onward @ ..] = other else {
+        return false;
+    };
+    let [token, rest @ ..] = path else {
+        return true;
+    };
+    token == next && is_proper_prefix(rest, onward)
+}
+
+/// Whether two lists of tokens are one path. No memory is taken.
+pub fn same_path(path: &[String], other: &[String]) -> bool
+    ensures { result ≡ same_path (path_of path.now) (path_of other.now) }
+{
+    let [token, rest @ ..] = path else {
+        return other.is_empty();
+    };
+    let [next, onward @ ..] = other else {
+        return false;
+    };
+    token == next && same_path(rest, onward)
 }

@@ -10,6 +10,9 @@ use crate::pointer::Pointer;
 use std::alloc::{AllocError, Global};
 use thiserror::Error;
 
+/// The most tokens of a pointer in a request.
+pub const TOKENS_MOST: u64 = 64;
+
 /// Why a text gives no pointer, in the order of the checks.
 #[derive(Clone, Copy, Debug, PartialEq, Eq, Error)]
 pub enum PointerFault {

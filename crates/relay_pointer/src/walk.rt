@@ -32,8 +32,8 @@ pub fn child<'t>(tree: &'t Tree, token: &str) -> Option<&'t Tree>
     }
 }
 
-/// The part that one token names, for writing.
-pub(crate) fn child_mut<'t>(node: &'t mut Node, token: &str) -> Option<&'t mut Tree>
+/// The part that one token names, for writing. What is written there is all that changes. No memory is taken.
+pub fn child_mut<'t>(node: &'t mut Node, token: &str) -> Option<&'t mut Tree>
     ensures* writes_back { sem 𝓛 (LendsChild node.entry token.now result) }
     ensures value { option_copied_mut result ≡ child (document_of node.old) token.now }
 {

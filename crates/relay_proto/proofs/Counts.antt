@@ -4,15 +4,16 @@ use Rattle.std.specs.Prelude.{IfOk, IfErr, IfSome, MatchResult, codes}
 use Rattle.std.proofs.lemmas.Bool.Decides.{nat_tests}
 use Rattle.serde_json.specs.Data.{Data}
 use Rattle.serde_json.specs.Read as json
-use Rattle.relay_tree.specs.Count.{count_of, count_most, is_count}
+use Rattle.relay_tree.specs.Count.{count_of, count_in, count_most, is_count}
 use Rattle.relay_tree.specs.Document.{Document, whole, list, text}
 use Rattle.relay_tree.specs.Part.{object_member}
 use Rattle.relay_tree.specs.Text.{tree_of}
 use Rattle.relay_pointer.specs.Path.{Path}
 use Rattle.relay_view.specs.View.{View}
 use Rattle.relay_pointer.specs.Spelling.{path_of_text}
-use Rattle.relay_patch.proofs.Places.{place, IsBelow, few-place, patch_of-length, patch_of-place}
-use Rattle.relay_patch.specs.Form.{text_in, patch_of}
+use Rattle.relay_patch.proofs.Places.{place, patch_of-length, patch_of-place}
+use Rattle.relay_tree.specs.Part.{text_in}
+use Rattle.relay_patch.specs.Form.{patch_of}
 use Rattle.relay_patch.specs.declared.limits.PatchFault.{PatchFault}
 use Rattle.relay_patch.specs.declared.limits.PatchFault.TheVariants as patch
 use Rattle.relay_patch.specs.declared.limits.TheConstants.PatchLimits.{REQUEST}
@@ -22,12 +23,13 @@ use Rattle.relay_view.specs.declared.fault.ViewFault.{ViewFault}
 use Rattle.relay_view.specs.declared.fault.ViewFault.TheVariants as view
 use Rattle.relay_view.specs.declared.view.TheConstants.{SLOTS_MOST, TOKENS_MOST}
 use Rattle.relay_proto.specs.declared.reading.TheConstants.{REQUEST_MOST}
-use Rattle.relay_proto.specs.Request.{with_part, and_then, count_in, patch_refusal, patch_read, patch_in, view_refusal, view_read, view_in, resume_of, asked, request_of, request_of_tree, request_of_json, request_of_text}
+use Rattle.relay_proto.specs.Request.{with_part, and_then, patch_refusal, patch_read, patch_in, view_refusal, view_read, view_in, resume_of, asked, request_of, request_of_tree, request_of_json, request_of_text}
 use Rattle.relay_proto.specs.Written.{IsCount, IsCountOrNull, HasCounts}
 use Rattle.relay_proto.specs.declared.refusal.Refusal.{Refusal}
 use Rattle.relay_proto.specs.declared.reply.Reply.TheVariants.{Refused}
 use Rattle.relay_proto.specs.declared.request.Request.{Request}
 use Rattle.relay_proto.specs.declared.request.Request.TheVariants.{Edit, Watch, Resume, Unwatch}
+use Rattle.relay_tree.proofs.Each.{IsBelow, few-place}
 
 -- a request's numbers are counts, and it has no more operations than it may
 abbrev pub IsRequest : Request → Type 0

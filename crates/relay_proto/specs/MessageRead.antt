@@ -2,10 +2,10 @@
 use Rattle.std.specs.Prelude.{ℕ, List, codes, bytes_eq, Bool, true, false, ◌&&◌, nat_le, Option, Some, None, option_map, if◌then◌else◌}
 use Rattle.std.specs.Result.{result_ok}
 use Rattle.relay_tree.specs.Document.{Document, null, list, Items, no_items, item}
-use Rattle.relay_tree.specs.Count.{count_of}
-use Rattle.relay_tree.specs.Part.{items_length, object_member}
+use Rattle.relay_tree.specs.Count.{count_of, count_in}
+use Rattle.relay_tree.specs.Part.{items_length, object_member, text_in}
 use Rattle.relay_tree.specs.Text.{tree_of_text}
-use Rattle.relay_patch.specs.Form.{text_in, patch_of}
+use Rattle.relay_patch.specs.Form.{patch_of}
 use Rattle.relay_patch.specs.declared.limits.TheConstants.PatchLimits.{RELAYED}
 use Rattle.relay_patch.specs.declared.op.Op.{Op}
 use Rattle.relay_proto.specs.declared.message.Message.{Message}
@@ -14,7 +14,6 @@ use Rattle.relay_proto.specs.declared.reply.How.{How}
 use Rattle.relay_proto.specs.declared.reply.Reply.{Reply}
 use Rattle.relay_proto.specs.declared.reply.Reply.TheVariants.{Welcome, Done, Refused, Watching, Resumed, Unwatched}
 use Rattle.relay_proto.specs.declared.word.Word.{Word}
-use Rattle.relay_proto.specs.Request.{count_in}
 use Rattle.relay_proto.specs.Words.{word_of_text, how_of_text}
 
 -- what follows where a part is there; else the text is no message

@@ -3,11 +3,11 @@ use Rattle.std.specs.Prelude.{◌≡◌, ℕ, List, length, codes, bytes_eq, nat
 use Rattle.serde_json.specs.Data.{Data}
 use Rattle.serde_json.specs.Read as json
 use Rattle.relay_tree.specs.Document.{Document}
-use Rattle.relay_tree.specs.Count.{count_of}
-use Rattle.relay_tree.specs.Part.{object_member}
+use Rattle.relay_tree.specs.Count.{count_in}
+use Rattle.relay_tree.specs.Part.{object_member, text_in}
 use Rattle.relay_tree.specs.Text.{tree_of}
 use Rattle.relay_view.specs.View.{View}
-use Rattle.relay_patch.specs.Form.{text_in, patch_of}
+use Rattle.relay_patch.specs.Form.{patch_of}
 use Rattle.relay_patch.specs.declared.limits.PatchFault.{PatchFault}
 use Rattle.relay_patch.specs.declared.limits.PatchFault.TheVariants as patch
 use Rattle.relay_patch.specs.declared.limits.TheConstants.PatchLimits.{REQUEST}
@@ -35,10 +35,6 @@ with_part id None f = Err (refusal Shape id None)
 abbrev pub and_then : {A B : Type 0} → Result A Refusal → (A → Result B Refusal) → Result B Refusal
 and_then (Ok x) f = f x
 and_then (Err r) f = Err r
-
--- the count that a member is
-abbrev pub count_in : Document → List ℕ → Option ℕ
-count_in d name = option_and_then count_of (object_member d name)
 
 -- a patch within the limits of a request
 abbrev pub patch_refusal : ℕ → PatchFault → Refusal

@@ -6,7 +6,6 @@
 
 mod message;
 mod message_reading;
-mod part;
 mod reading;
 mod refusal;
 mod reply;

@@ -6,7 +6,6 @@ ghost use Rattle.relay_proto.specs.MessageRead.{message_of_text, message_of, pat
 ghost use Rattle.relay_proto.specs.declared.message_reading.MessageFault.TheVariants.{NotMessage};
 
 use crate::message::Message;
-use crate::part::{count_at, text_at};
 use crate::reply::{How, Reply};
 use crate::word::Word;
 use relay_patch::{Patch, PatchFault, PatchLimits};
@@ -42,7 +41,7 @@ fn message_of(alloc: Global, tree: &Tree) -> Result<Message, MessageFault>
     ensures ok { IfOk result (λ message. message_of tree.now ≡ Some message) }
     ensures not_message { IfErr result (λ fault. fault ≡ NotMessage → message_of tree.now ≡ None) }
 {
-    let Some(kind) = text_at(tree, "kind") else {
+    let Some(kind) = tree.text_at("kind") else {
         return Err(MessageFault::NotMessage);
     };
     match kind {
@@ -59,7 +58,7 @@ fn patch_of(alloc: Global, tree: &Tree) -> Result<Message, MessageFault>
     ensures ok { IfOk result (λ message. patch_message_in tree.now ≡ Some message) }
     ensures not_message { IfErr result (λ fault. fault ≡ NotMessage → patch_message_in tree.now ≡ None) }
 {
-    let Some(rev) = count_at(tree, "rev") else {
+    let Some(rev) = tree.count_at("rev") else {
         return Err(MessageFault::NotMessage);
     };
     let Some(patch) = tree.member("patch") else {
@@ -76,7 +75,7 @@ fn snapshot_of(alloc: Global, tree: &Tree) -> Result<Message, MessageFault>
     ensures ok { IfOk result (λ message. snapshot_in tree.now ≡ Some message) }
     ensures not_message { IfErr result (λ fault. fault ≡ NotMessage → snapshot_in tree.now ≡ None) }
 {
-    let Some(rev) = count_at(tree, "rev") else {
+    let Some(rev) = tree.count_at("rev") else {
         return Err(MessageFault::NotMessage);
     };
     let Some(view) = tree.member("view") else {
@@ -122,21 +121,21 @@ fn reply_of(kind: &str, tree: &Tree) -> Option<Reply>
 {
     match kind {
         "welcome" => Some(Reply::Welcome {
-            epoch: count_at(tree, "epoch")?,
-            rev: count_at(tree, "rev")?,
-            session: count_at(tree, "session")?,
+            epoch: tree.count_at("epoch")?,
+            rev: tree.count_at("rev")?,
+            session: tree.count_at("session")?,
         }),
         "done" => Some(Reply::Done {
-            id: count_at(tree, "id")?,
-            rev: count_at(tree, "rev")?,
+            id: tree.count_at("id")?,
+            rev: tree.count_at("rev")?,
         }),
         "refused" => refused_of(tree),
         "watching" => Some(Reply::Watching {
-            id: count_at(tree, "id")?,
+            id: tree.count_at("id")?,
         }),
         "resumed" => resumed_of(tree),
         "unwatched" => Some(Reply::Unwatched {
-            id: count_at(tree, "id")?,
+            id: tree.count_at("id")?,
         }),
         _ => None,
     }
@@ -147,7 +146,7 @@ fn refused_of(tree: &Tree) -> Option<Reply>
 {
     Some(Reply::Refused {
         id: nullable_at(tree, "id")?,
-        fault: Word::read(text_at(tree, "fault")?)?,
+        fault: Word::read(tree.text_at("fault")?)?,
         at: nullable_at(tree, "at")?,
     })
 }
@@ -156,8 +155,8 @@ fn resumed_of(tree: &Tree) -> Option<Reply>
     ensures { result ≡ resumed_in tree.now }
 {
     Some(Reply::Resumed {
-        id: count_at(tree, "id")?,
-        how: How::read(text_at(tree, "how")?)?,
+        id: tree.count_at("id")?,
+        how: How::read(tree.text_at("how")?)?,
     })
 }
 

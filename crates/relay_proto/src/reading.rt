@@ -4,7 +4,6 @@ ghost use Rattle.std.specs.Prelude.{◌≡◌, ◌≤◌, Ok, Err, IfOk, IfErr, 
 ghost use Rattle.relay_proto.specs.declared.reading.TheConstants.{REQUEST_MOST};
 ghost use Rattle.relay_proto.specs.Request.{request_of_text, request_of, resume_of, patch_in, view_in, refusal, IsRefusedAs};
 
-use crate::part::{count_at, text_at};
 use crate::refusal::{Refusal, RequestFault};
 use crate::request::Request;
 use crate::word::Word;
@@ -40,10 +39,10 @@ fn of_tree(alloc: Global, tree: &Tree) -> Result<Request, RequestFault>
     ensures ok { IfOk result (λ request. request_of tree.now ≡ Ok request) }
     ensures refused { IfErr result (λ fault. IsRefusedAs fault (request_of tree.now)) }
 {
-    let Some(id) = count_at(tree, "id") else {
+    let Some(id) = tree.count_at("id") else {
         return refuse(Word::Shape, None, None);
     };
-    match text_at(tree, "do") {
+    match tree.text_at("do") {
         Some("edit") => Ok(Request::Edit {
             id,
             patch: patch_of(alloc, id, tree)?,
@@ -62,10 +61,10 @@ fn resume_of(alloc: Global, id: u64, tree: &Tree) -> Result<Request, RequestFaul
     ensures ok { IfOk result (λ request. resume_of id tree.now ≡ Ok request) }
     ensures refused { IfErr result (λ fault. IsRefusedAs fault (resume_of id tree.now)) }
 {
-    let Some(epoch) = count_at(tree, "epoch") else {
+    let Some(epoch) = tree.count_at("epoch") else {
         return refuse(Word::Shape, Some(id), None);
     };
-    let Some(rev) = count_at(tree, "rev") else {
+    let Some(rev) = tree.count_at("rev") else {
         return refuse(Word::Shape, Some(id), None);
     };
     Ok(Request::Resume {

@@ -3,11 +3,11 @@ use Rattle.std.proofs.Common.{◌≡◌, ℕ, List, [], ◌∷◌, Bool, true, f
 use Rattle.std.proofs.lemmas.Slice.Eq.{bytes_eq-Decides}
 use Rattle.relay_pointer.specs.Index.{Token}
 use Rattle.relay_pointer.specs.Path.{Path}
-use Rattle.relay_patch.proofs.Made.{and_false}
 use Rattle.relay_patch.specs.declared.change.Change.{Change}
 use Rattle.relay_patch.specs.declared.change.Change.TheVariants as change
 use Rattle.relay_translate.specs.Touch.{touch_below, touch_path, touch}
 use Rattle.relay_translate.specs.Table.{table_at, touch_by_table, IsTable}
+use Rattle.relay_pointer.proofs.Prefixes.{and_false}
 
 bytes_eq-swap : (a b : List ℕ) (x : Bool) → bytes_eq a b ≡ x → bytes_eq b a ≡ x
 bytes_eq-swap a b true h = (bytes_eq-Decides b a).1 (sym ((bytes_eq-Decides a b).0 h))

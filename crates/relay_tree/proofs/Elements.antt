@@ -87,3 +87,75 @@ item_at-drop_below (item d ds) (suc i) j es h k = go (drop_item ds i) refl j h (
     go None f j l ih = let found : None ≡ Some es = rw f at k in cc
     go (Some fs) f zero l ih = let found : Some (item d fs) ≡ Some es = rw f at k in let is : es ≡ item d fs = cc in rw is refl
     go (Some fs) f (suc j) l ih = let found : Some (item d fs) ≡ Some es = rw f at k in let is : es ≡ item d fs = cc in rw is (ih j fs (omega arith) f)
+
+-- Insertions and removals.
+
+pub drop_item-there : (ds : Items) (i : ℕ) (c : Document) → item_at ds i ≡ Some c → (es : Items) × (drop_item ds i ≡ Some es)
+drop_item-there no_items i c h = cc
+drop_item-there (item d ds) zero c h = (ds, refl)
+drop_item-there (item d ds) (suc i) c h = let r = drop_item-there ds i c h in (item d r.0, ap (option_map (item d)) r.1)
+
+pub drop_item-none : (ds : Items) (i : ℕ) → item_at ds i ≡ None → drop_item ds i ≡ None
+drop_item-none no_items i h = refl
+drop_item-none (item d ds) zero h = cc
+drop_item-none (item d ds) (suc i) h = ap (option_map (item d)) (drop_item-none ds i h)
+
+pub drop_item-shorter : (ds : Items) (i : ℕ) (es : Items) → drop_item ds i ≡ Some es → (suc (items_length es) ≡ items_length ds) × (i < items_length ds)
+drop_item-shorter no_items i es h = cc
+drop_item-shorter (item d ds) zero es h = let same : ds ≡ es = cc in (ap (λ x. suc (items_length x)) (sym same), omega arith)
+drop_item-shorter (item d ds) (suc i) es h = go (drop_item ds i) refl (drop_item-shorter ds i)
+  where
+    go : (o : Option Items) → drop_item ds i ≡ o → ((fs : Items) → drop_item ds i ≡ Some fs → (suc (items_length fs) ≡ items_length ds) × (i < items_length ds)) → (suc (items_length es) ≡ items_length (item d ds)) × (suc i < items_length (item d ds))
+    go None f ih = let found : None ≡ Some es = rw f at h in cc
+    go (Some fs) f ih =
+        let found : Some (item d fs) ≡ Some es = rw f at h in
+        let is : es ≡ item d fs = cc in
+        let k = ih fs f in
+        let a = k.0 in
+        let b = k.1 in
+        (rw is (omega (arith, a)), omega (arith, b))
+
+pub item_at-drop_behind : (ds : Items) (i j : ℕ) (es : Items) → i ≤ j → drop_item ds i ≡ Some es → item_at es j ≡ item_at ds (suc j)
+item_at-drop_behind no_items i j es h k = cc
+item_at-drop_behind (item d ds) zero j es h k = let same : ds ≡ es = cc in ap (λ x. item_at x j) (sym same)
+item_at-drop_behind (item d ds) (suc i) zero es h k = absurd (omega arith)
+item_at-drop_behind (item d ds) (suc i) (suc j) es h k = go (drop_item ds i) refl (item_at-drop_behind ds i j)
+  where
+    go : (o : Option Items) → drop_item ds i ≡ o → ((fs : Items) → i ≤ j → drop_item ds i ≡ Some fs → item_at fs j ≡ item_at ds (suc j)) → item_at es (suc j) ≡ item_at (item d ds) (suc (suc j))
+    go None f ih = let found : None ≡ Some es = rw f at k in cc
+    go (Some fs) f ih =
+        let found : Some (item d fs) ≡ Some es = rw f at k in
+        let is : es ≡ item d fs = cc in
+        rw is (ih fs (omega arith) f)
+
+pub insert_item-there : (ds : Items) (i : ℕ) (v : Document) → i ≤ items_length ds → (es : Items) × (insert_item ds i v ≡ Some es)
+insert_item-there ds zero v h = (item v ds, refl)
+insert_item-there no_items (suc i) v h = absurd (omega arith)
+insert_item-there (item d ds) (suc i) v h = let r = insert_item-there ds i v (omega arith) in (item d r.0, ap (option_map (item d)) r.1)
+
+pub insert_item-none : (ds : Items) (i : ℕ) (v : Document) → items_length ds < i → insert_item ds i v ≡ None
+insert_item-none ds zero v h = absurd (omega arith)
+insert_item-none no_items (suc i) v h = refl
+insert_item-none (item d ds) (suc i) v h = ap (option_map (item d)) (insert_item-none ds i v (omega arith))
+
+pub item_at-insert_same : (ds : Items) (i : ℕ) (v : Document) (es : Items) → insert_item ds i v ≡ Some es → item_at es i ≡ Some v
+item_at-insert_same ds zero v es h = let same : item v ds ≡ es = cc in ap (λ x. item_at x zero) (sym same)
+item_at-insert_same no_items (suc i) v es h = cc
+item_at-insert_same (item d ds) (suc i) v es h = go (insert_item ds i v) refl (item_at-insert_same ds i v)
+  where
+    go : (o : Option Items) → insert_item ds i v ≡ o → ((fs : Items) → insert_item ds i v ≡ Some fs → item_at fs i ≡ Some v) → item_at es (suc i) ≡ Some v
+    go None f ih = let found : None ≡ Some es = rw f at h in cc
+    go (Some fs) f ih =
+        let found : Some (item d fs) ≡ Some es = rw f at h in
+        let is : es ≡ item d fs = cc in
+        rw is (ih fs f)
+
+pub put_item-length : (ds : Items) (i : ℕ) (e : Document) → items_length (put_item ds i e) ≡ items_length ds
+put_item-length no_items i e = refl
+put_item-length (item d ds) zero e = refl
+put_item-length (item d ds) (suc i) e = ap suc (put_item-length ds i e)
+
+pub put_item-twice : (ds : Items) (i : ℕ) (a b : Document) → put_item (put_item ds i a) i b ≡ put_item ds i b
+put_item-twice no_items i a b = refl
+put_item-twice (item d ds) zero a b = refl
+put_item-twice (item d ds) (suc i) a b = ap (item d) (put_item-twice ds i a b)

@@ -1,7 +1,10 @@
 pub mod Names
+pub mod Outcomes
 pub mod Elements
 pub mod Members
 pub mod Weights
+pub mod Sizes
+pub mod Equal
 pub mod Parts
 pub mod Texts
 pub mod ReadLemmas

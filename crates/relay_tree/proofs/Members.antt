@@ -11,7 +11,7 @@ use Rattle.std.specs.BTreeMap.{is_at, insert_entry}
 use Rattle.relay_tree.specs.Document.{Document, Members, no_members, member}
 use Rattle.relay_tree.specs.Part.{member_at, set_member, add_member, put_member, drop_member}
 use Rattle.relay_tree.specs.Seen.{members_of}
-use Rattle.relay_tree.proofs.Names.{equal_bytes, bytes_eq-slice_cmp, equal_names}
+use Rattle.relay_tree.proofs.Names.{equal_bytes, bytes_eq-slice_cmp, equal_names, bytes_same}
 
 abbrev pub Entry : Type 0
 Entry = String Global × Document
@@ -166,3 +166,57 @@ member_at-drop_other (member n d ms) a b ns h k = go (bytes_eq n a) refl (drop_m
         let found : Some (member n d ls) ≡ Some ns = rw (e, f) at k in
         let is : ns ≡ member n d ls = cc in
         rw (is, ih ls h f) refl
+
+pub set_member-twice : (ms : Members) (name : List ℕ) (a b : Document) → set_member (set_member ms name a) name b ≡ set_member ms name b
+set_member-twice no_members name a b = refl
+set_member-twice (member n d ms) name a b = go (bytes_eq n name) refl (set_member-twice ms name a b)
+  where
+    go : (x : Bool) → bytes_eq n name ≡ x → set_member (set_member ms name a) name b ≡ set_member ms name b → set_member (set_member (member n d ms) name a) name b ≡ set_member (member n d ms) name b
+    go true e rest = rw e (rw e refl)
+    go false e rest = rw e (rw e (ap (member n d) rest))
+
+added_step : (o : Ordering) (n a : List ℕ) (d e : Document) (ms rest : Members) → is_eq o ≡ bytes_eq a n → member_at rest a ≡ Some e → bytes_eq n a ≡ false → member_at (match_ordering o (member a e (member n d ms)) (member a e ms) (member n d rest)) a ≡ Some e
+added_step Less n a d e ms rest o ih other = rw (bytes_same a) refl
+added_step Equal n a d e ms rest o ih other = rw (bytes_same a) refl
+added_step Greater n a d e ms rest o ih other = rw other ih
+
+member_at-add_same : (ms : Members) (a : List ℕ) (e : Document) → member_at ms a ≡ None → member_at (add_member ms a e) a ≡ Some e
+member_at-add_same no_members a e h = rw (bytes_same a) refl
+member_at-add_same (member n d ms) a e h = go (bytes_eq n a) refl h (member_at-add_same ms a e)
+  where
+    go : (x : Bool) → bytes_eq n a ≡ x → (if x then Some d else member_at ms a) ≡ None → (member_at ms a ≡ None → member_at (add_member ms a e) a ≡ Some e) → member_at (add_member (member n d ms) a e) a ≡ Some e
+    go true k none ih = cc
+    go false k none ih = added_step (slice_cmp nat_cmp a n) n a d e ms (add_member ms a e) (is_eq-slice_cmp a n) (ih none) k
+
+pub member_at-put_same : (ms : Members) (a : List ℕ) (e : Document) → member_at (put_member ms a e) a ≡ Some e
+member_at-put_same ms a e = go (member_at ms a) refl
+  where
+    go : (o : Option Document) → member_at ms a ≡ o → member_at (put_member ms a e) a ≡ Some e
+    go None h = rw h (member_at-add_same ms a e h)
+    go (Some c) h = rw h (member_at-set_same ms a c e h)
+
+pub set_member-names : (ms : Members) (a b : List ℕ) (e : Document) → is_some (member_at (set_member ms a e) b) ≡ is_some (member_at ms b)
+set_member-names no_members a b e = refl
+set_member-names (member n d ms) a b e = go (bytes_eq n a) (bytes_eq n b) refl (set_member-names ms a b e)
+  where
+    go : (x y : Bool) → bytes_eq n b ≡ y → is_some (member_at (set_member ms a e) b) ≡ is_some (member_at ms b) → is_some (member_at (if x then member n e ms else member n d (set_member ms a e)) b) ≡ is_some (if y then Some d else member_at ms b)
+    go true true k ih = rw k refl
+    go true false k ih = rw k refl
+    go false true k ih = rw k refl
+    go false false k ih = rw k ih
+
+pub drop_member-none : (ms : Members) (k : List ℕ) → member_at ms k ≡ None → drop_member ms k ≡ None
+drop_member-none no_members k h = refl
+drop_member-none (member n d ms) k h = go (bytes_eq n k) refl h (drop_member-none ms k)
+  where
+    go : (x : Bool) → bytes_eq n k ≡ x → (if x then Some d else member_at ms k) ≡ None → (member_at ms k ≡ None → drop_member ms k ≡ None) → (if x then Some ms else option_map (member n d) (drop_member ms k)) ≡ None
+    go true e h ih = cc
+    go false e h ih = ap (option_map (member n d)) (ih h)
+
+pub drop_member-there : (ms : Members) (k : List ℕ) (c : Document) → member_at ms k ≡ Some c → (ns : Members) × (drop_member ms k ≡ Some ns)
+drop_member-there no_members k c h = cc
+drop_member-there (member n d ms) k c h = go (bytes_eq n k) refl h (drop_member-there ms k c)
+  where
+    go : (x : Bool) → bytes_eq n k ≡ x → (if x then Some d else member_at ms k) ≡ Some c → (member_at ms k ≡ Some c → (ns : Members) × (drop_member ms k ≡ Some ns)) → (ns : Members) × ((if x then Some ms else option_map (member n d) (drop_member ms k)) ≡ Some ns)
+    go true e h ih = (ms, refl)
+    go false e h ih = let r = ih h in (member n d r.0, ap (option_map (member n d)) r.1)

@@ -1,9 +1,11 @@
 -- Counts: the whole numbers from 0 to 2^53 - 1.
-use Rattle.std.specs.Prelude.{ℕ, pos, Bool, Option, Some, None, nat_le, if◌then◌else◌}
+use Rattle.std.specs.Prelude.{ℕ, pos, Bool, List, Option, Some, None, option_and_then, nat_le, if◌then◌else◌}
 use Rattle.relay_tree.specs.Document.{Document, whole}
+use Rattle.relay_tree.specs.Part.{object_member}
+use Rattle.relay_tree.specs.declared.count.TheConstants.{COUNT_MOST}
 
 abbrev pub count_most : ℕ
-count_most = 9007199254740991
+count_most = COUNT_MOST
 
 abbrev pub is_count : ℕ → Bool
 is_count n = nat_le n count_most
@@ -12,3 +14,7 @@ is_count n = nat_le n count_most
 abbrev pub count_of : Document → Option ℕ
 count_of (whole (pos n)) = if is_count n then Some n else None
 count_of _ = None
+
+-- the count that a member is
+abbrev pub count_in : Document → List ℕ → Option ℕ
+count_in d name = option_and_then count_of (object_member d name)

@@ -1,5 +1,6 @@
 pub mod Document
 pub mod Part
+pub mod Same
 pub mod Count
 pub mod Each
 pub mod Code

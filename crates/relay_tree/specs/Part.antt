@@ -2,7 +2,7 @@
 use Rattle.std.specs.Prelude.{ℕ, zero, suc, List, Option, Some, None, option_map, is_some, bytes_eq, if◌then◌else◌}
 use Rattle.std.specs.Ordering.{nat_cmp, match_ordering}
 use Rattle.std.specs.Cmp.Lexicographic.{slice_cmp}
-use Rattle.relay_tree.specs.Document.{Document, list, object, Items, no_items, item, Members, no_members, member}
+use Rattle.relay_tree.specs.Document.{Document, text, list, object, Items, no_items, item, Members, no_members, member}
 
 -- Elements.
 
@@ -91,3 +91,11 @@ with_item d i e = d
 abbrev pub with_member : Document → List ℕ → Document → Document
 with_member (object ms) name e = object (set_member ms name e)
 with_member d name e = d
+
+abbrev pub as_text : Option Document → Option (List ℕ)
+as_text (Some (text s)) = Some s
+as_text _ = None
+
+-- the text that a member is
+abbrev pub text_in : Document → List ℕ → Option (List ℕ)
+text_in d name = as_text (object_member d name)

@@ -1,7 +1,7 @@
 //! Counts: whole numbers that every reader of JSON keeps exactly (RFC 8259, section 6).
 ghost use Rattle.std.specs.Prelude.{◌≡◌, ◌≤◌, pos};
 ghost use Rattle.relay_tree.specs.Document.{whole};
-ghost use Rattle.relay_tree.specs.Count.{count_of};
+ghost use Rattle.relay_tree.specs.Count.{count_of, count_in};
 
 use crate::tree::{Node, Tree};
 
@@ -17,6 +17,13 @@ impl Tree {
             Node::Whole(number) => u64::try_from(*number).ok().filter(|n| *n <= COUNT_MOST),
             _ => None,
         }
+    }
+
+    /// The count that the member `name` is; None where it is no count, and where there is none.
+    pub fn count_at(&self, name: &str) -> Option<u64>
+        ensures { result ≡ count_in self.now name.now }
+    {
+        self.member(name)?.count()
     }
 
     /// The number as a tree.

@@ -1,8 +1,8 @@
 //! The parts of a tree, one level down: what one token of a path can name.
 ghost use Rattle.std.specs.Prelude.{◌≡◌, ◌<◌, ◌^◌, IfSome, option_copied};
-ghost use Rattle.std.specs.Option.{option_copied_mut};
+ghost use Rattle.std.specs.Option.{option_map, option_copied_mut};
 ghost use Rattle.std.specs.Borrow.{LendsIf, sem};
-ghost use Rattle.relay_tree.specs.Part.{list_len, list_item, object_member};
+ghost use Rattle.relay_tree.specs.Part.{list_len, list_item, object_member, text_in};
 ghost use Rattle.relay_tree.specs.Seen.{document_of};
 ghost use Rattle.relay_tree.specs.Rows.{list_row, map_row, node_items, node_members};
 ghost use Rattle.relay_tree.specs.declared.tree.Node.TheVariants.{List, Members};
@@ -30,6 +30,16 @@ impl Tree {
     {
         match &self.node {
             Node::Members(members) => members.get(name),
+            _ => None,
+        }
+    }
+
+    /// The text that the member `name` is; None where it is no text, and where there is none.
+    pub fn text_at(&self, name: &str) -> Option<&str>
+        ensures { option_map (λ text. text.now) result ≡ text_in self.now name.now }
+    {
+        match &self.member(name)?.node {
+            Node::Text(text) => Some(text.as_str()),
             _ => None,
         }
     }

@@ -1,7 +1,7 @@
 use Rattle.relay_patch.specs.Steps.{present}
 use Rattle.relay_patch.proofs.Folds.{leads_on, led_to}
-use Rattle.relay_patch.proofs.Refusals.{if_both, if_err}
 use Rattle.relay_patch.proofs.applying.perform.Goals as goal
+use Rattle.relay_tree.proofs.Outcomes.{if_both, if_err}
 
 pub advance-requires-clause-makes : goal.advance-requires-clause-makes
 advance-requires-clause-makes c = leads_on c.args.op.now (present c.args.done.draft c.args.old.now) _ (rw c.present.ensures at c.in_ok-change.ensures.ok) (rw c.present.ensures at c.in_ok-change.ensures.changes)

@@ -1,0 +1,32 @@
+use Rattle.std.proofs.Common.{sym, ◌∙◌, arith}
+use Rattle.relay_patch.proofs.Contained.{named, element_taken, element_drops}
+use Rattle.relay_patch.proofs.applying.container.drop_item.Goals as goal
+use Rattle.relay_pointer.proofs.Indexes.{index_is}
+
+pub remove-requires : goal.remove-requires
+remove-requires c =
+    let v = c.args.items.now in
+    let ok = v.ok in
+    let small = v.small in
+    let m = named v.items c.args.token.now c.requires in
+    let within = m.within in
+    let same = index_is v.items c.args.token.now c.unwrap-index.result (omega arith) (sym c.unwrap-index.ensures ∙ c.index_of.ensures) m in
+    omega (arith, ok.0, same, within)
+
+pub returns-clause-value : goal.returns-clause-value
+returns-clause-value c =
+    let v = c.args.items.now in
+    let ok = v.ok in
+    let small = v.small in
+    let m = named v.items c.args.token.now c.requires in
+    let same = index_is v.items c.args.token.now c.unwrap-index.result (omega arith) (sym c.unwrap-index.ensures ∙ c.index_of.ensures) m in
+    element_taken v.items c.args.token.now c.unwrap-index.result c.remove.result m same c.remove.ensures.value
+
+pub returns-clause-rest : goal.returns-clause-rest
+returns-clause-rest c =
+    let v = c.args.items.now in
+    let ok = v.ok in
+    let small = v.small in
+    let m = named v.items c.args.token.now c.requires in
+    let same = index_is v.items c.args.token.now c.unwrap-index.result (omega arith) (sym c.unwrap-index.ensures ∙ c.index_of.ensures) m in
+    rw (c.remove.ensures.items, same) (element_drops v.items c.args.token.now m)

@@ -1,0 +1,59 @@
+//! Insertions and removals in one container.
+ghost use Rattle.std.specs.Prelude.{◌≡◌, Ok, OnOk, IsOk};
+ghost use Rattle.relay_tree.specs.Document.{items_of, list};
+ghost use Rattle.relay_patch.specs.Walk.{step};
+ghost use Rattle.relay_patch.specs.Patch.{insert_child, drop_child};
+
+use super::spot::insertion_index;
+use relay_pointer::index_of;
+use relay_tree::{Node, Tree, insert_member};
+use std::alloc::{AllocError, Global};
+
+/// Inserts a value where the token says.
+pub(crate) fn insert_child(
+    alloc: Global,
+    container: &mut Tree,
+    token: &str,
+    value: Tree,
+) -> Result<(), AllocError>
+    requires { IsOk (insert_child value token.now container.old) }
+    ensures { OnOk result (insert_child value token.now container.old ≡ Ok container.new) }
+{
+    match &mut container.node {
+        Node::List(items) => insert_item(items, token, value),
+        Node::Members(members) => insert_member(alloc, members, token, value),
+        _ => Ok(()),
+    }
+}
+
+fn insert_item(items: &mut Vec<Tree>, token: &str, value: Tree) -> Result<(), AllocError>
+    requires { IsOk (insert_child value token.now (list (items_of items.old.items))) }
+    ensures { OnOk result (insert_child value token.now (list (items_of items.old.items)) ≡ Ok (list (items_of items.new.items))) }
+{
+    match insertion_index(items.len(), token) {
+        Ok(index) => Ok(items.insert(index, value)?),
+        Err(_) => Ok(()),
+    }
+}
+
+/// Takes away the part that the token names, and gives it.
+pub(crate) fn drop_child(container: &mut Tree, token: &str) -> Tree
+    requires { IsOk (step container.old token.now) }
+    ensures value { step container.old token.now ≡ Ok result }
+    ensures rest { drop_child token.now container.old ≡ Ok container.new }
+{
+    match &mut container.node {
+        Node::List(items) => drop_item(items, token),
+        Node::Members(members) => members.remove(token).unwrap(),
+        _ => Tree::from(Node::Null),
+    }
+}
+
+fn drop_item(items: &mut Vec<Tree>, token: &str) -> Tree
+    requires { IsOk (step (list (items_of items.old.items)) token.now) }
+    ensures value { step (list (items_of items.old.items)) token.now ≡ Ok result }
+    ensures rest { drop_child token.now (list (items_of items.old.items)) ≡ Ok (list (items_of items.new.items)) }
+{
+    let index = index_of(token).unwrap() as usize;
+    items.remove(index)
+}
