@@ -18,7 +18,7 @@ use Rattle.relay_patch.proofs.Refusals.{then_ok}
 use Rattle.relay_patch.proofs.Carried.{plainly}
 use Rattle.relay_patch.proofs.Sites.{place_of-plain}
 use Rattle.relay_patch.proofs.Moved.{DidMove, from_moved}
-use Rattle.relay_translate.specs.Touch.{Touch, Apart, Inside, Reset, touch_path, touch_place, touch_either, touch_below, touch}
+use Rattle.relay_translate.specs.Touch.{Touch, Apart, Inside, Reset, touch_path, touch_place, touch_either, touch_below, touch_value}
 use Rattle.relay_translate.specs.Translate.{op_of, move_op, with_paths}
 use Rattle.relay_translate.proofs.Leaves.{Leaves, set_child_leaves, insert_in_object_leaves, insert_in_list_leaves, drop_in_object_leaves, drop_in_list_leaves}
 use Rattle.relay_translate.proofs.Below.{below_apart, below_inside, last_never_inside}
@@ -197,14 +197,14 @@ drop_apart : (is_item : Bool) (path q : Path) (d d' : Document) → at_path (pla
 drop_apart true = apart_below true drop_child drop_in_list_leaves
 drop_apart false = apart_below false drop_child drop_in_object_leaves
 
-both_apart : (a b : Touch) → touch_either a b ≡ Apart → (a ≡ Apart) × (b ≡ Apart)
+pub both_apart : (a b : Touch) → touch_either a b ≡ Apart → (a ≡ Apart) × (b ≡ Apart)
 both_apart Apart b h = (refl, h)
 both_apart Inside Apart h = cc
 both_apart Inside Inside h = cc
 both_apart Inside Reset h = cc
 both_apart Reset b h = cc
 
-pub change_apart : (c : Change) (q : Path) (d d' : Document) → Makes d c d' → touch c q ≡ Apart → walk d' q ≡ walk d q
+pub change_apart : (c : Change) (q : Path) (d d' : Document) → Makes d c d' → touch_value c q ≡ Apart → walk d' q ≡ walk d q
 change_apart (change.Set path v) q d d' m k = set_apart path q v d d' m k
 change_apart (change.AddMember path v) q d d' m k = apart_below false (insert_child v) (insert_in_object_leaves v) path q d d' m.1 k
 change_apart (change.AddItem path v) q d d' m k = apart_below true (insert_child v) (insert_in_list_leaves v) path q d d' m k
@@ -276,7 +276,7 @@ copy_inside : (x : Bool) (from : Path) (to : Place) (q : Path) (v d d' : Documen
 copy_inside true from to q v d d' p there inserts = copied_within from to q v d d' there p inserts
 copy_inside false from to q v d d' p there inserts = add_there to.item to.path q v d d' inserts
 
-pub change_inside : (c : Change) (q : Path) (d d' : Document) → Makes d c d' → touch c q ≡ Inside → ChangedInside q (op_of q c) d d'
+pub change_inside : (c : Change) (q : Path) (d d' : Document) → Makes d c d' → touch_value c q ≡ Inside → ChangedInside q (op_of q c) d d'
 change_inside (change.Set path v) q d d' m k = replace_there path q v d d' (set_inside path q v d d' m k)
 change_inside (change.AddMember path v) q d d' m k = add_there false path q v d d' (at_path_inside false (insert_child v) path q d d' m.1 k)
 change_inside (change.AddItem path v) q d d' m k = add_there true path q v d d' (at_path_inside true (insert_child v) path q d d' m k)

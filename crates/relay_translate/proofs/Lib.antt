@@ -4,6 +4,7 @@ pub mod Leaves
 pub mod Below
 pub mod Under
 pub mod Changes
+pub mod Sized
 pub mod Slots
 pub mod Sizes
 pub mod Local

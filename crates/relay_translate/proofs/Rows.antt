@@ -1,9 +1,12 @@
 -- What worked edits come to in a view, by computation.
-use Rattle.std.proofs.Common.{◌≡◌, ℕ, List, [], ◌∷◌, pos, Result, Ok, Err, refl, codes}
-use Rattle.relay_tree.specs.Document.{Document, whole, text, list, object, items_of, Members, no_members, member}
+use Rattle.std.proofs.Common.{◌≡◌, ℕ, List, [], ◌∷◌, map, pos, Result, Ok, Err, refl, codes}
+use Rattle.relay_tree.specs.Document.{Document, null, whole, text, list, object, items_of, no_items, Members, no_members, member}
 use Rattle.relay_tree.specs.Part.{put_member}
 use Rattle.relay_pointer.specs.Index.{index_of, index_text}
+use Rattle.relay_pointer.specs.Path.{Path}
 use Rattle.relay_view.specs.View.{View}
+use Rattle.relay_view.specs.declared.slot.Slot.{Slot}
+use Rattle.relay_view.specs.declared.slot.SlotKind.TheVariants.{Value, Size}
 use Rattle.relay_patch.specs.declared.fault.Cause.{Cause}
 use Rattle.relay_patch.specs.declared.op.Op.{Op}
 use Rattle.relay_patch.specs.declared.op.Op.TheVariants.{Add, Remove, Replace, Move, Copy}
@@ -19,13 +22,23 @@ members (m ∷ ms) = put_member (members ms) m.0 m.1
 abbrev num : ℕ → Document
 num n = whole (pos n)
 
--- what one operation comes to in the view through some pointers
+abbrev value_slot : Path → Slot
+value_slot q = record { pointer = q; kind = Value }
+
+abbrev size_slot : Path → Slot
+size_slot q = record { pointer = q; kind = Size }
+
+-- what one operation comes to in a view
 abbrev relayed_from : Result Document Cause → Document → Op → View → Result (List Op) Cause
 relayed_from (Ok now) d op pointers = Ok (local (changes_of d op) now pointers)
 relayed_from (Err e) d op pointers = Err e
 
-abbrev relayed : Document → Op → View → Result (List Op) Cause
-relayed d op = relayed_from (effect d op) d op
+abbrev relayed_in : Document → Op → View → Result (List Op) Cause
+relayed_in d op = relayed_from (effect d op) d op
+
+-- the same in a view of values
+abbrev relayed : Document → Op → List Path → Result (List Op) Cause
+relayed d op paths = relayed_in d op (map value_slot paths)
 
 two_items : Document
 two_items = object (member (codes "items") (list (items_of (text (codes "a") ∷ text (codes "b") ∷ []))) no_members)
@@ -92,9 +105,37 @@ copy_of_the_value_is_a_copy = refl
 three_items : Document
 three_items = object (member (codes "items") (list (items_of (text (codes "z") ∷ text (codes "a") ∷ text (codes "b") ∷ []))) no_members)
 
-absent_slot_is_left : local (change.AddItem (codes "items" ∷ codes "0" ∷ []) (text (codes "z")) ∷ []) three_items ((codes "items" ∷ []) ∷ (codes "x" ∷ []) ∷ []) ≡ Add (codes "0" ∷ codes "0" ∷ codes "0" ∷ []) (text (codes "z")) ∷ []
+absent_slot_is_left : local (change.AddItem (codes "items" ∷ codes "0" ∷ []) (text (codes "z")) ∷ []) three_items (map value_slot ((codes "items" ∷ []) ∷ (codes "x" ∷ []) ∷ [])) ≡ Add (codes "0" ∷ codes "0" ∷ codes "0" ∷ []) (text (codes "z")) ∷ []
 unfolding three_items index_of index_text
 absent_slot_is_left = refl
 
-no_change_is_nothing : local [] three_items ((codes "items" ∷ []) ∷ (codes "x" ∷ []) ∷ []) ≡ []
+no_change_is_nothing : local [] three_items (map value_slot ((codes "items" ∷ []) ∷ (codes "x" ∷ []) ∷ [])) ≡ []
 no_change_is_nothing = refl
+
+-- sizes
+
+sized_items : View
+sized_items = size_slot (codes "items" ∷ []) ∷ value_slot (codes "items" ∷ codes "0" ∷ []) ∷ []
+
+one_more_is_counted : relayed_in two_items (Add (codes "items" ∷ codes "-" ∷ []) (text (codes "z"))) sized_items ≡ Ok (Replace (codes "0" ∷ []) (list (items_of (num 3 ∷ []))) ∷ [])
+unfolding two_items sized_items index_of index_text
+one_more_is_counted = refl
+
+an_exchange_is_not : relayed_in two_items (Replace (codes "items" ∷ codes "1" ∷ []) (text (codes "c"))) sized_items ≡ Ok []
+unfolding two_items sized_items index_of index_text
+an_exchange_is_not = refl
+
+a_scalar_has_no_size : relayed_in two_items (Replace (codes "items" ∷ []) null) sized_items ≡ Ok (Replace (codes "0" ∷ []) (list no_items) ∷ Replace (codes "1" ∷ []) (list no_items) ∷ [])
+unfolding two_items sized_items index_of index_text
+a_scalar_has_no_size = refl
+
+nested_1 : Document
+nested_1 = object (members ((codes "a", object (members ((codes "x", num 1) ∷ []))) ∷ []))
+
+below_its_parts_is_nothing : relayed_in nested_1 (Add (codes "a" ∷ codes "y" ∷ []) (num 2)) (size_slot [] ∷ []) ≡ Ok []
+unfolding nested_1 index_of index_text
+below_its_parts_is_nothing = refl
+
+a_move_across_the_edge_is_counted : relayed_in nested_1 (Move (codes "a" ∷ codes "x" ∷ []) (codes "x" ∷ [])) (size_slot [] ∷ []) ≡ Ok (Replace (codes "0" ∷ []) (list (items_of (num 2 ∷ []))) ∷ [])
+unfolding nested_1 index_of index_text
+a_move_across_the_edge_is_counted = refl

@@ -1,8 +1,8 @@
 -- The sizes of a translation's operations.
-use Rattle.std.proofs.Common.{◌≡◌, ℕ, suc, ◌+◌, List, [], ◌∷◌, ◌++◌, length, Bool, true, false, Result, Ok, Err, refl, if◌then◌else◌, arith, length-drop, flat_map}
+use Rattle.std.proofs.Common.{◌≡◌, ℕ, suc, ◌+◌, List, [], ◌∷◌, ◌++◌, length, Bool, true, false, Result, Ok, Err, refl, if◌then◌else◌, arith, length-drop, flat_map, ◌≤◌, Option, Some, None, option_map, option_and_then}
 use Rattle.std.specs.List.{AllByRecursion, list_any}
 use Rattle.std.specs.Result.{result_ok}
-use Rattle.relay_tree.specs.Document.{Document}
+use Rattle.relay_tree.specs.Document.{Document, null, truth, whole, text, list, object, depth}
 use Rattle.relay_pointer.specs.Index.{index_text}
 use Rattle.relay_pointer.specs.Path.{Path, is_prefix}
 use Rattle.relay_patch.specs.declared.fault.Cause.{Cause}
@@ -14,8 +14,11 @@ use Rattle.relay_patch.specs.declared.change.Change.TheVariants as change
 use Rattle.relay_patch.specs.Sizes.{IsShort, IsFlat, OpFits, ChangeFits}
 use Rattle.relay_patch.proofs.Depths.{walk_depth}
 use Rattle.relay_patch.proofs.Walks.{at-walk}
-use Rattle.relay_view.specs.View.{View, slot, slot_of}
-use Rattle.relay_translate.specs.Touch.{Touch, Apart, Inside, Reset, touch, touch_place}
+use Rattle.relay_view.specs.View.{View, size, counted, shown, slot, slot_of}
+use Rattle.relay_view.specs.declared.slot.Slot.{Slot}
+use Rattle.relay_view.specs.declared.slot.SlotKind.{SlotKind}
+use Rattle.relay_view.specs.declared.slot.SlotKind.TheVariants.{Value, Size}
+use Rattle.relay_translate.specs.Touch.{Touch, Apart, Inside, Reset, touch_slot, touch_place}
 use Rattle.relay_translate.specs.Translate.{is_reset, op_of, move_op, with_paths, in_slot, when_inside, slot_op, slot_ops, local_from}
 use Rattle.relay_translate.specs.Sizes.{FitsWithChanges}
 
@@ -62,28 +65,45 @@ when_fits n m Apart op h = tt
 when_fits n m Inside op h = (h, tt)
 when_fits n m Reset op h = tt
 
-changes_fit : (n m k : ℕ) (q : Path) (changes : List Change) → AllByRecursion (ChangeFits n m) changes → AllByRecursion (OpFits (n + 2) (m + 1)) (flat_map (slot_op k q) changes)
-changes_fit n m k q [] h = tt
-changes_fit n m k q (c ∷ cs) h =
-    All-append (n + 2) (m + 1) (slot_op k q c) (flat_map (slot_op k q) cs) (when_fits (n + 2) (m + 1) (touch c q) (with_paths (in_slot k q) (op_of q c)) (paths_fit n m k q (op_of q c) (op_fits n m q c h.0))) (changes_fit n m k q cs h.1)
+changes_fit : (n m k : ℕ) (s : Slot) (changes : List Change) → AllByRecursion (ChangeFits n m) changes → AllByRecursion (OpFits (n + 2) (m + 1)) (flat_map (slot_op k s) changes)
+changes_fit n m k s [] h = tt
+changes_fit n m k s (c ∷ cs) h =
+    All-append (n + 2) (m + 1) (slot_op k s c) (flat_map (slot_op k s) cs) (when_fits (n + 2) (m + 1) (touch_slot c s) (with_paths (in_slot k s.pointer) (op_of s.pointer c)) (paths_fit n m k s.pointer (op_of s.pointer c) (op_fits n m s.pointer c h.0))) (changes_fit n m k s cs h.1)
 
-slot_flat : (m : ℕ) (q : Path) (d : Document) → IsFlat m d → IsFlat (m + 1) (slot q d)
-slot_flat m q d h = rw (← at-walk q d) (go (walk d q) refl)
+depth_some : (d : Document) → 1 ≤ depth d
+depth_some null = omega arith
+depth_some (truth b) = omega arith
+depth_some (whole z) = omega arith
+depth_some (text s) = omega arith
+depth_some (list ds) = omega arith
+depth_some (object ms) = omega arith
+
+-- what a slot shows of a value is as deep as the value, at most
+shown_flat : (kind : SlotKind) (v d : Document) → depth v ≤ depth d → (m : ℕ) → IsFlat m d → IsFlat (m + 1) (slot_of (shown kind v))
+shown_flat Value v d h m flat = omega (arith, h, flat)
+shown_flat Size v d h m flat = go (size v)
   where
-    go : (r : Result Document Cause) → walk d q ≡ r → IsFlat (m + 1) (slot_of (result_ok r))
-    go (Ok v) e = let k = walk_depth q d v e in omega (arith, k)
+    go : (o : Option ℕ) → IsFlat (m + 1) (slot_of (option_map counted o))
+    go None = omega arith
+    go (Some n) = omega (arith, depth_some d, flat)
+
+slot_flat : (m : ℕ) (s : Slot) (d : Document) → IsFlat m d → IsFlat (m + 1) (slot s d)
+slot_flat m s d h = rw (← at-walk s.pointer d) (go (walk d s.pointer) refl)
+  where
+    go : (r : Result Document Cause) → walk d s.pointer ≡ r → IsFlat (m + 1) (slot_of (option_and_then (shown s.kind) (result_ok r)))
+    go (Ok v) e = let k = walk_depth s.pointer d v e in shown_flat s.kind v d (omega (arith, k)) m h
     go (Err e) k = omega arith
 
-slot_fits : (n m k : ℕ) (q : Path) (changes : List Change) (now : Document) → AllByRecursion (ChangeFits n m) changes → IsFlat m now → AllByRecursion (OpFits (n + 2) (m + 1)) (slot_ops k q changes now)
-slot_fits n m k q changes now h flat = go (list_any (λ c. is_reset (touch c q)) changes)
+slot_fits : (n m k : ℕ) (s : Slot) (changes : List Change) (now : Document) → AllByRecursion (ChangeFits n m) changes → IsFlat m now → AllByRecursion (OpFits (n + 2) (m + 1)) (slot_ops k s changes now)
+slot_fits n m k s changes now h flat = go (list_any (λ c. is_reset (touch_slot c s)) changes)
   where
-    go : (x : Bool) → AllByRecursion (OpFits (n + 2) (m + 1)) (if x then Replace (index_text k ∷ []) (slot q now) ∷ [] else flat_map (slot_op k q) changes)
-    go true = ((omega arith, slot_flat m q now flat), tt)
-    go false = changes_fit n m k q changes h
+    go : (x : Bool) → AllByRecursion (OpFits (n + 2) (m + 1)) (if x then Replace (index_text k ∷ []) (slot s now) ∷ [] else flat_map (slot_op k s) changes)
+    go true = ((omega arith, slot_flat m s now flat), tt)
+    go false = changes_fit n m k s changes h
 
 local_fits : (n m k : ℕ) (changes : List Change) (now : Document) (pointers : View) → AllByRecursion (ChangeFits n m) changes → IsFlat m now → AllByRecursion (OpFits (n + 2) (m + 1)) (local_from k changes now pointers)
 local_fits n m k changes now [] h flat = tt
-local_fits n m k changes now (q ∷ pointers) h flat = All-append (n + 2) (m + 1) (slot_ops k q changes now) (local_from (suc k) changes now pointers) (slot_fits n m k q changes now h flat) (local_fits n m (suc k) changes now pointers h flat)
+local_fits n m k changes now (s ∷ pointers) h flat = All-append (n + 2) (m + 1) (slot_ops k s changes now) (local_from (suc k) changes now pointers) (slot_fits n m k s changes now h flat) (local_fits n m (suc k) changes now pointers h flat)
 
 pub fits_with_changes : FitsWithChanges
 fits_with_changes changes now pointers n m h flat = local_fits n m 0 changes now pointers h flat

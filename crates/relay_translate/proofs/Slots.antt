@@ -1,5 +1,5 @@
 -- The operations of a translation lead a view, slot by slot, to the view of the present document.
-use Rattle.std.proofs.Common.{◌≡◌, ℕ, suc, List, [], ◌∷◌, ◌++◌, length, drop, Bool, true, false, ◌||◌, Some, Ok, refl, sym, ap, subst, ◌∙◌, flat_map}
+use Rattle.std.proofs.Common.{◌≡◌, ℕ, suc, List, [], ◌∷◌, ◌++◌, length, drop, Bool, true, false, ◌||◌, Some, Ok, option_and_then, refl, sym, ap, subst, ◌∙◌, flat_map}
 use Rattle.std.specs.List.{list_any}
 use Rattle.std.specs.Result.{result_ok}
 use Rattle.relay_tree.specs.Document.{Document, list, Items, no_items, item}
@@ -14,12 +14,16 @@ use Rattle.relay_patch.specs.Patch.{effect, after_from, free}
 use Rattle.relay_patch.specs.declared.change.Change.{Change}
 use Rattle.relay_patch.specs.Change.{Makes, Leads}
 use Rattle.relay_patch.proofs.Walks.{at-walk, at_reached}
-use Rattle.relay_view.specs.View.{View, slot, slot_of, slots, view}
-use Rattle.relay_translate.specs.Touch.{Touch, Apart, Inside, Reset, touch}
+use Rattle.relay_view.specs.View.{View, shown, slot, slot_of, slots, view}
+use Rattle.relay_view.specs.declared.slot.Slot.{Slot}
+use Rattle.relay_view.specs.declared.slot.SlotKind.{SlotKind}
+use Rattle.relay_view.specs.declared.slot.SlotKind.TheVariants.{Value, Size}
+use Rattle.relay_translate.specs.Touch.{Touch, Apart, Inside, Reset, touch_value, touch_size, touch, touch_slot}
 use Rattle.relay_translate.specs.Translate.{is_reset, op_of, with_paths, first, in_slot, when_inside, slot_op, slot_ops, local_from, local, IsTranslation}
 use Rattle.relay_translate.proofs.Bounds.{within_free}
 use Rattle.relay_translate.proofs.Under.{IsElement, effect_under, with_paths-twice, deeper}
 use Rattle.relay_translate.proofs.Changes.{ChangedInside, change_apart, change_inside}
+use Rattle.relay_translate.proofs.Sized.{change_keeps_size, size_never_inside}
 
 -- each operation passes, and they lead from one document to the other
 abbrev pub Passes : Document → List Op → Document → Type 0
@@ -66,10 +70,14 @@ first_item v = record { index = refl; there = refl }
 in_slot_is : (k : ℕ) (q : Path) (op : Op) → with_paths (λ p. index_text k ∷ p) (with_paths (λ p. first ∷ p) (with_paths (drop (length q)) op)) ≡ with_paths (in_slot k q) op
 in_slot_is k q op = ap (with_paths (λ p. index_text k ∷ p)) (with_paths-twice (λ p. first ∷ p) (drop (length q)) op) ∙ with_paths-twice (λ p. index_text k ∷ p) (λ p. first ∷ drop (length q) p) op
 
-slot_is : (q : Path) (d v : Document) → walk d q ≡ Ok v → slot q d ≡ list (item v no_items)
+-- the slot that shows the value to which a pointer leads
+abbrev value_slot : Path → Slot
+value_slot q = record { pointer = q; kind = Value }
+
+slot_is : (q : Path) (d v : Document) → walk d q ≡ Ok v → slot (value_slot q) d ≡ list (item v no_items)
 slot_is q d v h = rw (at_reached q d v h) refl
 
-inside_op : (done todo : Items) (q : Path) (op : Op) (d d' : Document) → ChangedInside q op d d' → effect (with_slot done todo (slot q d)) (with_paths (in_slot (items_length done) q) op) ≡ Ok (with_slot done todo (slot q d'))
+inside_op : (done todo : Items) (q : Path) (op : Op) (d d' : Document) → ChangedInside q op d d' → effect (with_slot done todo (slot (value_slot q) d)) (with_paths (in_slot (items_length done) q) op) ≡ Ok (with_slot done todo (slot (value_slot q) d'))
 inside_op done todo q op d d' c =
     let local_op : Op = with_paths (drop (length q)) op in
     let old : Document = list (item c.before no_items) in
@@ -87,38 +95,51 @@ either_false : (a b : Bool) → (a || b) ≡ false → (a ≡ false) × (b ≡ f
 either_false true b h = cc
 either_false false b h = (refl, h)
 
-change_passes : (done todo : Items) (q : Path) (c : Change) (d e : Document) (t : Touch) → touch c q ≡ t → is_reset t ≡ false → Makes d c e → Passes (with_slot done todo (slot q d)) (when_inside t (with_paths (in_slot (items_length done) q) (op_of q c))) (with_slot done todo (slot q e))
-change_passes done todo q c d e Apart k none makes = ap (λ o. with_slot done todo (slot_of o)) (sym (at-walk q d) ∙ (ap result_ok (sym (change_apart c q d e makes k)) ∙ at-walk q e))
-change_passes done todo q c d e Inside k none makes = (with_slot done todo (slot q e), inside_op done todo q (op_of q c) d e (change_inside c q d e makes k), refl)
-change_passes done todo q c d e Reset k none makes = cc
+value_passes : (done todo : Items) (q : Path) (c : Change) (d e : Document) (t : Touch) → touch_value c q ≡ t → is_reset t ≡ false → Makes d c e → Passes (with_slot done todo (slot (value_slot q) d)) (when_inside t (with_paths (in_slot (items_length done) q) (op_of q c))) (with_slot done todo (slot (value_slot q) e))
+value_passes done todo q c d e Apart k none makes = ap (λ o. with_slot done todo (slot_of (option_and_then (shown Value) o))) (sym (at-walk q d) ∙ (ap result_ok (sym (change_apart c q d e makes k)) ∙ at-walk q e))
+value_passes done todo q c d e Inside k none makes = (with_slot done todo (slot (value_slot q) e), inside_op done todo q (op_of q c) d e (change_inside c q d e makes k), refl)
+value_passes done todo q c d e Reset k none makes = cc
 
-changes_pass : (done todo : Items) (q : Path) (changes : List Change) (d now : Document) → Leads d changes now → list_any (λ c. is_reset (touch c q)) changes ≡ false → Passes (with_slot done todo (slot q d)) (flat_map (slot_op (items_length done) q) changes) (with_slot done todo (slot q now))
-changes_pass done todo q [] d now leads none = ap (λ x. with_slot done todo (slot q x)) leads
-changes_pass done todo q (c ∷ cs) d now leads none =
-    let parts = either_false (is_reset (touch c q)) (list_any (λ x. is_reset (touch x q)) cs) none in
+-- the slot that shows the size of that value
+abbrev size_slot : Path → Slot
+size_slot q = record { pointer = q; kind = Size }
+
+size_passes : (done todo : Items) (q : Path) (c : Change) (d e : Document) (t : Touch) → touch_size c q ≡ t → is_reset t ≡ false → Makes d c e → Passes (with_slot done todo (slot (size_slot q) d)) (when_inside t (with_paths (in_slot (items_length done) q) (op_of q c))) (with_slot done todo (slot (size_slot q) e))
+size_passes done todo q c d e Apart k none makes = ap (λ o. with_slot done todo (slot_of o)) (sym (change_keeps_size c q d e makes k))
+size_passes done todo q c d e Inside k none makes = absurd (size_never_inside c q k)
+size_passes done todo q c d e Reset k none makes = cc
+
+change_passes : (done todo : Items) (q : Path) (kind : SlotKind) (c : Change) (d e : Document) → is_reset (touch c q kind) ≡ false → Makes d c e → Passes (with_slot done todo (slot (record { pointer = q; kind = kind }) d)) (when_inside (touch c q kind) (with_paths (in_slot (items_length done) q) (op_of q c))) (with_slot done todo (slot (record { pointer = q; kind = kind }) e))
+change_passes done todo q Value c d e none makes = value_passes done todo q c d e (touch_value c q) refl none makes
+change_passes done todo q Size c d e none makes = size_passes done todo q c d e (touch_size c q) refl none makes
+
+changes_pass : (done todo : Items) (s : Slot) (changes : List Change) (d now : Document) → Leads d changes now → list_any (λ c. is_reset (touch_slot c s)) changes ≡ false → Passes (with_slot done todo (slot s d)) (flat_map (slot_op (items_length done) s) changes) (with_slot done todo (slot s now))
+changes_pass done todo s [] d now leads none = ap (λ x. with_slot done todo (slot s x)) leads
+changes_pass done todo s (c ∷ cs) d now leads none =
+    let parts = either_false (is_reset (touch_slot c s)) (list_any (λ x. is_reset (touch_slot x s)) cs) none in
     Passes-append
-    (slot_op (items_length done) q c) (flat_map (slot_op (items_length done) q) cs) _ _ _
-    (change_passes done todo q c d leads.0 (touch c q) refl parts.0 leads.1)
-    (changes_pass done todo q cs leads.0 now leads.2 parts.1)
+    (slot_op (items_length done) s c) (flat_map (slot_op (items_length done) s) cs) _ _ _
+    (change_passes done todo s.pointer s.kind c d leads.0 parts.0 leads.1)
+    (changes_pass done todo s cs leads.0 now leads.2 parts.1)
 
-slot_passes : (done todo : Items) (q : Path) (changes : List Change) (d now : Document) → Leads d changes now → Passes (with_slot done todo (slot q d)) (slot_ops (items_length done) q changes now) (with_slot done todo (slot q now))
-slot_passes done todo q changes d now leads = go (list_any (λ c. is_reset (touch c q)) changes) refl
+slot_passes : (done todo : Items) (s : Slot) (changes : List Change) (d now : Document) → Leads d changes now → Passes (with_slot done todo (slot s d)) (slot_ops (items_length done) s changes now) (with_slot done todo (slot s now))
+slot_passes done todo s changes d now leads = go (list_any (λ c. is_reset (touch_slot c s)) changes) refl
   where
-    go : (x : Bool) → list_any (λ c. is_reset (touch c q)) changes ≡ x → Passes (with_slot done todo (slot q d)) (slot_ops (items_length done) q changes now) (with_slot done todo (slot q now))
-    go true e = rw e (with_slot done todo (slot q now), reset_op done todo (slot q d) (slot q now), refl)
-    go false e = rw e (changes_pass done todo q changes d now leads e)
+    go : (x : Bool) → list_any (λ c. is_reset (touch_slot c s)) changes ≡ x → Passes (with_slot done todo (slot s d)) (slot_ops (items_length done) s changes now) (with_slot done todo (slot s now))
+    go true e = rw e (with_slot done todo (slot s now), reset_op done todo (slot s d) (slot s now), refl)
+    go false e = rw e (changes_pass done todo s changes d now leads e)
 
 slots_pass : (pointers : View) (done : Items) (changes : List Change) (d now : Document) → Leads d changes now → Passes (list (items_append done (slots pointers d))) (local_from (items_length done) changes now pointers) (list (items_append done (slots pointers now)))
 slots_pass [] done changes d now leads = refl
-slots_pass (q ∷ pointers) done changes d now leads =
-    let one : Items = item (slot q now) no_items in
+slots_pass (s ∷ pointers) done changes d now leads =
+    let one : Items = item (slot s now) no_items in
     let later = slots_pass pointers (items_append done one) changes d now leads in
-    let rest : Passes (with_slot done (slots pointers d) (slot q now)) (local_from (suc (items_length done)) changes now pointers) (with_slot done (slots pointers now) (slot q now)) =
-    rw (append-one done (slots pointers d) (slot q now), append-one done (slots pointers now) (slot q now), length-append_one done (slot q now)) at later
+    let rest : Passes (with_slot done (slots pointers d) (slot s now)) (local_from (suc (items_length done)) changes now pointers) (with_slot done (slots pointers now) (slot s now)) =
+    rw (append-one done (slots pointers d) (slot s now), append-one done (slots pointers now) (slot s now), length-append_one done (slot s now)) at later
     in
     Passes-append
-    (slot_ops (items_length done) q changes now) (local_from (suc (items_length done)) changes now pointers) _ _ _
-    (slot_passes done (slots pointers d) q changes d now leads)
+    (slot_ops (items_length done) s changes now) (local_from (suc (items_length done)) changes now pointers) _ _ _
+    (slot_passes done (slots pointers d) s changes d now leads)
     rest
 
 pub translation : IsTranslation

@@ -9,7 +9,8 @@ use Rattle.relay_patch.specs.declared.op.Op.{Op}
 use Rattle.relay_patch.specs.declared.op.Op.TheVariants.{Add, Remove, Replace, Move, Copy, Test}
 use Rattle.relay_patch.specs.declared.change.Change.{Change}
 use Rattle.relay_view.specs.View.{View, slot}
-use Rattle.relay_translate.specs.Touch.{Touch, Apart, Inside, Reset, touch}
+use Rattle.relay_view.specs.declared.slot.Slot.{Slot}
+use Rattle.relay_translate.specs.Touch.{Touch, Apart, Inside, Reset, touch_slot}
 use Rattle.relay_translate.specs.Translate.{is_reset, op_of, in_view}
 
 abbrev pub is_apart : Touch → Bool
@@ -22,17 +23,17 @@ is_inside Apart = false
 is_inside Inside = true
 is_inside Reset = false
 
--- every change is apart from what the pointer leads to
-abbrev pub all_apart : Path → List Change → Bool
-all_apart q changes = list_all (λ c. is_apart (touch c q)) changes
+-- every change is apart from what the slot shows
+abbrev pub all_apart : Slot → List Change → Bool
+all_apart s changes = list_all (λ c. is_apart (touch_slot c s)) changes
 
 -- some change resets it
-abbrev pub some_reset : Path → List Change → Bool
-some_reset q changes = list_any (λ c. is_reset (touch c q)) changes
+abbrev pub some_reset : Slot → List Change → Bool
+some_reset s changes = list_any (λ c. is_reset (touch_slot c s)) changes
 
--- the changes inside it, in order
-abbrev pub changes_inside : Path → List Change → List Change
-changes_inside q changes = filter (λ c. is_inside (touch c q)) changes
+-- the changes inside it, in order; of a size there are none
+abbrev pub changes_inside : Slot → List Change → List Change
+changes_inside s changes = filter (λ c. is_inside (touch_slot c s)) changes
 
 -- the path goes through slot k
 abbrev pub goes_through : ℕ → Path → Bool
@@ -55,16 +56,16 @@ on_slot k ops = filter (names k) ops
 -- No operation names a slot from which every change is apart.
 abbrev pub LeavesApart : List Change → View → List Op → Type 0
 LeavesApart changes pointers ops =
-    (k : ℕ) (q : Path) → slice_get pointers k ≡ Some q → all_apart q changes ≡ true → on_slot k ops ≡ []
+    (k : ℕ) (s : Slot) → slice_get pointers k ≡ Some s → all_apart s changes ≡ true → on_slot k ops ≡ []
 
 -- A slot that no change resets has one operation for each change inside its value, in order.
 abbrev pub FollowsInside : List Change → View → List Op → Type 0
 FollowsInside changes pointers ops =
-    (k : ℕ) (q : Path) → slice_get pointers k ≡ Some q → some_reset q changes ≡ false
-    → on_slot k ops ≡ map (λ c. in_view k q (op_of q c)) (changes_inside q changes)
+    (k : ℕ) (s : Slot) → slice_get pointers k ≡ Some s → some_reset s changes ≡ false
+    → on_slot k ops ≡ map (λ c. in_view k s.pointer (op_of s.pointer c)) (changes_inside s changes)
 
 -- A slot that some change resets has one operation, which exchanges it for what it shows now.
 abbrev pub ReplacesReset : List Change → Document → View → List Op → Type 0
 ReplacesReset changes now pointers ops =
-    (k : ℕ) (q : Path) → slice_get pointers k ≡ Some q → some_reset q changes ≡ true
-    → on_slot k ops ≡ Replace (index_text k ∷ []) (slot q now) ∷ []
+    (k : ℕ) (s : Slot) → slice_get pointers k ≡ Some s → some_reset s changes ≡ true
+    → on_slot k ops ≡ Replace (index_text k ∷ []) (slot s now) ∷ []

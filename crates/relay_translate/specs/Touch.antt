@@ -1,10 +1,13 @@
--- How a change touches what a pointer leads to, by paths alone.
-use Rattle.std.specs.Prelude.{ℕ, [], ◌∷◌, Bool, true, false, Option, Some, None, if◌then◌else◌, nat_le, bytes_eq}
+-- How a change touches what a slot shows, by paths alone.
+use Rattle.std.specs.Prelude.{ℕ, ◌+◌, ◌==◌, [], ◌∷◌, length, Bool, true, false, Option, Some, None, if◌then◌else◌, nat_le, bytes_eq}
 use Rattle.relay_pointer.specs.Index.{Token, number_of}
 use Rattle.relay_pointer.specs.Path.{Path}
 use Rattle.relay_patch.specs.declared.change.Place.{Place}
 use Rattle.relay_patch.specs.declared.change.Change.{Change}
 use Rattle.relay_patch.specs.declared.change.Change.TheVariants as change
+use Rattle.relay_view.specs.declared.slot.Slot.{Slot}
+use Rattle.relay_view.specs.declared.slot.SlotKind.{SlotKind}
+use Rattle.relay_view.specs.declared.slot.SlotKind.TheVariants.{Value, Size}
 pub use Rattle.relay_translate.specs.declared.kind.Touch.{Touch}
 pub use Rattle.relay_translate.specs.declared.kind.Touch.TheVariants.{Apart, Inside, Reset}
 
@@ -41,12 +44,50 @@ touch_either Inside Inside = Inside
 touch_either Inside Reset = Reset
 touch_either Reset b = Reset
 
--- a move is judged as a removal and an insertion, a copy where it comes
-abbrev pub touch : Change → Path → Touch
-touch (change.Set path v) q = touch_path false path q
-touch (change.AddMember path v) q = touch_path false path q
-touch (change.AddItem path v) q = touch_path true path q
-touch (change.DropMember path) q = touch_path false path q
-touch (change.DropItem path) q = touch_path true path q
-touch (change.Move from to v) q = touch_either (touch_place from q) (touch_place to q)
-touch (change.Copy from to v) q = touch_place to q
+-- How a change touches the value to which a pointer leads: a move is judged as a removal and an insertion, a copy where it comes.
+abbrev pub touch_value : Change → Path → Touch
+touch_value (change.Set path v) q = touch_path false path q
+touch_value (change.AddMember path v) q = touch_path false path q
+touch_value (change.AddItem path v) q = touch_path true path q
+touch_value (change.DropMember path) q = touch_path false path q
+touch_value (change.DropItem path) q = touch_path true path q
+touch_value (change.Move from to v) q = touch_either (touch_place from q) (touch_place to q)
+touch_value (change.Copy from to v) q = touch_place to q
+
+-- How a change touches the size of that value.
+
+-- a place within the value: one of its own parts, which comes or goes, or a place below its parts
+abbrev pub part_touch : Path → Path → Touch
+part_touch path q = if length path == length q + 1 then Reset else Apart
+
+-- the same of any place
+abbrev pub size_touch : Path → Path → Touch → Touch
+size_touch path q Apart = Apart
+size_touch path q Inside = part_touch path q
+size_touch path q Reset = Reset
+
+-- an exchange within the value leaves its size
+abbrev pub exchange_touch : Touch → Touch
+exchange_touch Apart = Apart
+exchange_touch Inside = Apart
+exchange_touch Reset = Reset
+
+abbrev pub touch_place_size : Place → Path → Touch
+touch_place_size place q = size_touch place.path q (touch_place place q)
+
+abbrev pub touch_size : Change → Path → Touch
+touch_size (change.Set path v) q = exchange_touch (touch_path false path q)
+touch_size (change.AddMember path v) q = size_touch path q (touch_path false path q)
+touch_size (change.AddItem path v) q = size_touch path q (touch_path true path q)
+touch_size (change.DropMember path) q = size_touch path q (touch_path false path q)
+touch_size (change.DropItem path) q = size_touch path q (touch_path true path q)
+touch_size (change.Move from to v) q = touch_either (touch_place_size from q) (touch_place_size to q)
+touch_size (change.Copy from to v) q = touch_place_size to q
+
+-- How a change touches what a slot of that kind and that pointer shows.
+abbrev pub touch : Change → Path → SlotKind → Touch
+touch c q Value = touch_value c q
+touch c q Size = touch_size c q
+
+abbrev pub touch_slot : Change → Slot → Touch
+touch_slot c s = touch c s.pointer s.kind

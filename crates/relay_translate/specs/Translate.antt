@@ -11,7 +11,8 @@ use Rattle.relay_patch.specs.declared.change.Change.{Change}
 use Rattle.relay_patch.specs.Change.{Leads}
 use Rattle.relay_patch.specs.declared.change.Change.TheVariants as change
 use Rattle.relay_view.specs.View.{View, slot, view}
-use Rattle.relay_translate.specs.Touch.{Touch, Apart, Inside, Reset, touch_place, touch}
+use Rattle.relay_view.specs.declared.slot.Slot.{Slot}
+use Rattle.relay_translate.specs.Touch.{Touch, Apart, Inside, Reset, touch_place, touch_slot}
 
 abbrev pub is_reset : Touch → Bool
 is_reset Apart = false
@@ -62,19 +63,19 @@ when_inside Apart op = []
 when_inside Inside op = op ∷ []
 when_inside Reset op = []
 
--- the operation on slot k, whose pointer is q, that a change inside its value comes to
-abbrev pub slot_op : ℕ → Path → Change → List Op
-slot_op k q c = when_inside (touch c q) (in_view k q (op_of q c))
+-- the operation on slot k that a change inside its value comes to
+abbrev pub slot_op : ℕ → Slot → Change → List Op
+slot_op k s c = when_inside (touch_slot c s) (in_view k s.pointer (op_of s.pointer c))
 
 -- one exchange of the whole slot where some change is Reset, else an operation for each change inside, in order
-abbrev pub slot_ops : ℕ → Path → List Change → Document → List Op
-slot_ops k q changes now =
-    if list_any (λ c. is_reset (touch c q)) changes then Replace (index_text k ∷ []) (slot q now) ∷ [] else flat_map (slot_op k q) changes
+abbrev pub slot_ops : ℕ → Slot → List Change → Document → List Op
+slot_ops k s changes now =
+    if list_any (λ c. is_reset (touch_slot c s)) changes then Replace (index_text k ∷ []) (slot s now) ∷ [] else flat_map (slot_op k s) changes
 
 -- slot by slot, from slot k on
 abbrev pub local_from : ℕ → List Change → Document → View → List Op
 local_from k changes now [] = []
-local_from k changes now (q ∷ pointers) = slot_ops k q changes now ++ local_from (suc k) changes now pointers
+local_from k changes now (s ∷ pointers) = slot_ops k s changes now ++ local_from (suc k) changes now pointers
 
 -- what the changes, which led to the present document, come to in the view through some pointers
 abbrev pub local : List Change → Document → View → List Op

@@ -6,14 +6,14 @@ ghost use Rattle.relay_translate.specs.Touch.{touch_place};
 ghost use Rattle.relay_translate.specs.Translate.{in_view, move_op, op_of};
 
 use crate::kind::Touch;
-use crate::slot::Slot;
+use crate::site::Site;
 use crate::touching::touch_place;
 use relay_patch::{Change, Op, Place};
 use relay_pointer::Pointer;
 use relay_tree::Tree;
 use std::alloc::{AllocError, Global};
 
-impl Slot<'_> {
+impl Site<'_> {
     /// The operation on the view. It costs a copy of the value where the operation carries one.
     pub fn operation(&self, alloc: Global, change: &Change) -> Result<Op, AllocError>
         ensures { IfOk result (λ o. o ≡ in_view self.now.number self.now.pointer.now (op_of self.now.pointer.now change.now)) }

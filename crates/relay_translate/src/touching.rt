@@ -1,18 +1,29 @@
-//! How changes touch pointers, decided by paths alone: no document is read.
+//! How changes touch slots, decided by paths alone: no document is read.
 ghost use Rattle.std.specs.Prelude.{◌≡◌};
 ghost use Rattle.relay_pointer.specs.Path.{path_of};
-ghost use Rattle.relay_translate.specs.Touch.{touch, touch_either, touch_last, touch_path, touch_place};
+ghost use Rattle.relay_translate.specs.Touch.{exchange_touch, size_touch, touch, touch_either, touch_last, touch_path, touch_place, touch_size, touch_value};
 ghost use Rattle.relay_translate.specs.Table.{touch_by_table};
 
 use crate::kind::Touch;
 use relay_patch::{Change, Place};
 use relay_pointer::{Pointer, index_of};
+use relay_view::SlotKind;
 
-/// How a change touches what the pointer leads to. A move is judged as a removal and an insertion, a copy where it comes.
-/// It costs a comparison of the paths; no memory is taken.
-pub fn touch(change: &Change, pointer: &Pointer) -> Touch
-    ensures exact { result ≡ touch change.now pointer.now }
-    ensures table { result ≡ touch_by_table change.now pointer.now }
+/// How a change touches what a slot of that kind and that pointer shows. A move is judged as a removal and an insertion, a copy where
+/// it comes; to a size only what comes to the value or goes from it counts, and no change is Inside. It costs a comparison of the
+/// paths; no memory is taken.
+pub fn touch(change: &Change, pointer: &Pointer, kind: SlotKind) -> Touch
+    ensures exact { result ≡ touch change.now pointer.now kind }
+    ensures table { result ≡ touch_by_table change.now pointer.now kind }
+{
+    match kind {
+        SlotKind::Value => touch_value(change, pointer),
+        SlotKind::Size => touch_size(change, pointer),
+    }
+}
+
+fn touch_value(change: &Change, pointer: &Pointer) -> Touch
+    ensures { result ≡ touch_value change.now pointer.now }
 {
     match change {
         Change::Set { path, .. } | Change::AddMember { path, .. } | Change::DropMember { path } => {
@@ -25,6 +36,46 @@ pub fn touch(change: &Change, pointer: &Pointer) -> Touch
             touch_either(touch_place(from, pointer), touch_place(to, pointer))
         }
         Change::Copy { to, .. } => touch_place(to, pointer),
+    }
+}
+
+fn touch_size(change: &Change, pointer: &Pointer) -> Touch
+    ensures { result ≡ touch_size change.now pointer.now }
+{
+    match change {
+        Change::Set { path, .. } => {
+            exchange_touch(touch_path(false, path.tokens(), pointer.tokens()))
+        }
+        Change::AddMember { path, .. } | Change::DropMember { path } => {
+            touch_part(false, path, pointer)
+        }
+        Change::AddItem { path, .. } | Change::DropItem { path } => touch_part(true, path, pointer),
+        Change::Move { from, to, .. } => touch_either(
+            touch_part(from.item, &from.path, pointer),
+            touch_part(to.item, &to.path, pointer),
+        ),
+        Change::Copy { to, .. } => touch_part(to.item, &to.path, pointer),
+    }
+}
+
+/// How what comes to a place, or goes from it, touches the size of the value to which the pointer leads.
+fn touch_part(is_item: bool, path: &Pointer, pointer: &Pointer) -> Touch
+    ensures { result ≡ size_touch path.now pointer.now (touch_path is_item path.now pointer.now) }
+{
+    match touch_path(is_item, path.tokens(), pointer.tokens()) {
+        Touch::Inside if path.tokens().len() != pointer.tokens().len() + 1 => Touch::Apart,
+        Touch::Inside | Touch::Reset => Touch::Reset,
+        Touch::Apart => Touch::Apart,
+    }
+}
+
+/// An exchange within a value leaves its size.
+fn exchange_touch(touch: Touch) -> Touch
+    ensures { result ≡ exchange_touch touch }
+{
+    match touch {
+        Touch::Apart | Touch::Inside => Touch::Apart,
+        Touch::Reset => Touch::Reset,
     }
 }
 

@@ -3,16 +3,15 @@ ghost use Rattle.std.specs.Prelude.{◌≡◌, ◌++◌, map, IfOk, OnOk};
 ghost use Rattle.std.specs.List.{list_any};
 ghost use Rattle.relay_translate.specs.Local.{LeavesApart, FollowsInside, ReplacesReset};
 ghost use Rattle.relay_translate.specs.Sizes.{FitsWith};
-ghost use Rattle.relay_translate.specs.Touch.{touch};
+ghost use Rattle.relay_translate.specs.Touch.{touch_slot};
 ghost use Rattle.relay_translate.specs.Translate.{LeadsViews, is_reset, local, slot_ops};
 
 use crate::kind::Touch;
-use crate::slot::Slot;
+use crate::site::Site;
 use crate::touching::touch;
 use relay_patch::{Change, Op, Patch};
-use relay_pointer::Pointer;
 use relay_tree::Tree;
-use relay_view::View;
+use relay_view::{Slot, View};
 use std::alloc::{AllocError, Global};
 
 /// The operations, slot after slot, that lead a view of the document before the changes to the view of the document `now`
@@ -34,12 +33,8 @@ pub fn translate(
     ensures sizes { IfOk result (λ patch. FitsWith (map (λ c. c.now) changes.now) now.now patch) }
 {
     let mut ops = Vec::new(alloc);
-    for (number, pointer) in view.pointers().iter().enumerate() {
-        let slot = Slot {
-            number: number as u64,
-            pointer,
-        };
-        push_slot(alloc, &slot, changes, now, &mut ops)?;
+    for (number, slot) in view.slots().iter().enumerate() {
+        push_slot(alloc, number as u64, slot, changes, now, &mut ops)?;
     }
     Ok(Patch::from_ops(ops))
 }
@@ -47,33 +42,36 @@ pub fn translate(
 /// Adds the operations on one slot.
 fn push_slot(
     alloc: Global,
+    number: u64,
     slot: &Slot,
     changes: &[&Change],
     now: &Tree,
     ops: &mut Vec<Op>,
 ) -> Result<(), AllocError>
-    ensures { OnOk result (ops.new.items ≡ ops.old.items ++ slot_ops slot.now.number slot.now.pointer.now (map (λ c. c.now) changes.now) now.now) }
+    ensures { OnOk result (ops.new.items ≡ ops.old.items ++ slot_ops number slot.now (map (λ c. c.now) changes.now) now.now) }
 {
-    if is_reset(changes, slot.pointer) {
+    let site = Site {
+        number,
+        pointer: &slot.pointer,
+    };
+    if is_reset(changes, slot) {
         ops.push(Op::Replace {
-            path: slot.place(alloc)?,
-            value: slot.shown(alloc, now)?,
+            path: site.place(alloc)?,
+            value: slot.of(alloc, now)?,
         })?;
         return Ok(());
     }
     for change in changes {
-        if let Touch::Inside = touch(change, slot.pointer) {
-            ops.push(slot.operation(alloc, change)?)?;
+        if let Touch::Inside = touch(change, &slot.pointer, slot.kind) {
+            ops.push(site.operation(alloc, change)?)?;
         }
     }
     Ok(())
 }
 
-/// Whether one of the changes is Reset for the pointer.
-fn is_reset(changes: &[&Change], pointer: &Pointer) -> bool
-    ensures { result ≡ list_any (λ c. is_reset (touch c.now pointer.now)) changes.now }
+/// Whether one of the changes is Reset for what the slot shows.
+fn is_reset(changes: &[&Change], slot: &Slot) -> bool
+    ensures { result ≡ list_any (λ c. is_reset (touch_slot c.now slot.now)) changes.now }
 {
-    changes
-        .iter()
-        .any(|change| touch(change, pointer).is_reset())
+    changes.iter().any(|change| touch(change, &slot.pointer, slot.kind).is_reset())
 }

@@ -5,4 +5,4 @@ use Rattle.relay_translate.proofs.translating.translate.Given as goal
 abbrev pub invariant-loop-number : goal.invariant-loop-number
 invariant-loop-number l =
     let changes = map (λ c. c.now) l.changes in
-    l.ops.items ++ local_from l.number changes l.now (drop l.number l.pointer-items) ≡ local changes l.now l.view
+    l.ops.items ++ local_from l.number changes l.now (drop l.number l.slot-items) ≡ local changes l.now l.view

@@ -1,7 +1,7 @@
 use Rattle.std.proofs.Common.{◌∙◌, ◌≤◌, drop, length, sym, ap, arith}
 use Rattle.relay_pointer.specs.Path.{path_of}
 use Rattle.relay_translate.proofs.Tokens.{path_of-past, path_of-range}
-use Rattle.relay_translate.proofs.slot.tokens_behind.Goals as goal
+use Rattle.relay_translate.proofs.site.tokens_behind.Goals as goal
 
 pub returns-in-Some : goal.returns-in-Some
 returns-in-Some c =

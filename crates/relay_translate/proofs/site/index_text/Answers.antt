@@ -1,6 +1,6 @@
 use Rattle.std.proofs.Common.{◌<◌, ◌^◌, arith}
 use Rattle.relay_pointer.proofs.Indexes.{index_text-decimal}
-use Rattle.relay_translate.proofs.slot.index_text.Goals as goal
+use Rattle.relay_translate.proofs.site.index_text.Goals as goal
 
 pub returns : goal.returns
 returns c =

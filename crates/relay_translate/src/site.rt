@@ -1,23 +1,20 @@
-//! One slot of a view.
+//! Where a slot stands in a view.
 ghost use Rattle.std.specs.Prelude.{◌≡◌, [], ◌∷◌, drop, string_bytes, IfOk};
 ghost use Rattle.relay_pointer.specs.Index.{index_text};
 ghost use Rattle.relay_pointer.specs.Path.{path_of};
-ghost use Rattle.relay_view.specs.View.{slot};
 ghost use Rattle.relay_translate.specs.Translate.{in_slot};
 
 use relay_pointer::Pointer;
-use relay_tree::Tree;
-use relay_view::slot_of;
 use std::alloc::{AllocError, Global};
 
-/// A slot by its place in the view, counted from 0, and its pointer.
+/// The number of a slot in its view, counted from 0, and the pointer to what it shows.
 #[derive(Clone, Copy)]
-pub(crate) struct Slot<'v> {
+pub(crate) struct Site<'v> {
     pub number: u64,
     pub pointer: &'v Pointer,
 }
 
-impl Slot<'_> {
+impl Site<'_> {
     /// `/k`, where the view shows the slot.
     pub fn place(&self, alloc: Global) -> Result<Pointer, AllocError>
         ensures { IfOk result (λ path. path ≡ index_text self.now.number ∷ []) }
@@ -37,13 +34,6 @@ impl Slot<'_> {
             tokens.push(token.clone()?)?;
         }
         Ok(Pointer::from_tokens(tokens))
-    }
-
-    /// What the slot shows of a document: `[v]` where its pointer leads to `v`, `[]` where it leads to nothing.
-    pub fn shown(&self, alloc: Global, document: &Tree) -> Result<Tree, AllocError>
-        ensures { IfOk result (λ seen. seen ≡ slot self.now.pointer.now document.now) }
-    {
-        slot_of(alloc, document, self.pointer)
     }
 }
 
