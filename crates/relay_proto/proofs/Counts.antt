@@ -5,7 +5,7 @@ use Rattle.std.proofs.lemmas.Bool.Decides.{nat_tests}
 use Rattle.serde_json.specs.Data.{Data}
 use Rattle.serde_json.specs.Read as json
 use Rattle.relay_tree.specs.Count.{count_of, count_in, count_most, is_count}
-use Rattle.relay_tree.specs.Document.{Document, whole, list, text}
+use Rattle.relay_tree.specs.Document.{Document, whole, list, text, object}
 use Rattle.relay_tree.specs.Part.{object_member}
 use Rattle.relay_tree.specs.Text.{tree_of}
 use Rattle.relay_pointer.specs.Path.{Path}
@@ -18,7 +18,10 @@ use Rattle.relay_patch.specs.declared.limits.PatchFault.{PatchFault}
 use Rattle.relay_patch.specs.declared.limits.PatchFault.TheVariants as patch
 use Rattle.relay_patch.specs.declared.limits.TheConstants.PatchLimits.{REQUEST}
 use Rattle.relay_patch.specs.declared.op.Op.{Op}
-use Rattle.relay_view.specs.Form.{path_within, path_at, view_of}
+use Rattle.relay_view.specs.Form.{slot_within, slot_spelled, size_slot, slot_at, view_of}
+use Rattle.relay_view.specs.declared.slot.Slot.{Slot}
+use Rattle.relay_view.specs.declared.slot.SlotKind.{SlotKind}
+use Rattle.relay_view.specs.declared.slot.SlotKind.TheVariants.{Value, Size}
 use Rattle.relay_view.specs.declared.fault.ViewFault.{ViewFault}
 use Rattle.relay_view.specs.declared.fault.ViewFault.TheVariants as view
 use Rattle.relay_view.specs.declared.view.TheConstants.{SLOTS_MOST, TOKENS_MOST}
@@ -116,20 +119,28 @@ pointer_place (view.Shape at) = at
 pointer_place (view.Pointer at) = Some at
 pointer_place view.NoMemory = None
 
-path_at_names : (n : ℕ) (d : Document) → IfErr (path_at n d) (λ fault. pointer_place fault ≡ Some n)
-path_at_names n (text s) = go (path_of_text s)
+spelled_names : (n : ℕ) (kind : SlotKind) (s : List ℕ) → IfErr (slot_spelled n kind s) (λ fault. pointer_place fault ≡ Some n)
+spelled_names n kind s = go (path_of_text s)
   where
-    short : (b : Bool) (path : Path) → IfErr (if b then Ok path else Err (view.Pointer n)) (λ fault. pointer_place fault ≡ Some n)
-    short true path = tt
-    short false path = refl
+    short : (b : Bool) (made : Slot) → IfErr (if b then Ok made else Err (view.Pointer n)) (λ fault. pointer_place fault ≡ Some n)
+    short true made = tt
+    short false made = refl
 
-    go : (o : Option Path) → IfErr (path_within n o) (λ fault. pointer_place fault ≡ Some n)
+    go : (o : Option Path) → IfErr (slot_within n kind o) (λ fault. pointer_place fault ≡ Some n)
     go None = refl
-    go (Some path) = short (nat_le (length path) TOKENS_MOST) path
-path_at_names n _ = refl
+    go (Some path) = short (nat_le (length path) TOKENS_MOST) (record { pointer = path; kind = kind })
+
+size_names : (n : ℕ) (o : Option Document) → IfErr (size_slot n o) (λ fault. pointer_place fault ≡ Some n)
+size_names n (Some (text s)) = spelled_names n Size s
+size_names n _ = refl
+
+slot_at_names : (n : ℕ) (d : Document) → IfErr (slot_at n d) (λ fault. pointer_place fault ≡ Some n)
+slot_at_names n (text s) = spelled_names n Value s
+slot_at_names n (object ms) = size_names n (object_member (object ms) (codes "size"))
+slot_at_names n _ = refl
 
 view_of_place : (d : Document) → IfErr (view_of d) (λ fault. IsBelow SLOTS_MOST (pointer_place fault))
-view_of_place (list ds) = few-place path_at pointer_place path_at_names SLOTS_MOST view.TooMany tt ds
+view_of_place (list ds) = few-place slot_at pointer_place slot_at_names SLOTS_MOST view.TooMany tt ds
 view_of_place _ = tt
 
 view_refused : (id : ℕ) (fault : ViewFault) → IsCount id → IsBelow SLOTS_MOST (pointer_place fault) → IsRefusal (view_refusal id fault)

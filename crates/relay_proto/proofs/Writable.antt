@@ -1,5 +1,5 @@
 -- The messages that bring a view up to date are writable, where the document and the patch keep to the relay's bounds.
-use Rattle.std.proofs.Common.{◌≡◌, ℕ, suc, ◌+◌, ◌≤◌, List, [], ◌∷◌, true, Option, Some, None, Result, Ok, Err, refl, ap, ◌∙◌, arith}
+use Rattle.std.proofs.Common.{◌≡◌, ℕ, suc, ◌+◌, ◌≤◌, List, [], ◌∷◌, true, Option, Some, None, option_and_then, Result, Ok, Err, refl, ap, ◌∙◌, arith}
 use Rattle.std.specs.List.{AllByRecursion}
 use Rattle.std.specs.Result.{result_ok}
 use Rattle.serde_json.specs.Data as seen
@@ -16,7 +16,9 @@ use Rattle.relay_patch.specs.declared.op.Op.{Op}
 use Rattle.relay_patch.specs.declared.op.Op.TheVariants.{Add, Remove, Replace, Move, Copy, Test}
 use Rattle.relay_patch.proofs.Depths.{walk_depth}
 use Rattle.relay_patch.proofs.Walks.{at-walk}
-use Rattle.relay_view.specs.View.{View, slot_of, slots, view}
+use Rattle.relay_view.specs.View.{View, shown, slot_of, slots, view}
+use Rattle.relay_view.specs.declared.slot.Slot.{Slot}
+use Rattle.relay_view.proofs.Depths.{shown_depth}
 use Rattle.relay_proto.specs.MessageRead.{is_slot, are_slots}
 use Rattle.relay_proto.specs.Written.{IsCount, HasShortPaths, IsWritable}
 use Rattle.relay_proto.specs.declared.message.Message.TheVariants as message
@@ -74,7 +76,7 @@ slot_is_slot (Some v) = refl
 
 are_slots_slots : (pointers : View) (d : Document) → are_slots (slots pointers d) ≡ true
 are_slots_slots [] d = refl
-are_slots_slots (q ∷ pointers) d = rw (slot_is_slot (at d q), are_slots_slots pointers d) refl
+are_slots_slots (s ∷ pointers) d = rw (slot_is_slot (option_and_then (shown s.kind) (at d s.pointer)), are_slots_slots pointers d) refl
 
 slot_depth : (o : Option Document) (n : ℕ) → ((v : Document) → o ≡ Some v → depth v ≤ n) → depth (slot_of o) ≤ suc n
 slot_depth None n h = omega arith
@@ -87,9 +89,16 @@ part_depth q d v h = go (walk d q) refl (at-walk q d ∙ h)
     go (Ok w) there same = let is : w ≡ v = cc in omega (arith, walk_depth q d w there, ap depth is)
     go (Err e) there same = absurd cc
 
+shown_part_depth : (s : Slot) (d v : Document) → option_and_then (shown s.kind) (at d s.pointer) ≡ Some v → depth v ≤ depth d
+shown_part_depth s d v h = go (at d s.pointer) refl h
+  where
+    go : (o : Option Document) → at d s.pointer ≡ o → option_and_then (shown s.kind) o ≡ Some v → depth v ≤ depth d
+    go None there e = absurd cc
+    go (Some w) there e = omega (arith, part_depth s.pointer d w there, shown_depth s.kind w v e)
+
 slots_depth : (pointers : View) (d : Document) → items_depth (slots pointers d) ≤ suc (depth d)
 slots_depth [] d = omega arith
-slots_depth (q ∷ pointers) d = omega (arith, slot_depth (at d q) (depth d) (part_depth q d), slots_depth pointers d)
+slots_depth (s ∷ pointers) d = omega (arith, slot_depth (option_and_then (shown s.kind) (at d s.pointer)) (depth d) (shown_part_depth s d), slots_depth pointers d)
 
 pub snapshot_is_writable : (rev : ℕ) (pointers : View) (d : Document) → IsCount rev → depth d ≤ DOCUMENT.depth → IsWritable (message.Snapshot rev (view pointers d))
 snapshot_is_writable rev pointers d count flat = ((count, are_slots_slots pointers d), omega (arith, nests (view pointers d), slots_depth pointers d, flat))

@@ -1,8 +1,8 @@
 -- The sizes of a translation's operations.
-use Rattle.std.proofs.Common.{◌≡◌, ℕ, suc, ◌+◌, List, [], ◌∷◌, ◌++◌, length, Bool, true, false, Result, Ok, Err, refl, if◌then◌else◌, arith, length-drop, flat_map, ◌≤◌, Option, Some, None, option_map, option_and_then}
+use Rattle.std.proofs.Common.{◌≡◌, ℕ, suc, ◌+◌, List, [], ◌∷◌, ◌++◌, length, Bool, true, false, Result, Ok, Err, refl, if◌then◌else◌, arith, length-drop, flat_map, ◌≤◌, Option, Some, None, option_and_then}
 use Rattle.std.specs.List.{AllByRecursion, list_any}
 use Rattle.std.specs.Result.{result_ok}
-use Rattle.relay_tree.specs.Document.{Document, null, truth, whole, text, list, object, depth}
+use Rattle.relay_tree.specs.Document.{Document, depth}
 use Rattle.relay_pointer.specs.Index.{index_text}
 use Rattle.relay_pointer.specs.Path.{Path, is_prefix}
 use Rattle.relay_patch.specs.declared.fault.Cause.{Cause}
@@ -14,10 +14,10 @@ use Rattle.relay_patch.specs.declared.change.Change.TheVariants as change
 use Rattle.relay_patch.specs.Sizes.{IsShort, IsFlat, OpFits, ChangeFits}
 use Rattle.relay_patch.proofs.Depths.{walk_depth}
 use Rattle.relay_patch.proofs.Walks.{at-walk}
-use Rattle.relay_view.specs.View.{View, size, counted, shown, slot, slot_of}
+use Rattle.relay_view.specs.View.{View, shown, slot, slot_of}
 use Rattle.relay_view.specs.declared.slot.Slot.{Slot}
 use Rattle.relay_view.specs.declared.slot.SlotKind.{SlotKind}
-use Rattle.relay_view.specs.declared.slot.SlotKind.TheVariants.{Value, Size}
+use Rattle.relay_view.proofs.Depths.{shown_depth}
 use Rattle.relay_translate.specs.Touch.{Touch, Apart, Inside, Reset, touch_slot, touch_place}
 use Rattle.relay_translate.specs.Translate.{is_reset, op_of, move_op, with_paths, in_slot, when_inside, slot_op, slot_ops, local_from}
 use Rattle.relay_translate.specs.Sizes.{FitsWithChanges}
@@ -70,22 +70,13 @@ changes_fit n m k s [] h = tt
 changes_fit n m k s (c ∷ cs) h =
     All-append (n + 2) (m + 1) (slot_op k s c) (flat_map (slot_op k s) cs) (when_fits (n + 2) (m + 1) (touch_slot c s) (with_paths (in_slot k s.pointer) (op_of s.pointer c)) (paths_fit n m k s.pointer (op_of s.pointer c) (op_fits n m s.pointer c h.0))) (changes_fit n m k s cs h.1)
 
-depth_some : (d : Document) → 1 ≤ depth d
-depth_some null = omega arith
-depth_some (truth b) = omega arith
-depth_some (whole z) = omega arith
-depth_some (text s) = omega arith
-depth_some (list ds) = omega arith
-depth_some (object ms) = omega arith
-
--- what a slot shows of a value is as deep as the value, at most
+-- what a slot shows of a value is as deep as the document, at most
 shown_flat : (kind : SlotKind) (v d : Document) → depth v ≤ depth d → (m : ℕ) → IsFlat m d → IsFlat (m + 1) (slot_of (shown kind v))
-shown_flat Value v d h m flat = omega (arith, h, flat)
-shown_flat Size v d h m flat = go (size v)
+shown_flat kind v d h m flat = go (shown kind v) refl
   where
-    go : (o : Option ℕ) → IsFlat (m + 1) (slot_of (option_map counted o))
-    go None = omega arith
-    go (Some n) = omega (arith, depth_some d, flat)
+    go : (o : Option Document) → shown kind v ≡ o → IsFlat (m + 1) (slot_of o)
+    go None e = omega arith
+    go (Some w) e = let k = shown_depth kind v w e in omega (arith, k, h, flat)
 
 slot_flat : (m : ℕ) (s : Slot) (d : Document) → IsFlat m d → IsFlat (m + 1) (slot s d)
 slot_flat m s d h = rw (← at-walk s.pointer d) (go (walk d s.pointer) refl)
