@@ -1,7 +1,7 @@
 //! Patches applied: all of their operations, or none.
-ghost use Rattle.std.specs.Prelude.{Some, ◌≡◌, ◌≢◌, ◌<◌, ◌-◌, ◌^◌, ◌++◌, Ok, Err, false, IsOk, IfSome, IfOk, IfErr, OnOk, [], ◌∷◌};
+ghost use Rattle.std.specs.Prelude.{Some, ◌≡◌, ◌≢◌, ◌<◌, ◌-◌, ◌^◌, ◌++◌, Ok, Err, false, IsOk, IsSome, IfSome, IfOk, IfErr, OnOk, [], ◌∷◌};
 ghost use Rattle.std.specs.List.{AllByRecursion};
-ghost use Rattle.relay_tree.specs.Document.{Document};
+ghost use Rattle.relay_tree.specs.Document.{Document, weight};
 ghost use Rattle.relay_patch.specs.Walk.{then_do};
 ghost use Rattle.relay_patch.specs.Patch.{after, effect, within};
 ghost use Rattle.relay_patch.specs.Change.{Makes, Leads, changes_of, all_changes};
@@ -56,10 +56,54 @@ pub fn apply(
     ensures memory { IfErr result (λ fault. fault.cause ≡ NoMemory → Reaches tree.old patch.now bounds fault.at) }
     ensures unchanged { IfErr result (λ _. tree.new ≡ tree.old) }
 {
-    match run(alloc, tree, patch.ops(), bounds) {
+    match run(alloc, tree, None, patch.ops(), bounds) {
         Ok(Done { draft, changes, .. }) => {
             settle(tree, draft);
             Ok(changes)
+        }
+        Err(fault) => Err(fault),
+    }
+}
+
+/// What a patch made of a document whose weight is kept beside it.
+#[derive(Drop)]
+pub struct Applied {
+    pub changes: Vec<Change>,
+    /// What the document weighs now, where its weight is bounded.
+    pub weight: u64,
+}
+
+/// Applies a patch as [`apply`] does to a tree that is within the bounds and weighs so much. The document is not measured:
+/// an edit costs what it touches, but for the copy.
+pub fn apply_within(
+    alloc: Global,
+    tree: &mut Tree,
+    known: u64,
+    patch: &Patch,
+    bounds: Bounds,
+) -> Result<Applied, ApplyFault>
+    requires fits { within bounds tree.old ≡ Ok tree.old }
+    requires weighs { known ≡ weight tree.old }
+    ensures document { OnOk result (after tree.old patch.now bounds ≡ Ok tree.new) }
+    ensures changes { IfOk result (λ applied. applied.changes.items ≡ all_changes tree.old patch.now) }
+    ensures weight { IfOk result (λ applied. bounds.weight < 2 ^ 64 - 1 → applied.weight ≡ weight tree.new) }
+    ensures refused { IfErr result (λ fault. fault.cause ≢ NoMemory → after tree.old patch.now bounds ≡ Err fault) }
+    ensures memory { IfErr result (λ fault. fault.cause ≡ NoMemory → Reaches tree.old patch.now bounds fault.at) }
+    ensures unchanged { IfErr result (λ _. tree.new ≡ tree.old) }
+{
+    match run(alloc, tree, Some(known), patch.ops(), bounds) {
+        Ok(
+            Done {
+                draft,
+                changes,
+                weight,
+            },
+        ) => {
+            settle(tree, draft);
+            Ok(Applied {
+                changes,
+                weight: weight.unwrap(),
+            })
         }
         Err(fault) => Err(fault),
     }
@@ -85,7 +129,16 @@ struct Done {
 }
 
 // The operations in order. The tree itself is changed by the last one alone.
-fn run(alloc: Global, tree: &mut Tree, ops: &[Op], bounds: Bounds) -> Result<Done, ApplyFault>
+fn run(
+    alloc: Global,
+    tree: &mut Tree,
+    known: Option<u64>,
+    ops: &[Op],
+    bounds: Bounds,
+) -> Result<Done, ApplyFault>
+    requires { Known bounds tree.old known }
+    ensures known { IfOk result (λ done. Known bounds (present done.draft tree.new) done.weight) }
+    ensures weighed { IfOk result (λ done. IsSome known → IsSome done.weight) }
     ensures document { IfOk result (λ done. after tree.old ops.now bounds ≡ Ok (present done.draft tree.new)) }
     ensures changes { IfOk result (λ done. done.changes.items ≡ all_changes tree.old ops.now) }
     ensures refused { IfErr result (λ fault. fault.cause ≢ NoMemory → after tree.old ops.now bounds ≡ Err fault) }
@@ -95,7 +148,7 @@ fn run(alloc: Global, tree: &mut Tree, ops: &[Op], bounds: Bounds) -> Result<Don
     let mut done = Done {
         draft: None,
         changes: Vec::new(alloc),
-        weight: None,
+        weight: known,
     };
     for (at, op) in ops.iter().enumerate() {
         let left = ops.len() - at - 1;
@@ -121,6 +174,7 @@ fn perform(
 ) -> Result<Done, Cause>
     requires { Known bounds (present done.draft tree.old) done.weight }
     ensures known { IfOk result (λ next. Known bounds (present next.draft tree.new) next.weight) }
+    ensures weighed { IfOk result (λ next. IsSome next.weight) }
     ensures document { IfOk result (λ next. then_do (effect (present done.draft tree.old) op.now) (within bounds) ≡ Ok (present next.draft tree.new)) }
     ensures changes { IfOk result (λ next. next.changes.items ≡ done.changes.items ++ changes_of (present done.draft tree.old) op.now) }
     ensures refused { IfErr result (λ cause. cause ≢ NoMemory → then_do (effect (present done.draft tree.old) op.now) (within bounds) ≡ Err cause) }
@@ -154,6 +208,7 @@ fn advance(
     requires makes { (next : Document) × Leads (present done.draft tree.old) (listed change) next }
     requires known { Known bounds (present done.draft tree.old) done.weight }
     ensures known { IfOk result (λ next. Known bounds (present next.draft tree.new) next.weight) }
+    ensures weighed { IfOk result (λ next. IsSome next.weight) }
     ensures fits { IfOk result (λ next. within bounds (present next.draft tree.new) ≡ Ok (present next.draft tree.new)) }
     ensures document { IfOk result (λ next. Leads (present done.draft tree.old) (listed change) (present next.draft tree.new)) }
     ensures changes { IfOk result (λ next. next.changes.items ≡ done.changes.items ++ listed change) }
@@ -196,6 +251,7 @@ fn carry_out_here(
     requires stays { is_move change ≡ false }
     requires known { Known bounds tree.old known }
     ensures known { IfOk result (λ next. Known bounds (present next.draft tree.new) next.weight) }
+    ensures weighed { IfOk result (λ next. IsSome next.weight) }
     ensures fits { IfOk result (λ next. within bounds (present next.draft tree.new) ≡ Ok (present next.draft tree.new)) }
     ensures document { IfOk result (λ next. Makes tree.old change (present next.draft tree.new)) }
     ensures changes { IfOk result (λ next. next.changes.items ≡ changes.items ++ change ∷ []) }
@@ -237,6 +293,7 @@ fn edit(
     requires stays { is_move change ≡ false }
     requires known { Known bounds tree.old (Some weight) }
     ensures known { IfOk result (λ next. Known bounds (present next.draft tree.new) next.weight) }
+    ensures weighed { IfOk result (λ next. IsSome next.weight) }
     ensures fits { IfOk result (λ next. within bounds (present next.draft tree.new) ≡ Ok (present next.draft tree.new)) }
     ensures document { IfOk result (λ next. Makes tree.old change (present next.draft tree.new)) }
     ensures changes { IfOk result (λ next. next.changes.items ≡ changes.items ++ change ∷ []) }
@@ -259,6 +316,7 @@ fn edit(
 fn confine(old: &Tree, done: Done, bounds: Bounds) -> Result<Done, Cause>
     requires { Known bounds (present done.draft old.now) done.weight }
     ensures known { IfOk result (λ next. Known bounds (present next.draft old.now) next.weight) }
+    ensures weighed { IfOk result (λ next. IsSome next.weight) }
     ensures fits { IfOk result (λ next. within bounds (present next.draft old.now) ≡ Ok (present next.draft old.now)) }
     ensures document { IfOk result (λ next. present done.draft old.now ≡ present next.draft old.now) }
     ensures changes { IfOk result (λ next. next.changes.items ≡ done.changes.items) }
@@ -287,6 +345,7 @@ fn carry_out(
     requires makes { (next : Document) × Makes (present done.draft old.now) change next }
     requires known { Known bounds (present done.draft old.now) done.weight }
     ensures known { IfOk result (λ next. Known bounds (present next.draft old.now) next.weight) }
+    ensures weighed { IfOk result (λ next. IsSome next.weight) }
     ensures fits { IfOk result (λ next. within bounds (present next.draft old.now) ≡ Ok (present next.draft old.now)) }
     ensures document { IfOk result (λ next. Makes (present done.draft old.now) change (present next.draft old.now)) }
     ensures changes { IfOk result (λ next. next.changes.items ≡ done.changes.items ++ change ∷ []) }

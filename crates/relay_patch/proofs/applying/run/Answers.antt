@@ -15,5 +15,6 @@ loop-at-preserved c =
       changes = changes_more ops at op c.args.bounds d e c.loop-at.done.changes.items c.in-Ok.done.changes.items _ c.loop-at-test.true c.index-ops-at.is c.in-Ok.ensures.document c.in-Ok.ensures.changes c.loop-at.invariant.changes;
       known = c.in-Ok.ensures.known;
       reached = after_done ops at op c.args.bounds c.args.tree.now d e c.loop-at-test.true c.index-ops-at.is c.loop-at.invariant.reached c.in-Ok.ensures.document;
+      weighed = λ _. c.in-Ok.ensures.weighed;
       still = λ more. c.in-Ok.ensures.still (omega arith) ∙ c.loop-at.invariant.still c.loop-at-test.true;
     }
