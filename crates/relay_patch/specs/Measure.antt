@@ -1,5 +1,5 @@
 -- What a change adds to the depth and the weight of a document, and what it takes from them.
-use Rattle.std.specs.Prelude.{ℕ, ◌+◌, ◌-◌, ◌^◌, ◌<◌, ◌≡◌, [], ◌∷◌, Option, Some, None, option_and_then, Result, Ok, Err, length, if◌then◌else◌}
+use Rattle.std.specs.Prelude.{ℕ, ◌+◌, ◌-◌, ◌^◌, ◌<◌, ◌≡◌, [], ◌∷◌, Bool, true, false, Option, Some, None, option_and_then, Result, Ok, Err, length, if◌then◌else◌}
 use Rattle.std.specs.Bool.{⊤}
 use Rattle.std.specs.Result.{result_ok}
 use Rattle.relay_tree.specs.Document.{Document, depth, weight}
@@ -33,6 +33,10 @@ gone d (change.DropMember path) = at d path
 gone d (change.DropItem path) = at d path
 gone d (change.Move from to v) = option_and_then (displaced to) (result_ok (at_path drop_child from.path d))
 gone d (change.Copy from to v) = displaced to d
+
+abbrev pub is_move : Change → Bool
+is_move (change.Move from to v) = true
+is_move _ = false
 
 abbrev pub part_weight : Option Document → ℕ
 part_weight None = 0

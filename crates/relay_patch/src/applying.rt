@@ -1,12 +1,12 @@
 //! Patches applied: all of their operations, or none.
-ghost use Rattle.std.specs.Prelude.{Some, ◌≡◌, ◌≢◌, ◌<◌, ◌-◌, ◌^◌, ◌++◌, Ok, Err, IsOk, IfOk, IfErr, OnOk, [], ◌∷◌};
+ghost use Rattle.std.specs.Prelude.{Some, ◌≡◌, ◌≢◌, ◌<◌, ◌-◌, ◌^◌, ◌++◌, Ok, Err, false, IsOk, IsSome, IfSome, IfOk, IfErr, OnOk, [], ◌∷◌};
 ghost use Rattle.std.specs.List.{AllByRecursion};
-ghost use Rattle.relay_tree.specs.Document.{Document};
+ghost use Rattle.relay_tree.specs.Document.{Document, weight};
 ghost use Rattle.relay_patch.specs.Walk.{then_do};
 ghost use Rattle.relay_patch.specs.Patch.{after, effect, within};
 ghost use Rattle.relay_patch.specs.Change.{Makes, Leads, changes_of, all_changes};
 ghost use Rattle.relay_patch.specs.Sizes.{ChangeFits};
-ghost use Rattle.relay_patch.specs.Measure.{Known};
+ghost use Rattle.relay_patch.specs.Measure.{is_move, Known};
 ghost use Rattle.relay_patch.specs.Steps.{listed, present, Reaches};
 ghost use Rattle.relay_patch.specs.declared.fault.Cause.TheVariants.{NoMemory};
 
@@ -21,7 +21,7 @@ mod spot;
 mod walk;
 
 use self::making::make;
-use self::measuring::{bound, measure};
+use self::measuring::{bound, foresee, measure};
 use self::recording::record;
 use crate::bounds::Bounds;
 use crate::change::Change;
@@ -38,9 +38,10 @@ use std::alloc::{AllocError, Global};
 /// one. A `test`, and a `move` to its own place, change nothing. Where there is a bound on the depth, which the old
 /// document keeps, no path of a change has more tokens and no value is deeper.
 ///
-/// Nothing is copied before the first operation that changes something has passed its checks. From there on it costs a
-/// copy of the document, and for each operation its paths, what it takes away and three times its value. The document is
-/// measured once, after the first operation, as far as there are bounds; from then on what an operation changed tells.
+/// The last operation that changes something is made in the tree itself, if none before it did and it is no move: it costs
+/// its path, what it takes away and three times its value. Before that, where a change is followed by another operation, a
+/// copy of the document is changed. The document is measured once, as far as there are bounds; from then on what an
+/// operation changed tells.
 pub fn apply(
     alloc: Global,
     tree: &mut Tree,
@@ -55,10 +56,54 @@ pub fn apply(
     ensures memory { IfErr result (λ fault. fault.cause ≡ NoMemory → Reaches tree.old patch.now bounds fault.at) }
     ensures unchanged { IfErr result (λ _. tree.new ≡ tree.old) }
 {
-    match run(alloc, tree, patch.ops(), bounds) {
+    match run(alloc, tree, None, patch.ops(), bounds) {
         Ok(Done { draft, changes, .. }) => {
             settle(tree, draft);
             Ok(changes)
+        }
+        Err(fault) => Err(fault),
+    }
+}
+
+/// What a patch made of a document whose weight is kept beside it.
+#[derive(Drop)]
+pub struct Applied {
+    pub changes: Vec<Change>,
+    /// What the document weighs now, where its weight is bounded.
+    pub weight: u64,
+}
+
+/// Applies a patch as [`apply`] does to a tree that is within the bounds and weighs so much. The document is not measured:
+/// an edit costs what it touches, but for the copy.
+pub fn apply_within(
+    alloc: Global,
+    tree: &mut Tree,
+    known: u64,
+    patch: &Patch,
+    bounds: Bounds,
+) -> Result<Applied, ApplyFault>
+    requires fits { within bounds tree.old ≡ Ok tree.old }
+    requires weighs { known ≡ weight tree.old }
+    ensures document { OnOk result (after tree.old patch.now bounds ≡ Ok tree.new) }
+    ensures changes { IfOk result (λ applied. applied.changes.items ≡ all_changes tree.old patch.now) }
+    ensures weight { IfOk result (λ applied. bounds.weight < 2 ^ 64 - 1 → applied.weight ≡ weight tree.new) }
+    ensures refused { IfErr result (λ fault. fault.cause ≢ NoMemory → after tree.old patch.now bounds ≡ Err fault) }
+    ensures memory { IfErr result (λ fault. fault.cause ≡ NoMemory → Reaches tree.old patch.now bounds fault.at) }
+    ensures unchanged { IfErr result (λ _. tree.new ≡ tree.old) }
+{
+    match run(alloc, tree, Some(known), patch.ops(), bounds) {
+        Ok(
+            Done {
+                draft,
+                changes,
+                weight,
+            },
+        ) => {
+            settle(tree, draft);
+            Ok(Applied {
+                changes,
+                weight: weight.unwrap(),
+            })
         }
         Err(fault) => Err(fault),
     }
@@ -76,26 +121,38 @@ fn settle(tree: &mut Tree, draft: Option<Tree>)
 // What the operations so far have made.
 #[derive(Drop)]
 struct Done {
-    // The present document, once it is another than the old one.
+    // The present document, if it is not the tree itself.
     draft: Option<Tree>,
     changes: Vec<Change>,
     // The weight of the present document, as far as it is bounded, once that is known to be within the bounds.
     weight: Option<u64>,
 }
 
-fn run(alloc: Global, old: &Tree, ops: &[Op], bounds: Bounds) -> Result<Done, ApplyFault>
-    ensures document { IfOk result (λ done. after old.now ops.now bounds ≡ Ok (present done.draft old.now)) }
-    ensures changes { IfOk result (λ done. done.changes.items ≡ all_changes old.now ops.now) }
-    ensures refused { IfErr result (λ fault. fault.cause ≢ NoMemory → after old.now ops.now bounds ≡ Err fault) }
-    ensures memory { IfErr result (λ fault. fault.cause ≡ NoMemory → Reaches old.now ops.now bounds fault.at) }
+// The operations in order. The tree itself is changed by the last one alone.
+fn run(
+    alloc: Global,
+    tree: &mut Tree,
+    known: Option<u64>,
+    ops: &[Op],
+    bounds: Bounds,
+) -> Result<Done, ApplyFault>
+    requires { Known bounds tree.old known }
+    ensures known { IfOk result (λ done. Known bounds (present done.draft tree.new) done.weight) }
+    ensures weighed { IfOk result (λ done. IsSome known → IsSome done.weight) }
+    ensures document { IfOk result (λ done. after tree.old ops.now bounds ≡ Ok (present done.draft tree.new)) }
+    ensures changes { IfOk result (λ done. done.changes.items ≡ all_changes tree.old ops.now) }
+    ensures refused { IfErr result (λ fault. fault.cause ≢ NoMemory → after tree.old ops.now bounds ≡ Err fault) }
+    ensures memory { IfErr result (λ fault. fault.cause ≡ NoMemory → Reaches tree.old ops.now bounds fault.at) }
+    ensures unchanged { IfErr result (λ _. tree.new ≡ tree.old) }
 {
     let mut done = Done {
         draft: None,
         changes: Vec::new(alloc),
-        weight: None,
+        weight: known,
     };
     for (at, op) in ops.iter().enumerate() {
-        done = match perform(alloc, old, done, op, bounds) {
+        let left = ops.len() - at - 1;
+        done = match perform(alloc, tree, done, op, bounds, left) {
             Ok(done) => done,
             Err(cause) => return Err(ApplyFault {
                 at: at as u64,
@@ -106,17 +163,27 @@ fn run(alloc: Global, old: &Tree, ops: &[Op], bounds: Bounds) -> Result<Done, Ap
     Ok(done)
 }
 
-// One operation, and the bounds on what it makes.
-fn perform(alloc: Global, old: &Tree, done: Done, op: &Op, bounds: Bounds) -> Result<Done, Cause>
-    requires { Known bounds (present done.draft old.now) done.weight }
-    ensures known { IfOk result (λ next. Known bounds (present next.draft old.now) next.weight) }
-    ensures document { IfOk result (λ next. then_do (effect (present done.draft old.now) op.now) (within bounds) ≡ Ok (present next.draft old.now)) }
-    ensures changes { IfOk result (λ next. next.changes.items ≡ done.changes.items ++ changes_of (present done.draft old.now) op.now) }
-    ensures refused { IfErr result (λ cause. cause ≢ NoMemory → then_do (effect (present done.draft old.now) op.now) (within bounds) ≡ Err cause) }
-    ensures memory { IfErr result (λ cause. cause ≡ NoMemory → IsOk (effect (present done.draft old.now) op.now)) }
+// One operation, which so many others follow, and the bounds on what it makes.
+fn perform(
+    alloc: Global,
+    tree: &mut Tree,
+    done: Done,
+    op: &Op,
+    bounds: Bounds,
+    left: usize,
+) -> Result<Done, Cause>
+    requires { Known bounds (present done.draft tree.old) done.weight }
+    ensures known { IfOk result (λ next. Known bounds (present next.draft tree.new) next.weight) }
+    ensures weighed { IfOk result (λ next. IsSome next.weight) }
+    ensures document { IfOk result (λ next. then_do (effect (present done.draft tree.old) op.now) (within bounds) ≡ Ok (present next.draft tree.new)) }
+    ensures changes { IfOk result (λ next. next.changes.items ≡ done.changes.items ++ changes_of (present done.draft tree.old) op.now) }
+    ensures refused { IfErr result (λ cause. cause ≢ NoMemory → then_do (effect (present done.draft tree.old) op.now) (within bounds) ≡ Err cause) }
+    ensures memory { IfErr result (λ cause. cause ≡ NoMemory → IsOk (effect (present done.draft tree.old) op.now)) }
+    ensures still { IfOk result (λ _. 0 < left → tree.new ≡ tree.old) }
+    ensures unchanged { IfErr result (λ _. tree.new ≡ tree.old) }
 {
-    let change = record(alloc, present(&done, old), op)?;
-    advance(alloc, old, done, change, bounds)
+    let change = record(alloc, present(&done, tree), op)?;
+    advance(alloc, tree, done, change, bounds, left)
 }
 
 fn present<'t>(done: &'t Done, old: &'t Tree) -> &'t Tree
@@ -128,32 +195,128 @@ fn present<'t>(done: &'t Done, old: &'t Tree) -> &'t Tree
     }
 }
 
-// Makes the change, if there is one, within the bounds.
+// Makes the change, if there is one, within the bounds: in the tree itself, if no operation follows and none before it
+// changed anything.
 fn advance(
     alloc: Global,
-    old: &Tree,
+    tree: &mut Tree,
     done: Done,
     change: Option<Change>,
     bounds: Bounds,
+    left: usize,
 ) -> Result<Done, Cause>
-    requires makes { (next : Document) × Leads (present done.draft old.now) (listed change) next }
-    requires known { Known bounds (present done.draft old.now) done.weight }
-    ensures known { IfOk result (λ next. Known bounds (present next.draft old.now) next.weight) }
-    ensures fits { IfOk result (λ next. within bounds (present next.draft old.now) ≡ Ok (present next.draft old.now)) }
-    ensures document { IfOk result (λ next. Leads (present done.draft old.now) (listed change) (present next.draft old.now)) }
+    requires makes { (next : Document) × Leads (present done.draft tree.old) (listed change) next }
+    requires known { Known bounds (present done.draft tree.old) done.weight }
+    ensures known { IfOk result (λ next. Known bounds (present next.draft tree.new) next.weight) }
+    ensures weighed { IfOk result (λ next. IsSome next.weight) }
+    ensures fits { IfOk result (λ next. within bounds (present next.draft tree.new) ≡ Ok (present next.draft tree.new)) }
+    ensures document { IfOk result (λ next. Leads (present done.draft tree.old) (listed change) (present next.draft tree.new)) }
     ensures changes { IfOk result (λ next. next.changes.items ≡ done.changes.items ++ listed change) }
-    ensures refused { IfErr result (λ cause. cause ≢ NoMemory → (next : Document) × Leads (present done.draft old.now) (listed change) next × (within bounds next ≡ Err cause)) }
+    ensures refused { IfErr result (λ cause. cause ≢ NoMemory → (next : Document) × Leads (present done.draft tree.old) (listed change) next × (within bounds next ≡ Err cause)) }
+    ensures still { IfOk result (λ _. 0 < left → tree.new ≡ tree.old) }
+    ensures unchanged { IfErr result (λ _. tree.new ≡ tree.old) }
 {
-    match change {
-        Some(change) => carry_out(alloc, old, done, change, bounds),
-        None => confine(old, done, bounds),
+    let Some(change) = change else {
+        return confine(tree, done, bounds);
+    };
+    if left > 0 || done.draft.is_some() || is_move(&change) {
+        return carry_out(alloc, tree, done, change, bounds);
     }
+    let Done {
+        changes,
+        weight,
+        ..
+    } = done;
+    carry_out_here(alloc, tree, changes, weight, change, bounds)
+}
+
+// A move takes its value away before it puts it elsewhere, which may want memory.
+fn is_move(change: &Change) -> bool
+    ensures { result ≡ is_move change.now }
+{
+    matches!(change, Change::Move { .. })
+}
+
+// Makes a change of the tree itself, within the bounds: all that can be refused comes first. A document that is not known
+// to be within the bounds is changed in a copy.
+fn carry_out_here(
+    alloc: Global,
+    tree: &mut Tree,
+    changes: Vec<Change>,
+    known: Option<u64>,
+    change: Change,
+    bounds: Bounds,
+) -> Result<Done, Cause>
+    requires makes { (next : Document) × Makes tree.old change next }
+    requires stays { is_move change ≡ false }
+    requires known { Known bounds tree.old known }
+    ensures known { IfOk result (λ next. Known bounds (present next.draft tree.new) next.weight) }
+    ensures weighed { IfOk result (λ next. IsSome next.weight) }
+    ensures fits { IfOk result (λ next. within bounds (present next.draft tree.new) ≡ Ok (present next.draft tree.new)) }
+    ensures document { IfOk result (λ next. Makes tree.old change (present next.draft tree.new)) }
+    ensures changes { IfOk result (λ next. next.changes.items ≡ changes.items ++ change ∷ []) }
+    ensures refused { IfErr result (λ cause. cause ≢ NoMemory → (next : Document) × Makes tree.old change next × (within bounds next ≡ Err cause)) }
+    ensures unchanged { IfErr result (λ _. tree.new ≡ tree.old) }
+{
+    let Some(weight) = weight_within(tree, known, bounds) else {
+        let done = Done {
+            draft: None,
+            changes,
+            weight: None,
+        };
+        return carry_out(alloc, tree, done, change, bounds);
+    };
+    edit(alloc, tree, changes, weight, change, bounds)
+}
+
+// The weight of a document that is within the bounds.
+fn weight_within(tree: &Tree, known: Option<u64>, bounds: Bounds) -> Option<u64>
+    requires { Known bounds tree.now known }
+    ensures { IfSome result (λ n. Known bounds tree.now (Some n)) }
+{
+    match known {
+        Some(weight) => Some(weight),
+        None => measure(tree, bounds).ok(),
+    }
+}
+
+// Makes a change of the tree itself, of which the weight is known, once nothing can refuse it any more.
+fn edit(
+    alloc: Global,
+    tree: &mut Tree,
+    changes: Vec<Change>,
+    weight: u64,
+    change: Change,
+    bounds: Bounds,
+) -> Result<Done, Cause>
+    requires makes { (next : Document) × Makes tree.old change next }
+    requires stays { is_move change ≡ false }
+    requires known { Known bounds tree.old (Some weight) }
+    ensures known { IfOk result (λ next. Known bounds (present next.draft tree.new) next.weight) }
+    ensures weighed { IfOk result (λ next. IsSome next.weight) }
+    ensures fits { IfOk result (λ next. within bounds (present next.draft tree.new) ≡ Ok (present next.draft tree.new)) }
+    ensures document { IfOk result (λ next. Makes tree.old change (present next.draft tree.new)) }
+    ensures changes { IfOk result (λ next. next.changes.items ≡ changes.items ++ change ∷ []) }
+    ensures refused { IfErr result (λ cause. cause ≢ NoMemory → (next : Document) × Makes tree.old change next × (within bounds next ≡ Err cause)) }
+    ensures unchanged { IfErr result (λ _. tree.new ≡ tree.old) }
+{
+    let weight = foresee(tree, weight, &change, bounds)?;
+    let mut changes = changes;
+    changes.reserve(1)?;
+    drop(make(alloc, tree, &change)?);
+    changes.push_reserved(change);
+    Ok(Done {
+        draft: None,
+        changes,
+        weight: Some(weight),
+    })
 }
 
 // The bounds on what has been made, unless it is known to keep them.
 fn confine(old: &Tree, done: Done, bounds: Bounds) -> Result<Done, Cause>
     requires { Known bounds (present done.draft old.now) done.weight }
     ensures known { IfOk result (λ next. Known bounds (present next.draft old.now) next.weight) }
+    ensures weighed { IfOk result (λ next. IsSome next.weight) }
     ensures fits { IfOk result (λ next. within bounds (present next.draft old.now) ≡ Ok (present next.draft old.now)) }
     ensures document { IfOk result (λ next. present done.draft old.now ≡ present next.draft old.now) }
     ensures changes { IfOk result (λ next. next.changes.items ≡ done.changes.items) }
@@ -182,6 +345,7 @@ fn carry_out(
     requires makes { (next : Document) × Makes (present done.draft old.now) change next }
     requires known { Known bounds (present done.draft old.now) done.weight }
     ensures known { IfOk result (λ next. Known bounds (present next.draft old.now) next.weight) }
+    ensures weighed { IfOk result (λ next. IsSome next.weight) }
     ensures fits { IfOk result (λ next. within bounds (present next.draft old.now) ≡ Ok (present next.draft old.now)) }
     ensures document { IfOk result (λ next. Makes (present done.draft old.now) change (present next.draft old.now)) }
     ensures changes { IfOk result (λ next. next.changes.items ≡ done.changes.items ++ change ∷ []) }

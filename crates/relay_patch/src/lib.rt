@@ -14,7 +14,7 @@ mod limits;
 mod op;
 mod patch;
 
-pub use applying::apply;
+pub use applying::{Applied, apply, apply_within};
 pub use bounds::{Bounds, DEPTH_MOST, WEIGHT_MOST};
 pub use change::{Change, Place};
 pub use fault::{ApplyFault, Cause};

@@ -1,6 +1,6 @@
 -- What holds of an outcome, from what holds of another.
 use Rattle.std.proofs.Common.{◌≡◌, Result, Ok, Err, IsOk, refl}
-use Rattle.std.specs.Prelude.{OnOk, IfOk, IfErr, IsErrAnd}
+use Rattle.std.specs.Prelude.{OnOk, OnErr, IfOk, IfErr, IsErrAnd}
 
 pub is_ok_then : {A E : Type 0} (r : Result A E) (x : A) → r ≡ Ok x → IsOk r
 is_ok_then r x h = rw h refl
@@ -32,3 +32,11 @@ if_err (Err e) p f = f e p
 pub err_and : {A E : Type 0} {P Q : E → Type 0} (r : Result A E) → IsErrAnd r P → ((e : E) → P e → Q e) → IfErr r Q
 err_and (Ok x) p f = tt
 err_and (Err e) p f = f e p
+
+pub on_err : {A E : Type 0} {P Q : Type 0} (r : Result A E) → OnErr r P → (P → Q) → OnErr r Q
+on_err (Ok x) p f = tt
+on_err (Err e) p f = f p
+
+pub on_err_of : {A E : Type 0} {P : Type 0} (r : Result A E) → P → OnErr r P
+on_err_of (Ok x) p = tt
+on_err_of (Err e) p = p

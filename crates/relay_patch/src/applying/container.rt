@@ -1,5 +1,5 @@
 //! Insertions and removals in one container.
-ghost use Rattle.std.specs.Prelude.{◌≡◌, Ok, OnOk, IsOk};
+ghost use Rattle.std.specs.Prelude.{◌≡◌, Ok, OnOk, OnErr, IsOk};
 ghost use Rattle.relay_tree.specs.Document.{items_of, list};
 ghost use Rattle.relay_patch.specs.Walk.{step};
 ghost use Rattle.relay_patch.specs.Patch.{insert_child, drop_child};
@@ -9,7 +9,7 @@ use relay_pointer::index_of;
 use relay_tree::{Node, Tree, insert_member};
 use std::alloc::{AllocError, Global};
 
-/// Inserts a value where the token says.
+/// Inserts a value where the token says. Want of memory leaves the container as it was.
 pub(crate) fn insert_child(
     alloc: Global,
     container: &mut Tree,
@@ -17,7 +17,8 @@ pub(crate) fn insert_child(
     value: Tree,
 ) -> Result<(), AllocError>
     requires { IsOk (insert_child value token.now container.old) }
-    ensures { OnOk result (insert_child value token.now container.old ≡ Ok container.new) }
+    ensures ok { OnOk result (insert_child value token.now container.old ≡ Ok container.new) }
+    ensures err { OnErr result (container.new ≡ container.old) }
 {
     match &mut container.node {
         Node::List(items) => insert_item(items, token, value),
@@ -28,7 +29,8 @@ pub(crate) fn insert_child(
 
 fn insert_item(items: &mut Vec<Tree>, token: &str, value: Tree) -> Result<(), AllocError>
     requires { IsOk (insert_child value token.now (list (items_of items.old.items))) }
-    ensures { OnOk result (insert_child value token.now (list (items_of items.old.items)) ≡ Ok (list (items_of items.new.items))) }
+    ensures ok { OnOk result (insert_child value token.now (list (items_of items.old.items)) ≡ Ok (list (items_of items.new.items))) }
+    ensures err { OnErr result (items.new.items ≡ items.old.items) }
 {
     match insertion_index(items.len(), token) {
         Ok(index) => Ok(items.insert(index, value)?),

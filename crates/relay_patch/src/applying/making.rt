@@ -1,11 +1,11 @@
 //! Changes carried out on a tree.
-ghost use Rattle.std.specs.Prelude.{◌≡◌, Ok, None, OnOk, IfOk, IsOk, is_some};
+ghost use Rattle.std.specs.Prelude.{◌≡◌, Ok, None, false, OnOk, OnErr, IfOk, IsOk, is_some};
 ghost use Rattle.relay_tree.specs.Document.{Document};
 ghost use Rattle.relay_pointer.specs.Path.{path_of};
 ghost use Rattle.relay_patch.specs.Walk.{walk};
 ghost use Rattle.relay_patch.specs.Patch.{added, at_path, drop_child};
 ghost use Rattle.relay_patch.specs.Change.{Makes, inserted};
-ghost use Rattle.relay_patch.specs.Measure.{displaced, gone};
+ghost use Rattle.relay_patch.specs.Measure.{displaced, gone, is_move};
 
 use super::container::{drop_child, insert_child};
 use super::exchange::exchange;
@@ -14,7 +14,8 @@ use relay_pointer::{child_mut, resolve};
 use relay_tree::{Node, Tree};
 use std::alloc::{AllocError, Global};
 
-/// Makes a change, and gives what went with it. Where memory is refused, what is left of the tree is not told.
+/// Makes a change, and gives what went with it. Want of memory leaves the tree as it was, but for a move, which may have
+/// lost its value.
 pub(crate) fn make(
     alloc: Global,
     tree: &mut Tree,
@@ -23,6 +24,7 @@ pub(crate) fn make(
     requires { (next : Document) × Makes tree.old change.now next }
     ensures made { OnOk result (Makes tree.old change.now tree.new) }
     ensures went { IfOk result (λ went. went ≡ gone tree.old change.now) }
+    ensures err { OnErr result (is_move change.now ≡ false → tree.new ≡ tree.old) }
 {
     match change {
         Change::Set { path, value } => {
@@ -54,6 +56,7 @@ fn put(
     requires { IsOk (inserted place.now value tree.old) }
     ensures made { OnOk result (added place.now.path value tree.old ≡ Ok tree.new) }
     ensures went { IfOk result (λ went. went ≡ displaced place.now tree.old) }
+    ensures err { OnErr result (tree.new ≡ tree.old) }
 {
     if is_taken(tree, place) {
         return Ok(Some(exchange(tree, &place.path, value)));
@@ -78,6 +81,7 @@ fn insert_copy(
     requires { IsOk (added (path_of path.now) value.now tree.old) }
     ensures made { OnOk result (added (path_of path.now) value.now tree.old ≡ Ok tree.new) }
     ensures went { IfOk result (λ went. went ≡ None) }
+    ensures err { OnErr result (tree.new ≡ tree.old) }
 {
     let value = value.copy(alloc)?;
     insert_at(alloc, tree, path, value)?;
@@ -86,7 +90,8 @@ fn insert_copy(
 
 fn insert_at(alloc: Global, tree: &mut Tree, path: &[String], value: Tree) -> Result<(), AllocError>
     requires { IsOk (added (path_of path.now) value tree.old) }
-    ensures { OnOk result (added (path_of path.now) value tree.old ≡ Ok tree.new) }
+    ensures ok { OnOk result (added (path_of path.now) value tree.old ≡ Ok tree.new) }
+    ensures err { OnErr result (tree.new ≡ tree.old) }
 {
     let [token, rest @ ..] = path else {
         *tree = value;

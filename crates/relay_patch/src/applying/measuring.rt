@@ -1,15 +1,16 @@
 //! The bounds on a document, measured whole, or from what a change brought and took.
-ghost use Rattle.std.specs.Prelude.{◌≡◌, ◌≢◌, ◌<◌, ◌≤◌, ◌-◌, ◌+◌, ◌^◌, Ok, Err, OnOk, IfOk, IfErr, IsOk, length};
-ghost use Rattle.relay_tree.specs.Document.{depth, weight, saturated};
+ghost use Rattle.std.specs.Prelude.{◌≡◌, ◌≢◌, ◌<◌, ◌≤◌, ◌-◌, ◌+◌, ◌^◌, Some, Ok, Err, OnOk, IfOk, IfErr, IsOk, false, length, option_copied};
+ghost use Rattle.relay_tree.specs.Document.{Document, depth, weight, saturated};
 ghost use Rattle.relay_pointer.specs.Path.{path_of};
 ghost use Rattle.relay_patch.specs.Patch.{within, exceeds};
-ghost use Rattle.relay_patch.specs.Measure.{reach, lost, gained, part_weight, name_weight, place_weight, new_name, judged, Became};
+ghost use Rattle.relay_patch.specs.Change.{Makes};
+ghost use Rattle.relay_patch.specs.Measure.{reach, displaced, gone, is_move, Known, lost, gained, part_weight, name_weight, place_weight, new_name, judged, Became};
 ghost use Rattle.relay_patch.specs.declared.fault.Cause.TheVariants.{NoMemory};
 
 use crate::bounds::Bounds;
 use crate::change::{Change, Place};
 use crate::fault::Cause;
-use relay_pointer::Pointer;
+use relay_pointer::{Pointer, resolve};
 use relay_tree::Tree;
 
 /// The weight of a document within the bounds, which is told where it is bounded. Without a bound nothing is measured.
@@ -54,18 +55,63 @@ pub(crate) fn bound(
     ensures other { IfErr result (λ cause. cause ≢ NoMemory) }
 {
     match known {
-        Some(weight) => judge(weight, change, went, bounds),
+        Some(weight) => judge(weight, change, went.as_ref(), bounds),
         None => measure(tree, bounds),
+    }
+}
+
+/// The weight that a document will have after a change, which is no move, from the one that it has. The document is
+/// within the bounds, and is not walked.
+pub(crate) fn foresee(
+    tree: &Tree,
+    known: u64,
+    change: &Change,
+    bounds: Bounds,
+) -> Result<u64, Cause>
+    requires makes { (next : Document) × Makes tree.now change.now next }
+    requires still { is_move change.now ≡ false }
+    requires known { Known bounds tree.now (Some known) }
+    ensures ok { OnOk result ((next : Document) → Makes tree.now change.now next → within bounds next ≡ Ok next) }
+    ensures weight { IfOk result (λ n. (next : Document) → Makes tree.now change.now next → bounds.weight < 2 ^ 64 - 1 → n ≡ weight next) }
+    ensures err { IfErr result (λ cause. (next : Document) → Makes tree.now change.now next → within bounds next ≡ Err cause) }
+    ensures other { IfErr result (λ cause. cause ≢ NoMemory) }
+{
+    judge(known, change, gone(tree, change), bounds)
+}
+
+// What is no longer there after a change, which is no move.
+fn gone<'t>(tree: &'t Tree, change: &Change) -> Option<&'t Tree>
+    ensures { is_move change.now ≡ false → option_copied result ≡ gone tree.now change.now }
+{
+    match change {
+        Change::Set { path, .. } => resolve(tree, path),
+        Change::AddMember { .. } => None,
+        Change::AddItem { .. } => None,
+        Change::DropMember { path } => resolve(tree, path),
+        Change::DropItem { path } => resolve(tree, path),
+        Change::Move { .. } => None,
+        Change::Copy { to, .. } => displaced(tree, to),
+    }
+}
+
+// What stands where a value is put.
+fn displaced<'t>(tree: &'t Tree, place: &Place) -> Option<&'t Tree>
+    ensures { option_copied result ≡ displaced place.now tree.now }
+{
+    if place.item {
+        None
+    } else {
+        resolve(tree, &place.path)
     }
 }
 
 // The weight after a change, from the weight before it. The document before was within the bounds, so it is too deep
 // after the change exactly where the value that came stands too deep.
-fn judge(weight: u64, change: &Change, went: &Option<Tree>, bounds: Bounds) -> Result<u64, Cause>
-    requires { bounds.weight < 2 ^ 64 - 1 → lost change.now went.now ≤ weight }
-    ensures ok { OnOk result (IsOk (judged bounds change.now (weight - lost change.now went.now + gained change.now went.now))) }
-    ensures weight { IfOk result (λ n. bounds.weight < 2 ^ 64 - 1 → n ≡ weight - lost change.now went.now + gained change.now went.now) }
-    ensures err { IfErr result (λ cause. judged bounds change.now (weight - lost change.now went.now + gained change.now went.now) ≡ Err cause) }
+fn judge(weight: u64, change: &Change, went: Option<&Tree>, bounds: Bounds) -> Result<u64, Cause>
+    requires { bounds.weight < 2 ^ 64 - 1 → lost change.now (option_copied went) ≤ weight }
+    ensures ok { OnOk result (IsOk (judged bounds change.now (weight - lost change.now (option_copied went.entry) + gained change.now (option_copied went.entry)))) }
+    ensures weight { IfOk result (λ n. bounds.weight < 2 ^ 64 - 1 → n ≡ weight - lost change.now (option_copied went.entry) + gained change.now (option_copied went.entry)) }
+    ensures err { IfErr result (λ cause. judged bounds change.now (weight - lost change.now (option_copied went.entry) + gained change.now (option_copied went.entry)) ≡ Err cause) }
     ensures other { IfErr result (λ cause. cause ≢ NoMemory) }
 {
     if exceeds_reach(change, bounds.depth) {
@@ -109,8 +155,8 @@ fn reach_at(path: &Pointer, value: &Tree) -> u64
 }
 
 // The weight of what a change takes away.
-fn lost(change: &Change, went: &Option<Tree>) -> u64
-    ensures { result ≡ saturated (lost change.now went.now) }
+fn lost(change: &Change, went: Option<&Tree>) -> u64
+    ensures { result ≡ saturated (lost change.now (option_copied went.entry)) }
 {
     let name = match change {
         Change::DropMember { path } => name_weight(path),
@@ -121,8 +167,8 @@ fn lost(change: &Change, went: &Option<Tree>) -> u64
 }
 
 // The weight of what a change brings.
-fn gained(change: &Change, went: &Option<Tree>) -> u64
-    ensures { result ≡ saturated (gained change.now went.now) }
+fn gained(change: &Change, went: Option<&Tree>) -> u64
+    ensures { result ≡ saturated (gained change.now (option_copied went.entry)) }
 {
     match change {
         Change::Set { value, .. } => value.weight(),
@@ -135,8 +181,8 @@ fn gained(change: &Change, went: &Option<Tree>) -> u64
     }
 }
 
-fn part_weight(part: &Option<Tree>) -> u64
-    ensures { result ≡ saturated (part_weight part.now) }
+fn part_weight(part: Option<&Tree>) -> u64
+    ensures { result ≡ saturated (part_weight (option_copied part.entry)) }
 {
     match part {
         Some(part) => part.weight(),
@@ -145,8 +191,8 @@ fn part_weight(part: &Option<Tree>) -> u64
 }
 
 // The name of a member that is new at the place.
-fn new_name(place: &Place, went: &Option<Tree>) -> u64
-    ensures { result ≡ saturated (new_name (place_weight place.now) went.now) }
+fn new_name(place: &Place, went: Option<&Tree>) -> u64
+    ensures { result ≡ saturated (new_name (place_weight place.now) (option_copied went.entry)) }
 {
     match went {
         Some(_) => 0,

@@ -1,4 +1,5 @@
-use Rattle.std.proofs.Common.{◌≡◌, ◌++◌, Ok, take, drop}
+use Rattle.std.proofs.Common.{◌≡◌, ◌<◌, ◌++◌, Ok, length, take, drop}
+use Rattle.std.specs.Prelude.{IsSome}
 use Rattle.relay_patch.specs.Patch.{after, after_from}
 use Rattle.relay_patch.specs.Change.{all_changes}
 use Rattle.relay_patch.specs.Measure.{Known}
@@ -8,8 +9,10 @@ use Rattle.relay_patch.proofs.applying.run.Given as goal
 abbrev pub invariant-loop-at : goal.invariant-loop-at
 invariant-loop-at l =
     record {
-      onward : after_from l.at l.bounds (present l.done.draft l.old) (drop l.at l.ops) ≡ after_from 0 l.bounds l.old l.ops;
-      changes : l.done.changes.items ++ all_changes (present l.done.draft l.old) (drop l.at l.ops) ≡ all_changes l.old l.ops;
-      known : Known l.bounds (present l.done.draft l.old) l.done.weight;
-      reached : after l.old (take l.at l.ops) l.bounds ≡ Ok (present l.done.draft l.old);
+      onward : after_from l.at l.bounds (present l.done.draft l.tree) (drop l.at l.ops) ≡ after_from 0 l.bounds l.initial.tree l.ops;
+      changes : l.done.changes.items ++ all_changes (present l.done.draft l.tree) (drop l.at l.ops) ≡ all_changes l.initial.tree l.ops;
+      known : Known l.bounds (present l.done.draft l.tree) l.done.weight;
+      reached : after l.initial.tree (take l.at l.ops) l.bounds ≡ Ok (present l.done.draft l.tree);
+      weighed : IsSome l.initial.done.weight → IsSome l.done.weight;
+      still : l.at < length l.ops → l.tree ≡ l.initial.tree;
     }

@@ -7,8 +7,8 @@ use Rattle.relay_patch.proofs.Landed.{list_refuses}
 use Rattle.relay_patch.proofs.applying.container.insert_item.Goals as goal
 use Rattle.relay_tree.proofs.Outcomes.{refused_not_ok}
 
-pub returns-in_ok-insert-in-Ok : goal.returns-in_ok-insert-in-Ok
-returns-in_ok-insert-in-Ok c =
+pub returns-in_ok-insert-in-Ok-clause-ok : goal.returns-in_ok-insert-in-Ok-clause-ok
+returns-in_ok-insert-in-Ok-clause-ok c =
     let v = c.args.items.now in
     let ok = v.ok in
     let long : c.len.result ≡ length v.items = c.len.ensures ∙ ok.0 in

@@ -3,7 +3,7 @@ use Rattle.relay_patch.proofs.Carried.{passes_as, makes_as, move_leaves, move_la
 use Rattle.relay_patch.proofs.Exchanges.{replaced_needs}
 use Rattle.relay_patch.proofs.Walks.{at_reached}
 use Rattle.relay_patch.proofs.applying.making.make.Goals as goal
-use Rattle.relay_tree.proofs.Outcomes.{on_ok, if_ok}
+use Rattle.relay_tree.proofs.Outcomes.{on_ok, on_err_of, if_ok}
 
 pub exchange-requires : goal.exchange-requires
 exchange-requires c = replaced_needs c.in-Set.path c.in-Set.value c.args.tree.now (passes_as c.args.change.now _ c.args.tree.now c.in-Set.is c.requires)
@@ -65,3 +65,6 @@ returns-in-DropMember-clause-went c = rw c.in-DropMember.is (sym (at_reached c.i
 pub returns-in-DropItem-clause-went : goal.returns-in-DropItem-clause-went
 returns-in-DropItem-clause-went c =
     rw c.in-DropItem.is (sym (at_reached c.in-DropItem.path c.args.tree.now c.remove_at-in-DropItem.result (rw c.tokens-in-DropItem.ensures at c.remove_at-in-DropItem.ensures.value)))
+
+pub returns-in-Move-clause-err : goal.returns-in-Move-clause-err
+returns-in-Move-clause-err c = rw c.in-Move.is (on_err_of c.put.result (λ still. cc))
