@@ -3,13 +3,14 @@ use Rattle.std.proofs.Common.{◌≡◌, ◌≢◌, ℕ, zero, suc, ◌<◌, ◌
 use Rattle.std.specs.Prelude.{slice_get, nat_lt, nat_le, is_some, ◌&&◌, if◌then◌else◌}
 use Rattle.std.proofs.lemmas.Bool.Decides.{eqb_tells, nat_tests}
 use Rattle.relay_history.specs.History.{changes_since}
-use Rattle.relay_history.specs.declared.history.TheConstants.{MOST_REVISIONS, LAST_REVISION}
+use Rattle.relay_history.specs.declared.history.TheConstants.{MOST_REVISIONS}
 use Rattle.relay_patch.specs.Change.{Leads}
 use Rattle.relay_proto.specs.RoomName.{is_room_name}
 use Rattle.relay_proto.specs.Written.{IsCount}
 use Rattle.relay_room.specs.Room.{begun, revision}
 use Rattle.relay_room.proofs.Rooms.{begun_is_room}
 use Rattle.relay_tree.specs.Document.{Document, null}
+use Rattle.relay_tree.specs.declared.count.TheConstants.{COUNT_MOST}
 use Rattle.relay_hub.specs.Log.{Log, entry, home, documents, watching}
 use Rattle.relay_hub.specs.Session.{newcomer}
 use Rattle.relay_hub.specs.Stands.{Beginning, RoomStands, LineStands, GroupStands, HomeStands, StandsFor}
@@ -28,8 +29,8 @@ use Rattle.relay_hub.proofs.Rooms.{named_earlier, named_last, name_found}
 -- an opening that is not refused gives a number that is a count
 number_left : (hub : State) (name : List ℕ) → open_fault hub name ≡ None → IsCount hub.next
 number_left hub name h =
-    let test : nat_lt LAST_REVISION hub.next ≡ false =
-    last (not (is_room_name name)) (not (is_some (place_named name hub.rooms)) && nat_le ROOMS_MOST (length hub.rooms)) (nat_le SESSIONS_MOST (length hub.homes)) (nat_lt LAST_REVISION hub.next) h in
+    let test : nat_lt COUNT_MOST hub.next ≡ false =
+    last (not (is_room_name name)) (not (is_some (place_named name hub.rooms)) && nat_le ROOMS_MOST (length hub.rooms)) (nat_le SESSIONS_MOST (length hub.homes)) (nat_lt COUNT_MOST hub.next) h in
     grind (arith, nat_tests, test)
   where
     last : (x y z w : Bool) → (if x then Some RoomName else if y then Some RoomsFull else if z then Some SessionsFull else if w then Some Exhausted else None) ≡ None → w ≡ false

@@ -4,6 +4,7 @@ use Rattle.std.specs.List.{AllByRecursion}
 use Rattle.std.specs.Prelude.{⊤, slice_get, option_map}
 use Rattle.std.proofs.lemmas.Bool.Decides.{nat_tests}
 use Rattle.relay_outbox.specs.Outbox.{line, first_of, rest_of}
+use Rattle.relay_patch.specs.declared.bounds.TheConstants.Bounds.{DOCUMENT}
 use Rattle.relay_patch.specs.declared.op.Op.{Op}
 use Rattle.relay_patch.proofs.Fits.{within_flat}
 use Rattle.relay_view.specs.View.{View}
@@ -14,7 +15,7 @@ use Rattle.relay_proto.specs.declared.message.Message.TheVariants as message
 use Rattle.relay_proto.specs.declared.reply.Reply.{Reply}
 use Rattle.relay_proto.proofs.Writable.{patch_is_writable, snapshot_is_writable}
 use Rattle.relay_proto.proofs.Written.{reply_text_back}
-use Rattle.relay_room.specs.Room.{State as Room, IsRoom, document_bounds, revision}
+use Rattle.relay_room.specs.Room.{State as Room, IsRoom, revision}
 use Rattle.relay_tree.specs.Document.{Document}
 use Rattle.relay_hub.specs.Log.{Log, Watching, entry, home, documents, view_message, hearing, watching}
 use Rattle.relay_hub.specs.Session.{session_with, snapshot_of, patch_message, message_of, message_text, ReadsBack, drawn, later}
@@ -38,7 +39,7 @@ front_reads : (room : Room) (pointers : Option View) (replies : List Reply) (pat
 front_reads room pointers (r ∷ replies) patches due is counts fit back = reply_text_back r counts.0
 front_reads room pointers [] (p ∷ patches) due is counts fit back = back (patch_is_writable p.0 p.1 fit.0.0 fit.0.1)
 front_reads room (Some v) [] [] true is counts fit back =
-    back (snapshot_is_writable (revision room) v room.document is.history.last (within_flat document_bounds room.document room.document (omega arith) is.within))
+    back (snapshot_is_writable (revision room) v room.document is.history.last (within_flat DOCUMENT room.document room.document (omega arith) is.within))
 front_reads room None [] [] true is counts fit back = tt
 front_reads room pointers [] [] false is counts fit back = tt
 

@@ -1,31 +1,31 @@
 -- Edits: an accepted one gives its room one more document, of which all sessions are told; a refused one is answered alone.
 use Rattle.std.proofs.Common.{◌≡◌, ℕ, ◌-◌, Bool, true, false, List, [], ◌∷◌, ◌++◌, length, Option, Some, None, Result, Ok, Err, refl, sym, ◌∙◌, ap, arith}
-use Rattle.std.specs.Prelude.{slice_get, nat_lt, if◌then◌else◌}
+use Rattle.std.specs.Prelude.{slice_get, if◌then◌else◌}
 use Rattle.std.specs.Result.{result_ok}
-use Rattle.relay_history.specs.declared.history.TheConstants.{LAST_REVISION}
 use Rattle.relay_patch.specs.Change.{all_changes}
-use Rattle.relay_patch.specs.Patch.{after}
 use Rattle.relay_patch.specs.declared.change.Change.{Change}
-use Rattle.relay_patch.specs.declared.fault.ApplyFault.{ApplyFault}
 use Rattle.relay_patch.specs.declared.op.Op.{Op}
 use Rattle.relay_view.specs.View.{View}
 use Rattle.relay_proto.specs.Request.{request_of_text}
-use Rattle.relay_proto.specs.Written.{IsCount, IsCountOrNull}
+use Rattle.relay_proto.specs.Written.{IsCount}
+use Rattle.relay_proto.specs.declared.refusal.Refusal.{Refusal}
 use Rattle.relay_proto.specs.declared.reply.Reply.TheVariants.{Done}
 use Rattle.relay_proto.specs.declared.request.Request.TheVariants.{Edit}
-use Rattle.relay_room.specs.Room.{State as Room, document_bounds, revision}
+use Rattle.relay_room.specs.Edit.{edited_at, edited}
+use Rattle.relay_room.specs.Room.{State as Room, revision}
 use Rattle.relay_room.specs.declared.fault.EditFault.{EditFault}
-use Rattle.relay_room.specs.declared.fault.EditFault.TheVariants.{Exhausted as NoRevisionLeft}
 use Rattle.relay_tree.specs.Document.{Document}
 use Rattle.relay_hub.specs.Log.{Log, Watching, entry, home, documents, present_of, next_document, asked_at_home, watching}
+use Rattle.relay_hub.specs.Refusal.{edit_refusal}
 use Rattle.relay_hub.specs.Session.{replied}
 use Rattle.relay_hub.specs.Stands.{Beginning, RoomStands, LineStands, WatchStands, SessionStands, StandsFor}
 use Rattle.relay_hub.specs.State.{Group, State, place_of, session_in}
-use Rattle.relay_hub.specs.Step.{applied, edited, edit_place, telling, ToldView, ToldAs, EditServed, with_group}
+use Rattle.relay_hub.specs.Step.{telling, ToldView, ToldAs, EditServed, with_group}
 use Rattle.relay_hub.specs.declared.event.Answer.TheVariants.{Heard}
 use Rattle.relay_hub.specs.declared.event.Event.TheVariants.{Receive}
 use Rattle.relay_hub.specs.declared.event.Heard.TheVariants.{Answered}
 use Rattle.relay_hub.specs.declared.session.Session.{Session}
+use Rattle.relay_hub.proofs.Counts.{HasCountsOrNull}
 use Rattle.relay_hub.proofs.Documents.{goes_on_stands}
 use Rattle.relay_hub.proofs.Follow.{folded_follows, told_follows}
 use Rattle.relay_hub.proofs.Frames.{room_changes, session_stands}
@@ -39,14 +39,7 @@ use Rattle.relay_hub.proofs.Waiting.{line_replied, line_folded, line_told}
 same_edit : (most : ℕ) (ds : List Document) (room : Room) (patch : List Op) → RoomStands most ds room → next_document ds patch ≡ result_ok (edited room patch)
 same_edit most ds room patch h =
     let last : length ds - 1 ≡ revision room = omega (arith, h.made) in
-    ap (λ n. if nat_lt n LAST_REVISION then result_ok (after (present_of ds) patch document_bounds) else None) last
-    ∙ (ap (λ now. if nat_lt (revision room) LAST_REVISION then result_ok (after now patch document_bounds) else None) (sym h.document)
-    ∙ both (nat_lt (revision room) LAST_REVISION) (after room.document patch document_bounds))
-  where
-    both : (more : Bool) (r : Result Document ApplyFault) → (if more then result_ok r else None) ≡ result_ok (if more then applied r else Err NoRevisionLeft)
-    both true (Ok d) = refl
-    both true (Err fault) = refl
-    both false r = refl
+    ap (λ n. result_ok (edited_at n (present_of ds) patch)) last ∙ ap (λ now. result_ok (edited_at (revision room) now patch)) (sym h.document)
 
 -- Telling.
 
@@ -113,9 +106,9 @@ module _ (b : Beginning) (E : Log) (old : State) (place : ℕ) (name : List ℕ)
       (told_session b.history b.waiting ds d g.room h.room changes was room (documents E) (documents (e ∷ E)) name (session_in step.1 t) (session_in h.sessions t) (home E t) (watching b.epoch E t)
       refl newer (each_told g.room.document changes h.room step.1 h.sessions short step.3 t) answered))
 
-  pub served_edit : (o : Result Document EditFault) → edited g.room patch ≡ o → ((fault : EditFault) → o ≡ Err fault → IsCountOrNull (edit_place fault)) → EditServed s x id patch o short g h
+  pub served_edit : (o : Result Document EditFault) → edited g.room patch ≡ o → ((fault : EditFault) (r : Refusal) → o ≡ Err fault → edit_refusal id fault ≡ Some r → HasCountsOrNull r) → EditServed s x id patch o short g h
       → StandsFor b (entry (Receive s text) (Heard (Answered short)) ∷ E) (with_group place name h old)
-  served_edit (Ok d) makes places step = edit_stands d makes step
-  served_edit (Err fault) makes places step =
-      served_reply b E old place name g h s short x text stands at s_at is (Ok (Edit id patch)) (Some id) step.1 (edit_place fault) read
-      (same_edit b.history (documents E name) g.room patch (stands.rooms place name g at) ∙ ap result_ok makes) refl step.3 i (places fault refl)
+  served_edit (Ok d) makes counts step = edit_stands d makes step
+  served_edit (Err fault) makes counts step =
+      served_reply b E old place name g h s short x text stands at s_at is (Ok (Edit id patch)) step.1 read
+      (same_edit b.history (documents E name) g.room patch (stands.rooms place name g at) ∙ ap result_ok makes) refl step.3 (counts fault step.1 refl step.2)

@@ -7,18 +7,19 @@ use Rattle.relay_patch.specs.declared.op.Op.{Op}
 use Rattle.relay_view.specs.View.{View}
 use Rattle.relay_proto.specs.Request.{request_of_text}
 use Rattle.relay_proto.specs.declared.refusal.Refusal.{Refusal}
-use Rattle.relay_proto.specs.declared.reply.Reply.TheVariants.{Done, Refused}
+use Rattle.relay_proto.specs.declared.reply.Reply.TheVariants.{Done}
 use Rattle.relay_proto.specs.declared.request.Request.{Request}
 use Rattle.relay_proto.specs.declared.request.Request.TheVariants.{Edit, Watch, Resume, Unwatch}
-use Rattle.relay_proto.specs.declared.word.Word.TheVariants as word
 use Rattle.relay_room.specs.CatchUp.{caught_up}
+use Rattle.relay_room.specs.Edit.{edited}
 use Rattle.relay_room.specs.Room.{begun, revision}
 use Rattle.relay_room.specs.declared.catch_up.CatchUp.TheVariants.{Snapshot}
 use Rattle.relay_room.specs.declared.fault.EditFault.{EditFault}
 use Rattle.relay_tree.specs.Document.{Document, null}
+use Rattle.relay_hub.specs.Refusal.{refused, future_refusal}
 use Rattle.relay_hub.specs.Session.{replied, newcomer, watches, unwatches, resumes, drawn}
 use Rattle.relay_hub.specs.State.{Group, group, State, IsHub, place_of, place_named, session_in}
-use Rattle.relay_hub.specs.Step.{OnlyAt, edited, edit_place, EditServed, ResumeServed, Serves, Receives, Draws, with_group, InGroup, AtPlace, Enters, Opens, Closes, ClosesIn, ClosesGroup, ClosesAt, Step}
+use Rattle.relay_hub.specs.Step.{OnlyAt, EditServed, ResumeServed, Serves, Receives, Draws, with_group, InGroup, AtPlace, Enters, Opens, Closes, ClosesIn, ClosesGroup, ClosesAt, Step}
 use Rattle.relay_hub.specs.declared.event.Answer.{Answer}
 use Rattle.relay_hub.specs.declared.event.Answer.TheVariants.{Opened, NotOpened, Heard, Drawn, Closed, NoSession}
 use Rattle.relay_hub.specs.declared.event.Event.{Event}
@@ -80,7 +81,7 @@ only_enters s x y xs ys e only t none =
 edit_enters : (s short id : ℕ) (x : Session) (patch : List Op) (o : Result Document EditFault) (old new : Group) → session_in old.sessions s ≡ Some x
     → EditServed s x id patch o short old new → NoneEnters old new
 edit_enters s short id x patch (Err fault) old new e h t none =
-    only_enters s x (replied (Refused (Some id) h.1 (edit_place fault)) x) old.sessions new.sessions e h.3.1 t none
+    only_enters s x (replied (refused h.1) x) old.sessions new.sessions e h.3.1 t none
 edit_enters s short id x patch (Ok d) old new e h t none =
     let changes = all_changes old.room.document patch in
     none_told old.room.document changes new.room (session_in h.1 t) (session_in new.sessions t) (each_told old.room.document changes new.room h.1 new.sessions short h.3 t)
@@ -89,13 +90,13 @@ edit_enters s short id x patch (Ok d) old new e h t none =
 resume_enters : (present past : Bool) (id rev s : ℕ) (pointers : View) (x : Session) (old new : Group) → session_in old.sessions s ≡ Some x
     → ResumeServed present past id rev pointers s x old new → NoneEnters old new
 resume_enters false past id rev s pointers x old new e h t none = only_enters s x (resumes (revision old.room) id pointers Snapshot x) old.sessions new.sessions e h.1 t none
-resume_enters true false id rev s pointers x old new e h t none = only_enters s x (replied (Refused (Some id) word.Future None) x) old.sessions new.sessions e h.1 t none
+resume_enters true false id rev s pointers x old new e h t none = only_enters s x (replied (refused (future_refusal id)) x) old.sessions new.sessions e h.1 t none
 resume_enters true true id rev s pointers x old new e h t none =
     only_enters s x (resumes (revision old.room) id pointers (caught_up old.room rev pointers) x) old.sessions new.sessions e h.2.1 t none
 
 serve_enters : (epoch s short : ℕ) (x : Session) (request : Result Request Refusal) (old new : Group) → session_in old.sessions s ≡ Some x
     → Serves epoch s x request short old new → NoneEnters old new
-serve_enters epoch s short x (Err r) old new e h t none = only_enters s x (replied (Refused r.id r.fault r.at) x) old.sessions new.sessions e h.1.1 t none
+serve_enters epoch s short x (Err r) old new e h t none = only_enters s x (replied (refused r) x) old.sessions new.sessions e h.1.1 t none
 serve_enters epoch s short x (Ok (Watch id pointers)) old new e h t none = only_enters s x (watches id pointers x) old.sessions new.sessions e h.1.1 t none
 serve_enters epoch s short x (Ok (Unwatch id)) old new e h t none = only_enters s x (unwatches id x) old.sessions new.sessions e h.1.1 t none
 serve_enters epoch s short x (Ok (Resume id n rev pointers)) old new e h t none =

@@ -8,15 +8,13 @@ use Rattle.relay_history.specs.History.{Reaches, oldest}
 use Rattle.relay_outbox.specs.Outbox.{with_reply, cleared}
 use Rattle.relay_proto.specs.Client.{nothing, holds}
 use Rattle.relay_proto.specs.Request.{request_of_text}
-use Rattle.relay_proto.specs.Written.{IsCount, IsCountOrNull}
+use Rattle.relay_proto.specs.Written.{IsCount}
 use Rattle.relay_proto.specs.declared.refusal.Refusal.{Refusal}
 use Rattle.relay_proto.specs.declared.reply.How.TheVariants as how
 use Rattle.relay_proto.specs.declared.reply.Reply.{Reply}
-use Rattle.relay_proto.specs.declared.reply.Reply.TheVariants.{Refused, Watching, Resumed, Unwatched}
+use Rattle.relay_proto.specs.declared.reply.Reply.TheVariants.{Watching, Resumed, Unwatched}
 use Rattle.relay_proto.specs.declared.request.Request.{Request}
 use Rattle.relay_proto.specs.declared.request.Request.TheVariants.{Watch, Resume, Unwatch}
-use Rattle.relay_proto.specs.declared.word.Word.{Word}
-use Rattle.relay_proto.specs.declared.word.Word.TheVariants as word
 use Rattle.relay_room.specs.CatchUp.{caught_up, LeadsOn, Fits}
 use Rattle.relay_room.specs.Room.{State as Room, revision}
 use Rattle.relay_room.specs.declared.catch_up.CatchUp.{CatchUp}
@@ -25,6 +23,7 @@ use Rattle.relay_room.proofs.Missed.{caught_up_present}
 use Rattle.relay_tree.specs.Document.{Document, null}
 use Rattle.relay_view.specs.View.{View, view}
 use Rattle.relay_hub.specs.Log.{Log, Watching as Watched, begun, entry, home, documents, requested, asked, watching}
+use Rattle.relay_hub.specs.Refusal.{refused, future_refusal}
 use Rattle.relay_hub.specs.Session.{session_with, replied, watches, unwatches, resumes}
 use Rattle.relay_hub.specs.Stands.{Beginning, RoomStands, LineStands, WatchStands, StandsFor}
 use Rattle.relay_hub.specs.State.{Group, State, place_of, session_in}
@@ -33,6 +32,7 @@ use Rattle.relay_hub.specs.declared.event.Answer.TheVariants.{Heard}
 use Rattle.relay_hub.specs.declared.event.Event.TheVariants.{Receive}
 use Rattle.relay_hub.specs.declared.event.Heard.TheVariants.{Answered}
 use Rattle.relay_hub.specs.declared.session.Session.{Session}
+use Rattle.relay_hub.proofs.Counts.{HasCountsOrNull}
 use Rattle.relay_hub.proofs.Follow.{Follows-snapshot, level_follows, resumed_follows}
 use Rattle.relay_hub.proofs.Frames.{session_changes, session_stands}
 use Rattle.relay_hub.proofs.Rooms.{none_added, others_stay}
@@ -101,12 +101,12 @@ module _ (b : Beginning) (E : Log) (old : State) (place : ℕ) (name : List ℕ)
       line
       (rw (mine, here.0, read) watch)
 
-  pub served_reply : (r : Result Request Refusal) (id : Option ℕ) (w : Word) (n : Option ℕ) → request_of_text text ≡ r → requested (documents E name) r ≡ None
-      → asked b.epoch (documents E name) (watching b.epoch E s) r ≡ watching b.epoch E s → ChangesOnly s (Some (replied (Refused id w n) x)) g h → IsCountOrNull id → IsCountOrNull n
+  pub served_reply : (r : Result Request Refusal) (why : Refusal) → request_of_text text ≡ r → requested (documents E name) r ≡ None
+      → asked b.epoch (documents E name) (watching b.epoch E s) r ≡ watching b.epoch E s → ChangesOnly s (Some (replied (refused why) x)) g h → HasCountsOrNull why
       → StandsFor b (entry (Receive s text) (Heard (Answered short)) ∷ E) (with_group place name h old)
-  served_reply r id w n read none same changes i k =
-      served r (replied (Refused id w n) x) read none changes (line_replied b.waiting x (Refused id w n) (i, k) here.1)
-      (rw same (watch_replied (documents E name) g.room x (Refused id w n) (watching b.epoch E s) here.2))
+  served_reply r why read none same changes counts =
+      served r (replied (refused why) x) read none changes (line_replied b.waiting x (refused why) counts here.1)
+      (rw same (watch_replied (documents E name) g.room x (refused why) (watching b.epoch E s) here.2))
 
   pub served_watch : (id : ℕ) (v : View) → request_of_text text ≡ Ok (Watch id v) → ChangesOnly s (Some (watches id v x)) g h → IsCount id
       → StandsFor b (entry (Receive s text) (Heard (Answered short)) ∷ E) (with_group place name h old)
@@ -131,7 +131,7 @@ module _ (b : Beginning) (E : Log) (old : State) (place : ℕ) (name : List ℕ)
   served_resume id e rev v true false read p q step i =
       let room = stands.rooms place name g at in
       let beyond : length (documents E name) ≤ rev = grind (arith, nat_tests, q, room.made) in
-      served_reply (Ok (Resume id e rev v)) (Some id) word.Future None read refl (rw (p, slice_get_past (documents E name) rev beyond) refl) step i tt
+      served_reply (Ok (Resume id e rev v)) (future_refusal id) read refl (rw (p, slice_get_past (documents E name) rev beyond) refl) step (i, tt)
   served_resume id e rev v true true read p q step i =
       let room = stands.rooms place name g at in
       let ds = documents E name in

@@ -6,19 +6,20 @@ use Rattle.relay_proto.specs.Request.{request_of_text}
 use Rattle.relay_proto.specs.declared.refusal.Refusal.{Refusal}
 use Rattle.relay_proto.specs.declared.request.Request.{Request}
 use Rattle.relay_proto.specs.declared.request.Request.TheVariants.{Edit, Watch, Resume, Unwatch}
+use Rattle.relay_room.specs.Edit.{edited}
 use Rattle.relay_room.specs.Room.{revision}
 use Rattle.relay_hub.specs.Call.{StepIf, logged, Runs, stops, steps, followed}
 use Rattle.relay_hub.specs.Log.{Log, entry}
 use Rattle.relay_hub.specs.Stands.{Beginning, StandsFor}
 use Rattle.relay_hub.specs.State.{Group, State, place_of, session_in}
-use Rattle.relay_hub.specs.Step.{edited, Serves, Receives, Draws, with_group, InGroup, AtPlace, ClosesIn, ClosesGroup, ClosesAt, Step}
+use Rattle.relay_hub.specs.Step.{Serves, Receives, Draws, with_group, InGroup, AtPlace, ClosesIn, ClosesGroup, ClosesAt, Step}
 use Rattle.relay_hub.specs.declared.event.Answer.{Answer}
 use Rattle.relay_hub.specs.declared.event.Answer.TheVariants.{Opened, NotOpened, Heard, Drawn, Closed, NoSession}
 use Rattle.relay_hub.specs.declared.event.Event.{Event}
 use Rattle.relay_hub.specs.declared.event.Event.TheVariants.{Open, Receive, Draw, Close}
 use Rattle.relay_hub.specs.declared.event.Heard.TheVariants.{Answered, Busy}
 use Rattle.relay_hub.specs.declared.session.Session.{Session}
-use Rattle.relay_hub.proofs.Counts.{edit_place_counts}
+use Rattle.relay_hub.proofs.Counts.{edit_refusal_counts}
 use Rattle.relay_hub.proofs.Doors.{open_stands, close_stands}
 use Rattle.relay_hub.proofs.Draws.{draw_stands}
 use Rattle.relay_hub.proofs.Edits.{served_edit}
@@ -42,7 +43,7 @@ serve_stands : (b : Beginning) (E : Log) (old : State) (place : ℕ) (name : Lis
     → slice_get old.rooms place ≡ Some (name, g) → place_of old s ≡ Some place → session_in g.sessions s ≡ Some x → request_of_text text ≡ r → Serves b.epoch s x r short g h
     → StandsFor b (entry (Receive s text) (Heard (Answered short)) ∷ E) (with_group place name h old)
 serve_stands b E old place name g h s short x text (Err r) stands at s_at is read step =
-    served_reply b E old place name g h s short x text stands at s_at is (Err r) r.id r.fault r.at read refl refl step.1 (refusal_counts text r read).0 (refusal_counts text r read).1
+    served_reply b E old place name g h s short x text stands at s_at is (Err r) r read refl refl step.1 (refusal_counts text r read)
 serve_stands b E old place name g h s short x text (Ok (Watch id v)) stands at s_at is read step =
     served_watch b E old place name g h s short x text stands at s_at is id v read step.1 (request_counts text (Watch id v) read)
 serve_stands b E old place name g h s short x text (Ok (Unwatch id)) stands at s_at is read step =
@@ -52,7 +53,7 @@ serve_stands b E old place name g h s short x text (Ok (Resume id e rev v)) stan
 serve_stands b E old place name g h s short x text (Ok (Edit id patch)) stands at s_at is read step =
     let counts = request_counts text (Edit id patch) read in
     served_edit b E old place name g h s short x text stands at s_at is id patch read counts.0 (edited g.room patch) refl
-    (λ fault refused. edit_place_counts g.room patch fault counts.1 refused) step
+    (λ fault r refused is_r. edit_refusal_counts g.room id patch fault r counts.0 counts.1 refused is_r) step
 
 receive_stands : (b : Beginning) (E : Log) (old : State) (place : ℕ) (name : List ℕ) (g h : Group) (s : ℕ) (o : Option Session) (text : List ℕ) (answer : Answer) → StandsFor b E old
     → slice_get old.rooms place ≡ Some (name, g) → place_of old s ≡ Some place → session_in g.sessions s ≡ o → Receives old.epoch s o text answer g h

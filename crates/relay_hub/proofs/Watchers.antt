@@ -7,16 +7,17 @@ use Rattle.relay_view.specs.View.{View}
 use Rattle.relay_proto.specs.Client.{Client, client, client_after}
 use Rattle.relay_proto.specs.Request.{request_of_text}
 use Rattle.relay_proto.specs.declared.message.Message.{Message}
-use Rattle.relay_proto.specs.declared.reply.Reply.TheVariants.{Refused}
+use Rattle.relay_proto.specs.declared.refusal.Refusal.{Refusal}
 use Rattle.relay_proto.specs.declared.request.Request.TheVariants.{Edit}
-use Rattle.relay_proto.specs.declared.word.Word.{Word}
+use Rattle.relay_room.specs.Edit.{edited}
 use Rattle.relay_room.specs.declared.fault.EditFault.{EditFault}
 use Rattle.relay_tree.specs.Document.{Document}
 use Rattle.relay_hub.specs.Log.{Log, Watching, documents, watching}
+use Rattle.relay_hub.specs.Refusal.{refused, edit_refusal}
 use Rattle.relay_hub.specs.Session.{replied, later}
 use Rattle.relay_hub.specs.Stands.{Beginning, IsAtNamed, EachLeads, HoldsPresent, Follows, StandsFor}
 use Rattle.relay_hub.specs.State.{Group, State, place_of, home_of, session_in, session_of, without_sessions}
-use Rattle.relay_hub.specs.Step.{OnlyAt, ChangesOnly, edited, edit_word, edit_place, EditServed, Receives, with_group, InGroup, Step}
+use Rattle.relay_hub.specs.Step.{OnlyAt, ChangesOnly, EditServed, Serves, Receives, with_group, InGroup, Step}
 use Rattle.relay_hub.specs.Telling.{LeavesNoTrace}
 use Rattle.relay_hub.specs.declared.event.Answer.TheVariants.{Heard}
 use Rattle.relay_hub.specs.declared.event.Event.TheVariants.{Receive}
@@ -100,17 +101,29 @@ leaves_no_trace hub place name g h s y s_at at changes =
       sender = rw (s_at, slice_get-set hub.rooms place (name, g) (name, h) at, changes.1 s, mine) refl;
     }
 
--- an edit that is refused changes no room, no other session, and the sender's session by one reply alone
-pub no_trace : (old new : State) (s short id : ℕ) (text : List ℕ) (patch : List Op) (name : List ℕ) (g : Group) (x : Session) (fault : EditFault) → home_of old s ≡ Some (name, g)
-    → session_in g.sessions s ≡ Some x → request_of_text text ≡ Ok (Edit id patch) → edited g.room patch ≡ Err fault → Step old (Receive s text) (Heard (Answered short)) new
-    → (w : Word) × (edit_word fault ≡ Some w) × LeavesNoTrace s (replied (Refused (Some id) w (edit_place fault)) x) old new
-no_trace old new s short id text patch name g x fault there is read refused step =
-    let p = at_place old s (name, g) there in
-    let answer = Heard (Answered short) in
-    let Does : Group → Group → Type 0 = λ g h. Receives old.epoch s (session_in g.sessions s) text answer g h in
-    let at_home : InGroup p.0 (Some (name, g)) old answer Does new = rw (p.1, p.2) at step in
-    let h = at_home.0 in
-    let received : Receives old.epoch s (Some x) text answer g h = rw is at at_home.1 in
-    let served : EditServed s x id patch (Err fault) short g h = rw (read, refused) at received.1 in
-    let y = replied (Refused (Some id) served.1 (edit_place fault)) x in
-    (served.1, served.2, subst (λ hub. LeavesNoTrace s y old hub) (sym at_home.2) (leaves_no_trace old p.0 name g h s y p.1 p.2 served.3))
+-- what an answered text did in the room of its sender, which is x
+module _ (old new : State) (s short : ℕ) (text : List ℕ) (name : List ℕ) (g : Group) (x : Session) (there : home_of old s ≡ Some (name, g)) (is : session_in g.sessions s ≡ Some x)
+    (step : Step old (Receive s text) (Heard (Answered short)) new) where
+  done : (h : Group) × Serves old.epoch s x (request_of_text text) short g h × ((y : Session) → ChangesOnly s (Some y) g h → LeavesNoTrace s y old new)
+  done =
+      let p = at_place old s (name, g) there in
+      let answer = Heard (Answered short) in
+      let Does : Group → Group → Type 0 = λ g h. Receives old.epoch s (session_in g.sessions s) text answer g h in
+      let at_home : InGroup p.0 (Some (name, g)) old answer Does new = rw (p.1, p.2) at step in
+      let h = at_home.0 in
+      let received : Receives old.epoch s (Some x) text answer g h = rw is at at_home.1 in
+      (h, received.1, λ y changes. subst (λ hub. LeavesNoTrace s y old hub) (sym at_home.2) (leaves_no_trace old p.0 name g h s y p.1 p.2 changes))
+
+  -- an edit that is refused changes no room, no other session, and the sender's session by one reply alone, where it is refused
+  -- as it is read
+  pub unread_no_trace : (r : Refusal) → request_of_text text ≡ Err r → LeavesNoTrace s (replied (refused r) x) old new
+  unread_no_trace r read =
+      let served : (short ≡ 0) × ChangesOnly s (Some (replied (refused r) x)) g done.0 = rw read at done.1 in
+      done.2 (replied (refused r) x) served.1
+
+  -- and where the room refuses it
+  pub unmade_no_trace : (id : ℕ) (patch : List Op) (fault : EditFault) → request_of_text text ≡ Ok (Edit id patch) → edited g.room patch ≡ Err fault
+      → (r : Refusal) × (edit_refusal id fault ≡ Some r) × LeavesNoTrace s (replied (refused r) x) old new
+  unmade_no_trace id patch fault read unmade =
+      let served : EditServed s x id patch (Err fault) short g done.0 = rw (read, unmade) at done.1 in
+      (served.1, served.2, done.2 (replied (refused served.1) x) served.3)

@@ -1,10 +1,8 @@
 -- What a log says: the documents of each room, who is open where, what each session watches and what it was told. A log has its
 -- newest entry first, so that each definition says what one more entry does.
-use Rattle.std.specs.Prelude.{ℕ, ◌+◌, ◌-◌, ◌==◌, List, [], ◌∷◌, ◌++◌, Option, Some, None, Result, Ok, length, slice_get, unwrap_or, bytes_eq, nat_lt, if◌then◌else◌}
+use Rattle.std.specs.Prelude.{ℕ, ◌+◌, ◌-◌, ◌==◌, List, [], ◌∷◌, ◌++◌, Option, Some, None, Result, Ok, length, slice_get, unwrap_or, bytes_eq, if◌then◌else◌}
 use Rattle.std.specs.Result.{result_ok}
 use Rattle.relay_tree.specs.Document.{Document, null}
-use Rattle.relay_history.specs.declared.history.TheConstants.{LAST_REVISION}
-use Rattle.relay_patch.specs.Patch.{after}
 use Rattle.relay_patch.specs.declared.op.Op.{Op}
 use Rattle.relay_proto.specs.Client.{Client, nothing, holds}
 use Rattle.relay_proto.specs.MessageRead.{message_of_text}
@@ -14,7 +12,7 @@ use Rattle.relay_proto.specs.declared.message.Message.TheVariants as message
 use Rattle.relay_proto.specs.declared.refusal.Refusal.{Refusal}
 use Rattle.relay_proto.specs.declared.request.Request.{Request}
 use Rattle.relay_proto.specs.declared.request.Request.TheVariants.{Edit, Watch, Resume, Unwatch}
-use Rattle.relay_room.specs.Room.{document_bounds}
+use Rattle.relay_room.specs.Edit.{edited_at}
 use Rattle.relay_view.specs.View.{View, view}
 use Rattle.relay_hub.specs.declared.event.Answer.{Answer}
 use Rattle.relay_hub.specs.declared.event.Answer.TheVariants.{Opened, Heard, Drawn, Closed}
@@ -51,10 +49,9 @@ home (e ∷ E) s = home_after (home E s) s e.event e.answer
 abbrev pub present_of : List Document → Document
 present_of documents = unwrap_or (slice_get documents (length documents - 1)) null
 
--- the document that a patch adds, where it is accepted
+-- the document that an edit adds, where it is accepted
 abbrev pub next_document : List Document → List Op → Option Document
-next_document documents patch =
-    if nat_lt (length documents - 1) LAST_REVISION then result_ok (after (present_of documents) patch document_bounds) else None
+next_document documents patch = result_ok (edited_at (length documents - 1) (present_of documents) patch)
 
 -- the document that a request adds
 abbrev pub requested : List Document → Result Request Refusal → Option Document

@@ -5,12 +5,12 @@ use Rattle.std.specs.List.{AllByRecursion}
 use Rattle.relay_history.specs.History.{Reaches, changes_since}
 use Rattle.relay_history.specs.declared.history.TheConstants.{MOST_REVISIONS}
 use Rattle.relay_patch.specs.Change.{Leads}
-use Rattle.relay_patch.specs.Sizes.{OpFits}
 use Rattle.relay_patch.specs.declared.op.Op.{Op}
 use Rattle.relay_proto.specs.Client.{Client, nothing, holds, lost, client, client_after}
 use Rattle.relay_proto.specs.Written.{IsCount, HasCounts}
 use Rattle.relay_proto.specs.declared.message.Message.{Message}
 use Rattle.relay_proto.specs.declared.message.Message.TheVariants.{Reply, Patch, Snapshot}
+use Rattle.relay_room.specs.CatchUp.{IsSent}
 use Rattle.relay_room.specs.Room.{State as Room, IsRoom, revision}
 use Rattle.relay_tree.specs.Document.{Document, null}
 use Rattle.relay_view.specs.View.{View, view}
@@ -73,7 +73,7 @@ pub record RoomStands (most : ℕ) (documents : List Document) (room : Room) : T
 
 -- a waiting patch is such that its text reads as itself
 abbrev pub PatchFits : ℕ × List Op → Type 0
-PatchFits p = IsCount p.0 × AllByRecursion (OpFits 66 65) p.1
+PatchFits p = IsCount p.0 × AllByRecursion IsSent p.1
 
 -- what waits for a session fits: its texts read as themselves
 pub record LineStands (most : ℕ) (x : Session) : Type 0 where

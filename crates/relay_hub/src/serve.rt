@@ -5,20 +5,21 @@ ghost use Rattle.relay_history.specs.History.{Reaches, changes_since};
 ghost use Rattle.relay_outbox.specs.declared.outbox.TheConstants.{REPLIES};
 ghost use Rattle.relay_patch.specs.Change.{Leads};
 ghost use Rattle.relay_patch.specs.declared.change.Change.{Change};
-ghost use Rattle.relay_proto.specs.declared.reply.Reply.TheVariants.{Refused};
+ghost use Rattle.relay_room.specs.Edit.{edited};
 ghost use Rattle.relay_room.specs.Room.{revision};
 ghost use Rattle.relay_tree.specs.Document.{Document};
 ghost use Rattle.relay_hub.specs.Call.{receiving, drawing, ReceivesIf, DrawsIf, ChangesBy, HasRoom, IsFull};
+ghost use Rattle.relay_hub.specs.Refusal.{cause_word, edit_refusal};
 ghost use Rattle.relay_hub.specs.Session.{replied, watches, unwatches, resumes};
 ghost use Rattle.relay_hub.specs.State.{group, is_number, session_in};
-ghost use Rattle.relay_hub.specs.Step.{edited, edit_word, edit_place, AllTold, EditServed, ResumeServed, Serves, OnlyAt, cause_word};
+ghost use Rattle.relay_hub.specs.Step.{AllTold, EditServed, ResumeServed, Serves, OnlyAt};
 ghost use Rattle.relay_hub.specs.declared.session.Session.{Session};
 
 use crate::event::Heard;
 use crate::fault::HubFault;
 use crate::session::Session;
 use relay_patch::{Cause, Patch};
-use relay_proto::{Reply, Request, RequestFault, Word};
+use relay_proto::{Refusal, Reply, Request, RequestFault, Word};
 use relay_room::{CatchFault, CatchUp, EditFault, Room};
 use relay_view::View;
 use std::alloc::{AllocError, Global};
@@ -132,26 +133,26 @@ fn edit(
             Ok(tell_all(alloc, room, sessions))
         }
         Err(fault) => {
-            let Some(reply) = refused(id, fault) else {
+            let Some(refusal) = edit_refusal(id, fault) else {
                 return Err(AllocError);
             };
-            reply_at(sessions, number, place, reply);
+            reply_at(sessions, number, place, refusal.reply());
             Ok(0)
         }
     }
 }
 
-/// The reply to an edit that is refused; None of want of memory, which is no refusal.
-fn refused(id: u64, fault: EditFault) -> Option<Reply>
-    ensures { result ≡ option_map (λ word. Refused (Some id) word (edit_place fault)) (edit_word fault) }
+/// Why an edit is refused; None of want of memory, which is no refusal.
+fn edit_refusal(id: u64, fault: EditFault) -> Option<Refusal>
+    ensures { result ≡ edit_refusal id fault }
 {
     let (word, at) = match fault {
         EditFault::Exhausted => (Word::Exhausted, None),
         EditFault::Apply(fault) => (word_of(fault.cause)?, Some(fault.at)),
     };
-    Some(Reply::Refused {
-        id: Some(id),
+    Some(Refusal {
         fault: word,
+        id: Some(id),
         at,
     })
 }
@@ -212,12 +213,12 @@ fn resume(
         match room.catch_up(alloc, rev, &view) {
             Ok(how) => how,
             Err(CatchFault::Future) => {
-                let reply = Reply::Refused {
-                    id: Some(id),
+                let refusal = Refusal {
                     fault: Word::Future,
+                    id: Some(id),
                     at: None,
                 };
-                reply_at(sessions, number, place, reply);
+                reply_at(sessions, number, place, refusal.reply());
                 return Ok(());
             }
             Err(CatchFault::NoMemory) => return Err(AllocError),
