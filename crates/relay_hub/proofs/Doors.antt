@@ -13,9 +13,10 @@ use Rattle.relay_tree.specs.Document.{Document, null}
 use Rattle.relay_tree.specs.declared.count.TheConstants.{COUNT_MOST}
 use Rattle.relay_hub.specs.Log.{Log, entry, home, documents, watching}
 use Rattle.relay_hub.specs.Session.{newcomer}
-use Rattle.relay_hub.specs.Stands.{Beginning, RoomStands, LineStands, GroupStands, HomeStands, StandsFor}
+use Rattle.relay_hub.specs.Stands.{RoomStands, LineStands, GroupStands, HomeStands, StandsFor}
 use Rattle.relay_hub.specs.State.{Group, group, State, place_of, place_named}
 use Rattle.relay_hub.specs.Step.{open_fault, Enters, Opens, Closes}
+use Rattle.relay_hub.specs.declared.beginning.Beginning.{Beginning}
 use Rattle.relay_hub.specs.declared.event.Answer.TheVariants.{Opened, Closed}
 use Rattle.relay_hub.specs.declared.event.Event.TheVariants.{Open, Close}
 use Rattle.relay_hub.specs.declared.fault.OpenFault.TheVariants.{RoomName, RoomsFull, SessionsFull, Exhausted}
@@ -61,6 +62,12 @@ module _ (b : Beginning) (E : Log) (old new : State) (name : List ℕ) (n : ℕ)
   count : IsCount n
   count = let c = number_left old name left in rw step.number c
 
+  epoch_counts : IsCount old.made.epoch
+  epoch_counts = rw stands.made stands.is.counts.0
+
+  waiting_is : old.made.waiting ≡ b.waiting
+  waiting_is = ap (λ (made : Beginning). made.waiting) stands.made
+
   -- who was there before
   others_home : (t : ℕ) → n ≢ t → (home (entry (Open name) (Opened n) ∷ E) t ≡ home E t) × (watching b.epoch (entry (Open name) (Opened n) ∷ E) t ≡ watching b.epoch E t) × (place_of new t ≡ place_of old t)
   others_home t apart = let other : (n == t) ≡ false = grind (arith, nat_tests, apart) in (rw other refl, rw other refl, rw (step.home t, other) refl)
@@ -75,42 +82,38 @@ module _ (b : Beginning) (E : Log) (old new : State) (name : List ℕ) (n : ℕ)
       let same : known ≡ name = name_found old.rooms name known g i named at in
       let room = stands.rooms i known g at in
       let mine : (n == n) ≡ true = grind (arith, nat_tests) in
-      let welcome : LineStands b.waiting (newcomer old.epoch (revision g.room) n old.waiting) =
-      newcomer_line b.waiting old.epoch (revision g.room) n old.waiting (rw stands.epoch stands.counts.0) room.is.history.last count stands.waiting in
+      let welcome : LineStands b.waiting (newcomer old.made.epoch (revision g.room) n old.made.waiting) =
+      newcomer_line b.waiting old.made.epoch (revision g.room) n old.made.waiting epoch_counts room.is.history.last count waiting_is in
       record {
-        epoch = step.limits.0 ∙ stands.epoch;
+        made = step.made ∙ stands.made;
+        is = stands.is;
         next = omega (arith, step.next, step.number, stands.next);
-        history = step.limits.1 ∙ stands.history;
-        waiting = step.limits.2 ∙ stands.waiting;
-        counts = stands.counts;
         count = omega (arith, step.count, stands.count);
         rooms = rw enters.5 (set_rooms b E e old i known g h stands at (λ other apart. refl) (rw enters.6.0 room));
         names = rw enters.5 (set_names b E e old i known g h stands at (λ other apart. refl));
         others = rw enters.5 (set_others b E e old i known g h stands at (λ other apart. refl));
         sessions = λ t. elim (eqb_tells n t) [
-          | inl is ↦ rw (step.home t, is.0, enters.0, enters.5, slice_get-set old.rooms i (known, g) (known, h) at, enters.6.1 t, is.0)
+          | inl is ↦ rw (step.home t, is.0, enters.0, enters.5, slice_get-set old.rooms i (known, g) (known, h) at, enters.6.1.found t, is.0)
               (ap Some (sym same), welcome, (refl, refl, refl))
           | inr apart ↦
               let o = others_home t apart.1 in
               rw (o.2, enters.5)
               (set_home b E e old i known g h stands at (λ other differs. refl) t (home (e ∷ E) t) (watching b.epoch (e ∷ E) t) o.0 (λ away. o.1)
-              (λ t_at. rw (o.0, o.1, enters.6.0, enters.6.1 t, apart.0) (session_stands b E old t i known g stands t_at at)))
+              (λ t_at. rw (o.0, o.1, enters.6.0, enters.6.1.found t, apart.0) (session_stands b E old t i known g stands t_at at)))
         ];
       }
 
   found_stands : place_named name old.rooms ≡ None → Enters n name None old step.place new → StandsFor b (entry (Open name) (Opened n) ∷ E) new
   found_stands absent enters = record {
-    epoch = step.limits.0 ∙ stands.epoch;
+    made = step.made ∙ stands.made;
+    is = stands.is;
     next = omega (arith, step.next, step.number, stands.next);
-    history = step.limits.1 ∙ stands.history;
-    waiting = step.limits.2 ∙ stands.waiting;
-    counts = stands.counts;
     count = omega (arith, step.count, stands.count);
     rooms = λ p known g at. elim (cases p known g at) [
       | inl k ↦
           let named : known ≡ name = ap (λ (r : List ℕ × Group). r.0) k.1 in
           let is : g ≡ founded = ap (λ (r : List ℕ × Group). r.1) k.1 in
-          rw (named, is, stands.others name absent, stands.history) (begun_stands b.history stands.counts.1 stands.counts.2)
+          rw (named, is, stands.others name absent, stands.made) (begun_stands b.history stands.is.history.0 stands.is.history.1)
       | inr k ↦ stands.rooms p known g k.1
     ];
     names = λ p known g at. elim (cases p known g at) [
@@ -123,13 +126,13 @@ module _ (b : Beginning) (E : Log) (old new : State) (name : List ℕ) (n : ℕ)
         stands.others other before;
     sessions = λ t. elim (eqb_tells n t) [
       | inl is ↦ rw (step.home t, is.0, enters.0, enters.1, slice_get-last old.rooms (name, founded), is.0)
-          (refl, newcomer_line b.waiting old.epoch 0 n old.waiting (rw stands.epoch stands.counts.0) (omega arith) count stands.waiting, (refl, refl, refl))
+          (refl, newcomer_line b.waiting old.made.epoch 0 n old.made.waiting epoch_counts (omega arith) count waiting_is, (refl, refl, refl))
       | inr apart ↦ let o = others_home t apart.1 in rw (o.0, o.1, o.2, enters.1) (later t (place_of old t) (stands.sessions t))
     ];
   }
     where
       founded : Group
-      founded = group (begun null 0 old.history) (newcomer old.epoch 0 n old.waiting ∷ [])
+      founded = group (begun null 0 old.made.history) (newcomer old.made.epoch 0 n old.made.waiting ∷ [])
 
       cases : (p : ℕ) (known : List ℕ) (g : Group) → slice_get new.rooms p ≡ Some (known, g)
           → ((p ≡ length old.rooms) × (◌≡◌ {A = List ℕ × Group} (known, g) (name, founded))) ⊎ ((p < length old.rooms) × (slice_get old.rooms p ≡ Some (known, g)))
@@ -161,11 +164,9 @@ close_stands b E old new s place name g stands at step =
     let e = entry (Close s) Closed in
     let h = step.left in
     record {
-      epoch = step.limits.0 ∙ stands.epoch;
+      made = step.made ∙ stands.made;
+      is = stands.is;
       next = step.next ∙ stands.next;
-      history = step.limits.1 ∙ stands.history;
-      waiting = step.limits.2 ∙ stands.waiting;
-      counts = stands.counts;
       count = omega (arith, step.count, stands.count);
       rooms = rw step.rooms (set_rooms b E e old place name g h stands at (λ other apart. refl) (rw step.leaves.0 (stands.rooms place name g at)));
       names = rw step.rooms (set_names b E e old place name g h stands at (λ other apart. refl));
@@ -174,6 +175,6 @@ close_stands b E old new s place name g stands at step =
         | inl is ↦ rw (step.home t, is.0) refl
         | inr apart ↦ rw (step.home t, apart.0, step.rooms)
             (set_home b E e old place name g h stands at (λ other differs. refl) t (home E t) (watching b.epoch E t) refl (λ away. refl)
-            (λ t_at. rw (step.leaves.0, step.leaves.1 t, apart.0) (session_stands b E old t place name g stands t_at at)))
+            (λ t_at. rw (step.leaves.0, step.leaves.1.found t, apart.0) (session_stands b E old t place name g stands t_at at)))
       ];
     }

@@ -19,9 +19,10 @@ use Rattle.relay_room.specs.Room.{State as Room, IsRoom, revision}
 use Rattle.relay_tree.specs.Document.{Document}
 use Rattle.relay_hub.specs.Log.{Log, Watching, entry, home, documents, view_message, hearing, watching}
 use Rattle.relay_hub.specs.Session.{session_with, snapshot_of, patch_message, message_of, message_text, ReadsBack, drawn, later}
-use Rattle.relay_hub.specs.Stands.{Beginning, LineStands, PatchFits, WatchStands, Follows, StandsFor}
+use Rattle.relay_hub.specs.Stands.{LineStands, PatchFits, WatchStands, Follows, StandsFor}
 use Rattle.relay_hub.specs.State.{Group, State, place_of, session_in}
 use Rattle.relay_hub.specs.Step.{Draws, with_group}
+use Rattle.relay_hub.specs.declared.beginning.Beginning.{Beginning}
 use Rattle.relay_hub.specs.declared.event.Answer.TheVariants.{Drawn}
 use Rattle.relay_hub.specs.declared.event.Event.TheVariants.{Draw}
 use Rattle.relay_hub.specs.declared.session.Session.{Session}

@@ -18,9 +18,10 @@ use Rattle.relay_tree.specs.Document.{Document}
 use Rattle.relay_hub.specs.Log.{Log, Watching, entry, home, documents, present_of, next_document, asked_at_home, watching}
 use Rattle.relay_hub.specs.Refusal.{edit_refusal}
 use Rattle.relay_hub.specs.Session.{replied}
-use Rattle.relay_hub.specs.Stands.{Beginning, RoomStands, LineStands, WatchStands, SessionStands, StandsFor}
+use Rattle.relay_hub.specs.Stands.{RoomStands, LineStands, WatchStands, SessionStands, StandsFor}
 use Rattle.relay_hub.specs.State.{Group, State, place_of, session_in}
 use Rattle.relay_hub.specs.Step.{telling, ToldView, ToldAs, EditServed, with_group}
+use Rattle.relay_hub.specs.declared.beginning.Beginning.{Beginning}
 use Rattle.relay_hub.specs.declared.event.Answer.TheVariants.{Heard}
 use Rattle.relay_hub.specs.declared.event.Event.TheVariants.{Receive}
 use Rattle.relay_hub.specs.declared.event.Heard.TheVariants.{Answered}
@@ -99,7 +100,7 @@ module _ (b : Beginning) (E : Log) (old : State) (place : ℕ) (name : List ℕ)
       (λ t apart. same_watching mine.0 t)
       (λ t t_at.
       let answered : SessionStands b.waiting (documents E) name g.room (session_in step.1 t) (home E t) (watching b.epoch E t) =
-      rw (step.2 t) (by_number (λ t c. SessionStands b.waiting (documents E) name g.room (if c then Some (replied answer x) else session_in g.sessions t) (home E t) (watching b.epoch E t)) s t
+      rw (step.2.found t) (by_number (λ t c. SessionStands b.waiting (documents E) name g.room (if c then Some (replied answer x) else session_in g.sessions t) (home E t) (watching b.epoch E t)) s t
       (mine.0, line_replied b.waiting x answer (i, room.is.history.last) mine.1, watch_replied ds g.room x answer (watching b.epoch E s) mine.2)
       (λ apart. session_stands b E old t place name g stands t_at at)) in
       rw (same_watching mine.0 t)

@@ -5,9 +5,10 @@ use Rattle.std.proofs.lemmas.Bool.Decides.{eqb_tells}
 use Rattle.relay_room.specs.Room.{State as Room}
 use Rattle.relay_tree.specs.Document.{Document, null}
 use Rattle.relay_hub.specs.Log.{Log, Entry, Watching, home, documents, watching, opened, open_count}
-use Rattle.relay_hub.specs.Stands.{Beginning, RoomStands, LineStands, WatchStands, SessionStands, GroupStands, HomeStands, StandsFor}
+use Rattle.relay_hub.specs.Stands.{RoomStands, LineStands, WatchStands, SessionStands, GroupStands, HomeStands, StandsFor}
 use Rattle.relay_hub.specs.State.{Group, State, place_of, place_named, session_in}
 use Rattle.relay_hub.specs.Step.{ChangesOnly, with_group}
+use Rattle.relay_hub.specs.declared.beginning.Beginning.{Beginning}
 use Rattle.relay_hub.specs.declared.session.Session.{Session}
 use Rattle.relay_hub.proofs.Places.{by_number, slice_set_cases, slice_get-set, slice_get-set_other}
 use Rattle.relay_hub.proofs.Rooms.{named_set}
@@ -52,11 +53,9 @@ home_stays most ds es rooms t None there w same h = h
 pub unaffected : (b : Beginning) (E : Log) (e : Entry) (hub : State) → StandsFor b E hub → Quiet E e
     → ((name : List ℕ) → documents (e ∷ E) name ≡ documents E name) → ((t : ℕ) → watching b.epoch (e ∷ E) t ≡ watching b.epoch E t) → StandsFor b (e ∷ E) hub
 unaffected b E e hub h quiet same watches = record {
-  epoch = h.epoch;
+  made = h.made;
+  is = h.is;
   next = rw quiet.opened h.next;
-  history = h.history;
-  waiting = h.waiting;
-  counts = h.counts;
   count = h.count ∙ sym quiet.count;
   rooms = λ place name g at. subst (λ ds. RoomStands b.history ds g.room) (sym (same name)) (h.rooms place name g at);
   names = h.names;
@@ -120,11 +119,9 @@ module _ (b : Beginning) (E : Log) (e : Entry) (old : State) (place : ℕ) (name
       → ((t : ℕ) → place_of old t ≡ Some place → SessionStands b.waiting (documents (e ∷ E)) name h.room (session_in h.sessions t) (home (e ∷ E) t) (watching b.epoch (e ∷ E) t))
       → StandsFor b (e ∷ E) (with_group place name h old)
   room_changes quiet room watches here = record {
-    epoch = stands.epoch;
+    made = stands.made;
+    is = stands.is;
     next = rw quiet.opened stands.next;
-    history = stands.history;
-    waiting = stands.waiting;
-    counts = stands.counts;
     count = stands.count ∙ sym quiet.count;
     rooms = set_rooms room;
     names = set_names;
@@ -140,7 +137,7 @@ module _ (b : Beginning) (E : Log) (e : Entry) (old : State) (place : ℕ) (name
       room_changes quiet
       (rw (same name, changes.0) (stands.rooms place name g at))
       (λ t apart. others t (λ is. apart (subst (λ u. place_of old u ≡ Some place) is s_at)))
-      (λ t t_at. rw (changes.0, changes.1 t, quiet.home t)
+      (λ t t_at. rw (changes.0, changes.1.found t, quiet.home t)
       (session_stays b.waiting (documents E) (documents (e ∷ E)) name g.room (if s == t then Some y else session_in g.sessions t) (home E t) (watching b.epoch (e ∷ E) t) (same name)
       (by_number (λ t c. SessionStands b.waiting (documents E) name g.room (if c then Some y else session_in g.sessions t) (home E t) (watching b.epoch (e ∷ E) t)) s t
       (s_home, line, watch)

@@ -84,6 +84,12 @@ pub untested : (b : Bool) (n : ℕ) → (if b then Some n else None) ≡ None �
 untested true n h = absurd (cc h)
 untested false n h = refl
 
+pub position_within : {X : Type 0} (test : X → Bool) (xs : List X) (i : ℕ) → position test xs ≡ Some i → i < length xs
+position_within test xs i h =
+    let n = position_or_len test xs in
+    let t : (nat_lt n (length xs) ≡ true) × (i ≡ n) = tested (nat_lt n (length xs)) n i h in
+    grind (arith, nat_tests, t.0, t.1)
+
 pub position_set : {X : Type 0} (test : X → Bool) (xs : List X) (i : ℕ) (u v : X) → slice_get xs i ≡ Some u → test v ≡ test u → position test (slice_set xs i v) ≡ position test xs
 position_set test xs i u v at same =
     let is : get_or xs i u ≡ u = get_or_from_slice_get xs i u u at in

@@ -2,10 +2,11 @@
 use Rattle.std.proofs.Common.{◌≡◌, ℕ, List, Result, Ok}
 use Rattle.relay_hub.specs.Call.{StepIf, Runs, receiving, followed}
 use Rattle.relay_hub.specs.Log.{Log}
-use Rattle.relay_hub.specs.Stands.{Beginning, StandsFor, EachHoldsPresent, EachIsAtNamed}
+use Rattle.relay_hub.specs.Stands.{StandsFor, EachHoldsPresent, EachIsAtNamed}
 use Rattle.relay_hub.specs.State.{State}
 use Rattle.relay_hub.specs.Step.{Step}
 use Rattle.relay_hub.specs.Telling.{RefusesEdits}
+use Rattle.relay_hub.specs.declared.beginning.Beginning.{Beginning}
 use Rattle.relay_hub.specs.declared.event.Answer.{Answer}
 use Rattle.relay_hub.specs.declared.event.Answer.TheVariants.{Heard as HeardAnswer}
 use Rattle.relay_hub.specs.declared.event.Event.{Event}

@@ -25,9 +25,10 @@ use Rattle.relay_view.specs.View.{View, view}
 use Rattle.relay_hub.specs.Log.{Log, Watching as Watched, begun, entry, home, documents, requested, asked, watching}
 use Rattle.relay_hub.specs.Refusal.{refused, future_refusal}
 use Rattle.relay_hub.specs.Session.{session_with, replied, watches, unwatches, resumes}
-use Rattle.relay_hub.specs.Stands.{Beginning, RoomStands, LineStands, WatchStands, StandsFor}
+use Rattle.relay_hub.specs.Stands.{RoomStands, LineStands, WatchStands, StandsFor}
 use Rattle.relay_hub.specs.State.{Group, State, place_of, session_in}
 use Rattle.relay_hub.specs.Step.{ChangesOnly, ResumeServed, with_group}
+use Rattle.relay_hub.specs.declared.beginning.Beginning.{Beginning}
 use Rattle.relay_hub.specs.declared.event.Answer.TheVariants.{Heard}
 use Rattle.relay_hub.specs.declared.event.Event.TheVariants.{Receive}
 use Rattle.relay_hub.specs.declared.event.Heard.TheVariants.{Answered}

@@ -10,9 +10,10 @@ use Rattle.relay_room.specs.Edit.{edited}
 use Rattle.relay_room.specs.Room.{revision}
 use Rattle.relay_hub.specs.Call.{StepIf, logged, Runs, stops, steps, followed}
 use Rattle.relay_hub.specs.Log.{Log, entry}
-use Rattle.relay_hub.specs.Stands.{Beginning, StandsFor}
+use Rattle.relay_hub.specs.Stands.{StandsFor}
 use Rattle.relay_hub.specs.State.{Group, State, place_of, session_in}
 use Rattle.relay_hub.specs.Step.{Serves, Receives, Draws, with_group, InGroup, AtPlace, ClosesIn, ClosesGroup, ClosesAt, Step}
+use Rattle.relay_hub.specs.declared.beginning.Beginning.{Beginning}
 use Rattle.relay_hub.specs.declared.event.Answer.{Answer}
 use Rattle.relay_hub.specs.declared.event.Answer.TheVariants.{Opened, NotOpened, Heard, Drawn, Closed, NoSession}
 use Rattle.relay_hub.specs.declared.event.Event.{Event}
@@ -56,7 +57,7 @@ serve_stands b E old place name g h s short x text (Ok (Edit id patch)) stands a
     (λ fault r refused is_r. edit_refusal_counts g.room id patch fault r counts.0 counts.1 refused is_r) step
 
 receive_stands : (b : Beginning) (E : Log) (old : State) (place : ℕ) (name : List ℕ) (g h : Group) (s : ℕ) (o : Option Session) (text : List ℕ) (answer : Answer) → StandsFor b E old
-    → slice_get old.rooms place ≡ Some (name, g) → place_of old s ≡ Some place → session_in g.sessions s ≡ o → Receives old.epoch s o text answer g h
+    → slice_get old.rooms place ≡ Some (name, g) → place_of old s ≡ Some place → session_in g.sessions s ≡ o → Receives old.made.epoch s o text answer g h
     → StandsFor b (entry (Receive s text) answer ∷ E) (with_group place name h old)
 receive_stands b E old place name g h s None text NoSession stands at s_at is step = absurd (never_absent b E old s place name g stands at s_at is)
 receive_stands b E old place name g h s (Some x) text (Heard Busy) stands at s_at is step =
@@ -64,7 +65,7 @@ receive_stands b E old place name g h s (Some x) text (Heard Busy) stands at s_a
     (unaffected b E (entry (Receive s text) (Heard Busy)) old stands (record { opened = refl; count = refl; home = λ t. refl }) (λ other. refl) (λ t. refl))
 receive_stands b E old place name g h s (Some x) text (Heard (Answered short)) stands at s_at is step =
     serve_stands b E old place name g h s short x text (request_of_text text) stands at s_at is refl
-    (subst (λ epoch. Serves epoch s x (request_of_text text) short g h) stands.epoch step.1)
+    (subst (λ epoch. Serves epoch s x (request_of_text text) short g h) (ap (λ (made : Beginning). made.epoch) stands.made) step.1)
 receive_stands b E old place name g h s o text answer stands at s_at is step = absurd step
 
 drawn_stands : (b : Beginning) (E : Log) (old : State) (place : ℕ) (name : List ℕ) (g h : Group) (s : ℕ) (o : Option Session) (answer : Answer) → StandsFor b E old
@@ -116,7 +117,7 @@ step_stands b E old new (Open name) (Opened n) stands step = open_stands b E old
 step_stands b E old new (Open name) (NotOpened fault) stands step =
     rw step.1 (unaffected b E (entry (Open name) (NotOpened fault)) old stands (record { opened = refl; count = refl; home = λ t. refl }) (λ other. refl) (λ t. refl))
 step_stands b E old new (Receive s text) answer stands step =
-    at_home_stands b E old new (Receive s text) answer (λ g h. Receives old.epoch s (session_in g.sessions s) text answer g h) (place_of old s)
+    at_home_stands b E old new (Receive s text) answer (λ g h. Receives old.made.epoch s (session_in g.sessions s) text answer g h) (place_of old s)
     (unaffected b E (entry (Receive s text) NoSession) old stands (record { opened = refl; count = refl; home = λ t. refl }) (λ other. refl) (λ t. refl))
     (λ place name g h s_at at does. receive_stands b E old place name g h s (session_in g.sessions s) text answer stands at s_at refl does)
     step

@@ -15,10 +15,11 @@ use Rattle.relay_tree.specs.Document.{Document}
 use Rattle.relay_hub.specs.Log.{Log, Watching, documents, watching}
 use Rattle.relay_hub.specs.Refusal.{refused, edit_refusal}
 use Rattle.relay_hub.specs.Session.{replied, later}
-use Rattle.relay_hub.specs.Stands.{Beginning, IsAtNamed, EachLeads, HoldsPresent, Follows, StandsFor}
+use Rattle.relay_hub.specs.Stands.{IsAtNamed, EachLeads, HoldsPresent, Follows, StandsFor}
 use Rattle.relay_hub.specs.State.{Group, State, place_of, home_of, session_in, session_of, without_sessions}
 use Rattle.relay_hub.specs.Step.{OnlyAt, ChangesOnly, EditServed, Serves, Receives, with_group, InGroup, Step}
 use Rattle.relay_hub.specs.Telling.{LeavesNoTrace}
+use Rattle.relay_hub.specs.declared.beginning.Beginning.{Beginning}
 use Rattle.relay_hub.specs.declared.event.Answer.TheVariants.{Heard}
 use Rattle.relay_hub.specs.declared.event.Event.TheVariants.{Receive}
 use Rattle.relay_hub.specs.declared.event.Heard.TheVariants.{Answered}
@@ -84,7 +85,7 @@ others_found hub place name g h s y at only t apart = go (place_of hub t)
         elim (eqb_tells p place) [
           | inl same ↦
               let other : (s == t) ≡ false = grind (arith, nat_tests, apart) in
-              rw (same.1, slice_get-set hub.rooms place (name, g) (name, h) at, at, only t, other) refl
+              rw (same.1, slice_get-set hub.rooms place (name, g) (name, h) at, at, only.found t, other) refl
           | inr differs ↦ rw (slice_get-set_other hub.rooms place p (name, h) differs.1) refl
         ]
 
@@ -98,20 +99,20 @@ leaves_no_trace hub place name g h s y s_at at changes =
       homes = refl;
       next = refl;
       others = others_found hub place name g h s (Some y) at changes.1;
-      sender = rw (s_at, slice_get-set hub.rooms place (name, g) (name, h) at, changes.1 s, mine) refl;
+      sender = rw (s_at, slice_get-set hub.rooms place (name, g) (name, h) at, changes.1.found s, mine) refl;
     }
 
 -- what an answered text did in the room of its sender, which is x
 module _ (old new : State) (s short : ℕ) (text : List ℕ) (name : List ℕ) (g : Group) (x : Session) (there : home_of old s ≡ Some (name, g)) (is : session_in g.sessions s ≡ Some x)
     (step : Step old (Receive s text) (Heard (Answered short)) new) where
-  done : (h : Group) × Serves old.epoch s x (request_of_text text) short g h × ((y : Session) → ChangesOnly s (Some y) g h → LeavesNoTrace s y old new)
+  done : (h : Group) × Serves old.made.epoch s x (request_of_text text) short g h × ((y : Session) → ChangesOnly s (Some y) g h → LeavesNoTrace s y old new)
   done =
       let p = at_place old s (name, g) there in
       let answer = Heard (Answered short) in
-      let Does : Group → Group → Type 0 = λ g h. Receives old.epoch s (session_in g.sessions s) text answer g h in
+      let Does : Group → Group → Type 0 = λ g h. Receives old.made.epoch s (session_in g.sessions s) text answer g h in
       let at_home : InGroup p.0 (Some (name, g)) old answer Does new = rw (p.1, p.2) at step in
       let h = at_home.0 in
-      let received : Receives old.epoch s (Some x) text answer g h = rw is at at_home.1 in
+      let received : Receives old.made.epoch s (Some x) text answer g h = rw is at at_home.1 in
       (h, received.1, λ y changes. subst (λ hub. LeavesNoTrace s y old hub) (sym at_home.2) (leaves_no_trace old p.0 name g h s y p.1 p.2 changes))
 
   -- an edit that is refused changes no room, no other session, and the sender's session by one reply alone, where it is refused

@@ -3,7 +3,6 @@
 use Rattle.std.specs.Prelude.{ℕ, ◌≡◌, ⊤, ◌+◌, ◌<◌, ◌≤◌, min, false, List, [], ◌∷◌, ◌++◌, Option, Some, None, length, slice_get, option_map}
 use Rattle.std.specs.List.{AllByRecursion}
 use Rattle.relay_history.specs.History.{Reaches, changes_since}
-use Rattle.relay_history.specs.declared.history.TheConstants.{MOST_REVISIONS}
 use Rattle.relay_patch.specs.Change.{Leads}
 use Rattle.relay_patch.specs.declared.op.Op.{Op}
 use Rattle.relay_proto.specs.Client.{Client, nothing, holds, lost, client, client_after}
@@ -16,7 +15,8 @@ use Rattle.relay_tree.specs.Document.{Document, null}
 use Rattle.relay_view.specs.View.{View, view}
 use Rattle.relay_hub.specs.Log.{Log, Watching, home, documents, present_of, watching, opened, open_count}
 use Rattle.relay_hub.specs.Session.{later}
-use Rattle.relay_hub.specs.State.{State, Group, place_of, home_of, place_named, session_in}
+use Rattle.relay_hub.specs.State.{State, IsBeginning, Group, place_of, home_of, place_named, session_in}
+use Rattle.relay_hub.specs.declared.beginning.Beginning.{Beginning}
 use Rattle.relay_hub.specs.declared.session.Session.{Session}
 
 -- What a client holds.
@@ -50,16 +50,6 @@ pub record Follows (documents : List Document) (w : Watching) (waiting : List Me
   pub exactly : HoldsPresent documents w.view (client_after w.start (w.heard ++ waiting))
 
 -- What a hub holds.
-
--- what it was made with
-pub record Beginning : Type 0 where
-  pub epoch : ℕ
-  pub first : ℕ
-  pub history : ℕ
-  pub waiting : ℕ
-
-abbrev pub beginning : ℕ → ℕ → ℕ → ℕ → Beginning
-beginning epoch first history waiting = record { epoch = epoch; first = first; history = history; waiting = waiting }
 
 -- a room has these documents, and holds the changes of its last revisions
 pub record RoomStands (most : ℕ) (documents : List Document) (room : Room) : Type 0 where
@@ -100,11 +90,9 @@ HomeStands most documents rooms s (Some place) there w = GroupStands most docume
 HomeStands most documents rooms s None there w = there ≡ None
 
 pub record StandsFor (b : Beginning) (E : Log) (hub : State) : Type 0 where
-  pub epoch : hub.epoch ≡ b.epoch
+  pub made : hub.made ≡ b
+  pub is : IsBeginning b
   pub next : hub.next ≡ b.first + opened E
-  pub history : hub.history ≡ b.history
-  pub waiting : hub.waiting ≡ b.waiting
-  pub counts : IsCount b.epoch × (1 ≤ b.history) × (b.history ≤ MOST_REVISIONS)
   pub count : length hub.homes ≡ open_count E
   -- each room has the documents of its name
   pub rooms : (place : ℕ) (name : List ℕ) (g : Group) → slice_get hub.rooms place ≡ Some (name, g) → RoomStands b.history (documents E name) g.room

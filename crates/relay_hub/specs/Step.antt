@@ -33,13 +33,14 @@ use Rattle.relay_hub.specs.declared.hub.TheConstants.{ROOMS_MOST, SESSIONS_MOST}
 use Rattle.relay_hub.specs.declared.session.Session.{Session}
 use Rattle.relay_hub.specs.Refusal.{refused, edit_refusal, future_refusal}
 use Rattle.relay_hub.specs.Session.{with_line, replied, newcomer, watches, unwatches, resumes, told_line, front_message, message_text, ReadsBack, drawn}
-use Rattle.relay_hub.specs.State.{Group, group, State, place_of, place_named, session_in}
+use Rattle.relay_hub.specs.State.{Group, group, State, EachOnce, place_of, place_named, session_in}
 
 -- Within a room.
 
--- of all sessions only that one differs, and is then x
-abbrev pub OnlyAt : ℕ → Option Session → List Session → List Session → Type 0
-OnlyAt s x old new = (t : ℕ) → session_in new t ≡ (if s == t then x else session_in old t)
+-- of all sessions only that one differs, and is then x; and no two have one number, where no two had
+pub record OnlyAt (s : ℕ) (x : Option Session) (old new : List Session) : Type 0 where
+  pub found : (t : ℕ) → session_in new t ≡ (if s == t then x else session_in old t)
+  pub once : EachOnce old → EachOnce new
 
 -- of all that a room holds only that session differs
 abbrev pub ChangesOnly : ℕ → Option Session → Group → Group → Type 0
@@ -128,10 +129,8 @@ Draws s x answer old new = ⊥
 
 abbrev pub with_group : ℕ → List ℕ → Group → State → State
 with_group place name g hub = record {
-  epoch = hub.epoch;
+  made = hub.made;
   next = hub.next;
-  history = hub.history;
-  waiting = hub.waiting;
   rooms = slice_set hub.rooms place (name, g);
   homes = hub.homes;
 }
@@ -148,10 +147,6 @@ AtPlace None old answer Does new = (answer ≡ NoSession) × (new ≡ old)
 
 abbrev pub AtHome : ℕ → State → Answer → (Group → Group → Type 0) → State → Type 0
 AtHome s old answer Does new = AtPlace (place_of old s) old answer Does new
-
--- of the numbers only the next one may differ
-abbrev pub SameLimits : State → State → Type 0
-SameLimits old new = (new.epoch ≡ old.epoch) × (new.history ≡ old.history) × (new.waiting ≡ old.waiting)
 
 -- the first reason not to open a session in a room of that name
 abbrev pub open_fault : State → List ℕ → Option OpenFault
@@ -174,12 +169,12 @@ EntersRooms n made history name None old place new = (place ≡ length old)
 -- the same in a hub, whose next session it is
 abbrev pub Enters : ℕ → List ℕ → Option ℕ → State → ℕ → State → Type 0
 Enters n name at old place new =
-    EntersRooms n (λ rev. newcomer old.epoch rev n old.waiting) old.history name at old.rooms place new.rooms
+    EntersRooms n (λ rev. newcomer old.made.epoch rev n old.made.waiting) old.made.history name at old.rooms place new.rooms
 
 pub record Opens (old : State) (name : List ℕ) (n : ℕ) (new : State) : Type 0 where
   pub number : n ≡ old.next
   pub next : new.next ≡ n + 1
-  pub limits : SameLimits old new
+  pub made : new.made ≡ old.made
   pub place : ℕ
   pub enters : Enters n name (place_named name old.rooms) old place new
   pub home : (t : ℕ) → place_of new t ≡ (if n == t then Some place else place_of old t)
@@ -188,7 +183,7 @@ pub record Opens (old : State) (name : List ℕ) (n : ℕ) (new : State) : Type 
 -- session s goes from its room, which stays, and is at home nowhere
 pub record Closes (s place : ℕ) (name : List ℕ) (g : Group) (old : State) (new : State) : Type 0 where
   pub next : new.next ≡ old.next
-  pub limits : SameLimits old new
+  pub made : new.made ≡ old.made
   pub left : Group
   pub leaves : ChangesOnly s None g left
   pub rooms : new.rooms ≡ slice_set old.rooms place (name, left)
@@ -213,6 +208,6 @@ abbrev pub Step : State → Event → Answer → State → Type 0
 Step old (Open name) (Opened n) new = (open_fault old name ≡ None) × Opens old name n new
 Step old (Open name) (NotOpened fault) new = (open_fault old name ≡ Some fault) × (new ≡ old)
 Step old (Open name) answer new = ⊥
-Step old (Receive s text) answer new = AtHome s old answer (λ g h. Receives old.epoch s (session_in g.sessions s) text answer g h) new
+Step old (Receive s text) answer new = AtHome s old answer (λ g h. Receives old.made.epoch s (session_in g.sessions s) text answer g h) new
 Step old (Draw s) answer new = AtHome s old answer (λ g h. Draws s (session_in g.sessions s) answer g h) new
 Step old (Close s) answer new = ClosesAt s (place_of old s) old answer new

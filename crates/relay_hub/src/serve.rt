@@ -1,5 +1,5 @@
 //! The work of the hub's calls, over a room and the sessions that are open in it.
-ghost use Rattle.std.specs.Prelude.{◌≡◌, ◌<◌, ◌-◌, ◌==◌, List, Some, None, Ok, Err, IfOk, OnOk, OnErr, length, option_map, nat_le, position, filter, not};
+ghost use Rattle.std.specs.Prelude.{◌≡◌, ◌<◌, ◌-◌, ◌==◌, List, Some, None, Ok, Err, IfOk, OnOk, OnErr, IsErrOf, IsSome, IsSomeAnd, length, option_map, nat_le, position, filter, not};
 ghost use Rattle.std.specs.Bool.{MatchBool};
 ghost use Rattle.relay_history.specs.History.{Reaches, changes_since};
 ghost use Rattle.relay_outbox.specs.declared.outbox.TheConstants.{REPLIES};
@@ -10,7 +10,7 @@ ghost use Rattle.relay_room.specs.Room.{revision};
 ghost use Rattle.relay_tree.specs.Document.{Document};
 ghost use Rattle.relay_hub.specs.Call.{receiving, drawing, ReceivesIf, DrawsIf, ChangesBy, HasRoom, IsFull};
 ghost use Rattle.relay_hub.specs.Refusal.{cause_word, edit_refusal};
-ghost use Rattle.relay_hub.specs.Session.{replied, watches, unwatches, resumes};
+ghost use Rattle.relay_hub.specs.Session.{replied, watches, unwatches, resumes, waiting};
 ghost use Rattle.relay_hub.specs.State.{group, is_number, session_in};
 ghost use Rattle.relay_hub.specs.Step.{AllTold, EditServed, ResumeServed, Serves, OnlyAt};
 ghost use Rattle.relay_hub.specs.declared.session.Session.{Session};
@@ -24,14 +24,24 @@ use relay_room::{CatchFault, CatchUp, EditFault, Room};
 use relay_view::View;
 use std::alloc::{AllocError, Global};
 
-/// The place of the session with that number.
-pub fn place_in(sessions: &[Session], number: u64) -> Option<usize>
+/// The place of the session with that number, which is there.
+pub fn place_in(sessions: &[Session], number: u64) -> usize
+    requires { IsSome (session_in sessions.now number) }
+    ensures { position (is_number number) sessions.now ≡ Some result }
+{
+    let Some(place) = position_of(sessions, number) else {
+        unreachable!()
+    };
+    place
+}
+
+fn position_of(sessions: &[Session], number: u64) -> Option<usize>
     ensures { result ≡ position (is_number number) sessions.now }
 {
     sessions.iter().position(|session| session.number == number)
 }
 
-/// Takes a text from a session: exactly one reply is put in its line, but where 32 wait.
+/// Takes a text from a session that is there: exactly one reply is put in its line, but where no further one may wait.
 pub fn receive(
     alloc: Global,
     epoch: u64,
@@ -40,11 +50,11 @@ pub fn receive(
     number: u64,
     text: &str,
 ) -> Result<Heard, HubFault>
-    ensures { ReceivesIf epoch number text.now (receiving result) (group room.old sessions.old) (group room.new sessions.new) }
+    requires { IsSome (session_in sessions.old number) }
+    ensures step { ReceivesIf epoch number text.now (receiving result) (group room.old sessions.old) (group room.new sessions.new) }
+    ensures no_memory { IsErrOf result HubFault.NoMemory → HasRoom sessions.old number }
 {
-    let Some(place) = place_in(sessions, number) else {
-        return Err(HubFault::NoSession);
-    };
+    let place = place_in(sessions, number);
     if is_full(sessions, number, place) {
         return Ok(Heard::Busy);
     }
@@ -184,7 +194,7 @@ fn tell_all(alloc: Global, room: &Room, sessions: &mut [Session]) -> u64
 {
     let mut short: u64 = 0;
     for session in sessions.iter_mut() {
-        if session.tell(alloc, room) {
+        if session.tell(alloc, room).is_err() {
             short += 1;
         }
     }
@@ -230,25 +240,25 @@ fn resume(
     Ok(())
 }
 
-/// The text at the front of a session's line, which leaves the line.
+/// The text at the front of the line of a session that is there, which leaves the line.
 pub fn draw(
     alloc: Global,
     room: &Room,
     sessions: &mut [Session],
     number: u64,
 ) -> Result<Option<String>, HubFault>
-    ensures { DrawsIf number (drawing result) (group room.now sessions.old) (group room.now sessions.new) }
+    requires { IsSome (session_in sessions.old number) }
+    ensures step { DrawsIf number (drawing result) (group room.now sessions.old) (group room.now sessions.new) }
+    ensures no_memory { IsErrOf result HubFault.NoMemory → IsSomeAnd (option_map waiting (session_in sessions.old number)) (λ n. 0 < n) }
 {
-    let Some(place) = place_in(sessions, number) else {
-        return Err(HubFault::NoSession);
-    };
+    let place = place_in(sessions, number);
     match sessions[place].draw(alloc, room) {
         Ok(text) => Ok(text),
         Err(_) => Err(HubFault::NoMemory),
     }
 }
 
-/// Takes a session away. Whether it was there.
+/// Takes a session away.
 pub fn remove(sessions: &mut Vec<Session>, number: u64)
     ensures { OnlyAt number None sessions.old.items sessions.new.items }
 {
