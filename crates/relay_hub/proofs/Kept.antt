@@ -12,7 +12,7 @@ use Rattle.relay_hub.specs.Kept.{group_of, named, hub_of}
 use Rattle.relay_hub.specs.State as plain
 use Rattle.relay_hub.specs.State.{State, IsHub, place_of, place_named, home_of, session_in, session_of}
 use Rattle.relay_hub.specs.Step.{ChangesOnly, with_group, Step}
-use Rattle.relay_hub.specs.Telling.{found, may_hear}
+use Rattle.relay_hub.specs.Telling.{room_and_session, may_hear}
 use Rattle.relay_hub.specs.declared.event.Answer.{Answer}
 use Rattle.relay_hub.specs.declared.event.Answer.TheVariants as answer
 use Rattle.relay_hub.specs.declared.event.Event.{Event}
@@ -31,7 +31,7 @@ room_at es i key g h = slice_get-map named es i ∙ ap (option_map named) h
 
 -- the room and the session of a number, once its place is known
 pub found_home : (hub : State) (s place : ℕ) (home : List ℕ × plain.Group) → place_of hub s ≡ Some place → slice_get hub.rooms place ≡ Some home
-    → found hub s ≡ option_map (λ x. (home.1.room, x)) (session_in home.1.sessions s)
+    → room_and_session hub s ≡ option_map (λ x. (home.1.room, x)) (session_in home.1.sessions s)
 found_home hub s place home h k = rw (h, k) refl
 
 -- Writes, and the room of a session that is open.
@@ -64,9 +64,10 @@ module _ (h : Inside) (s i : ℕ) (is : IsHub (hub_of h)) (at : place_of (hub_of
   home : (name : List ℕ) × (g : plain.Group) × (x : Session) × (slice_get (hub_of h).rooms i ≡ Some (name, g)) × (session_in g.sessions s ≡ Some x)
   home =
       let found = is.homes s i at in
-      let both : Some found.place ≡ Some i = sym found.at ∙ at in
-      let same : found.place ≡ i = cc in
-      (found.name, found.group, found.session, subst (λ p. slice_get (hub_of h).rooms p ≡ Some (found.name, found.group)) same found.there, found.is)
+      let r = found.room in
+      let both : Some r.place ≡ Some i = sym found.at ∙ at in
+      let same : r.place ≡ i = cc in
+      (r.name, r.group, found.session, subst (λ p. slice_get (hub_of h).rooms p ≡ Some (r.name, r.group)) same r.there, found.is)
 
   -- there is a room at its place
   pub never_missing : slice_get (values h.rooms) i ≡ None → ⊥

@@ -59,23 +59,24 @@ set_once old new place name g h rooms once p known k at =
 
 -- one room differs, from which nobody went who is still at home there
 set_homes : (old new : State) (place : ℕ) (name : List ℕ) (was g : Group) → slice_get old.rooms place ≡ Some (name, was) → new.rooms ≡ slice_set old.rooms place (name, g)
-    → (t : ℕ) (home : Home old t) → place_of new t ≡ Some home.place → (home.place ≡ place → (y : Session) × (session_in g.sessions t ≡ Some y)) → Home new t
+    → (t : ℕ) (home : Home old t) → place_of new t ≡ Some home.room.place → (home.room.place ≡ place → (y : Session) × (session_in g.sessions t ≡ Some y)) → Home new t
 set_homes old new place name was g at rooms t home still stays =
-    elim (eqb_tells home.place place) [
+    let r = home.room in
+    elim (eqb_tells r.place place) [
       | inl same ↦
           let y = stays same.1 in
-          let there : slice_get new.rooms home.place ≡ Some (name, g) = rw (rooms, same.1) (slice_get-set old.rooms place (name, was) (name, g) at) in
-          record { place = home.place; name = name; group = g; session = y.0; at = still; there = there; is = y.1 }
+          let there : slice_get new.rooms r.place ≡ Some (name, g) = rw (rooms, same.1) (slice_get-set old.rooms place (name, was) (name, g) at) in
+          record { room = record { place = r.place; name = name; group = g; there = there }; session = y.0; at = still; is = y.1 }
       | inr other ↦
-          let there : slice_get new.rooms home.place ≡ Some (home.name, home.group) = rw (rooms, slice_get-set_other old.rooms place home.place (name, g) other.1) home.there in
-          record { place = home.place; name = home.name; group = home.group; session = home.session; at = still; there = there; is = home.is }
+          let there : slice_get new.rooms r.place ≡ Some (r.name, r.group) = rw (rooms, slice_get-set_other old.rooms place r.place (name, g) other.1) r.there in
+          record { room = record { place = r.place; name = r.name; group = r.group; there = there }; session = home.session; at = still; is = home.is }
     ]
 
 -- what stands at the place of a session's room
-same_home : (hub : State) (t place : ℕ) (name : List ℕ) (g : Group) (home : Home hub t) → slice_get hub.rooms place ≡ Some (name, g) → home.place ≡ place → session_in g.sessions t ≡ Some home.session
+same_home : (hub : State) (t place : ℕ) (name : List ℕ) (g : Group) (home : Home hub t) → slice_get hub.rooms place ≡ Some (name, g) → home.room.place ≡ place → session_in g.sessions t ≡ Some home.session
 same_home hub t place name g home at same =
-    let both : ◌≡◌ {A = Option (List ℕ × Group)} (Some (home.name, home.group)) (Some (name, g)) = sym home.there ∙ (ap (λ p. slice_get hub.rooms p) same ∙ at) in
-    let one : ◌≡◌ {A = List ℕ × Group} (home.name, home.group) (name, g) = cc in
+    let both : ◌≡◌ {A = Option (List ℕ × Group)} (Some (home.room.name, home.room.group)) (Some (name, g)) = sym home.room.there ∙ (ap (λ p. slice_get hub.rooms p) same ∙ at) in
+    let one : ◌≡◌ {A = List ℕ × Group} (home.room.name, home.room.group) (name, g) = cc in
     subst (λ (k : Group). session_in k.sessions t ≡ Some home.session) (ap (λ (r : List ℕ × Group). r.1) one) home.is
 
 -- nobody comes into the room or leaves it, and each still stands once
@@ -254,17 +255,14 @@ enters_homes old new name n place (Some i) h number home step t p at =
           let here : p ≡ i = mine.1 ∙ step.0 in
           let test : (n == t) ≡ true = grind (arith, nat_tests, mine.0) in
           record {
-            place = p;
-            name = step.1;
-            group = k;
+            room = record { place = p; name = step.1; group = k; there = rw (here, step.5) (slice_get-set old.rooms i (step.1, g) (step.1, k) step.4) };
             session = x;
             at = at;
-            there = rw (here, step.5) (slice_get-set old.rooms i (step.1, g) (step.1, k) step.4);
             is = rw (step.6.1.found t, test) refl;
           }
       | inr other ↦
           let was = h.homes t p other.1 in
-          let still : place_of new t ≡ Some was.place = opens_stays old new n place t was.place h number home was.at in
+          let still : place_of new t ≡ Some was.room.place = opens_stays old new n place t was.room.place h number home was.at in
           set_homes old new i step.1 g k step.4 step.5 t was still
           (λ same.
           let test : (n == t) ≡ false = grind (arith, nat_tests, other.0) in
@@ -278,23 +276,18 @@ enters_homes old new name n place None h number home step t p at =
           let here : p ≡ length old.rooms = mine.1 ∙ step.0 in
           let test : (n == t) ≡ true = grind (arith, nat_tests, mine.0) in
           record {
-            place = p;
-            name = name;
-            group = g;
+            room = record { place = p; name = name; group = g; there = rw (here, step.1) (slice_get-last old.rooms (name, g)) };
             session = x;
             at = at;
-            there = rw (here, step.1) (slice_get-last old.rooms (name, g));
             is = rw test refl;
           }
       | inr other ↦
           let was = h.homes t p other.1 in
+          let r = was.room in
           record {
-            place = was.place;
-            name = was.name;
-            group = was.group;
+            room = record { place = r.place; name = r.name; group = r.group; there = rw step.1 (slice_get-earlier old.rooms (name, g) (r.name, r.group) r.place r.there) };
             session = was.session;
-            at = opens_stays old new n place t was.place h number home was.at;
-            there = rw step.1 (slice_get-earlier old.rooms (name, g) (was.name, was.group) was.place was.there);
+            at = opens_stays old new n place t r.place h number home was.at;
             is = was.is;
           }
     ]
@@ -325,7 +318,7 @@ closes_is_hub old new s place name g h home at step = record {
         | inr other ↦
             let before : place_of old t ≡ Some p = rw other.0 at found in
             let was = h.homes t p before in
-            let still : place_of new t ≡ Some was.place = otherwise (s == t) None (place_of old t) (place_of new t) other.0 (step.home t) ∙ was.at in
+            let still : place_of new t ≡ Some was.room.place = otherwise (s == t) None (place_of old t) (place_of new t) other.0 (step.home t) ∙ was.at in
             set_homes old new place name g step.left at step.rooms t was still
             (λ same. (was.session, otherwise (s == t) None (session_in g.sessions t) (session_in step.left.sessions t) other.0 (step.leaves.1.found t) ∙ same_home old t place name g was at same))
       ];

@@ -103,6 +103,14 @@ position_earlier test xs v i h =
     let inside : nat_lt n (length (xs ++ v ∷ [])) ≡ true = grind (arith, nat_tests, t.0, length-append xs (v ∷ [])) in
     rw (position_or_len_push test xs v, other, inside) (ap Some (sym t.1))
 
+pub position_apart : {X : Type 0} (test : X → Bool) (xs : List X) (v : X) → position test xs ≡ None → test v ≡ false → position test (xs ++ v ∷ []) ≡ None
+position_apart test xs v h fails =
+    let n = position_or_len test xs in
+    let t : nat_lt n (length xs) ≡ false = untested (nat_lt n (length xs)) n h in
+    let here : (n == length xs) ≡ true = grind (arith, nat_tests, t, prefix_len-le-length (λ x. not (test x)) xs) in
+    let past : nat_lt (length xs + 1) (length (xs ++ v ∷ [])) ≡ false = grind (arith, nat_tests, length-append xs (v ∷ [])) in
+    rw (position_or_len_push test xs v, here, fails, past) refl
+
 pub position_last : {X : Type 0} (test : X → Bool) (xs : List X) (v : X) → position test xs ≡ None → test v ≡ true → position test (xs ++ v ∷ []) ≡ Some (length xs)
 position_last test xs v h passes =
     let n = position_or_len test xs in

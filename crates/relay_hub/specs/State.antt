@@ -72,15 +72,19 @@ place_named name rooms = position (λ room. bytes_eq name room.0) rooms
 abbrev pub without_sessions : List ℕ × Group → List ℕ × Room
 without_sessions r = (r.0, r.1.room)
 
--- Session s is at home: the place of its room, the room there with its name, and the session in it.
-pub record Home (hub : State) (s : ℕ) : Type 0 where
+-- A room of a hub: its place, its name, and what stands there.
+pub record RoomOf (hub : State) : Type 0 where
   pub place : ℕ
   pub name : List ℕ
   pub group : Group
-  pub session : Session
-  pub at : place_of hub s ≡ Some place
   pub there : slice_get hub.rooms place ≡ Some (name, group)
-  pub is : session_in group.sessions s ≡ Some session
+
+-- Session s is at home: its room, and the session in it.
+pub record Home (hub : State) (s : ℕ) : Type 0 where
+  pub room : RoomOf hub
+  pub session : Session
+  pub at : place_of hub s ≡ Some room.place
+  pub is : session_in room.group.sessions s ≡ Some session
 
 -- What holds of each hub.
 pub record IsHub (hub : State) : Type 0 where

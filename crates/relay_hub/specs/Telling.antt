@@ -29,8 +29,8 @@ may_hear (Some x) = nat_lt (length x.outbox.replies) REPLIES
 may_hear None = false
 
 -- the room of session s, and the session
-abbrev pub found : State → ℕ → Option (Room × Session)
-found hub s = option_and_then (λ home. option_map (λ x. (home.1.room, x)) (session_in home.1.sessions s)) (home_of hub s)
+abbrev pub room_and_session : State → ℕ → Option (Room × Session)
+room_and_session hub s = option_and_then (λ home. option_map (λ x. (home.1.room, x)) (session_in home.1.sessions s)) (home_of hub s)
 
 -- the present revision and the view of the present document, where a view is watched
 abbrev pub shown : Room → Session → Option (ℕ × Document)

@@ -10,7 +10,7 @@ ghost use Rattle.relay_hub.specs.State.{beginning, place_named, session_of, new_
 ghost use Rattle.relay_hub.specs.Session.{waiting};
 ghost use Rattle.relay_hub.specs.Stands.{StandsFor, EachHoldsPresent, EachIsAtNamed};
 ghost use Rattle.relay_hub.specs.Step.{Step, open_fault};
-ghost use Rattle.relay_hub.specs.Telling.{BadLimits, found, may_hear, truth, RefusesEdits};
+ghost use Rattle.relay_hub.specs.Telling.{BadLimits, room_and_session, may_hear, truth, RefusesEdits};
 ghost use Rattle.relay_hub.specs.declared.beginning.Beginning.{Beginning};
 ghost use Rattle.relay_hub.specs.declared.event.Event.TheVariants.{Open, Receive, Draw, Close};
 ghost use Rattle.relay_hub.specs.declared.event.Heard.TheVariants.{Answered};
@@ -218,7 +218,7 @@ impl Hub {
 
     /// The room of a session, and the session.
     fn find(&self, session: u64) -> Option<(&Room, &Session)>
-        ensures { option_map (λ p. (p.0.now, p.1.now)) result ≡ found self.now session }
+        ensures { option_map (λ p. (p.0.now, p.1.now)) result ≡ room_and_session self.now session }
     {
         let place = self.homes.get(&session)?;
         let Some((_, group)) = self.rooms.get_index(*place) else {
@@ -285,7 +285,7 @@ impl Hub {
             });
         };
         for event in events {
-            match self.act(alloc, event) {
+            match self.carry_out(alloc, event) {
                 Ok(answer) => answers.push_reserved(answer),
                 Err(_) => return Err(RunFault { answers }),
             }
@@ -294,7 +294,7 @@ impl Hub {
     }
 
     /// Carries one event out.
-    fn act(&mut self, alloc: Global, event: &Event) -> Result<Answer, AllocError>
+    fn carry_out(&mut self, alloc: Global, event: &Event) -> Result<Answer, AllocError>
         ensures ok { IfOk result (λ answer. Step self.old event.now answer self.new) }
         ensures err { OnErr result (self.new ≡ self.old) }
     {

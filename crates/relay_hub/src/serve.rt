@@ -59,7 +59,7 @@ pub fn receive(
         return Ok(Heard::Busy);
     }
     let served = match Request::read(alloc, text) {
-        Ok(request) => serve(alloc, epoch, room, sessions, number, place, request),
+        Ok(request) => perform(alloc, epoch, room, sessions, number, place, request),
         Err(RequestFault::Refused(refusal)) => {
             reply_at(sessions, number, place, refusal.reply());
             Ok(0)
@@ -73,7 +73,7 @@ pub fn receive(
 }
 
 /// Does what a request asks. How many lines folded because memory was refused.
-fn serve(
+fn perform(
     alloc: Global,
     epoch: u64,
     room: &mut Room,

@@ -19,7 +19,7 @@ returns-in-Ok-served-clause-step c =
     let place = c.place_in-place.result in
     elim c.match-read.branch [
       | in-Ok w ↦ answered c.args.epoch s place c.in-Ok-served.short c.args.text.now (Ok w.in-Ok.request) old new at c.if-is_full.ensures w.in-Ok.ensures.ok
-          (rw (w.room-is, w.sessions-is) (rw (sym w.served-is ∙ c.in-Ok-served.is) at w.serve-served.ensures.ok))
+          (rw (w.room-is, w.sessions-is) (rw (sym w.served-is ∙ c.in-Ok-served.is) at w.perform-served.ensures.ok))
       | in-Err-Refused w ↦
           let none : c.in-Ok-served.short ≡ 0 = cc (w.served-is, c.in-Ok-served.is) in
           let said = rw w.in-Err-Refused.field-0-is at w.reply.ensures in
