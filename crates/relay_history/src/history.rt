@@ -42,16 +42,16 @@ impl History {
     ghost use Rattle.std.specs.Prelude.{◌≡◌, ◌<◌, ◌≤◌, ◌↔◌, ◌⊎◌, IfOk, IsErrOf, IfSome, IsSome};
     ghost use Rattle.relay_history.specs.History.{begun, with_revision, oldest, Reaches, changes_since, IsHistory};
 
-    /// A history that holds no revision yet: the newest is `start`, and at most `h` will be held.
-    /// BadLimit: `h` is not 1 to [`MOST_REVISIONS`], or `start` is above [`LAST_REVISION`].
-    pub fn new(alloc: Global, h: u64, start: u64) -> Result<History, HistoryFault>
-        ensures ok { IfOk result (λ history. history ≡ begun h start) }
-        ensures bad_limit { IsErrOf result HistoryFault.BadLimit ↔ ((h < 1) ⊎ (MOST_REVISIONS < h) ⊎ (LAST_REVISION < start)) }
+    /// A history that holds no revision yet: the newest is `start`, and at most `limit` will be held.
+    /// BadLimit: `limit` is not 1 to [`MOST_REVISIONS`], or `start` is above [`LAST_REVISION`].
+    pub fn new(alloc: Global, limit: u64, start: u64) -> Result<History, HistoryFault>
+        ensures ok { IfOk result (λ history. history ≡ begun limit start) }
+        ensures bad_limit { IsErrOf result HistoryFault.BadLimit ↔ ((limit < 1) ⊎ (MOST_REVISIONS < limit) ⊎ (LAST_REVISION < start)) }
     {
-        if h < 1 || h > MOST_REVISIONS || start > LAST_REVISION {
+        if limit < 1 || limit > MOST_REVISIONS || start > LAST_REVISION {
             return Err(HistoryFault::BadLimit);
         }
-        let revisions = HeapCircularBuffer::with_capacity(alloc, h as usize)?;
+        let revisions = HeapCircularBuffer::with_capacity(alloc, limit as usize)?;
         Ok(History {
             newest: start,
             revisions,

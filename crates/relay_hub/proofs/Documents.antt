@@ -1,5 +1,5 @@
 -- The documents of a room as they become more, and what becomes of a room that has them.
-use Rattle.std.proofs.Common.{◌≡◌, ℕ, zero, suc, ◌+◌, ◌-◌, ◌<◌, ◌≤◌, List, [], ◌∷◌, ◌++◌, length, Some, refl, sym, ◌∙◌, ap, subst, arith, length-append, ◌⊎◌, inl, inr}
+use Rattle.std.proofs.Common.{◌≡◌, ℕ, zero, suc, ◌+◌, ◌-◌, ◌<◌, ◌≤◌, List, [], ◌∷◌, ◌++◌, length, take, Some, refl, sym, ◌∙◌, ap, subst, arith, length-append, ◌⊎◌, inl, inr}
 use Rattle.std.specs.Prelude.{slice_get, min}
 use Rattle.std.proofs.lemmas.Bool.{cases_lt}
 use Rattle.std.proofs.lemmas.Option.{slice_get-get_or}
@@ -14,7 +14,7 @@ use Rattle.relay_room.specs.Room.{State as Room, revision}
 use Rattle.relay_hub.specs.Log.{present_of}
 use Rattle.relay_hub.specs.Stands.{RoomStands}
 use Rattle.relay_hub.specs.Step.{GoesOn}
-use Rattle.relay_hub.proofs.Places.{slice_get-last}
+use Rattle.relay_hub.proofs.Places.{append_cases, slice_get-last}
 
 slice_get-older : {X : Type 0} (xs : List X) (d : X) (r : ℕ) → r < length xs → slice_get (xs ++ d ∷ []) r ≡ slice_get xs r
 slice_get-older [] d r h = absurd (omega arith)
@@ -61,6 +61,43 @@ goes_on_led most ds room next changes d h document history leads rev before at r
         rw (changes_since-with_revision rev changes past below reaches_with)
         (Leads-append (changes_since rev past) changes before room.document d (h.led rev before (sym (slice_get-older ds d rev older) ∙ at) earlier) leads)
 
+slice_get-taken : {X : Type 0} (n : ℕ) (xs : List X) (i : ℕ) (x : X) → slice_get (take n xs) i ≡ Some x → slice_get xs i ≡ Some x
+slice_get-taken zero xs i x h = absurd (cc h)
+slice_get-taken (suc n) [] i x h = absurd (cc h)
+slice_get-taken (suc n) (y ∷ ys) zero x h = h
+slice_get-taken (suc n) (y ∷ ys) (suc i) x h = slice_get-taken n ys i x h
+
+-- the changes of each revision that is still held lead from the document before it to its own
+goes_on_steps : (most : ℕ) (ds : List Document) (room next : Room) (changes : List Change) (d : Document) → RoomStands most ds room
+    → next.history ≡ with_revision changes room.history → Leads room.document changes d
+    → (rev : ℕ) (before after : Document) (cs : List Change) → slice_get (ds ++ d ∷ []) rev ≡ Some before → slice_get (ds ++ d ∷ []) (rev + 1) ≡ Some after
+    → slice_get next.history.changes (revision next - (rev + 1)) ≡ Some cs → Leads before cs after
+goes_on_steps most ds room next changes d h history leads rev before after cs at behind held =
+    go (append_cases ds (rev + 1) d after behind)
+  where
+    past : Past
+    past = room.history
+
+    held_with : (place : ℕ) → past.newest + 1 - (rev + 1) ≡ place → slice_get (changes ∷ past.changes) place ≡ Some cs
+    held_with place same =
+        let taken : slice_get (take past.limit (changes ∷ past.changes)) (past.newest + 1 - (rev + 1)) ≡ Some cs =
+        subst (λ (p : Past). slice_get p.changes (p.newest - (rev + 1)) ≡ Some cs) history held in
+        slice_get-taken past.limit (changes ∷ past.changes) place cs (ap (λ k. slice_get (take past.limit (changes ∷ past.changes)) k) (sym same) ∙ taken)
+
+    older : rev < length ds → slice_get ds rev ≡ Some before
+    older within = sym (slice_get-older ds d rev within) ∙ at
+
+    go : ((rev + 1 ≡ length ds) × (after ≡ d)) ⊎ ((rev + 1 < length ds) × (slice_get ds (rev + 1) ≡ Some after)) → Leads before cs after
+    go (inl last) =
+        let newest : Some changes ≡ Some cs = held_with 0 (omega (arith, last.0, h.made)) in
+        let same : changes ≡ cs = cc in
+        let present : Some before ≡ Some (present_of ds) = sym (older (omega (arith, last.0))) ∙ slice_get-present ds rev last.0 in
+        let is : before ≡ room.document = cc (present, h.document) in
+        rw (is, ← same, last.1) leads
+    go (inr earlier) =
+        let within = earlier.0 in
+        h.steps rev before after cs (older (omega (arith, within))) earlier.1 (held_with (suc (past.newest - (rev + 1))) (omega (arith, within, h.made)))
+
 -- a room that goes on has one document more
 pub goes_on_stands : (most : ℕ) (ds : List Document) (room next : Room) (patch : List Op) (d : Document) → RoomStands most ds room → GoesOn room patch d next → RoomStands most (ds ++ d ∷ []) next
 goes_on_stands most ds room next patch d h goes =
@@ -75,4 +112,5 @@ goes_on_stands most ds room next patch d h goes =
       limit = limit ∙ h.limit;
       held = omega (arith, count, newest, h.limit, h.held);
       led = goes_on_led most ds room next changes d h goes.document goes.history goes.leads;
+      steps = goes_on_steps most ds room next changes d h goes.history goes.leads;
     }

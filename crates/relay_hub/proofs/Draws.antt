@@ -1,9 +1,10 @@
 -- Draws: what is drawn reads as its message, was waiting, and is now heard.
 use Rattle.std.proofs.Common.{◌≡◌, ℕ, ◌==◌, Bool, true, false, List, [], ◌∷◌, ◌++◌, Option, Some, None, refl, sym, ap, subst, arith, append_assoc}
 use Rattle.std.specs.List.{AllByRecursion}
-use Rattle.std.specs.Prelude.{⊤, slice_get, option_map}
+use Rattle.std.specs.Prelude.{⊤, option_map}
 use Rattle.std.proofs.lemmas.Bool.Decides.{nat_tests}
 use Rattle.relay_outbox.specs.Outbox.{line, first_of, rest_of}
+use Rattle.relay_patch.specs.declared.bounds.TheConstants.Bounds.{DOCUMENT}
 use Rattle.relay_patch.specs.declared.op.Op.{Op}
 use Rattle.relay_patch.proofs.Fits.{within_flat}
 use Rattle.relay_view.specs.View.{View}
@@ -14,17 +15,17 @@ use Rattle.relay_proto.specs.declared.message.Message.TheVariants as message
 use Rattle.relay_proto.specs.declared.reply.Reply.{Reply}
 use Rattle.relay_proto.proofs.Writable.{patch_is_writable, snapshot_is_writable}
 use Rattle.relay_proto.proofs.Written.{reply_text_back}
-use Rattle.relay_room.specs.Room.{State as Room, IsRoom, document_bounds, revision}
+use Rattle.relay_room.specs.Room.{State as Room, IsRoom, revision}
 use Rattle.relay_tree.specs.Document.{Document}
-use Rattle.relay_hub.specs.Log.{Log, Watching, entry, home, documents, view_message, hearing, watching}
+use Rattle.relay_hub.specs.Log.{Log, Watching, entry, documents, view_message, hearing, watching}
 use Rattle.relay_hub.specs.Session.{session_with, snapshot_of, patch_message, message_of, message_text, ReadsBack, drawn, later}
-use Rattle.relay_hub.specs.Stands.{Beginning, LineStands, PatchFits, WatchStands, Follows, StandsFor}
-use Rattle.relay_hub.specs.State.{Group, State, place_of, session_in}
+use Rattle.relay_hub.specs.Stands.{PatchFits, WatchStands, Follows, StandsFor}
+use Rattle.relay_hub.specs.State.{Group, State, Home}
 use Rattle.relay_hub.specs.Step.{Draws, with_group}
+use Rattle.relay_hub.specs.declared.beginning.Beginning.{Beginning}
 use Rattle.relay_hub.specs.declared.event.Answer.TheVariants.{Drawn}
 use Rattle.relay_hub.specs.declared.event.Event.TheVariants.{Draw}
-use Rattle.relay_hub.specs.declared.session.Session.{Session}
-use Rattle.relay_hub.proofs.Frames.{session_changes, session_stands}
+use Rattle.relay_hub.proofs.Frames.{session_changes, here}
 use Rattle.relay_hub.proofs.Waiting.{line_drawn}
 
 -- the text reads as the message
@@ -38,7 +39,7 @@ front_reads : (room : Room) (pointers : Option View) (replies : List Reply) (pat
 front_reads room pointers (r ∷ replies) patches due is counts fit back = reply_text_back r counts.0
 front_reads room pointers [] (p ∷ patches) due is counts fit back = back (patch_is_writable p.0 p.1 fit.0.0 fit.0.1)
 front_reads room (Some v) [] [] true is counts fit back =
-    back (snapshot_is_writable (revision room) v room.document is.history.last (within_flat document_bounds room.document room.document (omega arith) is.within))
+    back (snapshot_is_writable (revision room) v room.document is.history.last (within_flat DOCUMENT room.document room.document (omega arith) is.within))
 front_reads room None [] [] true is counts fit back = tt
 front_reads room pointers [] [] false is counts fit back = tt
 
@@ -78,21 +79,20 @@ watch_drawn ds room number pointers [] (p ∷ patches) due k None reads h = absu
 watch_drawn ds room number pointers [] [] true k None reads h = absurd (cc h.2)
 watch_drawn ds room number pointers [] [] false k None reads h = h
 
--- a draw of session s, which is x, in the room at a place
-pub draw_stands : (b : Beginning) (E : Log) (old : State) (place : ℕ) (name : List ℕ) (g h : Group) (s : ℕ) (x : Session) (text : Option (List ℕ)) → StandsFor b E old
-    → slice_get old.rooms place ≡ Some (name, g) → place_of old s ≡ Some place → session_in g.sessions s ≡ Some x → Draws s (Some x) (Drawn text) g h
-    → StandsFor b (entry (Draw s) (Drawn text) ∷ E) (with_group place name h old)
-draw_stands b E old place name g h s x text stands at s_at is step =
-    let ds = documents E name in
-    let found = session_stands b E old s place name g stands s_at at in
-    let mine : (home E s ≡ Some name) × LineStands b.waiting x × WatchStands ds g.room x (watching b.epoch E s) = rw is at found in
+-- a draw of session s, which is at home
+pub draw_stands : (b : Beginning) (E : Log) (old : State) (s : ℕ) (mine : Home old s) (h : Group) (text : Option (List ℕ)) → StandsFor b E old
+    → Draws s (Some mine.session) (Drawn text) mine.room.group h → StandsFor b (entry (Draw s) (Drawn text) ∷ E) (with_group mine.room.place mine.room.name h old)
+draw_stands b E old s mine h text stands step =
+    let r = mine.room in
+    let x = mine.session in
     let o = x.outbox in
-    let reads = front_reads g.room x.view o.replies o.patches o.due (stands.rooms place name g at).is mine.1.replies mine.1.patches step.2 in
+    let at_home = here b E old s mine stands in
+    let reads = front_reads r.group.room x.view o.replies o.patches o.due (stands.rooms r.place r.name r.group r.there).is at_home.1.replies at_home.1.patches step.2 in
     let same : (s == s) ≡ true = grind (arith, nat_tests) in
-    session_changes b E (entry (Draw s) (Drawn text)) old place name g h stands at (λ other apart. refl)
-    (record { opened = refl; count = refl; home = λ t. refl })
+    session_changes b E (entry (Draw s) (Drawn text)) old r h stands (λ other apart. refl)
+    (record { opened = refl; count = refl; rooms = λ name. refl; home = λ t. refl })
     (λ other. refl)
-    s (drawn x) s_at mine.0 step.1
+    s (drawn x) mine.at at_home.0 step.1
     (λ t apart. let other : (s == t) ≡ false = grind (arith, nat_tests, apart) in rw other refl)
-    (line_drawn b.waiting x mine.1)
-    (rw (same, step.0) (watch_drawn ds g.room x.number x.view o.replies o.patches o.due o.k (watching b.epoch E s) reads mine.2))
+    (line_drawn b.waiting x at_home.1)
+    (rw (same, step.0) (watch_drawn (documents E r.name) r.group.room x.number x.view o.replies o.patches o.due o.limit (watching b.epoch E s) reads at_home.2))

@@ -1,36 +1,37 @@
 -- Edits: an accepted one gives its room one more document, of which all sessions are told; a refused one is answered alone.
 use Rattle.std.proofs.Common.{◌≡◌, ℕ, ◌-◌, Bool, true, false, List, [], ◌∷◌, ◌++◌, length, Option, Some, None, Result, Ok, Err, refl, sym, ◌∙◌, ap, arith}
-use Rattle.std.specs.Prelude.{slice_get, nat_lt, if◌then◌else◌}
+use Rattle.std.specs.Prelude.{if◌then◌else◌}
 use Rattle.std.specs.Result.{result_ok}
-use Rattle.relay_history.specs.declared.history.TheConstants.{LAST_REVISION}
 use Rattle.relay_patch.specs.Change.{all_changes}
-use Rattle.relay_patch.specs.Patch.{after}
 use Rattle.relay_patch.specs.declared.change.Change.{Change}
-use Rattle.relay_patch.specs.declared.fault.ApplyFault.{ApplyFault}
 use Rattle.relay_patch.specs.declared.op.Op.{Op}
 use Rattle.relay_view.specs.View.{View}
 use Rattle.relay_proto.specs.Request.{request_of_text}
-use Rattle.relay_proto.specs.Written.{IsCount, IsCountOrNull}
+use Rattle.relay_proto.specs.Written.{IsCount}
+use Rattle.relay_proto.specs.declared.refusal.Refusal.{Refusal}
 use Rattle.relay_proto.specs.declared.reply.Reply.TheVariants.{Done}
 use Rattle.relay_proto.specs.declared.request.Request.TheVariants.{Edit}
-use Rattle.relay_room.specs.Room.{State as Room, document_bounds, revision}
+use Rattle.relay_room.specs.Edit.{edited_at, edited}
+use Rattle.relay_room.specs.Room.{State as Room, revision}
 use Rattle.relay_room.specs.declared.fault.EditFault.{EditFault}
-use Rattle.relay_room.specs.declared.fault.EditFault.TheVariants.{Exhausted as NoRevisionLeft}
 use Rattle.relay_tree.specs.Document.{Document}
 use Rattle.relay_hub.specs.Log.{Log, Watching, entry, home, documents, present_of, next_document, asked_at_home, watching}
+use Rattle.relay_hub.specs.Refusal.{edit_refusal}
 use Rattle.relay_hub.specs.Session.{replied}
-use Rattle.relay_hub.specs.Stands.{Beginning, RoomStands, LineStands, WatchStands, SessionStands, StandsFor}
-use Rattle.relay_hub.specs.State.{Group, State, place_of, session_in}
-use Rattle.relay_hub.specs.Step.{applied, edited, edit_place, telling, ToldView, ToldAs, EditServed, with_group}
+use Rattle.relay_hub.specs.Stands.{RoomStands, LineStands, WatchStands, SessionStands, StandsFor}
+use Rattle.relay_hub.specs.State.{Group, State, Home, session_in}
+use Rattle.relay_hub.specs.Step.{telling, ToldView, ToldAs, EditServed, with_group}
+use Rattle.relay_hub.specs.declared.beginning.Beginning.{Beginning}
 use Rattle.relay_hub.specs.declared.event.Answer.TheVariants.{Heard}
 use Rattle.relay_hub.specs.declared.event.Event.TheVariants.{Receive}
 use Rattle.relay_hub.specs.declared.event.Heard.TheVariants.{Answered}
 use Rattle.relay_hub.specs.declared.session.Session.{Session}
+use Rattle.relay_hub.proofs.Counts.{HasCountsOrNull}
 use Rattle.relay_hub.proofs.Documents.{goes_on_stands}
 use Rattle.relay_hub.proofs.Follow.{folded_follows, told_follows}
-use Rattle.relay_hub.proofs.Frames.{room_changes, session_stands}
+use Rattle.relay_hub.proofs.Frames.{room_changes, session_stands, here}
 use Rattle.relay_hub.proofs.Places.{by_number}
-use Rattle.relay_hub.proofs.Requests.{here, served_reply, watch_replied}
+use Rattle.relay_hub.proofs.Requests.{served_reply, watch_replied}
 use Rattle.relay_hub.proofs.Rooms.{one_added, others_stay}
 use Rattle.relay_hub.proofs.Told.{IsTold, each_told}
 use Rattle.relay_hub.proofs.Waiting.{line_replied, line_folded, line_told}
@@ -39,14 +40,7 @@ use Rattle.relay_hub.proofs.Waiting.{line_replied, line_folded, line_told}
 same_edit : (most : ℕ) (ds : List Document) (room : Room) (patch : List Op) → RoomStands most ds room → next_document ds patch ≡ result_ok (edited room patch)
 same_edit most ds room patch h =
     let last : length ds - 1 ≡ revision room = omega (arith, h.made) in
-    ap (λ n. if nat_lt n LAST_REVISION then result_ok (after (present_of ds) patch document_bounds) else None) last
-    ∙ (ap (λ now. if nat_lt (revision room) LAST_REVISION then result_ok (after now patch document_bounds) else None) (sym h.document)
-    ∙ both (nat_lt (revision room) LAST_REVISION) (after room.document patch document_bounds))
-  where
-    both : (more : Bool) (r : Result Document ApplyFault) → (if more then result_ok r else None) ≡ result_ok (if more then applied r else Err NoRevisionLeft)
-    both true (Ok d) = refl
-    both true (Err fault) = refl
-    both false r = refl
+    ap (λ n. result_ok (edited_at n (present_of ds) patch)) last ∙ ap (λ now. result_ok (edited_at (revision room) now patch)) (sym h.document)
 
 -- Telling.
 
@@ -75,13 +69,25 @@ module _ (most k : ℕ) (ds : List Document) (d : Document) (room next : Room) (
   told_session before later name (Some x) None there w had has told h = absurd told
   told_session before later name None (Some y) there w had has told h = absurd told
 
--- An edit of session s, which is x, in the room at a place.
+-- An edit of session s, which is at home.
 
-module _ (b : Beginning) (E : Log) (old : State) (place : ℕ) (name : List ℕ) (g h : Group) (s short : ℕ) (x : Session) (text : List ℕ) (stands : StandsFor b E old)
-    (at : slice_get old.rooms place ≡ Some (name, g)) (s_at : place_of old s ≡ Some place) (is : session_in g.sessions s ≡ Some x)
+module _ (b : Beginning) (E : Log) (old : State) (s : ℕ) (mine : Home old s) (h : Group) (short : ℕ) (text : List ℕ) (stands : StandsFor b E old)
     (id : ℕ) (patch : List Op) (read : request_of_text text ≡ Ok (Edit id patch)) (i : IsCount id) where
+  abbrev g : Group
+  g = mine.room.group
+
+  abbrev x : Session
+  x = mine.session
+
+  abbrev ds : List Document
+  ds = documents E mine.room.name
+
+  -- the hub where the room of s is h
+  abbrev next : State
+  next = with_group mine.room.place mine.room.name h old
+
   -- an edit changes nobody's watching
-  same_watching : home E s ≡ Some name → (t : ℕ) → watching b.epoch (entry (Receive s text) (Heard (Answered short)) ∷ E) t ≡ watching b.epoch E t
+  same_watching : home E s ≡ Some mine.room.name → (t : ℕ) → watching b.epoch (entry (Receive s text) (Heard (Answered short)) ∷ E) t ≡ watching b.epoch E t
   same_watching s_home t =
       by_number (λ t c. (if c then asked_at t else watching b.epoch E t) ≡ watching b.epoch E t) s t
       (rw (s_home, read) refl)
@@ -90,32 +96,31 @@ module _ (b : Beginning) (E : Log) (old : State) (place : ℕ) (name : List ℕ)
       asked_at : ℕ → Option Watching
       asked_at t = asked_at_home b.epoch (documents E) (watching b.epoch E t) (home E t) text
 
-  edit_stands : (d : Document) → edited g.room patch ≡ Ok d → EditServed s x id patch (Ok d) short g h → StandsFor b (entry (Receive s text) (Heard (Answered short)) ∷ E) (with_group place name h old)
+  edit_stands : (d : Document) → edited g.room patch ≡ Ok d → EditServed s x id patch (Ok d) short g h → StandsFor b (entry (Receive s text) (Heard (Answered short)) ∷ E) next
   edit_stands d makes step =
       let e = entry (Receive s text) (Heard (Answered short)) in
-      let ds = documents E name in
-      let mine = here b E old place name g h s short x text stands at s_at is in
-      let was = stands.rooms place name g at in
-      let newer : documents (e ∷ E) name ≡ ds ++ d ∷ [] = one_added E s short text name d mine.0 (rw read (same_edit b.history ds g.room patch was ∙ ap result_ok makes)) in
+      let at_home = here b E old s mine stands in
+      let was = stands.rooms mine.room.place mine.room.name g mine.room.there in
+      let newer : documents (e ∷ E) mine.room.name ≡ ds ++ d ∷ [] = one_added E s short text mine.room.name d at_home.0 (rw read (same_edit b.history ds g.room patch was ∙ ap result_ok makes)) in
       let room : RoomStands b.history (ds ++ d ∷ []) h.room = goes_on_stands b.history ds g.room h.room patch d was step.0 in
       let answer = Done id (revision h.room) in
       let changes = all_changes g.room.document patch in
-      room_changes b E e old place name g h stands at (others_stay E s short text name mine.0)
-      (record { opened = refl; count = refl; home = λ t. refl })
+      room_changes b E e old mine.room h stands (others_stay E s short text mine.room.name at_home.0)
+      (record { opened = refl; count = refl; rooms = λ name. refl; home = λ t. refl })
       (rw newer room)
-      (λ t apart. same_watching mine.0 t)
+      (λ t apart. same_watching at_home.0 t)
       (λ t t_at.
-      let answered : SessionStands b.waiting (documents E) name g.room (session_in step.1 t) (home E t) (watching b.epoch E t) =
-      rw (step.2 t) (by_number (λ t c. SessionStands b.waiting (documents E) name g.room (if c then Some (replied answer x) else session_in g.sessions t) (home E t) (watching b.epoch E t)) s t
-      (mine.0, line_replied b.waiting x answer (i, room.is.history.last) mine.1, watch_replied ds g.room x answer (watching b.epoch E s) mine.2)
-      (λ apart. session_stands b E old t place name g stands t_at at)) in
-      rw (same_watching mine.0 t)
-      (told_session b.history b.waiting ds d g.room h.room changes was room (documents E) (documents (e ∷ E)) name (session_in step.1 t) (session_in h.sessions t) (home E t) (watching b.epoch E t)
+      let answered : SessionStands b.waiting (documents E) mine.room.name g.room (session_in step.1 t) (home E t) (watching b.epoch E t) =
+      rw (step.2.found t) (by_number (λ t c. SessionStands b.waiting (documents E) mine.room.name g.room (if c then Some (replied answer x) else session_in g.sessions t) (home E t) (watching b.epoch E t)) s t
+      (at_home.0, line_replied b.waiting x answer (i, room.is.history.last) at_home.1, watch_replied ds g.room x answer (watching b.epoch E s) at_home.2)
+      (λ apart. session_stands b E old t mine.room stands t_at)) in
+      rw (same_watching at_home.0 t)
+      (told_session b.history b.waiting ds d g.room h.room changes was room (documents E) (documents (e ∷ E)) mine.room.name (session_in step.1 t) (session_in h.sessions t) (home E t) (watching b.epoch E t)
       refl newer (each_told g.room.document changes h.room step.1 h.sessions short step.3 t) answered))
 
-  pub served_edit : (o : Result Document EditFault) → edited g.room patch ≡ o → ((fault : EditFault) → o ≡ Err fault → IsCountOrNull (edit_place fault)) → EditServed s x id patch o short g h
-      → StandsFor b (entry (Receive s text) (Heard (Answered short)) ∷ E) (with_group place name h old)
-  served_edit (Ok d) makes places step = edit_stands d makes step
-  served_edit (Err fault) makes places step =
-      served_reply b E old place name g h s short x text stands at s_at is (Ok (Edit id patch)) (Some id) step.1 (edit_place fault) read
-      (same_edit b.history (documents E name) g.room patch (stands.rooms place name g at) ∙ ap result_ok makes) refl step.3 i (places fault refl)
+  pub served_edit : (o : Result Document EditFault) → edited g.room patch ≡ o → ((fault : EditFault) (r : Refusal) → o ≡ Err fault → edit_refusal id fault ≡ Some r → HasCountsOrNull r) → EditServed s x id patch o short g h
+      → StandsFor b (entry (Receive s text) (Heard (Answered short)) ∷ E) next
+  served_edit (Ok d) makes counts step = edit_stands d makes step
+  served_edit (Err fault) makes counts step =
+      served_reply b E old s mine h short text stands (Ok (Edit id patch)) step.1 read
+      (same_edit b.history ds g.room patch (stands.rooms mine.room.place mine.room.name g mine.room.there) ∙ ap result_ok makes) refl step.3 (counts fault step.1 refl step.2)

@@ -1,16 +1,18 @@
 -- What the maps that the code keeps say of the hub that contracts see.
-use Rattle.std.proofs.Common.{◌≡◌, ℕ, ◌+◌, List, [], ◌∷◌, Option, Some, None, refl, sym, ◌∙◌, ap, subst, map, length, zero, suc}
-use Rattle.std.specs.Prelude.{slice_get, slice_set, option_map, string_bytes, nat_eq, ◌==◌, if◌then◌else◌}
+use Rattle.std.proofs.Common.{◌≡◌, ℕ, ◌+◌, true, arith, List, [], ◌∷◌, Option, Some, None, refl, sym, ◌∙◌, ap, subst, map, length, zero, suc}
+use Rattle.std.specs.Prelude.{slice_get, slice_set, nat_lt, option_map, string_bytes, nat_eq, ◌==◌, if◌then◌else◌}
 use Rattle.std.specs.Map.{lookup, values_of}
 use Rattle.std.specs.declared.string.String.{String}
+use Rattle.std.proofs.lemmas.Bool.Decides.{nat_tests}
 use Rattle.std.proofs.lemmas.Option.{slice_get-map}
 use Rattle.indexmap.specs.IndexMap.{set_value_at, with_value_at, values}
-use Rattle.relay_hub.specs.Call.{StepIf, ReceivesIf, DrawsIf}
+use Rattle.relay_outbox.specs.declared.outbox.TheConstants.{REPLIES}
+use Rattle.relay_hub.specs.Call.{StepIf, ReceivesIf, DrawsIf, HasRoom}
 use Rattle.relay_hub.specs.Kept.{group_of, named, hub_of}
 use Rattle.relay_hub.specs.State as plain
-use Rattle.relay_hub.specs.State.{State, IsHub, place_of, home_of, session_in}
+use Rattle.relay_hub.specs.State.{State, IsHub, place_of, place_named, home_of, session_in, session_of}
 use Rattle.relay_hub.specs.Step.{ChangesOnly, with_group, Step}
-use Rattle.relay_hub.specs.Telling.{found}
+use Rattle.relay_hub.specs.Telling.{room_and_session, may_hear}
 use Rattle.relay_hub.specs.declared.event.Answer.{Answer}
 use Rattle.relay_hub.specs.declared.event.Answer.TheVariants as answer
 use Rattle.relay_hub.specs.declared.event.Event.{Event}
@@ -20,6 +22,7 @@ use Rattle.relay_hub.specs.declared.hub.Hub.TheInside.{Inside}
 use Rattle.relay_hub.specs.declared.session.Session.{Session}
 use Rattle.relay_hub.proofs.Members.{step_is_hub}
 use Rattle.relay_hub.proofs.Places.{slice_set_same}
+use Rattle.relay_hub.proofs.Rooms.{some_named}
 
 -- the room at a place
 pub room_at : {A : Type 0} (es : List (String A × Group)) (i : ℕ) (key : String A) (g : Group) → slice_get es i ≡ Some (key, g)
@@ -28,10 +31,10 @@ room_at es i key g h = slice_get-map named es i ∙ ap (option_map named) h
 
 -- the room and the session of a number, once its place is known
 pub found_home : (hub : State) (s place : ℕ) (home : List ℕ × plain.Group) → place_of hub s ≡ Some place → slice_get hub.rooms place ≡ Some home
-    → found hub s ≡ option_map (λ x. (home.1.room, x)) (session_in home.1.sessions s)
+    → room_and_session hub s ≡ option_map (λ x. (home.1.room, x)) (session_in home.1.sessions s)
 found_home hub s place home h k = rw (h, k) refl
 
--- Writes.
+-- Writes, and the room of a session that is open.
 
 -- where a group was written, its name stays
 pub record Written {A : Type 0} (es : List (String A × Group)) (i : ℕ) (old new : Group) : Type 0 where
@@ -46,21 +49,77 @@ written (e ∷ es) (suc i) old new h =
     let rest = written es i old new h in
     record { name = rest.name; was = rest.was; is = ap (λ rooms. named e ∷ rooms) rest.is }
 
+gone : {A : Type 0} (es : List (String A × Group)) (i : ℕ) → slice_get (values_of es) i ≡ None → slice_get (map named es) i ≡ None
+gone [] i h = refl
+gone (e ∷ es) zero h = absurd (cc h)
+gone (e ∷ es) (suc i) h = gone es i h
+
+-- there is a room at the place of a name
+pub never_unnamed : {A : Type 0} (es : List (String A × Group)) (name : List ℕ) (i : ℕ) → place_named name (map named es) ≡ Some i → slice_get (values_of es) i ≡ None → ⊥
+never_unnamed es name i found none =
+    let room = some_named (map named es) name i found in
+    absurd (cc (gone es i none, room.1))
+
+module _ (h : Inside) (s i : ℕ) (is : IsHub (hub_of h)) (at : place_of (hub_of h) s ≡ Some i) where
+  home : (name : List ℕ) × (g : plain.Group) × (x : Session) × (slice_get (hub_of h).rooms i ≡ Some (name, g)) × (session_in g.sessions s ≡ Some x)
+  home =
+      let found = is.homes s i at in
+      let r = found.room in
+      let both : Some r.place ≡ Some i = sym found.at ∙ at in
+      let same : r.place ≡ i = cc in
+      (r.name, r.group, found.session, subst (λ p. slice_get (hub_of h).rooms p ≡ Some (r.name, r.group)) same r.there, found.is)
+
+  -- there is a room at its place
+  pub never_missing : slice_get (values h.rooms) i ≡ None → ⊥
+  never_missing none = absurd (cc (gone h.rooms.entries i none, home.3))
+
+  pub never_no_entry : slice_get h.rooms.entries i ≡ None → ⊥
+  never_no_entry none = let no = slice_get-map named h.rooms.entries i ∙ ap (option_map named) none in absurd (cc (no, home.3))
+
+  pub entry_session : (name : List ℕ) (g : Group) → slice_get (hub_of h).rooms i ≡ Some (name, group_of g) → (x : Session) × (session_in g.sessions.items s ≡ Some x)
+  entry_session name g there =
+      let both : ◌≡◌ {A = Option (List ℕ × plain.Group)} (Some (home.0, home.1)) (Some (name, group_of g)) = sym home.3 ∙ there in
+      let one : ◌≡◌ {A = List ℕ × plain.Group} (home.0, home.1) (name, group_of g) = cc in
+      (home.2, subst (λ (k : plain.Group). session_in k.sessions s ≡ Some home.2) (ap (λ (r : List ℕ × plain.Group). r.1) one) home.4)
+
+  module _ (g : Group) (there : slice_get (values h.rooms) i ≡ Some g) where
+    is_group : home.1 ≡ group_of g
+    is_group =
+        let w = written h.rooms.entries i g g there in
+        let both : ◌≡◌ {A = Option (List ℕ × plain.Group)} (Some (home.0, home.1)) (Some (w.name, group_of g)) = sym home.3 ∙ w.was in
+        let one : ◌≡◌ {A = List ℕ × plain.Group} (home.0, home.1) (w.name, group_of g) = cc in
+        ap (λ (r : List ℕ × plain.Group). r.1) one
+
+    -- and it is there
+    pub session_there : (x : Session) × (session_in g.sessions.items s ≡ Some x)
+    session_there = (home.2, subst (λ (k : plain.Group). session_in k.sessions s ≡ Some home.2) is_group home.4)
+
+    pub session_is : session_of (hub_of h) s ≡ session_in g.sessions.items s
+    session_is = rw (at, home.3, is_group) refl
+
+    pub hears : HasRoom g.sessions.items s → may_hear (session_of (hub_of h) s) ≡ true
+    hears space =
+        let x = session_there in
+        let fits : nat_lt (length x.0.outbox.replies) REPLIES ≡ true = grind (arith, nat_tests, space x.0 x.1) in
+        rw (session_is, x.1) fits
+
+-- Steps.
+
 -- the hub where the group at a place was written
 abbrev pub hub_with : Inside → ℕ → Group → State
-hub_with h i g = hub_of (record { epoch = h.epoch; next = h.next; history = h.history; waiting = h.waiting; rooms = with_value_at h.rooms i g; homes = h.homes })
+hub_with h i g = hub_of (record { made = h.made; next = h.next; rooms = with_value_at h.rooms i g; homes = h.homes })
 
 -- the same, with another list of homes
 abbrev pub hub_closed : Inside → ℕ → Group → List (ℕ × ℕ) → State
-hub_closed h i g homes = record { epoch = h.epoch; next = h.next; history = h.history; waiting = h.waiting; rooms = map named (set_value_at h.rooms.entries i g); homes = homes }
+hub_closed h i g homes = record { made = h.made; next = h.next; rooms = map named (set_value_at h.rooms.entries i g); homes = homes }
 
 hub_with-is : (h : Inside) (i : ℕ) (old new : Group) (w : Written h.rooms.entries i old new) → hub_with h i new ≡ with_group i w.name (group_of new) (hub_of h)
 hub_with-is h i old new w =
-    ap (λ rooms. record { epoch = h.epoch; next = h.next; history = h.history; waiting = h.waiting; rooms = rooms; homes = h.homes.entries }) w.is
+    ap (λ rooms. record { made = h.made; next = h.next; rooms = rooms; homes = h.homes.entries }) w.is
 
 with_group_same : (hub : State) (i : ℕ) (name : List ℕ) (g : plain.Group) → slice_get hub.rooms i ≡ Some (name, g) → with_group i name g hub ≡ hub
 with_group_same hub i name g h =
-    ap (λ rooms. record { epoch = hub.epoch; next = hub.next; history = hub.history; waiting = hub.waiting; rooms = rooms; homes = hub.homes }) (slice_set_same hub.rooms i (name, g) h)
+    ap (λ rooms. record { made = hub.made; next = hub.next; rooms = rooms; homes = hub.homes }) (slice_set_same hub.rooms i (name, g) h)
 
 -- what is done in a session's room, or nothing, is a step where it is one in the room
 module _ (h : Inside) (s i : ℕ) (old new : Group) (home : place_of (hub_of h) s ≡ Some i) (there : slice_get (values h.rooms) i ≡ Some old) where
@@ -69,7 +128,7 @@ module _ (h : Inside) (s i : ℕ) (old new : Group) (home : place_of (hub_of h) 
       let w = written h.rooms.entries i old new there in
       hub_with-is h i old new w ∙ (ap (λ g. with_group i w.name g (hub_of h)) same ∙ with_group_same (hub_of h) i w.name (group_of old) w.was)
 
-  pub receives : (text : List ℕ) (answer : Option Answer) → ReceivesIf h.epoch s text answer (group_of old) (group_of new)
+  pub receives : (text : List ℕ) (answer : Option Answer) → ReceivesIf h.made.epoch s text answer (group_of old) (group_of new)
       → StepIf (hub_of h) (Receive s text) answer (hub_with h i new)
   receives text (Some answer) does =
       let w = written h.rooms.entries i old new there in
@@ -82,13 +141,7 @@ module _ (h : Inside) (s i : ℕ) (old new : Group) (home : place_of (hub_of h) 
       rw (home, w.was) (group_of new, does, hub_with-is h i old new w)
   draws None same = unchanged same
 
-  -- where the session is not in the room, a closing changes nothing
-  pub closes_nothing : session_in old.sessions.items s ≡ None → Step (hub_of h) (Close s) answer.NoSession (hub_with h i old)
-  closes_nothing none =
-      let w = written h.rooms.entries i old old there in
-      rw (home, w.was, none) (hub_with-is h i old old w ∙ with_group_same (hub_of h) i w.name (group_of old) w.was)
-
-  -- where it is, it goes from the room, and from the list of homes
+  -- a session that closes goes from the room, and from the list of homes
   pub closes : (homes : List (ℕ × ℕ)) (x : Session) → session_in old.sessions.items s ≡ Some x → ChangesOnly s None (group_of old) (group_of new)
       → ((t : ℕ) → lookup (nat_eq t) homes ≡ (if s == t then None else place_of (hub_of h) t)) → length homes + 1 ≡ length h.homes.entries
       → Step (hub_of h) (Close s) answer.Closed (hub_closed h i new homes)
@@ -96,7 +149,7 @@ module _ (h : Inside) (s i : ℕ) (old new : Group) (home : place_of (hub_of h) 
       let w = written h.rooms.entries i old new there in
       rw (home, w.was, is) (record {
         next = refl;
-        limits = (refl, refl, refl);
+        made = refl;
         left = group_of new;
         leaves = leaves;
         rooms = w.is;

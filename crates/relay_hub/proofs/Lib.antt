@@ -6,13 +6,13 @@ pub mod Told
 pub mod Documents
 pub mod Waiting
 pub mod Follow
+pub mod Counts
 pub mod Rooms
 pub mod Frames
 pub mod Requests
 pub mod Edits
 pub mod Draws
 pub mod Doors
-pub mod Counts
 pub mod Stands
 pub mod Watchers
 pub mod Members

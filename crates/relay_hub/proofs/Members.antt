@@ -1,32 +1,33 @@
--- Each step keeps a hub one: its numbers are below the next one, and a session stands in its own room alone.
-use Rattle.std.proofs.Common.{◌≡◌, ◌≢◌, ℕ, ◌≤◌, ◌==◌, inl, inr, Bool, true, false, List, [], ◌∷◌, Option, Some, None, Result, Ok, Err, refl, sym, ◌∙◌, ap, subst, arith}
-use Rattle.std.specs.Prelude.{slice_get, slice_set, nat_le, if◌then◌else◌}
-use Rattle.std.proofs.lemmas.Bool.Decides.{nat_tests}
+-- Each step keeps a hub one: its numbers are below the next one, and a session stands in its own room alone, and once.
+use Rattle.std.proofs.Common.{◌≡◌, ◌≢◌, ℕ, ◌≤◌, ◌==◌, ◌⊎◌, inl, inr, Bool, true, false, List, [], ◌∷◌, length, Option, Some, None, Result, Ok, Err, refl, sym, ◌∙◌, ap, subst, arith}
+use Rattle.std.specs.Prelude.{slice_get, slice_set, nat_le, IsSome, if◌then◌else◌}
+use Rattle.std.proofs.lemmas.Bool.Decides.{eqb_tells, nat_tests}
 use Rattle.relay_patch.specs.Change.{all_changes}
 use Rattle.relay_patch.specs.declared.op.Op.{Op}
 use Rattle.relay_view.specs.View.{View}
 use Rattle.relay_proto.specs.Request.{request_of_text}
 use Rattle.relay_proto.specs.declared.refusal.Refusal.{Refusal}
-use Rattle.relay_proto.specs.declared.reply.Reply.TheVariants.{Done, Refused}
+use Rattle.relay_proto.specs.declared.reply.Reply.TheVariants.{Done}
 use Rattle.relay_proto.specs.declared.request.Request.{Request}
 use Rattle.relay_proto.specs.declared.request.Request.TheVariants.{Edit, Watch, Resume, Unwatch}
-use Rattle.relay_proto.specs.declared.word.Word.TheVariants as word
 use Rattle.relay_room.specs.CatchUp.{caught_up}
+use Rattle.relay_room.specs.Edit.{edited}
 use Rattle.relay_room.specs.Room.{begun, revision}
 use Rattle.relay_room.specs.declared.catch_up.CatchUp.TheVariants.{Snapshot}
 use Rattle.relay_room.specs.declared.fault.EditFault.{EditFault}
 use Rattle.relay_tree.specs.Document.{Document, null}
+use Rattle.relay_hub.specs.Refusal.{refused, future_refusal}
 use Rattle.relay_hub.specs.Session.{replied, newcomer, watches, unwatches, resumes, drawn}
-use Rattle.relay_hub.specs.State.{Group, group, State, IsHub, place_of, place_named, session_in}
-use Rattle.relay_hub.specs.Step.{OnlyAt, edited, edit_place, EditServed, ResumeServed, Serves, Receives, Draws, with_group, InGroup, AtPlace, Enters, Opens, Closes, ClosesIn, ClosesGroup, ClosesAt, Step}
+use Rattle.relay_hub.specs.State.{Group, group, State, EachOnce, Home, IsHub, place_of, place_named, session_in}
+use Rattle.relay_hub.specs.Step.{OnlyAt, EditServed, ResumeServed, Serves, Receives, Draws, with_group, InGroup, AtPlace, Enters, Opens, Closes, ClosesIn, ClosesGroup, ClosesAt, Step}
 use Rattle.relay_hub.specs.declared.event.Answer.{Answer}
 use Rattle.relay_hub.specs.declared.event.Answer.TheVariants.{Opened, NotOpened, Heard, Drawn, Closed, NoSession}
 use Rattle.relay_hub.specs.declared.event.Event.{Event}
 use Rattle.relay_hub.specs.declared.event.Event.TheVariants.{Open, Receive, Draw, Close}
 use Rattle.relay_hub.specs.declared.event.Heard.TheVariants.{Answered, Busy}
 use Rattle.relay_hub.specs.declared.session.Session.{Session}
-use Rattle.relay_hub.proofs.Places.{by_number, by_finding, slice_set_cases, append_cases}
-use Rattle.relay_hub.proofs.Told.{each_told, none_told}
+use Rattle.relay_hub.proofs.Places.{by_number, by_finding, slice_set_cases, append_cases, slice_get-set, slice_get-set_other, slice_get-earlier, slice_get-last}
+use Rattle.relay_hub.proofs.Told.{each_told, none_told, some_told, once_told}
 
 -- each session stands in its own room alone
 abbrev StandAlone : State → Type 0
@@ -44,75 +45,138 @@ set_alone old new place name g h rooms others here p known h_g at t x is =
       | inr k ↦ others t p (h.members p known h_g k.1 t x is) k.0
     ]
 
--- no session is in the new room that was not in the old one
-abbrev NoneEnters : Group → Group → Type 0
-NoneEnters old new = (t : ℕ) → session_in old.sessions t ≡ None → session_in new.sessions t ≡ None
+-- each session stands once in its room
+abbrev StandOnce : State → Type 0
+StandOnce hub = (place : ℕ) (name : List ℕ) (g : Group) → slice_get hub.rooms place ≡ Some (name, g) → EachOnce g.sessions
+
+-- in one room that differs each stands once
+set_once : (old new : State) (place : ℕ) (name : List ℕ) (g : Group) → IsHub old → new.rooms ≡ slice_set old.rooms place (name, g) → EachOnce g.sessions → StandOnce new
+set_once old new place name g h rooms once p known k at =
+    elim (slice_set_cases old.rooms place p (name, g) (known, k) (ap (λ rooms. slice_get rooms p) (sym rooms) ∙ at)) [
+      | inl c ↦ rw (ap (λ (r : List ℕ × Group). r.1) c.1) once
+      | inr c ↦ h.once p known k c.1
+    ]
+
+-- one room differs, from which nobody went who is still at home there
+set_homes : (old new : State) (place : ℕ) (name : List ℕ) (was g : Group) → slice_get old.rooms place ≡ Some (name, was) → new.rooms ≡ slice_set old.rooms place (name, g)
+    → (t : ℕ) (home : Home old t) → place_of new t ≡ Some home.room.place → (home.room.place ≡ place → (y : Session) × (session_in g.sessions t ≡ Some y)) → Home new t
+set_homes old new place name was g at rooms t home still stays =
+    let r = home.room in
+    elim (eqb_tells r.place place) [
+      | inl same ↦
+          let y = stays same.1 in
+          let there : slice_get new.rooms r.place ≡ Some (name, g) = rw (rooms, same.1) (slice_get-set old.rooms place (name, was) (name, g) at) in
+          record { room = record { place = r.place; name = name; group = g; there = there }; session = y.0; at = still; is = y.1 }
+      | inr other ↦
+          let there : slice_get new.rooms r.place ≡ Some (r.name, r.group) = rw (rooms, slice_get-set_other old.rooms place r.place (name, g) other.1) r.there in
+          record { room = record { place = r.place; name = r.name; group = r.group; there = there }; session = home.session; at = still; is = home.is }
+    ]
+
+-- what stands at the place of a session's room
+same_home : (hub : State) (t place : ℕ) (name : List ℕ) (g : Group) (home : Home hub t) → slice_get hub.rooms place ≡ Some (name, g) → home.room.place ≡ place → session_in g.sessions t ≡ Some home.session
+same_home hub t place name g home at same =
+    let both : ◌≡◌ {A = Option (List ℕ × Group)} (Some (home.room.name, home.room.group)) (Some (name, g)) = sym home.room.there ∙ (ap (λ p. slice_get hub.rooms p) same ∙ at) in
+    let one : ◌≡◌ {A = List ℕ × Group} (home.room.name, home.room.group) (name, g) = cc in
+    subst (λ (k : Group). session_in k.sessions t ≡ Some home.session) (ap (λ (r : List ℕ × Group). r.1) one) home.is
+
+-- nobody comes into the room or leaves it, and each still stands once
+record Keeps (old new : Group) : Type 0 where
+  none : (t : ℕ) → session_in old.sessions t ≡ None → session_in new.sessions t ≡ None
+  some : (t : ℕ) (x : Session) → session_in old.sessions t ≡ Some x → IsSome (session_in new.sessions t)
+  once : EachOnce old.sessions → EachOnce new.sessions
+
+keeps_same : (old new : Group) → new ≡ old → Keeps old new
+keeps_same old new same = record {
+  none = λ t h. rw same h;
+  some = λ t x h. rw (same, h) refl;
+  once = λ h. rw same h;
+}
+
+some_one : {X : Type 0} (o : Option X) → IsSome o → (x : X) × (o ≡ Some x)
+some_one (Some x) h = (x, refl)
+some_one None h = absurd (cc h)
 
 -- who is in the new room was in the old one, and so is at home
-stays_home : (hub : State) (place : ℕ) (name : List ℕ) (old new : Group) → IsHub hub → slice_get hub.rooms place ≡ Some (name, old) → NoneEnters old new
+stays_home : (hub : State) (place : ℕ) (name : List ℕ) (old new : Group) → IsHub hub → slice_get hub.rooms place ≡ Some (name, old) → Keeps old new
     → (t : ℕ) (x : Session) → session_in new.sessions t ≡ Some x → place_of hub t ≡ Some place
-stays_home hub place name old new h at none t x is =
+stays_home hub place name old new h at keeps t x is =
     by_finding (place_of hub t ≡ Some place) (session_in old.sessions t)
-    (λ gone. absurd (cc (none t gone, is)))
+    (λ gone. absurd (cc (keeps.none t gone, is)))
     (λ y there. h.members place name old at t y there)
 
 in_group_is_hub : (old new : State) (place : ℕ) (answer : Answer) (Does : Group → Group → Type 0) (o : Option (List ℕ × Group)) → IsHub old
-    → ((g h : Group) → Does g h → NoneEnters g h) → slice_get old.rooms place ≡ o → InGroup place o old answer Does new → IsHub new
-in_group_is_hub old new place answer Does None h none at step = rw step.1 h
-in_group_is_hub old new place answer Does (Some home) h none at step =
+    → ((g h : Group) → Does g h → Keeps g h) → slice_get old.rooms place ≡ o → InGroup place o old answer Does new → IsHub new
+in_group_is_hub old new place answer Does None h keeps at step = rw step.1 h
+in_group_is_hub old new place answer Does (Some there) h keeps at step =
+    let next = with_group place there.0 step.0 old in
+    let kept = keeps there.1 step.0 step.1 in
     subst IsHub (sym step.2) (record {
+      made = h.made;
       below = h.below;
-      members = set_alone old (with_group place home.0 step.0 old) place home.0 step.0 h refl (λ t p e other. e)
-          (stays_home old place home.0 home.1 step.0 h at (none home.1 step.0 step.1));
+      homes = λ t p t_at.
+          let home = h.homes t p t_at in
+          set_homes old next place there.0 there.1 step.0 at refl t home home.at
+          (λ same. some_one (session_in step.0.sessions t) (kept.some t home.session (same_home old t place there.0 there.1 home at same)));
+      members = set_alone old next place there.0 step.0 h refl (λ t p e other. e) (stays_home old place there.0 there.1 step.0 h at kept);
+      once = set_once old next place there.0 step.0 h refl (kept.once (h.once place there.0 there.1 at));
     })
 
 at_home_is_hub : (old new : State) (answer : Answer) (Does : Group → Group → Type 0) (place : Option ℕ) → IsHub old
-    → ((g h : Group) → Does g h → NoneEnters g h) → AtPlace place old answer Does new → IsHub new
-at_home_is_hub old new answer Does None h none step = rw step.1 h
-at_home_is_hub old new answer Does (Some place) h none step = in_group_is_hub old new place answer Does (slice_get old.rooms place) h none refl step
+    → ((g h : Group) → Does g h → Keeps g h) → AtPlace place old answer Does new → IsHub new
+at_home_is_hub old new answer Does None h keeps step = rw step.1 h
+at_home_is_hub old new answer Does (Some place) h keeps step = in_group_is_hub old new place answer Does (slice_get old.rooms place) h keeps refl step
 
--- what is done in a room lets none in
+-- what is done in a room lets none in or out
 
-only_enters : (s : ℕ) (x y : Session) (xs ys : List Session) → session_in xs s ≡ Some x → OnlyAt s (Some y) xs ys → (t : ℕ) → session_in xs t ≡ None → session_in ys t ≡ None
-only_enters s x y xs ys e only t none =
-    rw (only t) (by_number (λ t b. session_in xs t ≡ None → (if b then Some y else session_in xs t) ≡ None) s t (λ absent. absurd (cc (e, absent))) (λ other is. is) none)
+keeps_only : (s : ℕ) (x y : Session) (old new : Group) → session_in old.sessions s ≡ Some x → OnlyAt s (Some y) old.sessions new.sessions → Keeps old new
+keeps_only s x y old new e only = record {
+  none = λ t none. rw (only.found t) (by_number (λ t b. session_in old.sessions t ≡ None → (if b then Some y else session_in old.sessions t) ≡ None) s t (λ absent. absurd (cc (e, absent))) (λ other is. is) none);
+  some = λ t z is. rw (only.found t) (by_number (λ t b. session_in old.sessions t ≡ Some z → IsSome (if b then Some y else session_in old.sessions t)) s t (λ there. refl) (λ other there. rw there refl) is);
+  once = only.once;
+}
 
-edit_enters : (s short id : ℕ) (x : Session) (patch : List Op) (o : Result Document EditFault) (old new : Group) → session_in old.sessions s ≡ Some x
-    → EditServed s x id patch o short old new → NoneEnters old new
-edit_enters s short id x patch (Err fault) old new e h t none =
-    only_enters s x (replied (Refused (Some id) h.1 (edit_place fault)) x) old.sessions new.sessions e h.3.1 t none
-edit_enters s short id x patch (Ok d) old new e h t none =
-    let changes = all_changes old.room.document patch in
-    none_told old.room.document changes new.room (session_in h.1 t) (session_in new.sessions t) (each_told old.room.document changes new.room h.1 new.sessions short h.3 t)
-    (only_enters s x (replied (Done id (revision new.room)) x) old.sessions h.1 e h.2 t none)
+edit_keeps : (s short id : ℕ) (x : Session) (patch : List Op) (o : Result Document EditFault) (old new : Group) → session_in old.sessions s ≡ Some x
+    → EditServed s x id patch o short old new → Keeps old new
+edit_keeps s short id x patch (Err fault) old new e h = keeps_only s x (replied (refused h.1) x) old new e h.3.1
+edit_keeps s short id x patch (Ok d) old new e h =
+    let before = old.room.document in
+    let changes = all_changes before patch in
+    let mid = group new.room h.1 in
+    let answered = keeps_only s x (replied (Done id (revision new.room)) x) old mid e h.2 in
+    let told = each_told before changes new.room h.1 new.sessions short h.3 in
+    record {
+      none = λ t none. none_told before changes new.room (session_in h.1 t) (session_in new.sessions t) (told t) (answered.none t none);
+      some = λ t z is.
+          let there = some_one (session_in h.1 t) (answered.some t z is) in
+          some_told before changes new.room (session_in h.1 t) (session_in new.sessions t) there.0 (told t) there.1;
+      once = λ once. once_told before changes new.room h.1 new.sessions short h.3 (answered.once once);
+    }
 
-resume_enters : (present past : Bool) (id rev s : ℕ) (pointers : View) (x : Session) (old new : Group) → session_in old.sessions s ≡ Some x
-    → ResumeServed present past id rev pointers s x old new → NoneEnters old new
-resume_enters false past id rev s pointers x old new e h t none = only_enters s x (resumes (revision old.room) id pointers Snapshot x) old.sessions new.sessions e h.1 t none
-resume_enters true false id rev s pointers x old new e h t none = only_enters s x (replied (Refused (Some id) word.Future None) x) old.sessions new.sessions e h.1 t none
-resume_enters true true id rev s pointers x old new e h t none =
-    only_enters s x (resumes (revision old.room) id pointers (caught_up old.room rev pointers) x) old.sessions new.sessions e h.2.1 t none
+resume_keeps : (present past : Bool) (id rev s : ℕ) (pointers : View) (x : Session) (old new : Group) → session_in old.sessions s ≡ Some x
+    → ResumeServed present past id rev pointers s x old new → Keeps old new
+resume_keeps false past id rev s pointers x old new e h = keeps_only s x (resumes (revision old.room) id pointers Snapshot x) old new e h.1
+resume_keeps true false id rev s pointers x old new e h = keeps_only s x (replied (refused (future_refusal id)) x) old new e h.1
+resume_keeps true true id rev s pointers x old new e h = keeps_only s x (resumes (revision old.room) id pointers (caught_up old.room rev pointers) x) old new e h.2.1
 
-serve_enters : (epoch s short : ℕ) (x : Session) (request : Result Request Refusal) (old new : Group) → session_in old.sessions s ≡ Some x
-    → Serves epoch s x request short old new → NoneEnters old new
-serve_enters epoch s short x (Err r) old new e h t none = only_enters s x (replied (Refused r.id r.fault r.at) x) old.sessions new.sessions e h.1.1 t none
-serve_enters epoch s short x (Ok (Watch id pointers)) old new e h t none = only_enters s x (watches id pointers x) old.sessions new.sessions e h.1.1 t none
-serve_enters epoch s short x (Ok (Unwatch id)) old new e h t none = only_enters s x (unwatches id x) old.sessions new.sessions e h.1.1 t none
-serve_enters epoch s short x (Ok (Resume id n rev pointers)) old new e h t none =
-    resume_enters (n == epoch) (nat_le rev (revision old.room)) id rev s pointers x old new e h.1 t none
-serve_enters epoch s short x (Ok (Edit id patch)) old new e h t none = edit_enters s short id x patch (edited old.room patch) old new e h t none
+serve_keeps : (epoch s short : ℕ) (x : Session) (request : Result Request Refusal) (old new : Group) → session_in old.sessions s ≡ Some x
+    → Serves epoch s x request short old new → Keeps old new
+serve_keeps epoch s short x (Err r) old new e h = keeps_only s x (replied (refused r) x) old new e h.1.1
+serve_keeps epoch s short x (Ok (Watch id pointers)) old new e h = keeps_only s x (watches id pointers x) old new e h.1.1
+serve_keeps epoch s short x (Ok (Unwatch id)) old new e h = keeps_only s x (unwatches id x) old new e h.1.1
+serve_keeps epoch s short x (Ok (Resume id n rev pointers)) old new e h = resume_keeps (n == epoch) (nat_le rev (revision old.room)) id rev s pointers x old new e h.1
+serve_keeps epoch s short x (Ok (Edit id patch)) old new e h = edit_keeps s short id x patch (edited old.room patch) old new e h
 
-receive_enters : (epoch s : ℕ) (o : Option Session) (text : List ℕ) (answer : Answer) (old new : Group) → session_in old.sessions s ≡ o
-    → Receives epoch s o text answer old new → NoneEnters old new
-receive_enters epoch s None text NoSession old new e h t none = rw h none
-receive_enters epoch s (Some x) text (Heard Busy) old new e h t none = rw h.1 none
-receive_enters epoch s (Some x) text (Heard (Answered short)) old new e h t none = serve_enters epoch s short x (request_of_text text) old new e h.1 t none
-receive_enters epoch s o text answer old new e h t none = absurd h
+receive_keeps : (epoch s : ℕ) (o : Option Session) (text : List ℕ) (answer : Answer) (old new : Group) → session_in old.sessions s ≡ o
+    → Receives epoch s o text answer old new → Keeps old new
+receive_keeps epoch s None text NoSession old new e h = keeps_same old new h
+receive_keeps epoch s (Some x) text (Heard Busy) old new e h = keeps_same old new h.1
+receive_keeps epoch s (Some x) text (Heard (Answered short)) old new e h = serve_keeps epoch s short x (request_of_text text) old new e h.1
+receive_keeps epoch s o text answer old new e h = absurd h
 
-draw_enters : (s : ℕ) (o : Option Session) (answer : Answer) (old new : Group) → session_in old.sessions s ≡ o → Draws s o answer old new → NoneEnters old new
-draw_enters s None NoSession old new e h t none = rw h none
-draw_enters s (Some x) (Drawn text) old new e h t none = only_enters s x (drawn x) old.sessions new.sessions e h.1.1 t none
-draw_enters s o answer old new e h t none = absurd h
+draw_keeps : (s : ℕ) (o : Option Session) (answer : Answer) (old new : Group) → session_in old.sessions s ≡ o → Draws s o answer old new → Keeps old new
+draw_keeps s None NoSession old new e h = keeps_same old new h
+draw_keeps s (Some x) (Drawn text) old new e h = keeps_only s x (drawn x) old new e h.1.1
+draw_keeps s o answer old new e h = absurd h
 
 -- a newcomer
 
@@ -138,14 +202,14 @@ joins_alone old new name n place i h number home step =
     let g = step.2 in
     set_alone old new i step.1 step.3 h step.5 (λ t p at other. opens_stays old new n place t p h number home at)
     (λ t x is. rw (home t) (by_number
-    (λ t b. (if b then Some (newcomer old.epoch (revision g.room) n old.waiting) else session_in g.sessions t) ≡ Some x → (if b then Some place else place_of old t) ≡ Some i) n t
-    (λ here. ap Some step.0) (λ other there. h.members i step.1 g step.4 t x there) (sym (step.6.1 t) ∙ is)))
+    (λ t b. (if b then Some (newcomer old.made.epoch (revision g.room) n old.made.waiting) else session_in g.sessions t) ≡ Some x → (if b then Some place else place_of old t) ≡ Some i) n t
+    (λ here. ap Some step.0) (λ other there. h.members i step.1 g step.4 t x there) (sym (step.6.1.found t) ∙ is)))
 
 founds_alone : (old new : State) (name : List ℕ) (n place : ℕ) → IsHub old → n ≡ old.next
     → ((t : ℕ) → place_of new t ≡ (if n == t then Some place else place_of old t)) → Enters n name None old place new → StandAlone new
 founds_alone old new name n place h number home step p known g at t x is =
-    let first = newcomer old.epoch 0 n old.waiting in
-    let room : List ℕ × Group = (name, group (begun null 0 old.history) (first ∷ [])) in
+    let first = newcomer old.made.epoch 0 n old.made.waiting in
+    let room : List ℕ × Group = (name, group (begun null 0 old.made.history) (first ∷ [])) in
     elim (append_cases old.rooms p room (known, g) (ap (λ rooms. slice_get rooms p) (sym step.1) ∙ at)) [
       | inl k ↦
           let there : session_in (first ∷ []) t ≡ Some x = ap (λ (r : List ℕ × Group). session_in r.1.sessions t) (sym k.1) ∙ is in
@@ -159,24 +223,113 @@ enters_alone : (old new : State) (name : List ℕ) (n place : ℕ) (o : Option �
 enters_alone old new name n place (Some i) h number home step = joins_alone old new name n place i h number home step
 enters_alone old new name n place None h number home step = founds_alone old new name n place h number home step
 
+enters_once : (old new : State) (name : List ℕ) (n place : ℕ) (o : Option ℕ) → IsHub old → Enters n name o old place new → StandOnce new
+enters_once old new name n place (Some i) h step = set_once old new i step.1 step.3 h step.5 (step.6.1.once (h.once i step.1 step.2 step.4))
+enters_once old new name n place None h step = λ p known g at.
+    let first = newcomer old.made.epoch 0 n old.made.waiting in
+    let room : List ℕ × Group = (name, group (begun null 0 old.made.history) (first ∷ [])) in
+    elim (append_cases old.rooms p room (known, g) (ap (λ rooms. slice_get rooms p) (sym step.1) ∙ at)) [
+      | inl k ↦ rw (ap (λ (r : List ℕ × Group). r.1) k.1) (refl, tt)
+      | inr k ↦ h.once p known g k.1
+    ]
+
+-- who is at home after an opening is the newcomer, or was before
+home_cases : (old new : State) (n place t p : ℕ) → ((t : ℕ) → place_of new t ≡ (if n == t then Some place else place_of old t)) → place_of new t ≡ Some p
+    → ((n ≡ t) × (p ≡ place)) ⊎ ((n ≢ t) × (place_of old t ≡ Some p))
+home_cases old new n place t p home at =
+    let found : (if n == t then Some place else place_of old t) ≡ Some p = sym (home t) ∙ at in
+    elim (eqb_tells n t) [
+      | inl same ↦ let here : Some place ≡ Some p = rw same.0 at found in inl (same.1, cc)
+      | inr other ↦ let there : place_of old t ≡ Some p = rw other.0 at found in inr (other.1, there)
+    ]
+
+enters_homes : (old new : State) (name : List ℕ) (n place : ℕ) (o : Option ℕ) → IsHub old → n ≡ old.next
+    → ((t : ℕ) → place_of new t ≡ (if n == t then Some place else place_of old t)) → Enters n name o old place new
+    → (t p : ℕ) → place_of new t ≡ Some p → Home new t
+enters_homes old new name n place (Some i) h number home step t p at =
+    let g = step.2 in
+    let k = step.3 in
+    let x = newcomer old.made.epoch (revision g.room) n old.made.waiting in
+    elim (home_cases old new n place t p home at) [
+      | inl mine ↦
+          let here : p ≡ i = mine.1 ∙ step.0 in
+          let test : (n == t) ≡ true = grind (arith, nat_tests, mine.0) in
+          record {
+            room = record { place = p; name = step.1; group = k; there = rw (here, step.5) (slice_get-set old.rooms i (step.1, g) (step.1, k) step.4) };
+            session = x;
+            at = at;
+            is = rw (step.6.1.found t, test) refl;
+          }
+      | inr other ↦
+          let was = h.homes t p other.1 in
+          let still : place_of new t ≡ Some was.room.place = opens_stays old new n place t was.room.place h number home was.at in
+          set_homes old new i step.1 g k step.4 step.5 t was still
+          (λ same.
+          let test : (n == t) ≡ false = grind (arith, nat_tests, other.0) in
+          (was.session, rw (step.6.1.found t, test) (same_home old t i step.1 g was step.4 same)))
+    ]
+enters_homes old new name n place None h number home step t p at =
+    let x = newcomer old.made.epoch 0 n old.made.waiting in
+    let g = group (begun null 0 old.made.history) (x ∷ []) in
+    elim (home_cases old new n place t p home at) [
+      | inl mine ↦
+          let here : p ≡ length old.rooms = mine.1 ∙ step.0 in
+          let test : (n == t) ≡ true = grind (arith, nat_tests, mine.0) in
+          record {
+            room = record { place = p; name = name; group = g; there = rw (here, step.1) (slice_get-last old.rooms (name, g)) };
+            session = x;
+            at = at;
+            is = rw test refl;
+          }
+      | inr other ↦
+          let was = h.homes t p other.1 in
+          let r = was.room in
+          record {
+            room = record { place = r.place; name = r.name; group = r.group; there = rw step.1 (slice_get-earlier old.rooms (name, g) (r.name, r.group) r.place r.there) };
+            session = was.session;
+            at = opens_stays old new n place t r.place h number home was.at;
+            is = was.is;
+          }
+    ]
+
 open_is_hub : (old new : State) (name : List ℕ) (n : ℕ) → IsHub old → Opens old name n new → IsHub new
 open_is_hub old new name n h step = record {
+  made = rw step.made h.made;
   below = opens_below old new name n h step;
+  homes = enters_homes old new name n step.place (place_named name old.rooms) h step.number step.home step.enters;
   members = enters_alone old new name n step.place (place_named name old.rooms) h step.number step.home step.enters;
+  once = enters_once old new name n step.place (place_named name old.rooms) h step.enters;
 }
 
 -- a session that goes
 
+otherwise : {X : Type 0} (b : Bool) (u v w : X) → b ≡ false → w ≡ (if b then u else v) → w ≡ v
+otherwise true u v w other is = absurd (cc other)
+otherwise false u v w other is = is
+
 closes_is_hub : (old new : State) (s place : ℕ) (name : List ℕ) (g : Group) → IsHub old → place_of old s ≡ Some place → slice_get old.rooms place ≡ Some (name, g)
     → Closes s place name g old new → IsHub new
 closes_is_hub old new s place name g h home at step = record {
+  made = rw step.made h.made;
+  homes = λ t p t_at.
+      let found : (if s == t then None else place_of old t) ≡ Some p = sym (step.home t) ∙ t_at in
+      elim (eqb_tells s t) [
+        | inl same ↦ let none : None ≡ Some p = rw same.0 at found in absurd (cc none)
+        | inr other ↦
+            let before : place_of old t ≡ Some p = rw other.0 at found in
+            let was = h.homes t p before in
+            let still : place_of new t ≡ Some was.room.place = otherwise (s == t) None (place_of old t) (place_of new t) other.0 (step.home t) ∙ was.at in
+            set_homes old new place name g step.left at step.rooms t was still
+            (λ same. (was.session, otherwise (s == t) None (session_in g.sessions t) (session_in step.left.sessions t) other.0 (step.leaves.1.found t) ∙ same_home old t place name g was at same))
+      ];
+  once = set_once old new place name step.left h step.rooms (step.leaves.1.once (h.once place name g at));
   below = λ t late. rw (step.home t) (by_number (λ t b. place_of old t ≡ None → (if b then None else place_of old t) ≡ None) s t (λ e. refl) (λ other e. e)
       (h.below t (omega (arith, late, step.next))));
   members = set_alone old new place name step.left h step.rooms
       (λ t p is other. rw (step.home t) (by_number (λ t b. place_of old t ≡ Some p → (if b then None else place_of old t) ≡ Some p) s t
       (λ e. let same : Some p ≡ Some place = sym e ∙ home in absurd (other cc)) (λ apart e. e) is))
       (λ t x is. rw (step.home t) (by_number (λ t b. (if b then None else session_in g.sessions t) ≡ Some x → (if b then None else place_of old t) ≡ Some place) s t
-      (λ e. absurd (cc e)) (λ apart e. h.members place name g at t x e) (sym (step.leaves.1 t) ∙ is)));
+      (λ e. absurd (cc e)) (λ apart e. h.members place name g at t x e) (sym (step.leaves.1.found t) ∙ is)));
 }
 
 close_in_is_hub : (old new : State) (s place : ℕ) (name : List ℕ) (g : Group) (o : Option Session) (answer : Answer) → IsHub old → place_of old s ≡ Some place
@@ -200,10 +353,10 @@ pub step_is_hub : (old new : State) (event : Event) (answer : Answer) → IsHub 
 step_is_hub old new (Open name) (Opened n) h step = open_is_hub old new name n h step.1
 step_is_hub old new (Open name) (NotOpened fault) h step = rw step.1 h
 step_is_hub old new (Receive s text) answer h step =
-    at_home_is_hub old new answer (λ g k. Receives old.epoch s (session_in g.sessions s) text answer g k) (place_of old s) h
-    (λ g k does. receive_enters old.epoch s (session_in g.sessions s) text answer g k refl does) step
+    at_home_is_hub old new answer (λ g k. Receives old.made.epoch s (session_in g.sessions s) text answer g k) (place_of old s) h
+    (λ g k does. receive_keeps old.made.epoch s (session_in g.sessions s) text answer g k refl does) step
 step_is_hub old new (Draw s) answer h step =
     at_home_is_hub old new answer (λ g k. Draws s (session_in g.sessions s) answer g k) (place_of old s) h
-    (λ g k does. draw_enters s (session_in g.sessions s) answer g k refl does) step
+    (λ g k does. draw_keeps s (session_in g.sessions s) answer g k refl does) step
 step_is_hub old new (Close s) answer h step = close_is_hub old new s (place_of old s) answer h refl step
 step_is_hub old new (Open name) answer h step = absurd step

@@ -9,8 +9,8 @@ use Rattle.std.proofs.lemmas.Bool.Decides.{nat_tests}
 use Rattle.std.proofs.lemmas.List.{length-map}
 use Rattle.std.proofs.lemmas.Map.Entries.{length-keys_of}
 use Rattle.indexmap.proofs.MapLemmas.{Missing-position}
-use Rattle.relay_history.specs.declared.history.TheConstants.{LAST_REVISION}
 use Rattle.relay_proto.specs.RoomName.{is_room_name}
+use Rattle.relay_tree.specs.declared.count.TheConstants.{COUNT_MOST}
 use Rattle.relay_hub.specs.Kept.{named, rooms_of}
 use Rattle.relay_hub.specs.State.{State, place_named}
 use Rattle.relay_hub.specs.Step.{open_fault}
@@ -48,14 +48,14 @@ module _ (hub : State) (name : List ℕ) (right : is_room_name name ≡ true) wh
     sessions_full full = let f : nat_le SESSIONS_MOST (length hub.homes) ≡ true = grind (arith, nat_tests, full) in rw (right, free, f) refl
 
     module _ (few : length hub.homes < SESSIONS_MOST) where
-      pub exhausted : LAST_REVISION < hub.next → open_fault hub name ≡ Some Exhausted
+      pub exhausted : COUNT_MOST < hub.next → open_fault hub name ≡ Some Exhausted
       exhausted past =
           let f : nat_le SESSIONS_MOST (length hub.homes) ≡ false = grind (arith, nat_tests, few) in
-          let g : nat_lt LAST_REVISION hub.next ≡ true = grind (arith, nat_tests, past) in
+          let g : nat_lt COUNT_MOST hub.next ≡ true = grind (arith, nat_tests, past) in
           rw (right, free, f, g) refl
 
-      pub admitted : hub.next ≤ LAST_REVISION → open_fault hub name ≡ None
+      pub admitted : hub.next ≤ COUNT_MOST → open_fault hub name ≡ None
       admitted left =
           let f : nat_le SESSIONS_MOST (length hub.homes) ≡ false = grind (arith, nat_tests, few) in
-          let g : nat_lt LAST_REVISION hub.next ≡ false = grind (arith, nat_tests, left) in
+          let g : nat_lt COUNT_MOST hub.next ≡ false = grind (arith, nat_tests, left) in
           rw (right, free, f, g) refl

@@ -84,6 +84,12 @@ pub untested : (b : Bool) (n : ℕ) → (if b then Some n else None) ≡ None �
 untested true n h = absurd (cc h)
 untested false n h = refl
 
+pub position_within : {X : Type 0} (test : X → Bool) (xs : List X) (i : ℕ) → position test xs ≡ Some i → i < length xs
+position_within test xs i h =
+    let n = position_or_len test xs in
+    let t : (nat_lt n (length xs) ≡ true) × (i ≡ n) = tested (nat_lt n (length xs)) n i h in
+    grind (arith, nat_tests, t.0, t.1)
+
 pub position_set : {X : Type 0} (test : X → Bool) (xs : List X) (i : ℕ) (u v : X) → slice_get xs i ≡ Some u → test v ≡ test u → position test (slice_set xs i v) ≡ position test xs
 position_set test xs i u v at same =
     let is : get_or xs i u ≡ u = get_or_from_slice_get xs i u u at in
@@ -96,6 +102,14 @@ position_earlier test xs v i h =
     let other : (n == length xs) ≡ false = grind (arith, nat_tests, t.0) in
     let inside : nat_lt n (length (xs ++ v ∷ [])) ≡ true = grind (arith, nat_tests, t.0, length-append xs (v ∷ [])) in
     rw (position_or_len_push test xs v, other, inside) (ap Some (sym t.1))
+
+pub position_apart : {X : Type 0} (test : X → Bool) (xs : List X) (v : X) → position test xs ≡ None → test v ≡ false → position test (xs ++ v ∷ []) ≡ None
+position_apart test xs v h fails =
+    let n = position_or_len test xs in
+    let t : nat_lt n (length xs) ≡ false = untested (nat_lt n (length xs)) n h in
+    let here : (n == length xs) ≡ true = grind (arith, nat_tests, t, prefix_len-le-length (λ x. not (test x)) xs) in
+    let past : nat_lt (length xs + 1) (length (xs ++ v ∷ [])) ≡ false = grind (arith, nat_tests, length-append xs (v ∷ [])) in
+    rw (position_or_len_push test xs v, here, fails, past) refl
 
 pub position_last : {X : Type 0} (test : X → Bool) (xs : List X) (v : X) → position test xs ≡ None → test v ≡ true → position test (xs ++ v ∷ []) ≡ Some (length xs)
 position_last test xs v h passes =

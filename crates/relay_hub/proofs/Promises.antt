@@ -2,23 +2,30 @@
 use Rattle.std.proofs.Common.{◌≡◌, ℕ, List, Result, Ok}
 use Rattle.relay_hub.specs.Call.{StepIf, Runs, receiving, followed}
 use Rattle.relay_hub.specs.Log.{Log}
-use Rattle.relay_hub.specs.Stands.{Beginning, StandsFor, EachHoldsPresent, EachIsAtNamed}
+use Rattle.relay_hub.specs.Stands.{StandsFor, EachHoldsPresent, EachIsAtNamed}
 use Rattle.relay_hub.specs.State.{State}
+use Rattle.relay_hub.specs.Step.{Step}
 use Rattle.relay_hub.specs.Telling.{RefusesEdits}
+use Rattle.relay_hub.specs.declared.beginning.Beginning.{Beginning}
 use Rattle.relay_hub.specs.declared.event.Answer.{Answer}
+use Rattle.relay_hub.specs.declared.event.Answer.TheVariants.{Heard as HeardAnswer}
 use Rattle.relay_hub.specs.declared.event.Event.{Event}
 use Rattle.relay_hub.specs.declared.event.Event.TheVariants.{Receive}
 use Rattle.relay_hub.specs.declared.event.Heard.{Heard}
 use Rattle.relay_hub.specs.declared.event.Heard.TheVariants.{Answered}
 use Rattle.relay_hub.specs.declared.fault.HubFault.{HubFault}
 use Rattle.relay_hub.proofs.Stands.{runs_stand}
-use Rattle.relay_hub.proofs.Watchers.{exactly_held, each_held, no_trace}
+use Rattle.relay_hub.proofs.Watchers.{exactly_held, each_held, unread_no_trace, unmade_no_trace}
 
 -- an edit that is refused leaves no trace
 pub refuses_edits : (old new : State) (s : ℕ) (text : List ℕ) (result : Result Heard HubFault) → StepIf old (Receive s text) (receiving result) new
     → (short : ℕ) → result ≡ Ok (Answered short) → RefusesEdits s text old new
-refuses_edits old new s text result step short is id patch name g x fault there found read refused =
-    no_trace old new s short id text patch name g x fault there found read refused (rw is at step)
+refuses_edits old new s text result step short is =
+    let answered : Step old (Receive s text) (HeardAnswer (Answered short)) new = rw is at step in
+    record {
+      unread = λ name g x r there found read. unread_no_trace old new s short text name g x there found answered r read;
+      unmade = λ name g x id patch fault there found read refused. unmade_no_trace old new s short text name g x there found answered id patch fault read refused;
+    }
 
 -- after a run the hub stands for the log that goes on by it
 module _ {old new : State} {events : List Event} {answers : List Answer} (runs : Runs old events answers new) (b : Beginning) (E : Log) (stands : StandsFor b E old) where

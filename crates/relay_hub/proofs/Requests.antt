@@ -8,15 +8,13 @@ use Rattle.relay_history.specs.History.{Reaches, oldest}
 use Rattle.relay_outbox.specs.Outbox.{with_reply, cleared}
 use Rattle.relay_proto.specs.Client.{nothing, holds}
 use Rattle.relay_proto.specs.Request.{request_of_text}
-use Rattle.relay_proto.specs.Written.{IsCount, IsCountOrNull}
+use Rattle.relay_proto.specs.Written.{IsCount}
 use Rattle.relay_proto.specs.declared.refusal.Refusal.{Refusal}
 use Rattle.relay_proto.specs.declared.reply.How.TheVariants as how
 use Rattle.relay_proto.specs.declared.reply.Reply.{Reply}
-use Rattle.relay_proto.specs.declared.reply.Reply.TheVariants.{Refused, Watching, Resumed, Unwatched}
+use Rattle.relay_proto.specs.declared.reply.Reply.TheVariants.{Watching, Resumed, Unwatched}
 use Rattle.relay_proto.specs.declared.request.Request.{Request}
 use Rattle.relay_proto.specs.declared.request.Request.TheVariants.{Watch, Resume, Unwatch}
-use Rattle.relay_proto.specs.declared.word.Word.{Word}
-use Rattle.relay_proto.specs.declared.word.Word.TheVariants as word
 use Rattle.relay_room.specs.CatchUp.{caught_up, LeadsOn, Fits}
 use Rattle.relay_room.specs.Room.{State as Room, revision}
 use Rattle.relay_room.specs.declared.catch_up.CatchUp.{CatchUp}
@@ -25,16 +23,19 @@ use Rattle.relay_room.proofs.Missed.{caught_up_present}
 use Rattle.relay_tree.specs.Document.{Document, null}
 use Rattle.relay_view.specs.View.{View, view}
 use Rattle.relay_hub.specs.Log.{Log, Watching as Watched, begun, entry, home, documents, requested, asked, watching}
+use Rattle.relay_hub.specs.Refusal.{refused, future_refusal}
 use Rattle.relay_hub.specs.Session.{session_with, replied, watches, unwatches, resumes}
-use Rattle.relay_hub.specs.Stands.{Beginning, RoomStands, LineStands, WatchStands, StandsFor}
-use Rattle.relay_hub.specs.State.{Group, State, place_of, session_in}
+use Rattle.relay_hub.specs.Stands.{RoomStands, LineStands, WatchStands, StandsFor}
+use Rattle.relay_hub.specs.State.{Group, State, Home}
 use Rattle.relay_hub.specs.Step.{ChangesOnly, ResumeServed, with_group}
+use Rattle.relay_hub.specs.declared.beginning.Beginning.{Beginning}
 use Rattle.relay_hub.specs.declared.event.Answer.TheVariants.{Heard}
 use Rattle.relay_hub.specs.declared.event.Event.TheVariants.{Receive}
 use Rattle.relay_hub.specs.declared.event.Heard.TheVariants.{Answered}
 use Rattle.relay_hub.specs.declared.session.Session.{Session}
+use Rattle.relay_hub.proofs.Counts.{HasCountsOrNull}
 use Rattle.relay_hub.proofs.Follow.{Follows-snapshot, level_follows, resumed_follows}
-use Rattle.relay_hub.proofs.Frames.{session_changes, session_stands}
+use Rattle.relay_hub.proofs.Frames.{session_changes, here}
 use Rattle.relay_hub.proofs.Rooms.{none_added, others_stay}
 use Rattle.relay_hub.proofs.Waiting.{line_replied, line_folded, line_cleared, line_patched}
 
@@ -79,65 +80,79 @@ line_resumed most rev id v (Patch ops) x i r fits h =
     line_patched most rev ops (session_with x.number (Some v) (cleared (with_reply (Resumed id how.Patch) x.outbox))) (Some v) (r, fits) (line_cleared most (replied (Resumed id how.Patch) x) (Some v) (line_replied most x (Resumed id how.Patch) i h))
 line_resumed most rev id v Snapshot x i r fits h = line_folded most (replied (Resumed id how.Snapshot) x) (Some v) (line_replied most x (Resumed id how.Snapshot) i h)
 
--- A request of session s, which is x, in the room at a place.
+-- A request of session s, which is at home.
 
-module _ (b : Beginning) (E : Log) (old : State) (place : ℕ) (name : List ℕ) (g h : Group) (s short : ℕ) (x : Session) (text : List ℕ) (stands : StandsFor b E old)
-    (at : slice_get old.rooms place ≡ Some (name, g)) (s_at : place_of old s ≡ Some place) (is : session_in g.sessions s ≡ Some x) where
-  pub here : (home E s ≡ Some name) × LineStands b.waiting x × WatchStands (documents E name) g.room x (watching b.epoch E s)
-  here = let found = session_stands b E old s place name g stands s_at at in rw is at found
+module _ (b : Beginning) (E : Log) (old : State) (s : ℕ) (mine : Home old s) (h : Group) (short : ℕ) (text : List ℕ) (stands : StandsFor b E old) where
+  abbrev g : Group
+  g = mine.room.group
+
+  abbrev x : Session
+  x = mine.session
+
+  abbrev ds : List Document
+  ds = documents E mine.room.name
+
+  -- the hub where the room of s is h
+  abbrev next : State
+  next = with_group mine.room.place mine.room.name h old
+
+  was : RoomStands b.history ds g.room
+  was = stands.rooms mine.room.place mine.room.name g mine.room.there
+
+  at_home : (home E s ≡ Some mine.room.name) × LineStands b.waiting x × WatchStands ds g.room x (watching b.epoch E s)
+  at_home = here b E old s mine stands
 
   -- one that adds no document, and that changes the session alone
-  pub served : (r : Result Request Refusal) (y : Session) → request_of_text text ≡ r → requested (documents E name) r ≡ None → ChangesOnly s (Some y) g h → LineStands b.waiting y
-      → WatchStands (documents E name) g.room y (asked b.epoch (documents E name) (watching b.epoch E s) r)
-      → StandsFor b (entry (Receive s text) (Heard (Answered short)) ∷ E) (with_group place name h old)
+  pub served : (r : Result Request Refusal) (y : Session) → request_of_text text ≡ r → requested ds r ≡ None → ChangesOnly s (Some y) g h → LineStands b.waiting y
+      → WatchStands ds g.room y (asked b.epoch ds (watching b.epoch E s) r)
+      → StandsFor b (entry (Receive s text) (Heard (Answered short)) ∷ E) next
   served r y read none changes line watch =
       let e = entry (Receive s text) (Heard (Answered short)) in
-      let mine : (s == s) ≡ true = grind (arith, nat_tests) in
-      session_changes b E e old place name g h stands at (others_stay E s short text name here.0)
-      (record { opened = refl; count = refl; home = λ t. refl })
-      (none_added E s short text name here.0 (rw read none))
-      s y s_at here.0 changes
+      let same : (s == s) ≡ true = grind (arith, nat_tests) in
+      session_changes b E e old mine.room h stands (others_stay E s short text mine.room.name at_home.0)
+      (record { opened = refl; count = refl; rooms = λ name. refl; home = λ t. refl })
+      (none_added E s short text mine.room.name at_home.0 (rw read none))
+      s y mine.at at_home.0 changes
       (λ t apart. let other : (s == t) ≡ false = grind (arith, nat_tests, apart) in rw other refl)
       line
-      (rw (mine, here.0, read) watch)
+      (rw (same, at_home.0, read) watch)
 
-  pub served_reply : (r : Result Request Refusal) (id : Option ℕ) (w : Word) (n : Option ℕ) → request_of_text text ≡ r → requested (documents E name) r ≡ None
-      → asked b.epoch (documents E name) (watching b.epoch E s) r ≡ watching b.epoch E s → ChangesOnly s (Some (replied (Refused id w n) x)) g h → IsCountOrNull id → IsCountOrNull n
-      → StandsFor b (entry (Receive s text) (Heard (Answered short)) ∷ E) (with_group place name h old)
-  served_reply r id w n read none same changes i k =
-      served r (replied (Refused id w n) x) read none changes (line_replied b.waiting x (Refused id w n) (i, k) here.1)
-      (rw same (watch_replied (documents E name) g.room x (Refused id w n) (watching b.epoch E s) here.2))
+  pub served_reply : (r : Result Request Refusal) (why : Refusal) → request_of_text text ≡ r → requested ds r ≡ None
+      → asked b.epoch ds (watching b.epoch E s) r ≡ watching b.epoch E s → ChangesOnly s (Some (replied (refused why) x)) g h → HasCountsOrNull why
+      → StandsFor b (entry (Receive s text) (Heard (Answered short)) ∷ E) next
+  served_reply r why read none same changes counts =
+      served r (replied (refused why) x) read none changes (line_replied b.waiting x (refused why) counts at_home.1)
+      (rw same (watch_replied ds g.room x (refused why) (watching b.epoch E s) at_home.2))
 
   pub served_watch : (id : ℕ) (v : View) → request_of_text text ≡ Ok (Watch id v) → ChangesOnly s (Some (watches id v x)) g h → IsCount id
-      → StandsFor b (entry (Receive s text) (Heard (Answered short)) ∷ E) (with_group place name h old)
+      → StandsFor b (entry (Receive s text) (Heard (Answered short)) ∷ E) next
   served_watch id v read changes i =
       served (Ok (Watch id v)) (watches id v x) read refl changes
-      (line_folded b.waiting (replied (Watching id) x) (Some v) (line_replied b.waiting x (Watching id) i here.1))
-      (watch_begun b.history (documents E name) g.room v (stands.rooms place name g at) id x)
+      (line_folded b.waiting (replied (Watching id) x) (Some v) (line_replied b.waiting x (Watching id) i at_home.1))
+      (watch_begun b.history ds g.room v was id x)
 
   pub served_unwatch : (id : ℕ) → request_of_text text ≡ Ok (Unwatch id) → ChangesOnly s (Some (unwatches id x)) g h → IsCount id
-      → StandsFor b (entry (Receive s text) (Heard (Answered short)) ∷ E) (with_group place name h old)
+      → StandsFor b (entry (Receive s text) (Heard (Answered short)) ∷ E) next
   served_unwatch id read changes i =
       served (Ok (Unwatch id)) (unwatches id x) read refl changes
-      (line_cleared b.waiting (replied (Unwatched id) x) None (line_replied b.waiting x (Unwatched id) i here.1))
+      (line_cleared b.waiting (replied (Unwatched id) x) None (line_replied b.waiting x (Unwatched id) i at_home.1))
       (refl, refl, refl)
 
   pub served_resume : (id e rev : ℕ) (v : View) (present past : Bool) → request_of_text text ≡ Ok (Resume id e rev v) → (e == b.epoch) ≡ present → nat_le rev (revision g.room) ≡ past
-      → ResumeServed present past id rev v s x g h → IsCount id → StandsFor b (entry (Receive s text) (Heard (Answered short)) ∷ E) (with_group place name h old)
+      → ResumeServed present past id rev v s x g h → IsCount id → StandsFor b (entry (Receive s text) (Heard (Answered short)) ∷ E) next
   served_resume id e rev v false past read p q step i =
       served (Ok (Resume id e rev v)) (resumes (revision g.room) id v Snapshot x) read refl step
-      (line_folded b.waiting (replied (Resumed id how.Snapshot) x) (Some v) (line_replied b.waiting x (Resumed id how.Snapshot) i here.1))
-      (rw p (refl, Follows-snapshot b.history (documents E name) (begun v nothing) g.room (stands.rooms place name g at) tt))
+      (line_folded b.waiting (replied (Resumed id how.Snapshot) x) (Some v) (line_replied b.waiting x (Resumed id how.Snapshot) i at_home.1))
+      (rw p (refl, Follows-snapshot b.history ds (begun v nothing) g.room was tt))
   served_resume id e rev v true false read p q step i =
-      let room = stands.rooms place name g at in
-      let beyond : length (documents E name) ≤ rev = grind (arith, nat_tests, q, room.made) in
-      served_reply (Ok (Resume id e rev v)) (Some id) word.Future None read refl (rw (p, slice_get_past (documents E name) rev beyond) refl) step i tt
+      let room = was in
+      let beyond : length ds ≤ rev = grind (arith, nat_tests, q, room.made) in
+      served_reply (Ok (Resume id e rev v)) (future_refusal id) read refl (rw (p, slice_get_past ds rev beyond) refl) step (i, tt)
   served_resume id e rev v true true read p q step i =
-      let room = stands.rooms place name g at in
-      let ds = documents E name in
+      let room = was in
       let past : rev ≤ revision g.room = grind (arith, nat_tests, q) in
       let within : rev < length ds = omega (arith, past, room.made) in
       let found = slice_get-get_or ds rev null within in
       served (Ok (Resume id e rev v)) (resumes (revision g.room) id v (caught_up g.room rev v) x) read refl step.2
-      (line_resumed b.waiting (revision g.room) id v (caught_up g.room rev v) x i room.is.history.last step.1 here.1)
+      (line_resumed b.waiting (revision g.room) id v (caught_up g.room rev v) x i room.is.history.last step.1 at_home.1)
       (rw (p, found) (watch_resumed b.history ds g.room rev id v (get_or ds rev null) (caught_up g.room rev v) x room found past refl step.0))

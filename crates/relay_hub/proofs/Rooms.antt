@@ -1,5 +1,5 @@
 -- Rooms and their documents, told apart by name.
-use Rattle.std.proofs.Common.{◌≡◌, ◌≢◌, ℕ, Bool, true, false, List, [], ◌∷◌, ◌++◌, length, get_or, Some, None, refl, sym, ◌∙◌, ap, subst}
+use Rattle.std.proofs.Common.{◌≡◌, ◌≢◌, ℕ, zero, suc, ◌<◌, arith, Bool, true, false, List, [], ◌∷◌, ◌++◌, length, get_or, Some, None, refl, sym, ◌∙◌, ap, subst}
 use Rattle.std.specs.Prelude.{slice_get, slice_set, bytes_eq, if◌then◌else◌}
 use Rattle.std.proofs.lemmas.List.Quantifiers.{position-Some}
 use Rattle.std.proofs.lemmas.Option.{get_or_from_slice_get}
@@ -11,12 +11,12 @@ use Rattle.relay_hub.specs.State.{Group, place_named}
 use Rattle.relay_hub.specs.declared.event.Answer.TheVariants.{Heard}
 use Rattle.relay_hub.specs.declared.event.Event.TheVariants.{Receive}
 use Rattle.relay_hub.specs.declared.event.Heard.TheVariants.{Answered}
-use Rattle.relay_hub.proofs.Places.{position_set, position_earlier, position_last}
+use Rattle.relay_hub.proofs.Places.{position_set, position_within, position_apart, position_earlier, position_last}
 
 -- Names.
 
 -- cases on whether two names are the same
-by_name : (P : Bool → Type 0) (a b : List ℕ) → (a ≡ b → P true) → (a ≢ b → P false) → P (bytes_eq a b)
+pub by_name : (P : Bool → Type 0) (a b : List ℕ) → (a ≡ b → P true) → (a ≢ b → P false) → P (bytes_eq a b)
 by_name P a b same other = go (bytes_eq a b) (bytes_eq-Decides a b).0 (bytes_eq-Decides a b).1
   where
     go : (x : Bool) → (x ≡ true → a ≡ b) → (a ≡ b → x ≡ true) → P x
@@ -32,6 +32,20 @@ named_earlier rooms name v i h = position_earlier (λ room. bytes_eq name room.0
 
 pub named_last : (rooms : List (List ℕ × Group)) (name : List ℕ) (g : Group) → place_named name rooms ≡ None → place_named name (rooms ++ (name, g) ∷ []) ≡ Some (length rooms)
 named_last rooms name g h = position_last (λ room. bytes_eq name room.0) rooms (name, g) h ((bytes_eq-Decides name name).1 refl)
+
+-- a room of another name, put last, is not found
+pub named_apart : (rooms : List (List ℕ × Group)) (other name : List ℕ) (g : Group) → other ≢ name → place_named other rooms ≡ None → place_named other (rooms ++ (name, g) ∷ []) ≡ None
+named_apart rooms other name g apart h =
+    position_apart (λ room. bytes_eq other room.0) rooms (name, g) h (by_name (λ b. b ≡ false) other name (λ same. absurd (apart same)) (λ differ. refl))
+
+-- there is a room at the place of a name
+pub some_named : (rooms : List (List ℕ × Group)) (name : List ℕ) (i : ℕ) → place_named name rooms ≡ Some i → (room : List ℕ × Group) × (slice_get rooms i ≡ Some room)
+some_named rooms name i found = go rooms i (position_within (λ room. bytes_eq name room.0) rooms i found)
+  where
+    go : (rs : List (List ℕ × Group)) (i : ℕ) → i < length rs → (room : List ℕ × Group) × (slice_get rs i ≡ Some room)
+    go [] i h = absurd (omega arith)
+    go (r ∷ rs) zero h = (r, refl)
+    go (r ∷ rs) (suc i) h = go rs i (omega arith)
 
 -- the room at the place of a name has the name
 pub name_found : (rooms : List (List ℕ × Group)) (name known : List ℕ) (g : Group) (i : ℕ) → place_named name rooms ≡ Some i → slice_get rooms i ≡ Some (known, g) → known ≡ name

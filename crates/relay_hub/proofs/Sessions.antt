@@ -3,13 +3,13 @@ use Rattle.std.proofs.Common.{◌≡◌, ℕ, ◌<◌, ◌≤◌, ◌==◌, Bool
 use Rattle.std.specs.Bool.{MatchBool}
 use Rattle.std.specs.List.{position_or_len}
 use Rattle.std.specs.Option.{option_or}
-use Rattle.std.specs.Prelude.{is_some, slice_get, if◌then◌else◌, position, filter, nat_lt, nat_le, slice_set}
+use Rattle.std.specs.Prelude.{IsSome, slice_get, if◌then◌else◌, position, filter, nat_lt, nat_le, slice_set}
 use Rattle.std.proofs.lemmas.Bool.Decides.{eqb_tells, leb_tells, nat_tests}
 use Rattle.std.proofs.lemmas.List.Folds.{find-set, find_past, find_at, find-append}
 use Rattle.std.proofs.lemmas.Option.{slice_get_past, slice_get-get_or}
 use Rattle.relay_outbox.specs.declared.outbox.TheConstants.{REPLIES}
 use Rattle.relay_hub.specs.Call.{ChangesBy, HasRoom, IsFull}
-use Rattle.relay_hub.specs.State.{session_in, is_number}
+use Rattle.relay_hub.specs.State.{session_in, is_number, EachOnce}
 use Rattle.relay_hub.specs.Step.{OnlyAt}
 use Rattle.relay_hub.specs.declared.session.Session.{Session}
 use Rattle.relay_hub.proofs.Places.{by_number, tested, untested}
@@ -63,18 +63,38 @@ number_of-found (y ∷ ys) s x h =
 number_at : (xs : List Session) (s i : ℕ) (d : Session) → position (is_number s) xs ≡ Some i → (get_or xs i d).number ≡ s
 number_at xs s i d h = number_of-found xs s (get_or xs i d) (found_at xs s i h d)
 
--- whether there is a place says whether there is a session
-pub none_placed : (xs : List Session) (s : ℕ) (place : Option ℕ) → place ≡ position (is_number s) xs → is_some place ≡ false → session_in xs s ≡ None
-none_placed xs s None h gone = not_found xs s (sym h)
-none_placed xs s (Some i) h gone = absurd cc
+-- a session that is there has a place
+pub never_unplaced : (xs : List Session) (s : ℕ) → IsSome (session_in xs s) → position (is_number s) xs ≡ None → ⊥
+never_unplaced xs s there none =
+    let no : false ≡ true = rw (not_found xs s none) at there in
+    absurd (cc no)
 
-pub some_placed : (xs : List Session) (s : ℕ) (place : Option ℕ) → place ≡ position (is_number s) xs → is_some place ≡ true → (x : Session) × (session_in xs s ≡ Some x)
-some_placed xs s None h stands = absurd cc
-some_placed xs s (Some i) h stands = session_there xs s i (sym h)
+-- where all passes but one number
+abbrev IsOnly : ℕ → Option Session → List Session → List Session → Type 0
+IsOnly s x old new = (t : ℕ) → session_in new t ≡ (if s == t then x else session_in old t)
+
+-- a number that none has, the first has not
+none_there : (x : Session) (xs : List Session) (t : ℕ) → session_in (x ∷ xs) t ≡ None → ((x.number == t) ≡ false) × (session_in xs t ≡ None)
+none_there x xs t h = go (x.number == t) h
+  where
+    go : (b : Bool) → (if b then Some x else session_in xs t) ≡ None → (b ≡ false) × (session_in xs t ≡ None)
+    go true h = absurd (cc h)
+    go false h = (refl, h)
 
 -- A session is changed.
 
-session_in-set : (xs : List Session) (s i : ℕ) (y : Session) → position (is_number s) xs ≡ Some i → y.number ≡ s → OnlyAt s (Some y) xs (slice_set xs i y)
+-- one of the same number in its place
+none_set : (xs : List Session) (i : ℕ) (y d : Session) (t : ℕ) → y.number ≡ (get_or xs i d).number → session_in xs t ≡ None → session_in (slice_set xs i y) t ≡ None
+none_set [] i y d t e h = h
+none_set (x ∷ xs) zero y d t e h = let n = none_there x xs t h in rw (e, n.0) n.1
+none_set (x ∷ xs) (suc i) y d t e h = let n = none_there x xs t h in rw n.0 (none_set xs i y d t e n.1)
+
+once_set : (xs : List Session) (i : ℕ) (y d : Session) → y.number ≡ (get_or xs i d).number → EachOnce xs → EachOnce (slice_set xs i y)
+once_set [] i y d e h = tt
+once_set (x ∷ xs) zero y d e h = (rw e h.0, h.1)
+once_set (x ∷ xs) (suc i) y d e h = (none_set xs i y d x.number e h.0, once_set xs i y d e h.1)
+
+session_in-set : (xs : List Session) (s i : ℕ) (y : Session) → position (is_number s) xs ≡ Some i → y.number ≡ s → IsOnly s (Some y) xs (slice_set xs i y)
 session_in-set xs s i y h e t =
     let place = place_within xs s i h in
     elim (eqb_tells s t) [
@@ -91,7 +111,10 @@ pub set_changes : (xs : List Session) (s i : ℕ) (f : Session → Session) → 
 set_changes xs s i f keeps h d x e =
     let y = get_or xs i d in
     let number : (f y).number ≡ s = keeps y ∙ number_at xs s i d h in
-    subst (λ z. OnlyAt s (Some (f z)) xs (slice_set xs i (f y))) (same_session xs s i h d x e) (session_in-set xs s i (f y) h number)
+    record {
+      found = subst (λ z. IsOnly s (Some (f z)) xs (slice_set xs i (f y))) (same_session xs s i h d x e) (session_in-set xs s i (f y) h number);
+      once = once_set xs i (f y) d (keeps y);
+    }
 
 -- A session is taken away.
 
@@ -119,12 +142,27 @@ none_either : (b : Bool) → session_in [] 0 ≡ (if b then None else None)
 none_either true = refl
 none_either false = refl
 
+session_in-others : (xs : List Session) (s : ℕ) → IsOnly s None xs (others s xs)
+session_in-others [] s t = none_either (s == t)
+session_in-others (x ∷ xs) s t =
+    left_out (is_number s x) (is_number t x) (s == t)
+    (λ h. tells_same x.number s t h) (λ h k. tells_number x.number s t h k) x xs s t refl (session_in-others xs s t)
+
+once_others : (xs : List Session) (s : ℕ) → EachOnce xs → EachOnce (others s xs)
+once_others [] s h = tt
+once_others (x ∷ xs) s h = go (is_number s x) (once_others xs s h.1)
+  where
+    none : (b : Bool) → session_in xs x.number ≡ None → (if b then None else session_in xs x.number) ≡ None
+    none true e = refl
+    none false e = e
+
+    go : (b : Bool) → EachOnce (others s xs) → EachOnce (if not b then x ∷ others s xs else others s xs)
+    go true rest = rest
+    go false rest = (session_in-others xs s x.number ∙ none (s == x.number) h.0, rest)
+
 -- the sessions of other numbers
 pub filter_removes : (xs : List Session) (s : ℕ) → OnlyAt s None xs (filter (λ x. not (is_number s x)) xs)
-filter_removes [] s t = none_either (s == t)
-filter_removes (x ∷ xs) s t =
-    left_out (is_number s x) (is_number t x) (s == t)
-    (λ h. tells_same x.number s t h) (λ h k. tells_number x.number s t h k) x xs s t refl (filter_removes xs s t)
+filter_removes xs s = record { found = session_in-others xs s; once = once_others xs s }
 
 -- The line of a session.
 
@@ -150,11 +188,21 @@ or_none : (o : Option Session) → option_or o None ≡ o
 or_none None = refl
 or_none (Some x) = refl
 
-push_last : (xs : List Session) (y : Session) → session_in xs y.number ≡ None → OnlyAt y.number (Some y) xs (xs ++ y ∷ [])
-push_last xs y none t =
+session_in-push : (xs : List Session) (y : Session) → session_in xs y.number ≡ None → IsOnly y.number (Some y) xs (xs ++ y ∷ [])
+session_in-push xs y none t =
     rw (find-append (is_number t) xs (y ∷ []))
     (by_number (λ t b. option_or (session_in xs t) (if b then Some y else None) ≡ (if b then Some y else session_in xs t)) y.number t
     (rw none refl) (λ _. or_none (session_in xs t)))
+
+once_push : (xs : List Session) (y : Session) → session_in xs y.number ≡ None → EachOnce xs → EachOnce (xs ++ y ∷ [])
+once_push [] y none h = (refl, tt)
+once_push (x ∷ xs) y none h =
+    let rest = none_there x xs y.number none in
+    let other : (y.number == x.number) ≡ false = grind (arith, nat_tests, rest.0) in
+    (rw (session_in-push xs y rest.1 x.number, other) h.0, once_push xs y rest.1 h.1)
+
+push_last : (xs : List Session) (y : Session) → session_in xs y.number ≡ None → OnlyAt y.number (Some y) xs (xs ++ y ∷ [])
+push_last xs y none = record { found = session_in-push xs y none; once = once_push xs y none }
 
 -- a session of a new number comes last, and no other differs
 pub push_only : (xs : List Session) (s : ℕ) (y : Session) → session_in xs s ≡ None → y.number ≡ s → OnlyAt s (Some y) xs (xs ++ y ∷ [])

@@ -1,11 +1,11 @@
 -- Telling the sessions of a room, one after the other.
 use Rattle.std.proofs.Common.{◌≡◌, ℕ, ◌==◌, Bool, true, false, List, [], ◌∷◌, Option, Some, None, refl, sym, ap}
-use Rattle.std.specs.Prelude.{⊤, if◌then◌else◌}
+use Rattle.std.specs.Prelude.{⊤, IsSome, if◌then◌else◌}
 use Rattle.relay_patch.specs.declared.change.Change.{Change}
 use Rattle.relay_view.specs.View.{View}
 use Rattle.relay_room.specs.Room.{State as Room}
 use Rattle.relay_tree.specs.Document.{Document}
-use Rattle.relay_hub.specs.State.{session_in}
+use Rattle.relay_hub.specs.State.{EachOnce, session_in}
 use Rattle.relay_hub.specs.Step.{ToldAs, Told, AllTold}
 use Rattle.relay_hub.specs.declared.session.Session.{Session}
 
@@ -41,3 +41,18 @@ pub none_told : (d : Document) (changes : List Change) (room : Room) (o p : Opti
 none_told d changes room None None h e = refl
 none_told d changes room None (Some y) h e = absurd h
 none_told d changes room (Some x) p h e = absurd cc
+
+pub some_told : (d : Document) (changes : List Change) (room : Room) (o p : Option Session) (x : Session) → IsTold d changes room o p → o ≡ Some x → IsSome p
+some_told d changes room None p x h e = absurd (cc e)
+some_told d changes room (Some z) (Some y) x h e = refl
+some_told d changes room (Some z) None x h e = absurd h
+
+-- whose numbers stay
+pub once_told : (d : Document) (changes : List Change) (room : Room) (xs ys : List Session) (n : ℕ) → AllTold d changes room xs ys n → EachOnce xs → EachOnce ys
+once_told d changes room [] [] n h once = tt
+once_told d changes room [] (y ∷ ys) n h once = absurd h
+once_told d changes room (x ∷ xs) [] n h once = absurd h
+once_told d changes room (x ∷ xs) (y ∷ ys) n h once = (
+  rw (told_number d changes room x.view h.0 x y h.2) (none_told d changes room (session_in xs x.number) (session_in ys x.number) (each_told d changes room xs ys h.1 h.4 x.number) once.0),
+  once_told d changes room xs ys h.1 h.4 once.1,
+)

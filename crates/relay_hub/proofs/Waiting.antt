@@ -16,10 +16,10 @@ use Rattle.relay_hub.specs.declared.session.Session.{Session}
 
 -- a line that a patch comes to stays, has it last, or folds
 pub by_waiting : (P : Line Reply → Type 0) (rev : ℕ) (ops : List Op) (o : Line Reply) → (o.due ≡ true → P o)
-    → (o.due ≡ false → P (line o.replies (o.patches ++ (rev, ops) ∷ []) o.due o.k)) → P (folded o) → P (with_patch rev ops o)
-by_waiting P rev ops o stays waits folds = go o.due (nat_lt (length o.patches) o.k) refl
+    → (o.due ≡ false → P (line o.replies (o.patches ++ (rev, ops) ∷ []) o.due o.limit)) → P (folded o) → P (with_patch rev ops o)
+by_waiting P rev ops o stays waits folds = go o.due (nat_lt (length o.patches) o.limit) refl
   where
-    go : (due fits : Bool) → o.due ≡ due → P (if due then o else (if fits then line o.replies (o.patches ++ (rev, ops) ∷ []) o.due o.k else folded o))
+    go : (due fits : Bool) → o.due ≡ due → P (if due then o else (if fits then line o.replies (o.patches ++ (rev, ops) ∷ []) o.due o.limit else folded o))
     go true fits e = stays e
     go false true e = waits e
     go false false e = folds
@@ -57,7 +57,7 @@ pub line_drawn : (most : ℕ) (x : Session) → LineStands most x → LineStands
 line_drawn most x h = go x.outbox.replies x.outbox.patches x.outbox.due h.replies h.patches
   where
     go : (replies : List Reply) (patches : List (ℕ × List Op)) (due : Bool) → AllByRecursion HasCounts replies → AllByRecursion PatchFits patches
-        → LineStands most (with_line (rest_of replies patches due x.outbox.k) x)
+        → LineStands most (with_line (rest_of replies patches due x.outbox.limit) x)
     go (r ∷ replies) patches due rs ps = record { limit = h.limit; replies = rs.1; patches = ps }
     go [] (p ∷ patches) due rs ps = record { limit = h.limit; replies = tt; patches = ps.1 }
     go [] [] due rs ps = record { limit = h.limit; replies = tt; patches = tt }

@@ -7,23 +7,25 @@ use Rattle.relay_view.specs.View.{View}
 use Rattle.relay_proto.specs.Client.{Client, client, client_after}
 use Rattle.relay_proto.specs.Request.{request_of_text}
 use Rattle.relay_proto.specs.declared.message.Message.{Message}
-use Rattle.relay_proto.specs.declared.reply.Reply.TheVariants.{Refused}
+use Rattle.relay_proto.specs.declared.refusal.Refusal.{Refusal}
 use Rattle.relay_proto.specs.declared.request.Request.TheVariants.{Edit}
-use Rattle.relay_proto.specs.declared.word.Word.{Word}
+use Rattle.relay_room.specs.Edit.{edited}
 use Rattle.relay_room.specs.declared.fault.EditFault.{EditFault}
 use Rattle.relay_tree.specs.Document.{Document}
 use Rattle.relay_hub.specs.Log.{Log, Watching, documents, watching}
+use Rattle.relay_hub.specs.Refusal.{refused, edit_refusal}
 use Rattle.relay_hub.specs.Session.{replied, later}
-use Rattle.relay_hub.specs.Stands.{Beginning, IsAtNamed, EachLeads, HoldsPresent, Follows, StandsFor}
-use Rattle.relay_hub.specs.State.{Group, State, place_of, home_of, session_in, session_of, without_sessions}
-use Rattle.relay_hub.specs.Step.{OnlyAt, ChangesOnly, edited, edit_word, edit_place, EditServed, Receives, with_group, InGroup, Step}
+use Rattle.relay_hub.specs.Stands.{IsAtNamed, EachLeads, HoldsPresent, Follows, WatchStands, StandsFor}
+use Rattle.relay_hub.specs.State.{Group, State, RoomOf, Home, place_of, home_of, session_in, session_of, without_sessions}
+use Rattle.relay_hub.specs.Step.{OnlyAt, ChangesOnly, EditServed, Serves, Receives, with_group, InGroup, Step}
 use Rattle.relay_hub.specs.Telling.{LeavesNoTrace}
+use Rattle.relay_hub.specs.declared.beginning.Beginning.{Beginning}
 use Rattle.relay_hub.specs.declared.event.Answer.TheVariants.{Heard}
 use Rattle.relay_hub.specs.declared.event.Event.TheVariants.{Receive}
 use Rattle.relay_hub.specs.declared.event.Heard.TheVariants.{Answered}
 use Rattle.relay_hub.specs.declared.session.Session.{Session}
 use Rattle.relay_hub.proofs.Follow.{client_after-append}
-use Rattle.relay_hub.proofs.Frames.{session_stands}
+use Rattle.relay_hub.proofs.Frames.{here}
 use Rattle.relay_hub.proofs.Places.{slice_get-set, slice_get-set_other}
 
 -- a session that has a room has it at a place
@@ -41,9 +43,9 @@ module _ (b : Beginning) (E : Log) (hub : State) (s : ℕ) (name : List ℕ) (g 
   watcher : Follows (documents E name) w (later g.room w.view x.outbox)
   watcher =
       let p = at_place hub s (name, g) there in
-      let found = session_stands b E hub s p.0 name g stands p.1 p.2 in
-      let here = rw (is, watches) at found in
-      here.2.1
+      let mine : Home hub s = record { room = record { place = p.0; name = name; group = g; there = p.2 }; session = x; at = p.1; is = is } in
+      let found : WatchStands (documents E name) g.room x (Some w) = rw watches at (here b E hub s mine stands).2 in
+      found.1
 
   -- a client that applies what was drawn and what waits, in order, holds exactly its view of the present document
   pub exactly_held : HoldsPresent (documents E name) w.view (client_after w.start (w.heard ++ later g.room w.view x.outbox))
@@ -70,47 +72,59 @@ same_rooms (r ∷ rooms) zero name g h at same =
 same_rooms (r ∷ rooms) (suc place) name g h at same = ap (λ rest. without_sessions r ∷ rest) (same_rooms rooms place name g h at same)
 
 -- who is not s is found as before
-others_found : (hub : State) (place : ℕ) (name : List ℕ) (g h : Group) (s : ℕ) (y : Option Session) → slice_get hub.rooms place ≡ Some (name, g) → OnlyAt s y g.sessions h.sessions
-    → (t : ℕ) → s ≢ t → session_of (with_group place name h hub) t ≡ session_of hub t
-others_found hub place name g h s y at only t apart = go (place_of hub t)
+others_found : (hub : State) (r : RoomOf hub) (h : Group) (s : ℕ) (y : Option Session) → OnlyAt s y r.group.sessions h.sessions
+    → (t : ℕ) → s ≢ t → session_of (with_group r.place r.name h hub) t ≡ session_of hub t
+others_found hub r h s y only t apart = go (place_of hub t)
   where
     found : List (List ℕ × Group) → Option ℕ → Option Session
     found rooms o = option_and_then (λ (home : List ℕ × Group). session_in home.1.sessions t) (option_and_then (λ p. slice_get rooms p) o)
 
-    go : (o : Option ℕ) → found (slice_set hub.rooms place (name, h)) o ≡ found hub.rooms o
+    go : (o : Option ℕ) → found (slice_set hub.rooms r.place (r.name, h)) o ≡ found hub.rooms o
     go None = refl
     go (Some p) =
-        elim (eqb_tells p place) [
+        elim (eqb_tells p r.place) [
           | inl same ↦
               let other : (s == t) ≡ false = grind (arith, nat_tests, apart) in
-              rw (same.1, slice_get-set hub.rooms place (name, g) (name, h) at, at, only t, other) refl
-          | inr differs ↦ rw (slice_get-set_other hub.rooms place p (name, h) differs.1) refl
+              rw (same.1, slice_get-set hub.rooms r.place (r.name, r.group) (r.name, h) r.there, r.there, only.found t, other) refl
+          | inr differs ↦ rw (slice_get-set_other hub.rooms r.place p (r.name, h) differs.1) refl
         ]
 
 -- a room in which one session alone differs
-leaves_no_trace : (hub : State) (place : ℕ) (name : List ℕ) (g h : Group) (s : ℕ) (y : Session) → place_of hub s ≡ Some place → slice_get hub.rooms place ≡ Some (name, g)
-    → ChangesOnly s (Some y) g h → LeavesNoTrace s y hub (with_group place name h hub)
-leaves_no_trace hub place name g h s y s_at at changes =
-    let mine : (s == s) ≡ true = grind (arith, nat_tests) in
+leaves_no_trace : (hub : State) (s : ℕ) (r : RoomOf hub) (h : Group) (y : Session) → place_of hub s ≡ Some r.place → ChangesOnly s (Some y) r.group h
+    → LeavesNoTrace s y hub (with_group r.place r.name h hub)
+leaves_no_trace hub s r h y at changes =
+    let same : (s == s) ≡ true = grind (arith, nat_tests) in
     record {
-      rooms = same_rooms hub.rooms place name g h at changes.0;
+      rooms = same_rooms hub.rooms r.place r.name r.group h r.there changes.0;
       homes = refl;
       next = refl;
-      others = others_found hub place name g h s (Some y) at changes.1;
-      sender = rw (s_at, slice_get-set hub.rooms place (name, g) (name, h) at, changes.1 s, mine) refl;
+      others = others_found hub r h s (Some y) changes.1;
+      sender = rw (at, slice_get-set hub.rooms r.place (r.name, r.group) (r.name, h) r.there, changes.1.found s, same) refl;
     }
 
--- an edit that is refused changes no room, no other session, and the sender's session by one reply alone
-pub no_trace : (old new : State) (s short id : ℕ) (text : List ℕ) (patch : List Op) (name : List ℕ) (g : Group) (x : Session) (fault : EditFault) → home_of old s ≡ Some (name, g)
-    → session_in g.sessions s ≡ Some x → request_of_text text ≡ Ok (Edit id patch) → edited g.room patch ≡ Err fault → Step old (Receive s text) (Heard (Answered short)) new
-    → (w : Word) × (edit_word fault ≡ Some w) × LeavesNoTrace s (replied (Refused (Some id) w (edit_place fault)) x) old new
-no_trace old new s short id text patch name g x fault there is read refused step =
-    let p = at_place old s (name, g) there in
-    let answer = Heard (Answered short) in
-    let Does : Group → Group → Type 0 = λ g h. Receives old.epoch s (session_in g.sessions s) text answer g h in
-    let at_home : InGroup p.0 (Some (name, g)) old answer Does new = rw (p.1, p.2) at step in
-    let h = at_home.0 in
-    let received : Receives old.epoch s (Some x) text answer g h = rw is at at_home.1 in
-    let served : EditServed s x id patch (Err fault) short g h = rw (read, refused) at received.1 in
-    let y = replied (Refused (Some id) served.1 (edit_place fault)) x in
-    (served.1, served.2, subst (λ hub. LeavesNoTrace s y old hub) (sym at_home.2) (leaves_no_trace old p.0 name g h s y p.1 p.2 served.3))
+-- what an answered text did in the room of its sender, which is x
+module _ (old new : State) (s short : ℕ) (text : List ℕ) (name : List ℕ) (g : Group) (x : Session) (there : home_of old s ≡ Some (name, g)) (is : session_in g.sessions s ≡ Some x)
+    (step : Step old (Receive s text) (Heard (Answered short)) new) where
+  done : (h : Group) × Serves old.made.epoch s x (request_of_text text) short g h × ((y : Session) → ChangesOnly s (Some y) g h → LeavesNoTrace s y old new)
+  done =
+      let p = at_place old s (name, g) there in
+      let answer = Heard (Answered short) in
+      let Does : Group → Group → Type 0 = λ g h. Receives old.made.epoch s (session_in g.sessions s) text answer g h in
+      let at_home : InGroup p.0 (Some (name, g)) old answer Does new = rw (p.1, p.2) at step in
+      let h = at_home.0 in
+      let received : Receives old.made.epoch s (Some x) text answer g h = rw is at at_home.1 in
+      (h, received.1, λ y changes. subst (λ hub. LeavesNoTrace s y old hub) (sym at_home.2) (leaves_no_trace old s (record { place = p.0; name = name; group = g; there = p.2 }) h y p.1 changes))
+
+  -- an edit that is refused changes no room, no other session, and the sender's session by one reply alone, where it is refused
+  -- as it is read
+  pub unread_no_trace : (r : Refusal) → request_of_text text ≡ Err r → LeavesNoTrace s (replied (refused r) x) old new
+  unread_no_trace r read =
+      let served : (short ≡ 0) × ChangesOnly s (Some (replied (refused r) x)) g done.0 = rw read at done.1 in
+      done.2 (replied (refused r) x) served.1
+
+  -- and where the room refuses it
+  pub unmade_no_trace : (id : ℕ) (patch : List Op) (fault : EditFault) → request_of_text text ≡ Ok (Edit id patch) → edited g.room patch ≡ Err fault
+      → (r : Refusal) × (edit_refusal id fault ≡ Some r) × LeavesNoTrace s (replied (refused r) x) old new
+  unmade_no_trace id patch fault read unmade =
+      let served : EditServed s x id patch (Err fault) short g done.0 = rw (read, unmade) at done.1 in
+      (served.1, served.2, done.2 (replied (refused served.1) x) served.3)

@@ -17,10 +17,8 @@ rooms_of es = map named es
 -- the hub that contracts see
 abbrev pub hub_of : Inside → plain.State
 hub_of h = record {
-  epoch = h.epoch;
+  made = h.made;
   next = h.next;
-  history = h.history;
-  waiting = h.waiting;
   rooms = rooms_of h.rooms.entries;
   homes = h.homes.entries;
 }

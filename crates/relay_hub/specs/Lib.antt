@@ -2,6 +2,7 @@ pub mod State
 pub mod Kept
 pub mod Session
 pub mod Log
+pub mod Refusal
 pub mod Step
 pub mod Telling
 pub mod Call

@@ -1,10 +1,8 @@
 -- What a log says: the documents of each room, who is open where, what each session watches and what it was told. A log has its
 -- newest entry first, so that each definition says what one more entry does.
-use Rattle.std.specs.Prelude.{ℕ, ◌+◌, ◌-◌, ◌==◌, List, [], ◌∷◌, ◌++◌, Option, Some, None, Result, Ok, length, slice_get, unwrap_or, bytes_eq, nat_lt, if◌then◌else◌}
+use Rattle.std.specs.Prelude.{ℕ, ◌+◌, ◌-◌, ◌==◌, Bool, false, ◌||◌, List, [], ◌∷◌, ◌++◌, Option, Some, None, Result, Ok, length, slice_get, unwrap_or, bytes_eq, if◌then◌else◌}
 use Rattle.std.specs.Result.{result_ok}
 use Rattle.relay_tree.specs.Document.{Document, null}
-use Rattle.relay_history.specs.declared.history.TheConstants.{LAST_REVISION}
-use Rattle.relay_patch.specs.Patch.{after}
 use Rattle.relay_patch.specs.declared.op.Op.{Op}
 use Rattle.relay_proto.specs.Client.{Client, nothing, holds}
 use Rattle.relay_proto.specs.MessageRead.{message_of_text}
@@ -14,7 +12,7 @@ use Rattle.relay_proto.specs.declared.message.Message.TheVariants as message
 use Rattle.relay_proto.specs.declared.refusal.Refusal.{Refusal}
 use Rattle.relay_proto.specs.declared.request.Request.{Request}
 use Rattle.relay_proto.specs.declared.request.Request.TheVariants.{Edit, Watch, Resume, Unwatch}
-use Rattle.relay_room.specs.Room.{document_bounds}
+use Rattle.relay_room.specs.Edit.{edited_at}
 use Rattle.relay_view.specs.View.{View, view}
 use Rattle.relay_hub.specs.declared.event.Answer.{Answer}
 use Rattle.relay_hub.specs.declared.event.Answer.TheVariants.{Opened, Heard, Drawn, Closed}
@@ -46,15 +44,24 @@ abbrev pub home : Log → ℕ → Option (List ℕ)
 home [] s = None
 home (e ∷ E) s = home_after (home E s) s e.event e.answer
 
+-- whether a room of that name was opened, after an event
+abbrev pub is_opened_after : Bool → List ℕ → Event → Answer → Bool
+is_opened_after was name (Open room) (Opened t) = bytes_eq name room || was
+is_opened_after was name _ _ = was
+
+-- whether a session was opened in a room of that name
+abbrev pub is_opened : Log → List ℕ → Bool
+is_opened [] name = false
+is_opened (e ∷ E) name = is_opened_after (is_opened E name) name e.event e.answer
+
 -- Documents: those of a room, the first one first, so that the one of revision r stands at place r.
 
 abbrev pub present_of : List Document → Document
 present_of documents = unwrap_or (slice_get documents (length documents - 1)) null
 
--- the document that a patch adds, where it is accepted
+-- the document that an edit adds, where it is accepted
 abbrev pub next_document : List Document → List Op → Option Document
-next_document documents patch =
-    if nat_lt (length documents - 1) LAST_REVISION then result_ok (after (present_of documents) patch document_bounds) else None
+next_document documents patch = result_ok (edited_at (length documents - 1) (present_of documents) patch)
 
 -- the document that a request adds
 abbrev pub requested : List Document → Result Request Refusal → Option Document
@@ -62,16 +69,16 @@ requested documents (Ok (Edit id patch)) = next_document documents patch
 requested documents _ = None
 
 -- the document that a text adds to the room of that name, where its sender is at home there
-abbrev pub added : List Document → List ℕ → Option (List ℕ) → List ℕ → Option Document
-added documents name (Some room) text = if bytes_eq room name then requested documents (request_of_text text) else None
-added documents name None text = None
+abbrev pub document_added : List Document → List ℕ → Option (List ℕ) → List ℕ → Option Document
+document_added documents name (Some room) text = if bytes_eq room name then requested documents (request_of_text text) else None
+document_added documents name None text = None
 
 abbrev pub extended : List Document → Option Document → List Document
 extended documents None = documents
 extended documents (Some d) = documents ++ d ∷ []
 
 abbrev pub documents_after : (ℕ → Option (List ℕ)) → List Document → List ℕ → Event → Answer → List Document
-documents_after homes documents name (Receive s text) (Heard (Answered short)) = extended documents (added documents name (homes s) text)
+documents_after homes documents name (Receive s text) (Heard (Answered short)) = extended documents (document_added documents name (homes s) text)
 documents_after homes documents name _ _ = documents
 
 -- the documents of a room: null, and then one for each accepted edit

@@ -1,22 +1,23 @@
 -- When a hub stands for a log: it has the documents, the sessions and the views of the log, and every watching client that applies
 -- what was drawn for it and what waits holds exactly its view of the present document.
-use Rattle.std.specs.Prelude.{ℕ, ◌≡◌, ⊤, ◌+◌, ◌<◌, ◌≤◌, min, false, List, [], ◌∷◌, ◌++◌, Option, Some, None, length, slice_get, option_map}
+use Rattle.std.specs.Prelude.{ℕ, ◌≡◌, ⊤, ◌+◌, ◌-◌, is_some, ◌<◌, min, false, List, [], ◌∷◌, ◌++◌, Option, Some, None, length, slice_get, option_map}
 use Rattle.std.specs.List.{AllByRecursion}
 use Rattle.relay_history.specs.History.{Reaches, changes_since}
-use Rattle.relay_history.specs.declared.history.TheConstants.{MOST_REVISIONS}
 use Rattle.relay_patch.specs.Change.{Leads}
-use Rattle.relay_patch.specs.Sizes.{OpFits}
+use Rattle.relay_patch.specs.declared.change.Change.{Change}
 use Rattle.relay_patch.specs.declared.op.Op.{Op}
 use Rattle.relay_proto.specs.Client.{Client, nothing, holds, lost, client, client_after}
 use Rattle.relay_proto.specs.Written.{IsCount, HasCounts}
 use Rattle.relay_proto.specs.declared.message.Message.{Message}
 use Rattle.relay_proto.specs.declared.message.Message.TheVariants.{Reply, Patch, Snapshot}
+use Rattle.relay_room.specs.CatchUp.{IsSent}
 use Rattle.relay_room.specs.Room.{State as Room, IsRoom, revision}
 use Rattle.relay_tree.specs.Document.{Document, null}
 use Rattle.relay_view.specs.View.{View, view}
-use Rattle.relay_hub.specs.Log.{Log, Watching, home, documents, present_of, watching, opened, open_count}
+use Rattle.relay_hub.specs.Log.{Log, Watching, home, is_opened, documents, present_of, watching, opened, open_count}
 use Rattle.relay_hub.specs.Session.{later}
-use Rattle.relay_hub.specs.State.{State, Group, place_of, home_of, place_named, session_in}
+use Rattle.relay_hub.specs.State.{State, IsBeginning, Group, place_of, home_of, place_named, session_in}
+use Rattle.relay_hub.specs.declared.beginning.Beginning.{Beginning}
 use Rattle.relay_hub.specs.declared.session.Session.{Session}
 
 -- What a client holds.
@@ -51,33 +52,27 @@ pub record Follows (documents : List Document) (w : Watching) (waiting : List Me
 
 -- What a hub holds.
 
--- what it was made with
-pub record Beginning : Type 0 where
-  pub epoch : ℕ
-  pub first : ℕ
-  pub history : ℕ
-  pub waiting : ℕ
-
-abbrev pub beginning : ℕ → ℕ → ℕ → ℕ → Beginning
-beginning epoch first history waiting = record { epoch = epoch; first = first; history = history; waiting = waiting }
-
 -- a room has these documents, and holds the changes of its last revisions
-pub record RoomStands (most : ℕ) (documents : List Document) (room : Room) : Type 0 where
+pub record RoomStands (history : ℕ) (documents : List Document) (room : Room) : Type 0 where
   pub document : room.document ≡ present_of documents
   pub made : revision room + 1 ≡ length documents
   pub is : IsRoom room
-  pub limit : room.history.limit ≡ most
-  pub held : length room.history.changes ≡ min most (revision room)
+  pub limit : room.history.limit ≡ history
+  pub held : length room.history.changes ≡ min history (revision room)
   -- the changes since each revision that the history reaches back to lead from its document to the present one
   pub led : (rev : ℕ) (d : Document) → slice_get documents rev ≡ Some d → Reaches room.history rev → Leads d (changes_since rev room.history) room.document
+  -- and those of each revision that is held lead from the document before it to its own
+  pub steps : (rev : ℕ) (before after : Document) (changes : List Change)
+      → slice_get documents rev ≡ Some before → slice_get documents (rev + 1) ≡ Some after
+      → slice_get room.history.changes (revision room - (rev + 1)) ≡ Some changes → Leads before changes after
 
 -- a waiting patch is such that its text reads as itself
 abbrev pub PatchFits : ℕ × List Op → Type 0
-PatchFits p = IsCount p.0 × AllByRecursion (OpFits 66 65) p.1
+PatchFits p = IsCount p.0 × AllByRecursion IsSent p.1
 
 -- what waits for a session fits: its texts read as themselves
-pub record LineStands (most : ℕ) (x : Session) : Type 0 where
-  pub limit : x.outbox.k ≡ most
+pub record LineStands (waiting : ℕ) (x : Session) : Type 0 where
+  pub limit : x.outbox.limit ≡ waiting
   pub replies : AllByRecursion HasCounts x.outbox.replies
   pub patches : AllByRecursion PatchFits x.outbox.patches
 
@@ -87,29 +82,29 @@ WatchStands documents room x (Some w) = (x.view ≡ Some w.view) × Follows docu
 WatchStands documents room x None = (x.view ≡ None) × (x.outbox.patches ≡ []) × (x.outbox.due ≡ false)
 
 abbrev pub SessionStands : ℕ → (List ℕ → List Document) → List ℕ → Room → Option Session → Option (List ℕ) → Option Watching → Type 0
-SessionStands most documents name room (Some x) there w = (there ≡ Some name) × LineStands most x × WatchStands (documents name) room x w
-SessionStands most documents name room None there w = ⊥
+SessionStands waiting documents name room (Some x) there w = (there ≡ Some name) × LineStands waiting x × WatchStands (documents name) room x w
+SessionStands waiting documents name room None there w = ⊥
 
 abbrev pub GroupStands : ℕ → (List ℕ → List Document) → ℕ → Option (List ℕ × Group) → Option (List ℕ) → Option Watching → Type 0
-GroupStands most documents s (Some home) there w = SessionStands most documents home.0 home.1.room (session_in home.1.sessions s) there w
-GroupStands most documents s None there w = ⊥
+GroupStands waiting documents s (Some home) there w = SessionStands waiting documents home.0 home.1.room (session_in home.1.sessions s) there w
+GroupStands waiting documents s None there w = ⊥
 
 -- what holds of session s, whose room is at that place
 abbrev pub HomeStands : ℕ → (List ℕ → List Document) → List (List ℕ × Group) → ℕ → Option ℕ → Option (List ℕ) → Option Watching → Type 0
-HomeStands most documents rooms s (Some place) there w = GroupStands most documents s (slice_get rooms place) there w
-HomeStands most documents rooms s None there w = there ≡ None
+HomeStands waiting documents rooms s (Some place) there w = GroupStands waiting documents s (slice_get rooms place) there w
+HomeStands waiting documents rooms s None there w = there ≡ None
 
 pub record StandsFor (b : Beginning) (E : Log) (hub : State) : Type 0 where
-  pub epoch : hub.epoch ≡ b.epoch
+  pub made : hub.made ≡ b
+  pub is : IsBeginning b
   pub next : hub.next ≡ b.first + opened E
-  pub history : hub.history ≡ b.history
-  pub waiting : hub.waiting ≡ b.waiting
-  pub counts : IsCount b.epoch × (1 ≤ b.history) × (b.history ≤ MOST_REVISIONS)
   pub count : length hub.homes ≡ open_count E
   -- each room has the documents of its name
   pub rooms : (place : ℕ) (name : List ℕ) (g : Group) → slice_get hub.rooms place ≡ Some (name, g) → RoomStands b.history (documents E name) g.room
   -- a room is found by its name
   pub names : (place : ℕ) (name : List ℕ) (g : Group) → slice_get hub.rooms place ≡ Some (name, g) → place_named name hub.rooms ≡ Some place
+  -- there is a room of each name that was opened, and of no other
+  pub known : (name : List ℕ) → is_some (place_named name hub.rooms) ≡ is_opened E name
   -- no edit was accepted in a room that there is not
   pub others : (name : List ℕ) → place_named name hub.rooms ≡ None → documents E name ≡ null ∷ []
   -- the sessions that are open, with their views

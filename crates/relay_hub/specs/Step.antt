@@ -1,33 +1,27 @@
 -- One step of a hub: what an event answers, and what it leaves. What a case does not name stays the same.
 use Rattle.std.specs.Prelude.{ℕ, ◌≡◌, ◌+◌, ◌<◌, ◌==◌, Bool, true, false, List, [], ◌∷◌, ◌++◌, Option, Some, None, option_map, Result, Ok, Err, length, slice_get, slice_set, nat_lt, nat_le, not, is_some, ◌&&◌, if◌then◌else◌}
 use Rattle.relay_history.specs.History.{with_revision}
-use Rattle.relay_history.specs.declared.history.TheConstants.{LAST_REVISION}
 use Rattle.relay_outbox.specs.Outbox.{folded}
 use Rattle.relay_outbox.specs.declared.outbox.TheConstants.{REPLIES}
 use Rattle.relay_patch.specs.Change.{Leads, all_changes}
-use Rattle.relay_patch.specs.Patch.{after}
 use Rattle.relay_patch.specs.declared.change.Change.{Change}
-use Rattle.relay_patch.specs.declared.fault.ApplyFault.{ApplyFault}
-use Rattle.relay_patch.specs.declared.fault.Cause.{Cause}
-use Rattle.relay_patch.specs.declared.fault.Cause.TheVariants as cause
 use Rattle.relay_patch.specs.declared.op.Op.{Op}
 use Rattle.relay_view.specs.View.{View}
 use Rattle.relay_proto.specs.Request.{request_of_text}
 use Rattle.relay_proto.specs.RoomName.{is_room_name}
 use Rattle.relay_proto.specs.declared.refusal.Refusal.{Refusal}
-use Rattle.relay_proto.specs.declared.reply.Reply.TheVariants.{Done, Refused}
+use Rattle.relay_proto.specs.declared.reply.Reply.TheVariants.{Done}
 use Rattle.relay_proto.specs.declared.request.Request.{Request}
 use Rattle.relay_proto.specs.declared.request.Request.TheVariants.{Edit, Watch, Resume, Unwatch}
-use Rattle.relay_proto.specs.declared.word.Word.{Word}
-use Rattle.relay_proto.specs.declared.word.Word.TheVariants as word
-use Rattle.relay_room.specs.CatchUp.{caught_up, told, MakesPresent, LeadsOn, Fits}
-use Rattle.relay_room.specs.Room.{State as Room, IsRoom, begun, revision, document_bounds}
+use Rattle.relay_room.specs.CatchUp.{caught_up, patch_or_nothing, MakesPresent, LeadsOn, Fits}
+use Rattle.relay_room.specs.Edit.{edited}
+use Rattle.relay_room.specs.Room.{State as Room, IsRoom, begun, revision}
 use Rattle.relay_room.specs.declared.catch_up.CatchUp.{CatchUp}
 use Rattle.relay_room.specs.declared.catch_up.CatchUp.TheVariants.{Snapshot}
 use Rattle.relay_room.specs.declared.fault.EditFault.{EditFault}
-use Rattle.relay_room.specs.declared.fault.EditFault.TheVariants.{Exhausted as NoRevisionLeft, Apply}
 use Rattle.relay_translate.specs.Translate.{local}
 use Rattle.relay_tree.specs.Document.{Document, null}
+use Rattle.relay_tree.specs.declared.count.TheConstants.{COUNT_MOST}
 use Rattle.relay_hub.specs.declared.event.Answer.{Answer}
 use Rattle.relay_hub.specs.declared.event.Answer.TheVariants.{Opened, NotOpened, Heard, Drawn, Closed, NoSession}
 use Rattle.relay_hub.specs.declared.event.Event.{Event}
@@ -37,50 +31,22 @@ use Rattle.relay_hub.specs.declared.fault.OpenFault.{OpenFault}
 use Rattle.relay_hub.specs.declared.fault.OpenFault.TheVariants.{RoomName, RoomsFull, SessionsFull, Exhausted}
 use Rattle.relay_hub.specs.declared.hub.TheConstants.{ROOMS_MOST, SESSIONS_MOST}
 use Rattle.relay_hub.specs.declared.session.Session.{Session}
+use Rattle.relay_hub.specs.Refusal.{refused, edit_refusal, future_refusal}
 use Rattle.relay_hub.specs.Session.{with_line, replied, newcomer, watches, unwatches, resumes, told_line, front_message, message_text, ReadsBack, drawn}
-use Rattle.relay_hub.specs.State.{Group, group, State, place_of, place_named, session_in}
+use Rattle.relay_hub.specs.State.{Group, group, State, EachOnce, place_of, place_named, session_in}
 
 -- Within a room.
 
--- of all sessions only that one differs, and is then x
-abbrev pub OnlyAt : ℕ → Option Session → List Session → List Session → Type 0
-OnlyAt s x old new = (t : ℕ) → session_in new t ≡ (if s == t then x else session_in old t)
+-- of all sessions only that one differs, and is then x; and no two have one number, where no two had
+pub record OnlyAt (s : ℕ) (x : Option Session) (old new : List Session) : Type 0 where
+  pub found : (t : ℕ) → session_in new t ≡ (if s == t then x else session_in old t)
+  pub once : EachOnce old → EachOnce new
 
 -- of all that a room holds only that session differs
 abbrev pub ChangesOnly : ℕ → Option Session → Group → Group → Type 0
 ChangesOnly s x old new = (new.room ≡ old.room) × OnlyAt s x old.sessions new.sessions
 
 -- An edit.
-
--- the document that a patch makes in a room, or why it is refused
-abbrev pub applied : Result Document ApplyFault → Result Document EditFault
-applied (Ok d) = Ok d
-applied (Err fault) = Err (Apply fault)
-
-abbrev pub edited : Room → List Op → Result Document EditFault
-edited room patch = if nat_lt (revision room) LAST_REVISION then applied (after room.document patch document_bounds) else Err NoRevisionLeft
-
--- the word of a cause; want of memory is no refusal, and has none
-abbrev pub cause_word : Cause → Option Word
-cause_word cause.Missing = Some word.Missing
-cause_word cause.NotIndex = Some word.NotIndex
-cause_word cause.PastEnd = Some word.PastEnd
-cause_word cause.NoContainer = Some word.NoContainer
-cause_word cause.Root = Some word.Root
-cause_word cause.IntoItself = Some word.IntoItself
-cause_word cause.TestFailed = Some word.TestFailed
-cause_word cause.TooDeep = Some word.TooDeep
-cause_word cause.TooHeavy = Some word.TooHeavy
-cause_word cause.NoMemory = None
-
-abbrev pub edit_word : EditFault → Option Word
-edit_word NoRevisionLeft = Some word.Exhausted
-edit_word (Apply fault) = cause_word fault.cause
-
--- the operation that is refused
-abbrev pub edit_place : EditFault → Option ℕ
-edit_place NoRevisionLeft = None
-edit_place (Apply fault) = Some fault.at
 
 -- the room goes on to the document d by the changes of a patch, which lead there
 pub record GoesOn (old : Room) (patch : List Op) (d : Document) (new : Room) : Type 0 where
@@ -91,7 +57,7 @@ pub record GoesOn (old : Room) (patch : List Op) (d : Document) (new : Room) : T
 
 -- what an edit from the document d by some changes tells a view: nothing, or the local patch
 abbrev pub telling : List Change → Room → View → CatchUp
-telling changes room pointers = told (local changes room.document pointers)
+telling changes room pointers = patch_or_nothing (local changes room.document pointers)
 
 -- a watcher is told of an edit, in one of three ways: its line stays, where its view does; a patch that leads its view to the
 -- new one goes in line; or, where memory was refused, the line folds
@@ -123,21 +89,21 @@ EditServed s x id patch (Ok d) short old new = GoesOn old.room patch d new.room
     × (mid : List Session) × OnlyAt s (Some (replied (Done id (revision new.room)) x)) old.sessions mid
     × AllTold old.room.document (all_changes old.room.document patch) new.room mid new.sessions short
 EditServed s x id patch (Err fault) short old new = (short ≡ 0)
-    × (w : Word) × (edit_word fault ≡ Some w) × ChangesOnly s (Some (replied (Refused (Some id) w (edit_place fault)) x)) old new
+    × (r : Refusal) × (edit_refusal id fault ≡ Some r) × ChangesOnly s (Some (replied (refused r) x)) old new
 
 -- Other requests.
 
 -- a resume. Is the epoch the present one, and is there that revision
 abbrev pub ResumeServed : Bool → Bool → ℕ → ℕ → View → ℕ → Session → Group → Group → Type 0
 ResumeServed false past id rev pointers s x old new = ChangesOnly s (Some (resumes (revision old.room) id pointers Snapshot x)) old new
-ResumeServed true false id rev pointers s x old new = ChangesOnly s (Some (replied (Refused (Some id) word.Future None) x)) old new
+ResumeServed true false id rev pointers s x old new = ChangesOnly s (Some (replied (refused (future_refusal id)) x)) old new
 ResumeServed true true id rev pointers s x old new =
     LeadsOn old.room rev pointers (caught_up old.room rev pointers) × Fits (caught_up old.room rev pointers)
     × ChangesOnly s (Some (resumes (revision old.room) id pointers (caught_up old.room rev pointers) x)) old new
 
 -- what a text does that session s sent, which is x
 abbrev pub Serves : ℕ → ℕ → Session → Result Request Refusal → ℕ → Group → Group → Type 0
-Serves epoch s x (Err r) short old new = (short ≡ 0) × ChangesOnly s (Some (replied (Refused r.id r.fault r.at) x)) old new
+Serves epoch s x (Err r) short old new = (short ≡ 0) × ChangesOnly s (Some (replied (refused r) x)) old new
 Serves epoch s x (Ok (Watch id pointers)) short old new = (short ≡ 0) × ChangesOnly s (Some (watches id pointers x)) old new
 Serves epoch s x (Ok (Unwatch id)) short old new = (short ≡ 0) × ChangesOnly s (Some (unwatches id x)) old new
 Serves epoch s x (Ok (Resume id e rev pointers)) short old new =
@@ -163,10 +129,8 @@ Draws s x answer old new = ⊥
 
 abbrev pub with_group : ℕ → List ℕ → Group → State → State
 with_group place name g hub = record {
-  epoch = hub.epoch;
+  made = hub.made;
   next = hub.next;
-  history = hub.history;
-  waiting = hub.waiting;
   rooms = slice_set hub.rooms place (name, g);
   homes = hub.homes;
 }
@@ -184,17 +148,13 @@ AtPlace None old answer Does new = (answer ≡ NoSession) × (new ≡ old)
 abbrev pub AtHome : ℕ → State → Answer → (Group → Group → Type 0) → State → Type 0
 AtHome s old answer Does new = AtPlace (place_of old s) old answer Does new
 
--- of the numbers only the next one may differ
-abbrev pub SameLimits : State → State → Type 0
-SameLimits old new = (new.epoch ≡ old.epoch) × (new.history ≡ old.history) × (new.waiting ≡ old.waiting)
-
 -- the first reason not to open a session in a room of that name
 abbrev pub open_fault : State → List ℕ → Option OpenFault
 open_fault hub name =
     if not (is_room_name name) then Some RoomName else
     if not (is_some (place_named name hub.rooms)) && nat_le ROOMS_MOST (length hub.rooms) then Some RoomsFull else
     if nat_le SESSIONS_MOST (length hub.homes) then Some SessionsFull else
-    if nat_lt LAST_REVISION hub.next then Some Exhausted else None
+    if nat_lt COUNT_MOST hub.next then Some Exhausted else None
 
 -- the newcomer, which is so made for a room of that revision, enters a room that is there, or a new one, whose document is null
 -- at revision 0
@@ -209,12 +169,12 @@ EntersRooms n made history name None old place new = (place ≡ length old)
 -- the same in a hub, whose next session it is
 abbrev pub Enters : ℕ → List ℕ → Option ℕ → State → ℕ → State → Type 0
 Enters n name at old place new =
-    EntersRooms n (λ rev. newcomer old.epoch rev n old.waiting) old.history name at old.rooms place new.rooms
+    EntersRooms n (λ rev. newcomer old.made.epoch rev n old.made.waiting) old.made.history name at old.rooms place new.rooms
 
 pub record Opens (old : State) (name : List ℕ) (n : ℕ) (new : State) : Type 0 where
   pub number : n ≡ old.next
   pub next : new.next ≡ n + 1
-  pub limits : SameLimits old new
+  pub made : new.made ≡ old.made
   pub place : ℕ
   pub enters : Enters n name (place_named name old.rooms) old place new
   pub home : (t : ℕ) → place_of new t ≡ (if n == t then Some place else place_of old t)
@@ -223,7 +183,7 @@ pub record Opens (old : State) (name : List ℕ) (n : ℕ) (new : State) : Type 
 -- session s goes from its room, which stays, and is at home nowhere
 pub record Closes (s place : ℕ) (name : List ℕ) (g : Group) (old : State) (new : State) : Type 0 where
   pub next : new.next ≡ old.next
-  pub limits : SameLimits old new
+  pub made : new.made ≡ old.made
   pub left : Group
   pub leaves : ChangesOnly s None g left
   pub rooms : new.rooms ≡ slice_set old.rooms place (name, left)
@@ -248,6 +208,6 @@ abbrev pub Step : State → Event → Answer → State → Type 0
 Step old (Open name) (Opened n) new = (open_fault old name ≡ None) × Opens old name n new
 Step old (Open name) (NotOpened fault) new = (open_fault old name ≡ Some fault) × (new ≡ old)
 Step old (Open name) answer new = ⊥
-Step old (Receive s text) answer new = AtHome s old answer (λ g h. Receives old.epoch s (session_in g.sessions s) text answer g h) new
+Step old (Receive s text) answer new = AtHome s old answer (λ g h. Receives old.made.epoch s (session_in g.sessions s) text answer g h) new
 Step old (Draw s) answer new = AtHome s old answer (λ g h. Draws s (session_in g.sessions s) answer g h) new
 Step old (Close s) answer new = ClosesAt s (place_of old s) old answer new

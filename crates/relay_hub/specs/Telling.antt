@@ -1,25 +1,26 @@
 -- What a hub tells of a session, when it is not made, and what a refused edit leaves.
 use Rattle.std.specs.Prelude.{ℕ, ◌≡◌, ◌≢◌, map, ◌<◌, ◌⊎◌, Bool, false, length, nat_lt, Option, Some, None, option_map, option_and_then, List, Ok, Err}
-use Rattle.relay_history.specs.declared.history.TheConstants.{MOST_REVISIONS, LAST_REVISION}
+use Rattle.relay_history.specs.declared.history.TheConstants.{MOST_REVISIONS}
 use Rattle.relay_outbox.specs.declared.outbox.TheConstants.{REPLIES, MOST_PATCHES}
 use Rattle.relay_patch.specs.declared.op.Op.{Op}
 use Rattle.relay_proto.specs.Request.{request_of_text}
-use Rattle.relay_proto.specs.declared.reply.Reply.TheVariants.{Refused}
+use Rattle.relay_proto.specs.declared.refusal.Refusal.{Refusal}
 use Rattle.relay_proto.specs.declared.request.Request.TheVariants.{Edit}
-use Rattle.relay_proto.specs.declared.word.Word.{Word}
+use Rattle.relay_room.specs.Edit.{edited}
 use Rattle.relay_room.specs.Room.{State as Room, revision}
 use Rattle.relay_room.specs.declared.fault.EditFault.{EditFault}
 use Rattle.relay_tree.specs.Document.{Document}
+use Rattle.relay_tree.specs.declared.count.TheConstants.{COUNT_MOST}
 use Rattle.relay_view.specs.View.{view}
+use Rattle.relay_hub.specs.Refusal.{refused, edit_refusal}
 use Rattle.relay_hub.specs.Session.{replied}
 use Rattle.relay_hub.specs.State.{Group, State, home_of, session_in, session_of, without_sessions}
-use Rattle.relay_hub.specs.Step.{edited, edit_word, edit_place}
 use Rattle.relay_hub.specs.declared.session.Session.{Session}
 
 -- one of these is no count, or out of its range
 abbrev pub BadLimits : ℕ → ℕ → ℕ → ℕ → Type 0
 BadLimits epoch first history waiting =
-    (LAST_REVISION < epoch) ⊎ (LAST_REVISION < first)
+    (COUNT_MOST < epoch) ⊎ (COUNT_MOST < first)
     ⊎ (history < 1) ⊎ (MOST_REVISIONS < history) ⊎ (waiting < 1) ⊎ (MOST_PATCHES < waiting)
 
 -- fewer than 32 replies wait for a session that is open
@@ -28,8 +29,8 @@ may_hear (Some x) = nat_lt (length x.outbox.replies) REPLIES
 may_hear None = false
 
 -- the room of session s, and the session
-abbrev pub found : State → ℕ → Option (Room × Session)
-found hub s = option_and_then (λ home. option_map (λ x. (home.1.room, x)) (session_in home.1.sessions s)) (home_of hub s)
+abbrev pub room_and_session : State → ℕ → Option (Room × Session)
+room_and_session hub s = option_and_then (λ home. option_map (λ x. (home.1.room, x)) (session_in home.1.sessions s)) (home_of hub s)
 
 -- the present revision and the view of the present document, where a view is watched
 abbrev pub shown : Room → Session → Option (ℕ × Document)
@@ -48,8 +49,13 @@ pub record LeavesNoTrace (s : ℕ) (y : Session) (old new : State) : Type 0 wher
   pub sender : session_of new s ≡ Some y
 
 -- an edit of session s that is refused changes no room and no other session, and its own by one reply
-abbrev pub RefusesEdits : ℕ → List ℕ → State → State → Type 0
-RefusesEdits s text old new = (id : ℕ) (patch : List Op) (name : List ℕ) (g : Group) (x : Session) (fault : EditFault)
-    → home_of old s ≡ Some (name, g) → session_in g.sessions s ≡ Some x
-    → request_of_text text ≡ Ok (Edit id patch) → edited g.room patch ≡ Err fault
-    → (w : Word) × (edit_word fault ≡ Some w) × LeavesNoTrace s (replied (Refused (Some id) w (edit_place fault)) x) old new
+pub record RefusesEdits (s : ℕ) (text : List ℕ) (old new : State) : Type 0 where
+  -- one that is refused as it is read, like any text that is no request
+  pub unread : (name : List ℕ) (g : Group) (x : Session) (r : Refusal)
+      → home_of old s ≡ Some (name, g) → session_in g.sessions s ≡ Some x → request_of_text text ≡ Err r
+      → LeavesNoTrace s (replied (refused r) x) old new
+  -- one that its room refuses
+  pub unmade : (name : List ℕ) (g : Group) (x : Session) (id : ℕ) (patch : List Op) (fault : EditFault)
+      → home_of old s ≡ Some (name, g) → session_in g.sessions s ≡ Some x
+      → request_of_text text ≡ Ok (Edit id patch) → edited g.room patch ≡ Err fault
+      → (r : Refusal) × (edit_refusal id fault ≡ Some r) × LeavesNoTrace s (replied (refused r) x) old new

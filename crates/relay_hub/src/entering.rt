@@ -5,63 +5,63 @@ ghost use Rattle.relay_tree.specs.Document.{null};
 ghost use Rattle.relay_hub.specs.Call.{IsFresh};
 ghost use Rattle.relay_hub.specs.Kept.{group_of, rooms_of};
 ghost use Rattle.relay_hub.specs.Session.{newcomer};
-ghost use Rattle.relay_hub.specs.State.{group, place_named, session_in};
+ghost use Rattle.relay_hub.specs.State.{IsBeginning, group, place_named, session_in};
 ghost use Rattle.relay_hub.specs.Step.{ChangesOnly, EntersRooms};
 
+use crate::beginning::Beginning;
 use crate::group::Group;
 use crate::session::Session;
 use indexmap::IndexMap;
-use relay_room::Room;
+use relay_room::{Room, RoomFault};
 use std::alloc::{AllocError, Global};
 
-/// What a new session is made with.
+/// A session to be: its number, and what its hub was made with.
 #[derive(Clone, Copy)]
 pub struct Guest {
     pub number: u64,
-    pub epoch: u64,
-    /// How many patches may wait for it.
-    pub waiting: u64,
+    pub made: Beginning,
 }
 
 impl Guest {
     /// The session, for a room of revision `rev`.
     fn session(self, alloc: Global, rev: u64) -> Result<Session, AllocError>
-        ensures { IfOk result (λ x. x ≡ newcomer self.epoch rev self.number self.waiting) }
+        requires made { IsBeginning self.made }
+        ensures { IfOk result (λ x. x ≡ newcomer self.made.epoch rev self.number self.made.waiting) }
     {
-        Session::new(alloc, self.epoch, rev, self.number, self.waiting)
+        Session::new(alloc, self.made.epoch, rev, self.number, self.made.waiting)
     }
 }
 
-/// Lets a guest into the room at `place`, or, where there is none of that name, into a new one, which is to hold `history`
-/// revisions. The room's place.
-pub fn enter(
+/// Lets a guest into the room at `place`, or, where there is none of that name, into a new one. The room's place.
+pub fn let_in(
     alloc: Global,
     rooms: &mut IndexMap<String, Group>,
-    history: u64,
     name: &str,
     place: Option<usize>,
     guest: Guest,
 ) -> Result<usize, AllocError>
     requires place { place ≡ place_named name.now (rooms_of rooms.old.entries) }
     requires fresh { IsFresh guest.number (rooms_of rooms.old.entries) }
-    ensures ok { IfOk result (λ at. EntersRooms guest.number (λ rev. newcomer guest.epoch rev guest.number guest.waiting) history
+    requires made { IsBeginning guest.made }
+    ensures ok { IfOk result (λ at. EntersRooms guest.number (λ rev. newcomer guest.made.epoch rev guest.number guest.made.waiting) guest.made.history
         name.now place (rooms_of rooms.old.entries) at (rooms_of rooms.new.entries)) }
     ensures err { OnErr result (rooms_of rooms.new.entries ≡ rooms_of rooms.old.entries) }
 {
     let Some(place) = place else {
-        return found(alloc, rooms, history, name, guest);
+        return begin_room(alloc, rooms, name, guest);
     };
     let Some(group) = rooms.get_index_mut(place) else {
-        return Err(AllocError);
+        unreachable!()
     };
-    join(alloc, group, guest)?;
+    join_room(alloc, group, guest)?;
     Ok(place)
 }
 
 /// Lets a guest into a room that is there.
-fn join(alloc: Global, group: &mut Group, guest: Guest) -> Result<(), AllocError>
+fn join_room(alloc: Global, group: &mut Group, guest: Guest) -> Result<(), AllocError>
     requires fresh { session_in group.old.sessions.items guest.number ≡ None }
-    ensures ok { OnOk result (ChangesOnly guest.number (Some (newcomer guest.epoch (revision group.old.room) guest.number guest.waiting))
+    requires made { IsBeginning guest.made }
+    ensures ok { OnOk result (ChangesOnly guest.number (Some (newcomer guest.made.epoch (revision group.old.room) guest.number guest.made.waiting))
         (group_of group.old) (group_of group.new)) }
     ensures err { OnErr result (group_of group.new ≡ group_of group.old) }
 {
@@ -71,21 +71,23 @@ fn join(alloc: Global, group: &mut Group, guest: Guest) -> Result<(), AllocError
 }
 
 /// Makes a room for a guest. The room's place.
-fn found(
+fn begin_room(
     alloc: Global,
     rooms: &mut IndexMap<String, Group>,
-    history: u64,
     name: &str,
     guest: Guest,
 ) -> Result<usize, AllocError>
     requires absent { place_named name.now (rooms_of rooms.old.entries) ≡ None }
+    requires made { IsBeginning guest.made }
     ensures place { IfOk result (λ at. at ≡ length (rooms_of rooms.old.entries)) }
     ensures ok { OnOk result (rooms_of rooms.new.entries ≡ rooms_of rooms.old.entries
-        ++ (name.now, group (begun null 0 history) (newcomer guest.epoch 0 guest.number guest.waiting ∷ [])) ∷ []) }
+        ++ (name.now, group (begun null 0 guest.made.history) (newcomer guest.made.epoch 0 guest.number guest.made.waiting ∷ [])) ∷ []) }
     ensures err { OnErr result (rooms_of rooms.new.entries ≡ rooms_of rooms.old.entries) }
 {
-    let Ok(room) = Room::new(alloc, history) else {
-        return Err(AllocError);
+    let room = match Room::new(alloc, guest.made.history) {
+        Ok(room) => room,
+        Err(RoomFault::NoMemory) => return Err(AllocError),
+        Err(_) => unreachable!(),
     };
     let mut sessions = Vec::new(alloc);
     sessions.push(guest.session(alloc, 0)?)?;

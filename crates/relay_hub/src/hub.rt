@@ -3,20 +3,22 @@
 //! Each call is a step (`specs/Step`), and a hub stands for the log of the calls that it answered (`specs/Stands`): it has the
 //! documents, sessions and views of the log, and every client that watches, and applies what was drawn for it and what
 //! waits, in order, holds exactly its view of the present document. A call that finds no memory changes nothing.
-ghost use Rattle.std.specs.Prelude.{◌≡◌, ◌≢◌, ◌<◌, ◌⊎◌, ◌↔◌, [], ◌∷◌, ℕ, Some, None, Ok, IfOk, IfErr, IsErrOf, OnOk, OnErr, length, option_map, not, is_some, ◌&&◌, nat_le};
+ghost use Rattle.std.specs.Prelude.{◌≡◌, ◌≢◌, ◌<◌, ◌⊎◌, ◌↔◌, [], ◌∷◌, ℕ, Some, None, Ok, IfOk, IfErr, IsErrOf, IsSomeAnd, IsTrue, OnOk, OnErr, length, option_map, not, is_some, ◌&&◌, nat_le};
 ghost use Rattle.relay_hub.specs.Call.{StepIf, opening, receiving, drawing, closing, logged, done, followed, Runs};
 ghost use Rattle.relay_hub.specs.Log.{Log, entry};
-ghost use Rattle.relay_hub.specs.State.{place_named, session_of, new_hub};
+ghost use Rattle.relay_hub.specs.State.{beginning, place_named, session_of, new_hub};
 ghost use Rattle.relay_hub.specs.Session.{waiting};
-ghost use Rattle.relay_hub.specs.Stands.{Beginning, beginning, StandsFor, EachHoldsPresent, EachIsAtNamed};
+ghost use Rattle.relay_hub.specs.Stands.{StandsFor, EachHoldsPresent, EachIsAtNamed};
 ghost use Rattle.relay_hub.specs.Step.{Step, open_fault};
-ghost use Rattle.relay_hub.specs.Telling.{BadLimits, found, may_hear, truth, RefusesEdits};
+ghost use Rattle.relay_hub.specs.Telling.{BadLimits, room_and_session, may_hear, truth, RefusesEdits};
+ghost use Rattle.relay_hub.specs.declared.beginning.Beginning.{Beginning};
 ghost use Rattle.relay_hub.specs.declared.event.Event.TheVariants.{Open, Receive, Draw, Close};
 ghost use Rattle.relay_hub.specs.declared.event.Heard.TheVariants.{Answered};
 ghost use Rattle.relay_hub.specs.declared.hub.TheConstants.{ROOMS_MOST};
 ghost use Rattle.relay_hub.specs.declared.fault.HubNewFault.TheVariants.{BadLimit};
 
-use crate::entering::{Guest, enter};
+use crate::beginning::Beginning;
+use crate::entering::{Guest, let_in};
 use crate::event::{Answer, Event, Heard};
 use crate::fault::{HubFault, HubNewFault, NoSession, OpenFault, RunFault};
 use crate::group::Group;
@@ -41,13 +43,9 @@ pub const SESSIONS_MOST: usize = 256;
 /// Rooms and sessions.
 #[derive(Drop)]
 pub struct Hub {
-    epoch: u64,
+    made: Beginning,
     /// The number of the next session; above [`COUNT_MOST`] none is left.
     next: u64,
-    /// How many revisions a room holds.
-    history: u64,
-    /// How many patches wait for a session at most.
-    waiting: u64,
     /// The rooms by name, in the order of their first openings. A room never goes.
     rooms: IndexMap<String, Group>,
     /// The place of each session's room, by the session's number.
@@ -89,11 +87,15 @@ impl Hub {
         if !(counts && history_is_right && (1..=MOST_PATCHES).contains(&waiting)) {
             return Err(HubNewFault::BadLimit);
         }
-        Ok(Hub {
+        let made = Beginning {
             epoch,
-            next: first,
+            first,
             history,
             waiting,
+        };
+        Ok(Hub {
+            made,
+            next: first,
             rooms: IndexMap::new(alloc),
             homes: IndexMap::new(alloc),
         })
@@ -111,13 +113,12 @@ impl Hub {
         let place = self.admit(room)?;
         let guest = Guest {
             number: self.next,
-            epoch: self.epoch,
-            waiting: self.waiting,
+            made: self.made,
         };
         if self.homes.reserve(1).is_err() {
             return Err(OpenFault::NoMemory);
         }
-        let Ok(place) = enter(alloc, &mut self.rooms, self.history, room, place, guest) else {
+        let Ok(place) = let_in(alloc, &mut self.rooms, room, place, guest) else {
             return Err(OpenFault::NoMemory);
         };
         let _ = self.homes.insert(guest.number, place);
@@ -156,22 +157,23 @@ impl Hub {
 
     /// Takes a text from a session. Busy, with nothing changed, exactly where 32 replies wait for it, which is checked
     /// before the text is read; else exactly one reply is put in its line. An edit that is refused changes no room and no other
-    /// session.
+    /// session. NoMemory comes only where a text may be heard.
     pub fn receive(&mut self, alloc: Global, session: u64, text: &str) -> Result<Heard, HubFault>
         ensures step { StepIf self.old (Receive session text.now) (receiving result) self.new }
         ensures stands { (b : Beginning) (E : Log) → StandsFor b E self.old →
             StandsFor b (logged E (Receive session text.now) (receiving result)) self.new }
         ensures refused { (short : ℕ) → result ≡ Ok (Answered short) → RefusesEdits session text.now self.old self.new }
+        ensures no_memory { IsErrOf result HubFault.NoMemory → IsTrue (may_hear (session_of self.old session)) }
     {
         let Some(place) = self.homes.get(&session) else {
             return Err(HubFault::NoSession);
         };
         let Some(group) = self.rooms.get_index_mut(*place) else {
-            return Err(HubFault::NoSession);
+            unreachable!()
         };
         serve::receive(
             alloc,
-            self.epoch,
+            self.made.epoch,
             &mut group.room,
             group.sessions.as_mut_slice(),
             session,
@@ -180,18 +182,19 @@ impl Hub {
     }
 
     /// The text at the front of a session's line, which leaves the line: replies first, then patches, then the due
-    /// snapshot, which is made of the present document. None where nothing waits. After want of memory the message is
-    /// still in line.
+    /// snapshot, which is made of the present document. None where nothing waits. NoMemory comes only where something
+    /// waits, and the message is still in line.
     pub fn draw(&mut self, alloc: Global, session: u64) -> Result<Option<String>, HubFault>
         ensures step { StepIf self.old (Draw session) (drawing result) self.new }
         ensures stands { (b : Beginning) (E : Log) → StandsFor b E self.old →
             StandsFor b (logged E (Draw session) (drawing result)) self.new }
+        ensures no_memory { IsErrOf result HubFault.NoMemory → IsSomeAnd (option_map waiting (session_of self.old session)) (λ n. 0 < n) }
     {
         let Some(place) = self.homes.get(&session) else {
             return Err(HubFault::NoSession);
         };
         let Some(group) = self.rooms.get_index_mut(*place) else {
-            return Err(HubFault::NoSession);
+            unreachable!()
         };
         serve::draw(alloc, &group.room, group.sessions.as_mut_slice(), session)
     }
@@ -206,11 +209,8 @@ impl Hub {
             return Err(NoSession);
         };
         let Some(group) = self.rooms.get_index_mut(*place) else {
-            return Err(NoSession);
+            unreachable!()
         };
-        if serve::place_in(group.sessions.as_slice(), session).is_none() {
-            return Err(NoSession);
-        }
         serve::remove(&mut group.sessions, session);
         let _ = self.homes.swap_remove(&session);
         Ok(())
@@ -218,12 +218,14 @@ impl Hub {
 
     /// The room of a session, and the session.
     fn find(&self, session: u64) -> Option<(&Room, &Session)>
-        ensures { option_map (λ p. (p.0.now, p.1.now)) result ≡ found self.now session }
+        ensures { option_map (λ p. (p.0.now, p.1.now)) result ≡ room_and_session self.now session }
     {
         let place = self.homes.get(&session)?;
-        let (_, group) = self.rooms.get_index(*place)?;
+        let Some((_, group)) = self.rooms.get_index(*place) else {
+            unreachable!()
+        };
         let sessions = group.sessions.as_slice();
-        let place = serve::place_in(sessions, session)?;
+        let place = serve::place_in(sessions, session);
         Some((&group.room, &sessions[place]))
     }
 
@@ -283,7 +285,7 @@ impl Hub {
             });
         };
         for event in events {
-            match self.act(alloc, event) {
+            match self.carry_out(alloc, event) {
                 Ok(answer) => answers.push_reserved(answer),
                 Err(_) => return Err(RunFault { answers }),
             }
@@ -292,7 +294,7 @@ impl Hub {
     }
 
     /// Carries one event out.
-    fn act(&mut self, alloc: Global, event: &Event) -> Result<Answer, AllocError>
+    fn carry_out(&mut self, alloc: Global, event: &Event) -> Result<Answer, AllocError>
         ensures ok { IfOk result (λ answer. Step self.old event.now answer self.new) }
         ensures err { OnErr result (self.new ≡ self.old) }
     {

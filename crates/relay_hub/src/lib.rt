@@ -4,6 +4,7 @@
 //! Several rooms stand by name, and stay when their sessions leave; a session belongs to one room.
 #![tactic(auto)]
 
+mod beginning;
 mod entering;
 mod event;
 mod fault;

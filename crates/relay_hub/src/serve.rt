@@ -1,36 +1,47 @@
 //! The work of the hub's calls, over a room and the sessions that are open in it.
-ghost use Rattle.std.specs.Prelude.{◌≡◌, ◌<◌, ◌-◌, ◌==◌, List, Some, None, Ok, Err, IfOk, OnOk, OnErr, length, option_map, nat_le, position, filter, not};
+ghost use Rattle.std.specs.Prelude.{◌≡◌, ◌<◌, ◌-◌, ◌==◌, List, Some, None, Ok, Err, IfOk, OnOk, OnErr, IsErrOf, IsSome, IsSomeAnd, length, option_map, nat_le, position, filter, not};
 ghost use Rattle.std.specs.Bool.{MatchBool};
 ghost use Rattle.relay_history.specs.History.{Reaches, changes_since};
 ghost use Rattle.relay_outbox.specs.declared.outbox.TheConstants.{REPLIES};
 ghost use Rattle.relay_patch.specs.Change.{Leads};
 ghost use Rattle.relay_patch.specs.declared.change.Change.{Change};
-ghost use Rattle.relay_proto.specs.declared.reply.Reply.TheVariants.{Refused};
+ghost use Rattle.relay_room.specs.Edit.{edited};
 ghost use Rattle.relay_room.specs.Room.{revision};
 ghost use Rattle.relay_tree.specs.Document.{Document};
 ghost use Rattle.relay_hub.specs.Call.{receiving, drawing, ReceivesIf, DrawsIf, ChangesBy, HasRoom, IsFull};
-ghost use Rattle.relay_hub.specs.Session.{replied, watches, unwatches, resumes};
+ghost use Rattle.relay_hub.specs.Refusal.{cause_word, edit_refusal};
+ghost use Rattle.relay_hub.specs.Session.{replied, watches, unwatches, resumes, waiting};
 ghost use Rattle.relay_hub.specs.State.{group, is_number, session_in};
-ghost use Rattle.relay_hub.specs.Step.{edited, edit_word, edit_place, AllTold, EditServed, ResumeServed, Serves, OnlyAt, cause_word};
+ghost use Rattle.relay_hub.specs.Step.{AllTold, EditServed, ResumeServed, Serves, OnlyAt};
 ghost use Rattle.relay_hub.specs.declared.session.Session.{Session};
 
 use crate::event::Heard;
 use crate::fault::HubFault;
 use crate::session::Session;
 use relay_patch::{Cause, Patch};
-use relay_proto::{Reply, Request, RequestFault, Word};
+use relay_proto::{Refusal, Reply, Request, RequestFault, Word};
 use relay_room::{CatchFault, CatchUp, EditFault, Room};
 use relay_view::View;
 use std::alloc::{AllocError, Global};
 
-/// The place of the session with that number.
-pub fn place_in(sessions: &[Session], number: u64) -> Option<usize>
+/// The place of the session with that number, which is there.
+pub fn place_in(sessions: &[Session], number: u64) -> usize
+    requires { IsSome (session_in sessions.now number) }
+    ensures { position (is_number number) sessions.now ≡ Some result }
+{
+    let Some(place) = position_of(sessions, number) else {
+        unreachable!()
+    };
+    place
+}
+
+fn position_of(sessions: &[Session], number: u64) -> Option<usize>
     ensures { result ≡ position (is_number number) sessions.now }
 {
     sessions.iter().position(|session| session.number == number)
 }
 
-/// Takes a text from a session: exactly one reply is put in its line, but where 32 wait.
+/// Takes a text from a session that is there: exactly one reply is put in its line, but where no further one may wait.
 pub fn receive(
     alloc: Global,
     epoch: u64,
@@ -39,16 +50,16 @@ pub fn receive(
     number: u64,
     text: &str,
 ) -> Result<Heard, HubFault>
-    ensures { ReceivesIf epoch number text.now (receiving result) (group room.old sessions.old) (group room.new sessions.new) }
+    requires { IsSome (session_in sessions.old number) }
+    ensures step { ReceivesIf epoch number text.now (receiving result) (group room.old sessions.old) (group room.new sessions.new) }
+    ensures no_memory { IsErrOf result HubFault.NoMemory → HasRoom sessions.old number }
 {
-    let Some(place) = place_in(sessions, number) else {
-        return Err(HubFault::NoSession);
-    };
+    let place = place_in(sessions, number);
     if is_full(sessions, number, place) {
         return Ok(Heard::Busy);
     }
     let served = match Request::read(alloc, text) {
-        Ok(request) => serve(alloc, epoch, room, sessions, number, place, request),
+        Ok(request) => perform(alloc, epoch, room, sessions, number, place, request),
         Err(RequestFault::Refused(refusal)) => {
             reply_at(sessions, number, place, refusal.reply());
             Ok(0)
@@ -62,7 +73,7 @@ pub fn receive(
 }
 
 /// Does what a request asks. How many lines folded because memory was refused.
-fn serve(
+fn perform(
     alloc: Global,
     epoch: u64,
     room: &mut Room,
@@ -132,26 +143,26 @@ fn edit(
             Ok(tell_all(alloc, room, sessions))
         }
         Err(fault) => {
-            let Some(reply) = refused(id, fault) else {
+            let Some(refusal) = edit_refusal(id, fault) else {
                 return Err(AllocError);
             };
-            reply_at(sessions, number, place, reply);
+            reply_at(sessions, number, place, refusal.reply());
             Ok(0)
         }
     }
 }
 
-/// The reply to an edit that is refused; None of want of memory, which is no refusal.
-fn refused(id: u64, fault: EditFault) -> Option<Reply>
-    ensures { result ≡ option_map (λ word. Refused (Some id) word (edit_place fault)) (edit_word fault) }
+/// Why an edit is refused; None of want of memory, which is no refusal.
+fn edit_refusal(id: u64, fault: EditFault) -> Option<Refusal>
+    ensures { result ≡ edit_refusal id fault }
 {
     let (word, at) = match fault {
         EditFault::Exhausted => (Word::Exhausted, None),
         EditFault::Apply(fault) => (word_of(fault.cause)?, Some(fault.at)),
     };
-    Some(Reply::Refused {
-        id: Some(id),
+    Some(Refusal {
         fault: word,
+        id: Some(id),
         at,
     })
 }
@@ -183,7 +194,7 @@ fn tell_all(alloc: Global, room: &Room, sessions: &mut [Session]) -> u64
 {
     let mut short: u64 = 0;
     for session in sessions.iter_mut() {
-        if session.tell(alloc, room) {
+        if session.tell(alloc, room).is_err() {
             short += 1;
         }
     }
@@ -212,12 +223,12 @@ fn resume(
         match room.catch_up(alloc, rev, &view) {
             Ok(how) => how,
             Err(CatchFault::Future) => {
-                let reply = Reply::Refused {
-                    id: Some(id),
+                let refusal = Refusal {
                     fault: Word::Future,
+                    id: Some(id),
                     at: None,
                 };
-                reply_at(sessions, number, place, reply);
+                reply_at(sessions, number, place, refusal.reply());
                 return Ok(());
             }
             Err(CatchFault::NoMemory) => return Err(AllocError),
@@ -229,25 +240,25 @@ fn resume(
     Ok(())
 }
 
-/// The text at the front of a session's line, which leaves the line.
+/// The text at the front of the line of a session that is there, which leaves the line.
 pub fn draw(
     alloc: Global,
     room: &Room,
     sessions: &mut [Session],
     number: u64,
 ) -> Result<Option<String>, HubFault>
-    ensures { DrawsIf number (drawing result) (group room.now sessions.old) (group room.now sessions.new) }
+    requires { IsSome (session_in sessions.old number) }
+    ensures step { DrawsIf number (drawing result) (group room.now sessions.old) (group room.now sessions.new) }
+    ensures no_memory { IsErrOf result HubFault.NoMemory → IsSomeAnd (option_map waiting (session_in sessions.old number)) (λ n. 0 < n) }
 {
-    let Some(place) = place_in(sessions, number) else {
-        return Err(HubFault::NoSession);
-    };
+    let place = place_in(sessions, number);
     match sessions[place].draw(alloc, room) {
         Ok(text) => Ok(text),
         Err(_) => Err(HubFault::NoMemory),
     }
 }
 
-/// Takes a session away. Whether it was there.
+/// Takes a session away.
 pub fn remove(sessions: &mut Vec<Session>, number: u64)
     ensures { OnlyAt number None sessions.old.items sessions.new.items }
 {

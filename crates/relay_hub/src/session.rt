@@ -1,7 +1,7 @@
 //! One session: its view, and what waits for it.
-ghost use Rattle.std.specs.Prelude.{◌≡◌, ◌<◌, ◌≤◌, ◌-◌, ℕ, List, nat_le, length, option_map, IfOk, IfSome, OnOk, OnErr, string_bytes};
+ghost use Rattle.std.specs.Prelude.{◌≡◌, ◌<◌, ◌≤◌, ◌-◌, ℕ, List, nat_le, length, option_map, is_err, IfOk, IfSome, OnOk, OnErr, string_bytes};
 ghost use Rattle.relay_outbox.specs.Outbox.{folded};
-ghost use Rattle.relay_outbox.specs.declared.outbox.TheConstants.{REPLIES};
+ghost use Rattle.relay_outbox.specs.declared.outbox.TheConstants.{REPLIES, MOST_PATCHES};
 ghost use Rattle.relay_patch.specs.Change.{Leads};
 ghost use Rattle.relay_patch.specs.declared.change.Change.{Change};
 ghost use Rattle.relay_history.specs.History.{Reaches, changes_since};
@@ -14,7 +14,7 @@ ghost use Rattle.relay_hub.specs.Step.{Told};
 
 use relay_outbox::{Front, Outbox, OutboxFault};
 use relay_proto::{How, Reply, patch_text, snapshot_text};
-use relay_room::{CatchUp, Room};
+use relay_room::{CatchFault, CatchUp, Room};
 use relay_view::View;
 use std::alloc::{AllocError, Global};
 
@@ -37,11 +37,14 @@ impl Session {
         number: u64,
         waiting: u64,
     ) -> Result<Session, AllocError>
+        requires some { 1 ≤ waiting }
+        requires not_too_many { waiting ≤ MOST_PATCHES }
         ensures { IfOk result (λ x. x ≡ newcomer epoch rev number waiting) }
     {
         let mut outbox = match Outbox::new(alloc, waiting) {
             Ok(outbox) => outbox,
-            Err(OutboxFault::BadLimit | OutboxFault::NoMemory) => return Err(AllocError),
+            Err(OutboxFault::NoMemory) => return Err(AllocError),
+            Err(OutboxFault::BadLimit) => unreachable!(),
         };
         drop(outbox.reply(Reply::Welcome {
             epoch,
@@ -123,26 +126,27 @@ impl Session {
         }
     }
 
-    /// Tells a watcher of the newest edit. True where memory was refused, so that its line folds.
-    pub fn tell(&mut self, alloc: Global, room: &Room) -> bool
+    /// Tells a watcher of the newest edit. Where memory is refused its line folds.
+    pub fn tell(&mut self, alloc: Global, room: &Room) -> Result<(), AllocError>
         requires edited { 0 < revision room.now }
         requires reaches { Reaches room.now.history (revision room.now - 1) }
         ensures { (d : Document) (changes : List Change) → changes ≡ changes_since (revision room.now - 1) room.now.history
-            → Leads d changes room.now.document → Told d changes room.now result self.old self.new }
+            → Leads d changes room.now.document → Told d changes room.now (is_err result) self.old self.new }
     {
         let Some(view) = &self.view else {
-            return false;
+            return Ok(());
         };
         match room.catch_up(alloc, room.revision() - 1, view) {
-            Ok(CatchUp::Nothing) => false,
+            Ok(CatchUp::Nothing) => Ok(()),
             Ok(CatchUp::Patch(patch)) => {
                 self.outbox.patch(room.revision(), patch);
-                false
+                Ok(())
             }
-            Ok(CatchUp::Snapshot) | Err(_) => {
+            Err(CatchFault::NoMemory) => {
                 self.outbox.fold();
-                true
+                Err(AllocError)
             }
+            Ok(CatchUp::Snapshot) | Err(CatchFault::Future) => unreachable!(),
         }
     }
 
@@ -153,6 +157,7 @@ impl Session {
         ensures ok { OnOk result (self.new ≡ drawn self.old) }
         ensures err { OnErr result (self.new ≡ self.old) }
         ensures reads_back { OnOk result (ReadsBack (front_message room.now self.old)) }
+        ensures no_memory { OnErr result (0 < waiting self.old) }
     {
         let text = self.front_text(alloc, room)?;
         self.outbox.drop_front();
@@ -162,6 +167,7 @@ impl Session {
     fn front_text(&self, alloc: Global, room: &Room) -> Result<Option<String>, AllocError>
         ensures text { IfOk result (λ text. option_map string_bytes text ≡ option_map message_text (front_message room.now self.now)) }
         ensures reads_back { OnOk result (ReadsBack (front_message room.now self.now)) }
+        ensures no_memory { OnErr result (0 < waiting self.now) }
     {
         match self.outbox.front() {
             Front::Nothing => Ok(None),

@@ -9,7 +9,7 @@ pub record Line (R : Type 0) : Type 0 where
   pub replies : List R
   pub patches : List (ℕ × List Op)
   pub due : Bool
-  pub k : ℕ
+  pub limit : ℕ
 
 -- what stands at the front of a line
 pub data Foremost (R : Type 0) : Type 0 where
@@ -21,36 +21,36 @@ pub data Foremost (R : Type 0) : Type 0 where
 module _ {R : Type 0} where
   -- a line of these parts
   abbrev pub line : List R → List (ℕ × List Op) → Bool → ℕ → Line R
-  line replies patches due k = record { replies = replies; patches = patches; due = due; k = k }
+  line replies patches due limit = record { replies = replies; patches = patches; due = due; limit = limit }
 
   -- what holds of each outbox: no more wait than may, and patches and a due snapshot never wait together
   pub record IsOutbox (o : Line R) : Type 0 where
     pub replies : length o.replies ≤ REPLIES
-    pub patches : length o.patches ≤ o.k
-    pub limited : (1 ≤ o.k) × (o.k ≤ MOST_PATCHES)
+    pub patches : length o.patches ≤ o.limit
+    pub limited : (1 ≤ o.limit) × (o.limit ≤ MOST_PATCHES)
     pub either : o.due ≡ true → o.patches ≡ []
 
   -- nothing waits
   abbrev pub empty : ℕ → Line R
-  empty k = line [] [] false k
+  empty limit = line [] [] false limit
 
   -- a reply waits behind the other replies
   abbrev pub with_reply : R → Line R → Line R
-  with_reply r o = line (o.replies ++ r ∷ []) o.patches o.due o.k
+  with_reply r o = line (o.replies ++ r ∷ []) o.patches o.due o.limit
 
   -- the patches go, and a snapshot is due
   abbrev pub folded : Line R → Line R
-  folded o = line o.replies [] true o.k
+  folded o = line o.replies [] true o.limit
 
   -- the patches go, and none is due
   abbrev pub cleared : Line R → Line R
-  cleared o = line o.replies [] false o.k
+  cleared o = line o.replies [] false o.limit
 
   -- a due snapshot tells of the patch too; else the patch waits behind the others, or they fold where no more may wait
   abbrev pub with_patch : ℕ → List Op → Line R → Line R
   with_patch rev ops o =
       if o.due then o else
-      (if nat_lt (length o.patches) o.k then line o.replies (o.patches ++ (rev, ops) ∷ []) o.due o.k else folded o)
+      (if nat_lt (length o.patches) o.limit then line o.replies (o.patches ++ (rev, ops) ∷ []) o.due o.limit else folded o)
 
   -- of replies, patches and whether a snapshot is due, what comes first
   abbrev pub first_of : List R → List (ℕ × List Op) → Bool → Foremost R
@@ -65,18 +65,18 @@ module _ {R : Type 0} where
 
   -- the line of what comes behind
   abbrev pub rest_of : List R → List (ℕ × List Op) → Bool → ℕ → Line R
-  rest_of (r ∷ replies) patches due k = line replies patches due k
-  rest_of [] (p ∷ patches) due k = line [] patches due k
-  rest_of [] [] due k = line [] [] false k
+  rest_of (r ∷ replies) patches due limit = line replies patches due limit
+  rest_of [] (p ∷ patches) due limit = line [] patches due limit
+  rest_of [] [] due limit = line [] [] false limit
 
   -- the line once its front is drawn
   abbrev pub without_front : Line R → Line R
-  without_front o = rest_of o.replies o.patches o.due o.k
+  without_front o = rest_of o.replies o.patches o.due o.limit
 
   -- how the logic stores a line
   abbrev pub line_code : Coded R → Coded Op → Coded (Line R)
   line_code r op = code_by (List R × (List (ℕ × List Op) × (Bool × ℕ)))
       (coded× (coded_list r) (coded× (coded_list (coded× coded_ℕ (coded_list op))) (coded× coded_bool coded_ℕ)))
-      (λ o. (o.replies, (o.patches, (o.due, o.k))))
+      (λ o. (o.replies, (o.patches, (o.due, o.limit))))
       (λ p. line p.0 p.1.0 p.1.1.0 p.1.1.1)
       (λ _. refl)

@@ -1,7 +1,7 @@
 //! What waits for a session: replies, and the patches or the snapshot that keep its view current.
 //!
 //! The promise: memory is bounded and its meaning is exact. An [`Outbox`] takes all its room in [`Outbox::new`]; from then
-//! on at most 32 replies wait and at most `k` patches. A patch that finds no place folds them all into one due snapshot,
+//! on at most [`REPLIES`] wait, and as many patches as it was made for. A patch that finds no place folds them all into one due snapshot,
 //! which says what they said, and no reply is ever lost. Contracts see an outbox as a `Line` of `specs/`.
 #![tactic(auto)]
 

@@ -45,17 +45,17 @@ impl<R: Drop> Outbox<R> {
     ghost use Rattle.relay_outbox.specs.Outbox.{IsOutbox, empty, with_reply, with_patch, folded, cleared, front_of, without_front};
     ghost use Rattle.relay_outbox.specs.Front.{shown};
 
-    /// An empty outbox in which at most `k` patches may wait.
-    /// BadLimit: `k` is not 1 to [`MOST_PATCHES`].
-    pub fn new(alloc: Global, k: u64) -> Result<Outbox<R>, OutboxFault>
-        ensures ok { IfOk result (λ outbox. outbox ≡ empty k) }
-        ensures bad_limit { IsErrOf result OutboxFault.BadLimit ↔ ((k < 1) ⊎ (MOST_PATCHES < k)) }
+    /// An empty outbox in which at most `limit` patches may wait.
+    /// BadLimit: `limit` is not 1 to [`MOST_PATCHES`].
+    pub fn new(alloc: Global, limit: u64) -> Result<Outbox<R>, OutboxFault>
+        ensures ok { IfOk result (λ outbox. outbox ≡ empty limit) }
+        ensures bad_limit { IsErrOf result OutboxFault.BadLimit ↔ ((limit < 1) ⊎ (MOST_PATCHES < limit)) }
     {
-        if k < 1 || k > MOST_PATCHES {
+        if limit < 1 || limit > MOST_PATCHES {
             return Err(OutboxFault::BadLimit);
         }
         let replies = HeapCircularBuffer::with_capacity(alloc, REPLIES as usize)?;
-        let patches = HeapCircularBuffer::with_capacity(alloc, k as usize)?;
+        let patches = HeapCircularBuffer::with_capacity(alloc, limit as usize)?;
         Ok(Outbox {
             replies,
             patches,
@@ -73,7 +73,7 @@ impl<R: Drop> Outbox<R> {
         self.replies.try_push_back(reply).map_err(Busy)
     }
 
-    /// Puts a patch, with the revision that it leads to, behind the others. Where `k` wait already they fold, and where a
+    /// Puts a patch, with the revision that it leads to, behind the others. Where `limit` wait already they fold, and where a
     /// snapshot is due nothing changes, since it will say what the patch says. No memory is taken.
     pub fn patch(&mut self, rev: u64, patch: Patch)
         ensures { self.new ≡ with_patch rev patch self.old }

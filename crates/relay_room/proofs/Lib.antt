@@ -1,4 +1,5 @@
 pub mod Bounded
+pub mod Edits
 pub mod Rooms
 pub mod Missed
 pub mod Rows

@@ -4,16 +4,16 @@ use Rattle.std.proofs.lemmas.Bool.Decides.{nat_tests}
 use Rattle.std.specs.List.{AllByRecursion}
 use Rattle.relay_tree.specs.Document.{Document}
 use Rattle.relay_view.specs.View.{View}
+use Rattle.relay_patch.specs.declared.bounds.TheConstants.Bounds.{DOCUMENT}
 use Rattle.relay_patch.specs.declared.op.Op.{Op}
 use Rattle.relay_patch.specs.declared.change.Change.{Change}
-use Rattle.relay_patch.specs.Sizes.{OpFits}
 use Rattle.relay_patch.proofs.Fits.{within_flat}
 use Rattle.relay_translate.specs.Translate.{local_from}
 use Rattle.relay_translate.proofs.Sizes.{fits_with_changes}
 use Rattle.relay_history.specs.History.{in_order, oldest, changes_since}
 use Rattle.relay_history.proofs.Growing.{changes_since-newest}
-use Rattle.relay_room.specs.Room.{State, IsRoom, Fit, document_bounds, revision}
-use Rattle.relay_room.specs.CatchUp.{missed, told, caught_up, Fits}
+use Rattle.relay_room.specs.Room.{State, IsRoom, Fit, revision}
+use Rattle.relay_room.specs.CatchUp.{missed, patch_or_nothing, caught_up, IsSent, Fits}
 use Rattle.relay_room.specs.declared.catch_up.CatchUp.TheVariants.{Nothing, Snapshot}
 
 nothing_from : (k : ℕ) (now : Document) (pointers : View) → local_from k [] now pointers ≡ []
@@ -39,9 +39,9 @@ fit_since zero revisions h = tt
 fit_since (suc n) [] h = tt
 fit_since (suc n) (changes ∷ revisions) h = fit_append (in_order (take n revisions)) changes (fit_since n revisions h.1) h.0
 
-fit_told : (ops : List Op) → AllByRecursion (OpFits 66 65) ops → Fits (told ops)
-fit_told [] h = tt
-fit_told (op ∷ ops) h = h
+fit_patch : (ops : List Op) → AllByRecursion IsSent ops → Fits (patch_or_nothing ops)
+fit_patch [] h = tt
+fit_patch (op ∷ ops) h = h
 
 -- what was missed is short and flat
 pub caught_up_fits : (room : State) (rev : ℕ) (pointers : View) → IsRoom room → Fits (caught_up room rev pointers)
@@ -50,8 +50,8 @@ caught_up_fits room rev pointers is = go (nat_lt rev (oldest room.history))
     changes : List Change
     changes = changes_since rev room.history
 
-    go : (x : Bool) → Fits (if x then Snapshot else told (missed room rev pointers))
+    go : (x : Bool) → Fits (if x then Snapshot else patch_or_nothing (missed room rev pointers))
     go true = tt
-    go false = fit_told (missed room rev pointers) (fits_with_changes changes room.document pointers 64 64
+    go false = fit_patch (missed room rev pointers) (fits_with_changes changes room.document pointers DOCUMENT.depth DOCUMENT.depth
         (fit_since (room.history.newest - rev) room.history.changes is.fit)
-        (within_flat document_bounds room.document room.document (omega arith) is.within))
+        (within_flat DOCUMENT room.document room.document (omega arith) is.within))

@@ -3,6 +3,7 @@ use Rattle.std.specs.List.{AllByRecursion}
 use Rattle.std.proofs.Common.{◌≡◌, ℕ, zero, suc, ◌+◌, ◌-◌, ◌<◌, ◌≤◌, ◌⊎◌, inl, inr, List, [], ◌∷◌, take, false, Ok, refl, arith}
 use Rattle.std.proofs.lemmas.Bool.{cases_lt}
 use Rattle.relay_tree.specs.Document.{Document, depth, weight}
+use Rattle.relay_patch.specs.declared.bounds.TheConstants.Bounds.{DOCUMENT}
 use Rattle.relay_patch.specs.declared.change.Change.{Change}
 use Rattle.relay_patch.specs.Patch.{exceeds, within}
 use Rattle.relay_patch.specs.Change.{Leads}
@@ -10,14 +11,14 @@ use Rattle.relay_patch.proofs.Made.{Leads-append}
 use Rattle.relay_history.specs.declared.history.TheConstants.{MOST_REVISIONS, LAST_REVISION}
 use Rattle.relay_history.specs.History.{Past, IsHistory, Reaches, in_order, with_revision, changes_since}
 use Rattle.relay_history.proofs.Growing.{held-with_revision, changes_since-newest, changes_since-with_revision}
-use Rattle.relay_room.specs.Room.{State, IsRoom, Fit, begun, document_bounds}
+use Rattle.relay_room.specs.Room.{State, IsRoom, Fit, begun}
 
 no_changes : (n : ℕ) → in_order (take n []) ≡ []
 no_changes zero = refl
 no_changes (suc n) = refl
 
 pub begun_is_room : (document : Document) (rev limit : ℕ)
-    → exceeds 64 (depth document) ≡ false → exceeds 65536 (weight document) ≡ false
+    → exceeds DOCUMENT.depth (depth document) ≡ false → exceeds DOCUMENT.weight (weight document) ≡ false
     → 1 ≤ limit → limit ≤ MOST_REVISIONS → rev ≤ LAST_REVISION
     → IsRoom (begun document rev limit)
 begun_is_room document rev limit flat light least most last = record {
@@ -34,7 +35,7 @@ fit_take (suc n) (changes ∷ revisions) h = (h.0, fit_take n revisions h.1)
 
 pub edited_is_room : (room : State) (changes : List Change) (document : Document)
     → IsRoom room → IsHistory (with_revision changes room.history)
-    → within document_bounds document ≡ Ok document → Fit changes → Leads room.document changes document
+    → within DOCUMENT document ≡ Ok document → Fit changes → Leads room.document changes document
     → IsRoom (record { document = document; history = with_revision changes room.history })
 edited_is_room room changes document was is inside fit leads = record {
   history = is;

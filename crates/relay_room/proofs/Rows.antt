@@ -1,5 +1,5 @@
 -- What the definitions give for a room that holds the last two of five revisions, and for limits that are not kept.
-use Rattle.std.specs.Prelude.{◌≡◌, ◌-◌, ◌^◌, List, [], ◌∷◌, Some, None, true, false, refl, codes}
+use Rattle.std.specs.Prelude.{◌≡◌, ◌+◌, List, [], ◌∷◌, Some, None, true, false, refl, codes}
 use Rattle.relay_tree.specs.Document.{null, truth, list, object, no_items, item, no_members, member}
 use Rattle.relay_pointer.specs.Index.{index_text}
 use Rattle.relay_pointer.specs.Path.{Path}
@@ -7,6 +7,7 @@ use Rattle.relay_patch.specs.declared.op.Op.TheVariants.{Replace}
 use Rattle.relay_patch.specs.declared.change.Change.{Change}
 use Rattle.relay_patch.specs.declared.change.Change.TheVariants.{Set}
 use Rattle.relay_history.specs.History as history
+use Rattle.relay_history.specs.declared.history.TheConstants.{MOST_REVISIONS, LAST_REVISION}
 use Rattle.relay_history.specs.History.{with_revision}
 use Rattle.relay_room.specs.Room.{State}
 use Rattle.relay_room.specs.Fault.{room_fault}
@@ -14,16 +15,16 @@ use Rattle.relay_room.specs.CatchUp.{caught_up}
 use Rattle.relay_room.specs.declared.fault.RoomFault.TheVariants.{BadRevision, BadLimit}
 use Rattle.relay_room.specs.declared.catch_up.CatchUp.TheVariants.{Nothing, Patch, Snapshot}
 
-revision_is_no_count : room_fault null (2 ^ 53) 0 ≡ Some BadRevision
+revision_is_no_count : room_fault null (LAST_REVISION + 1) 0 ≡ Some BadRevision
 revision_is_no_count = refl
 
-holds_nothing : room_fault null (2 ^ 53 - 1) 0 ≡ Some BadLimit
+holds_nothing : room_fault null LAST_REVISION 0 ≡ Some BadLimit
 holds_nothing = refl
 
-holds_too_much : room_fault null 0 1025 ≡ Some BadLimit
+holds_too_much : room_fault null 0 (MOST_REVISIONS + 1) ≡ Some BadLimit
 holds_too_much = refl
 
-last_revision : room_fault null (2 ^ 53 - 1) 1 ≡ None
+last_revision : room_fault null LAST_REVISION 1 ≡ None
 last_revision = refl
 
 n : Path

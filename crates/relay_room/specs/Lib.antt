@@ -1,3 +1,4 @@
 pub mod Room
+pub mod Edit
 pub mod Fault
 pub mod CatchUp

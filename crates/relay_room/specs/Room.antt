@@ -4,7 +4,7 @@ use Rattle.std.specs.List.{AllByRecursion}
 use Rattle.std.specs.Coded.{Coded, code_by, coded×}
 use Rattle.relay_tree.specs.Document.{Document}
 use Rattle.relay_tree.specs.Code.{document_code}
-use Rattle.relay_patch.specs.declared.bounds.Bounds.{Bounds}
+use Rattle.relay_patch.specs.declared.bounds.TheConstants.Bounds.{DOCUMENT}
 use Rattle.relay_patch.specs.declared.change.Change.{Change}
 use Rattle.relay_patch.specs.Patch.{within}
 use Rattle.relay_patch.specs.Change.{Leads}
@@ -25,19 +25,15 @@ revision room = room.history.newest
 abbrev pub begun : Document → ℕ → ℕ → State
 begun document rev limit = record { document = document; history = history.begun limit rev }
 
--- the bounds of a shared document
-abbrev pub document_bounds : Bounds
-document_bounds = record { depth = 64; weight = 65536 }
-
--- each change fits: no path has more than 64 tokens, and no value is deeper than 64
+-- each change fits: no path has more tokens than a document may be deep, and no value is deeper
 abbrev pub Fit : List Change → Type 0
-Fit changes = AllByRecursion (ChangeFits 64 64) changes
+Fit changes = AllByRecursion (ChangeFits DOCUMENT.depth DOCUMENT.depth) changes
 
 -- what holds of each room
 pub record IsRoom (room : State) : Type 0 where
   pub history : IsHistory room.history
   -- the document is within the bounds
-  pub within : within document_bounds room.document ≡ Ok room.document
+  pub within : within DOCUMENT room.document ≡ Ok room.document
   -- each change held fits
   pub fit : AllByRecursion Fit room.history.changes
   -- from each revision that the history reaches back to, some document was led to the present one by the changes since

@@ -2,7 +2,7 @@
 ghost use Rattle.std.specs.Prelude.{◌≡◌, ◌<◌, ◌↔◌, map, IfOk, IfSome, IsSome, IsErrOf};
 ghost use Rattle.relay_history.specs.History.{Reaches, changes_since};
 ghost use Rattle.relay_room.specs.Room.{revision};
-ghost use Rattle.relay_room.specs.CatchUp.{caught_up, told, LeadsOn, Fits};
+ghost use Rattle.relay_room.specs.CatchUp.{caught_up, patch_or_nothing, LeadsOn, Fits};
 ghost use Rattle.relay_room.specs.declared.catch_up.CatchUp.TheVariants.{Nothing};
 ghost use Rattle.relay_room.specs.declared.fault.CatchFault.TheVariants.{Future};
 
@@ -46,7 +46,7 @@ impl Room {
             return Ok(CatchUp::Snapshot);
         };
         let patch = translate(alloc, changes.as_slice(), &self.document, view)?;
-        Ok(told(patch))
+        Ok(patch_or_nothing(patch))
     }
 }
 
@@ -66,8 +66,8 @@ fn held_since<'a>(
 }
 
 // A patch without operations would tell nothing.
-fn told(patch: Patch) -> CatchUp
-    ensures { result ≡ told patch }
+fn patch_or_nothing(patch: Patch) -> CatchUp
+    ensures { result ≡ patch_or_nothing patch }
 {
     if patch.ops().is_empty() {
         CatchUp::Nothing

@@ -2,10 +2,9 @@
 ghost use Rattle.std.specs.Prelude.{◌≡◌, ◌+◌, ◌↔◌, Ok, IfOk, IfErr, OnOk, OnErr, IsErrOf};
 ghost use Rattle.relay_history.specs.declared.history.TheConstants.{LAST_REVISION};
 ghost use Rattle.relay_history.specs.History.{with_revision};
-ghost use Rattle.relay_patch.specs.Patch.{after};
 ghost use Rattle.relay_patch.specs.Change.{Leads, all_changes};
-ghost use Rattle.relay_room.specs.Room.{IsRoom, revision, document_bounds};
-ghost use Rattle.relay_room.specs.Fault.{Refuses};
+ghost use Rattle.relay_room.specs.Room.{IsRoom, revision};
+ghost use Rattle.relay_room.specs.Edit.{edited, Refuses};
 ghost use Rattle.relay_room.specs.declared.fault.EditFault.TheVariants.{Exhausted};
 
 use crate::fault::EditFault;
@@ -22,12 +21,12 @@ impl Room {
     ///
     /// It costs what `relay_patch::apply` costs. Where the most revisions are held, the oldest one's changes go.
     pub fn edit(&mut self, alloc: Global, patch: &Patch) -> Result<u64, EditFault>
-        ensures document { OnOk result (after self.old.document patch.now document_bounds ≡ Ok self.new.document) }
+        ensures document { OnOk result (edited self.old patch.now ≡ Ok self.new.document) }
         ensures revision { IfOk result (λ rev. (rev ≡ revision self.old + 1) × (rev ≡ revision self.new)) }
         ensures history { OnOk result (self.new.history ≡ with_revision (all_changes self.old.document patch.now) self.old.history) }
         ensures led { OnOk result (Leads self.old.document (all_changes self.old.document patch.now) self.new.document) }
         ensures exhausted { IsErrOf result Exhausted ↔ (revision self.old ≡ LAST_REVISION) }
-        ensures refused { IfErr result (λ fault. Refuses self.old.document patch.now fault) }
+        ensures refused { IfErr result (λ fault. Refuses self.old patch.now fault) }
         ensures unchanged { OnErr result (self.new ≡ self.old) }
         ensures kept { IsRoom self.new }
     {

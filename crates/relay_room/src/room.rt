@@ -36,22 +36,22 @@ impl Room {
     ghost use Rattle.relay_room.specs.Fault.{room_fault};
     ghost use Rattle.relay_room.specs.declared.fault.RoomFault.TheVariants.{BadLimit, NoMemory};
 
-    /// A room whose document is null, at revision 0, that holds the changes of the last `h` revisions.
-    /// BadLimit: `h` is not 1 to 1,024.
-    pub fn new(alloc: Global, h: u64) -> Result<Room, RoomFault>
-        ensures ok { IfOk result (λ room. room ≡ begun null 0 h) }
-        ensures bad_limit { IsErrOf result BadLimit ↔ ((h < 1) ⊎ (MOST_REVISIONS < h)) }
+    /// A room whose document is null, at revision 0, that holds the changes of the last `limit` revisions.
+    /// BadLimit: `limit` is not 1 to 1,024.
+    pub fn new(alloc: Global, limit: u64) -> Result<Room, RoomFault>
+        ensures ok { IfOk result (λ room. room ≡ begun null 0 limit) }
+        ensures bad_limit { IsErrOf result BadLimit ↔ ((limit < 1) ⊎ (MOST_REVISIONS < limit)) }
         ensures other { IfErr result (λ fault. (fault ≡ BadLimit) ⊎ (fault ≡ NoMemory)) }
     {
-        Room::starting_at(alloc, Tree::from(Node::Null), 0, h)
+        Room::starting_at(alloc, Tree::from(Node::Null), 0, limit)
     }
 
-    /// A room whose document is the tree, at revision `rev`, that holds the changes of the last `h` revisions after it.
-    /// TooDeep, TooHeavy: the tree is not within `Bounds::DOCUMENT`. BadRevision: `rev` is above `2^53 - 1`. BadLimit: `h` is
+    /// A room whose document is the tree, at revision `rev`, that holds the changes of the last `limit` revisions after it.
+    /// TooDeep, TooHeavy: the tree is not within `Bounds::DOCUMENT`. BadRevision: `rev` is above `2^53 - 1`. BadLimit: `limit` is
     /// not 1 to 1,024. The first of them that holds is the answer, and the tree is dropped. It costs the tree's measure.
-    pub fn starting_at(alloc: Global, document: Tree, rev: u64, h: u64) -> Result<Room, RoomFault>
-        ensures ok { IfOk result (λ room. (room ≡ begun document rev h) × (room_fault document rev h ≡ None)) }
-        ensures refused { IfErr result (λ fault. (room_fault document rev h ≡ Some fault) ⊎ ((fault ≡ NoMemory) × (room_fault document rev h ≡ None))) }
+    pub fn starting_at(alloc: Global, document: Tree, rev: u64, limit: u64) -> Result<Room, RoomFault>
+        ensures ok { IfOk result (λ room. (room ≡ begun document rev limit) × (room_fault document rev limit ≡ None)) }
+        ensures refused { IfErr result (λ fault. (room_fault document rev limit ≡ Some fault) ⊎ ((fault ≡ NoMemory) × (room_fault document rev limit ≡ None))) }
     {
         if document.depth() > Bounds::DOCUMENT.depth {
             return Err(RoomFault::TooDeep);
@@ -62,7 +62,7 @@ impl Room {
         if rev > LAST_REVISION {
             return Err(RoomFault::BadRevision);
         }
-        let history = History::new(alloc, h, rev)?;
+        let history = History::new(alloc, limit, rev)?;
         Ok(Room { document, history })
     }
 

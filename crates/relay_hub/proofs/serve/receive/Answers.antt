@@ -1,28 +1,25 @@
 use Rattle.std.proofs.Common.{◌≡◌, refl, sym, ◌∙◌, Ok, Err}
-use Rattle.relay_hub.proofs.Sessions.{not_found, session_there}
+use Rattle.relay_hub.proofs.Sessions.{session_there}
 use Rattle.relay_hub.proofs.Serving.{answered}
 use Rattle.relay_hub.specs.State.{group}
 use Rattle.relay_hub.proofs.serve.receive.Goals as goal
 use Rattle.relay_hub.proofs.serve.receive.Goals.{in-Ok, in-Err-Refused, in-Err-NoMemory}
 
-pub returns-in_default : goal.returns-in_default
-returns-in_default c = rw (not_found c.args.sessions.now c.args.number (sym c.place_in.ensures ∙ c.in_default.is)) refl
-
-pub returns-then-is_full : goal.returns-then-is_full
-returns-then-is_full c =
-    let there = session_there c.args.sessions.now c.args.number c.in-Some.place (sym c.place_in.ensures ∙ c.in-Some.is) in
+pub returns-then-is_full-clause-step : goal.returns-then-is_full-clause-step
+returns-then-is_full-clause-step c =
+    let there = session_there c.args.sessions.now c.args.number c.place_in-place.result c.place_in-place.ensures in
     rw there.1 (c.if-is_full.ensures there.0 there.1, refl)
 
-pub returns-in-Ok-served : goal.returns-in-Ok-served
-returns-in-Ok-served c =
-    let at = sym c.place_in.ensures ∙ c.in-Some.is in
+pub returns-in-Ok-served-clause-step : goal.returns-in-Ok-served-clause-step
+returns-in-Ok-served-clause-step c =
+    let at = c.place_in-place.ensures in
     let old = group c.args.room.now c.args.sessions.now in
     let new = group c.match-read.room c.match-read.sessions in
     let s = c.args.number in
-    let place = c.in-Some.place in
+    let place = c.place_in-place.result in
     elim c.match-read.branch [
       | in-Ok w ↦ answered c.args.epoch s place c.in-Ok-served.short c.args.text.now (Ok w.in-Ok.request) old new at c.if-is_full.ensures w.in-Ok.ensures.ok
-          (rw (w.room-is, w.sessions-is) (rw (sym w.served-is ∙ c.in-Ok-served.is) at w.serve-served.ensures.ok))
+          (rw (w.room-is, w.sessions-is) (rw (sym w.served-is ∙ c.in-Ok-served.is) at w.perform-served.ensures.ok))
       | in-Err-Refused w ↦
           let none : c.in-Ok-served.short ≡ 0 = cc (w.served-is, c.in-Ok-served.is) in
           let said = rw w.in-Err-Refused.field-0-is at w.reply.ensures in

@@ -1,7 +1,10 @@
-use Rattle.std.proofs.Common.{◌≡◌, subst, arith}
+use Rattle.std.proofs.Common.{◌≡◌, ◌∙◌, ap, subst, arith}
+use Rattle.relay_patch.specs.declared.bounds.TheConstants.Bounds.{DOCUMENT}
 use Rattle.relay_history.specs.History.{IsHistory, with_revision}
-use Rattle.relay_room.specs.Room.{State, document_bounds}
+use Rattle.relay_room.specs.Edit.{applied}
+use Rattle.relay_room.specs.Room.{State}
 use Rattle.relay_room.proofs.Bounded.{after_from_within}
+use Rattle.relay_room.proofs.Edits.{edited_below}
 use Rattle.relay_room.proofs.Rooms.{edited_is_room}
 use Rattle.relay_room.proofs.room.Room.edit.Goals as goal
 
@@ -10,9 +13,14 @@ invariant_of-self-2 c =
     let room : State = record { document = c.self.inside.document; history = c.self.inside.history } in
     let changes = c.in_ok-changes.changes.items in
     let made : c.push.new.self ≡ with_revision changes room.history = c.push.ensures in
-    let inside = after_from_within c.args.patch.now 0 document_bounds room.document c.apply.new.tree c.self.invariant.within c.in_ok-changes.ensures.document in
+    let inside = after_from_within c.args.patch.now 0 DOCUMENT room.document c.apply.new.tree c.self.invariant.within c.in_ok-changes.ensures.document in
     let fit = c.in_ok-changes.ensures.sizes (omega arith) c.self.invariant.within in
     rw made (edited_is_room room changes c.apply.new.tree c.self.invariant (subst IsHistory made c.newest-2.ensures.kept) inside fit c.in_ok-changes.ensures.led)
 
 pub returns-clause-kept : goal.returns-clause-kept
 returns-clause-kept c = invariant_of-self-2 c
+
+pub returns-clause-document : goal.returns-clause-document
+returns-clause-document c =
+    let room : State = record { document = c.self.inside.document; history = c.self.inside.history } in
+    rw (← c.self.view_is) (edited_below room c.args.patch.now (omega arith) ∙ ap applied c.in_ok-changes.ensures.document)

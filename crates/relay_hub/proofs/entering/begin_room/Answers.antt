@@ -10,7 +10,7 @@ use Rattle.relay_hub.specs.Session.{newcomer}
 use Rattle.relay_hub.specs.State.{group, place_named}
 use Rattle.relay_hub.specs.declared.group.Group.{Group}
 use Rattle.relay_hub.proofs.Opening.{absent}
-use Rattle.relay_hub.proofs.entering.found.Goals as goal
+use Rattle.relay_hub.proofs.entering.begin_room.Goals as goal
 
 pub returns-clause-ok : goal.returns-clause-ok
 returns-clause-ok c =
@@ -19,9 +19,9 @@ returns-clause-ok c =
     let key = c.in_ok-from_str.field-0 in
     let g : Group = record { room = c.in-Ok.room; sessions = c.push.new.self } in
     let name : string_bytes key ≡ c.args.name.now = c.in_ok-from_str.ensures.ok in
-    let room : ◌≡◌ {A = Room} c.in-Ok.room (begun null 0 c.args.history) = c.in-Ok.ensures.ok in
+    let room : ◌≡◌ {A = Room} c.in-Ok.room (begun null 0 guest.made.history) = c.in-Ok.ensures.ok in
     let came : c.push.new.self.items ≡ c.new-sessions.result.items ++ c.in_ok-session.field-0 ∷ [] = c.in_ok-push.ensures.items in
-    let sessions : c.push.new.self.items ≡ newcomer guest.epoch 0 guest.number guest.waiting ∷ [] =
+    let sessions : c.push.new.self.items ≡ newcomer guest.made.epoch 0 guest.number guest.made.waiting ∷ [] =
     came ∙ (λ i. c.new-sessions.ensures.items i ++ c.in_ok-session.ensures i ∷ []) in
     let none : place_named (string_bytes key) (rooms_of m.entries) ≡ None = rw name c.requires.absent in
     ap (λ es. rooms_of es) (c.in_ok-insert.ensures.entries ∙ insert_entry-new string_eq m key g (absent key m.entries none))
