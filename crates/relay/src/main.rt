@@ -1,24 +1,21 @@
 //! The program: hands its words and its streams to `relay_server`.
 #![tactic(auto)]
 
-use relay_server::start;
+use relay_server::{refuse_words, start};
 use std::process::ExitCode;
 use std::{env, io};
 
-/// The status where the words themselves find no memory.
-const NO_MEMORY: u8 = 3;
-
 fn main(rt: HostRuntime) -> ExitCode {
-    let Ok(words) = words(&rt) else {
-        return ExitCode::from(NO_MEMORY);
+    let status = match words(&rt) {
+        Ok(words) => start(
+            &rt,
+            words.as_slice(),
+            &mut rt.stdin(),
+            &mut rt.stdout(),
+            &mut rt.stderr(),
+        ),
+        Err(error) => refuse_words(error.kind(), &mut rt.stderr()),
     };
-    let status = start(
-        &rt,
-        words.as_slice(),
-        &mut rt.stdin(),
-        &mut rt.stdout(),
-        &mut rt.stderr(),
-    );
     ExitCode::from(status)
 }
 

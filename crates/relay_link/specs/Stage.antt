@@ -1,5 +1,5 @@
 -- The stage and the session of a link.
-use Rattle.std.specs.Prelude.{ℕ, Bool, true, false, Option, Some, None}
+use Rattle.std.specs.Prelude.{ℕ, ◌≤◌, Bool, true, false, Option, Some, None}
 use Rattle.relay_link.specs.declared.cause.Cause.{Cause}
 use Rattle.relay_link.specs.declared.cause.Cause.TheVariants as cause
 use Rattle.relay_link.specs.declared.reply.Verdict.{Verdict}
@@ -26,6 +26,17 @@ module _ {S : Type 0} where
   session_of (Replying stream reply) = entered reply.verdict
   session_of (Open socket s) = Some s
   session_of _ = None
+
+-- the order of the stages
+abbrev pub place : Stage → ℕ
+place stage.Head = 0
+place stage.Open = 1
+place stage.Closing = 2
+place stage.Gone = 3
+
+-- the second stage is the first, or comes after it
+abbrev pub IsForward : Stage → Stage → Type 0
+IsForward old new = place old ≤ place new
 
 -- a link that goes from the first stage to the second has a cause: a handshake that ends without opening it, an open link that
 -- closes or goes, a closing link that goes

@@ -11,7 +11,7 @@ pub enum Cause {
     Binary,
     /// Frames against RFC 6455, a text that is not UTF-8, or a message that is too large.
     Broken,
-    /// The stream failed.
+    /// A call on the stream failed, or a write to it took no byte.
     Stream,
     /// Memory was refused inside the link or its socket, or for a text that came.
     Memory,

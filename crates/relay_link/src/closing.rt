@@ -1,6 +1,6 @@
 //! A closing link: its session is closed, and the other side's close frame is awaited.
 ghost use Rattle.std.specs.Prelude.{◌≡◌, is_some, None};
-ghost use Rattle.relay_link.specs.Stage.{leaves, stage_of, session_of};
+ghost use Rattle.relay_link.specs.Stage.{leaves, stage_of, session_of, IsForward};
 ghost use Rattle.relay_link.specs.declared.stage.Stage.TheVariants.{Closing};
 
 use crate::cause::Cause;
@@ -16,6 +16,7 @@ pub(crate) const TURNS_MOST: u64 = 16;
 pub(crate) fn turn<S: Read + Write + Drop>(mut socket: Socket<S>, turns: u64) -> Next<S>
     ensures session { session_of result.state ≡ None }
     ensures cause { is_some result.cause ≡ leaves Closing (stage_of result.state) }
+    ensures forward { IsForward Closing (stage_of result.state) }
 {
     socket.get_mut().renew();
     if let Err(cause) = read(&mut socket) {

@@ -47,7 +47,7 @@ pub(crate) fn listen<S: Read + Write + Drop>(
     }
     match shake(alloc, bytes.as_slice()) {
         Ok(Shake::More) => Next::on(State::Head { stream, bytes }),
-        Ok(Shake::Accept { room, reply }) => enter(alloc, stream, room, reply, hub, made),
+        Ok(Shake::Accept { room, reply }) => admit(alloc, stream, room, reply, hub, made),
         Ok(Shake::Refuse { status, reply }) => {
             answer(alloc, stream, reply, Verdict::Refused(status), hub, made)
         }
@@ -57,7 +57,7 @@ pub(crate) fn listen<S: Read + Write + Drop>(
 
 /// Opens a session, and begins to say so. Where there is no place for it the handshake is refused with 503.
 #[tactic(auto, using(crate::proofs::Following::follows_same, crate::proofs::Following::follows_then))]
-fn enter<S: Read + Write + Drop>(
+fn admit<S: Read + Write + Drop>(
     alloc: Global,
     stream: Polled<S>,
     room: String,

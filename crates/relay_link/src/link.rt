@@ -4,7 +4,8 @@ ghost use Rattle.std.specs.List.{Contains};
 ghost use Rattle.relay_hub.specs.declared.event.Event.TheVariants.{Close};
 ghost use Rattle.relay_link.specs.Adds.{Adds, receives, draws as draws_of};
 ghost use Rattle.relay_link.specs.Follows.{Follows, at, closing_of};
-ghost use Rattle.relay_link.specs.Stage.{stage_of, session_of, leaves, is_over, ended};
+ghost use Rattle.relay_link.specs.Stage.{stage_of, session_of, leaves, is_over, ended, IsForward};
+ghost use Rattle.relay_link.specs.declared.link.TheConstants.{DRAWS_MOST};
 ghost use Rattle.relay_link.specs.declared.made.TheConstants.{EVENTS_MOST};
 ghost use Rattle.relay_link.specs.declared.stage.Stage.TheVariants.{Head, Gone};
 
@@ -87,15 +88,16 @@ impl<S: Read + Write + Drop> Link<S> {
     /// - Gone: nothing.
     ///
     /// A cause is there exactly where the turn ended Head without Open, left Open, or ended Closing. [`Cause::Stream`] comes
-    /// only where a call on the stream failed in this very turn.
+    /// only where, in this very turn, a call on the stream failed or a write took no byte.
     pub fn turn(&mut self, alloc: Global, hub: &mut Hub, draws: u64) -> Result<Turn, AllocError>
         ensures follows { IfOk result (λ turn. Follows (at hub.old (session_of self.old) []) (at hub.new (session_of self.new) turn.made.items)) }
-        ensures few { IfOk result (λ turn. length turn.made.items ≤ 34) }
+        ensures few { IfOk result (λ turn. length turn.made.items ≤ EVENTS_MOST) }
         ensures receives { IfOk result (λ turn. receives turn.made.items ≤ 1) }
-        ensures draws { IfOk result (λ turn. draws_of turn.made.items ≤ min draws 32) }
+        ensures draws { IfOk result (λ turn. draws_of turn.made.items ≤ min draws DRAWS_MOST) }
         ensures closed { IfOk result (λ turn. (s : ℕ) → session_of self.old ≡ Some s → session_of self.new ≡ None → Contains turn.made.items (Close s)) }
         ensures over { OnOk result (is_over (stage_of self.new) ≡ true → session_of self.new ≡ None) }
         ensures stage { IfOk result (λ turn. turn.stage ≡ stage_of self.new) }
+        ensures forward { IsForward (stage_of self.old) (stage_of self.new) }
         ensures cause { IfOk result (λ turn. is_some turn.cause ≡ leaves (stage_of self.old) (stage_of self.new)) }
         ensures gone { IfOk result (λ turn. stage_of self.old ≡ Gone → (turn.made.items ≡ []) × (self.new ≡ self.old)) }
         ensures unchanged { OnErr result (self.new ≡ self.old) }
@@ -119,6 +121,7 @@ impl<S: Read + Write + Drop> Link<S> {
         ensures follows { IfOk result (λ turn. Follows (at hub.old (session_of self.old) []) (at hub.new (session_of self.new) turn.made.items)) }
         ensures closes { IfOk result (λ turn. turn.made.items ≡ closing_of (session_of self.old)) }
         ensures gone { OnOk result (stage_of self.new ≡ Gone) }
+        ensures forward { IsForward (stage_of self.old) (stage_of self.new) }
         ensures stage { IfOk result (λ turn. turn.stage ≡ Gone) }
         ensures cause { IfOk result (λ turn. turn.cause ≡ ended (stage_of self.old)) }
         ensures unchanged { OnErr result (self.new ≡ self.old) }
@@ -157,6 +160,7 @@ fn advance<S: Read + Write + Drop>(
     ensures follows { Follows (at hub.old (session_of state) made.old) (at hub.new (session_of result.state) made.new) }
     ensures adds { Adds (draws + 2) 1 draws made.old made.new }
     ensures cause { is_some result.cause ≡ leaves (stage_of state) (stage_of result.state) }
+    ensures forward { IsForward (stage_of state) (stage_of result.state) }
     ensures gone { stage_of state ≡ Gone → (made.new ≡ made.old) × (result.state ≡ state) }
 {
     match state {

@@ -1,8 +1,8 @@
-//! An open link: what waits is sent, a message is heard, and messages are told.
+//! An open link: what waits is sent, a message is heard, and messages are drawn and sent.
 ghost use Rattle.std.specs.Prelude.{◌≡◌, ◌+◌, ◌≤◌, length, is_some, Some, None};
 ghost use Rattle.relay_link.specs.Adds.{Adds};
 ghost use Rattle.relay_link.specs.Follows.{Follows, at};
-ghost use Rattle.relay_link.specs.Stage.{leaves, stage_of, session_of};
+ghost use Rattle.relay_link.specs.Stage.{leaves, stage_of, session_of, IsForward};
 ghost use Rattle.relay_link.specs.declared.made.TheConstants.{EVENTS_MOST};
 ghost use Rattle.relay_link.specs.declared.stage.Stage.TheVariants.{Open};
 
@@ -44,6 +44,7 @@ pub(crate) fn turn<S: Read + Write + Drop>(
     ensures follows { Follows (at hub.old (Some session) made.old) (at hub.new (session_of result.state) made.new) }
     ensures adds { Adds (draws + 2) 1 draws made.old made.new }
     ensures cause { is_some result.cause ≡ leaves Open (stage_of result.state) }
+    ensures forward { IsForward Open (stage_of result.state) }
 {
     socket.get_mut().renew();
     match talk(alloc, &mut socket, session, draws, hub, made) {
@@ -58,7 +59,7 @@ pub(crate) fn turn<S: Read + Write + Drop>(
     }
 }
 
-/// Sends what waits. Where nothing waits any more a message is heard, and messages are told.
+/// Sends what waits. Where nothing waits any more a message is heard, and messages are drawn and sent.
 #[tactic(auto, using(crate::proofs::Following::follows_same, crate::proofs::Following::follows_then))]
 fn talk<S: Read + Write + Drop>(
     alloc: Global,
@@ -78,7 +79,7 @@ fn talk<S: Read + Write + Drop>(
     if hub.may_hear(session) {
         hear(alloc, socket, session, hub, made)?;
     }
-    tell(alloc, socket, session, draws, hub, made)
+    send_drawn(alloc, socket, session, draws, hub, made)
 }
 
 /// Reads one message, and hands a text to the hub.
@@ -119,9 +120,9 @@ fn hear<S: Read + Write + Drop>(
     }
 }
 
-/// Draws up to so many messages and sends them, until output waits. Where a draw finds no memory it ends the turn.
+/// Draws up to so many messages and sends each, until output waits. Where a draw finds no memory it ends the turn.
 #[tactic(auto, using(crate::proofs::Following::follows_same, crate::proofs::Following::follows_then))]
-fn tell<S: Read + Write + Drop>(
+fn send_drawn<S: Read + Write + Drop>(
     alloc: Global,
     socket: &mut Socket<S>,
     session: u64,

@@ -1,10 +1,16 @@
 //! The options as `clap` has them.
+ghost use Rattle.std.specs.Prelude.{IfOk, ◌≤◌};
+ghost use Rattle.relay_options.specs.Ranges.{AreSettings, IsPossible};
+
 use crate::job::{Job, Stop};
-use crate::settings::Settings;
+use crate::settings::{EPOCH_MOST, HISTORY_MOST, OUTBOX_MOST, PORT_MOST, Settings, TURNS_MOST};
 use clap::builder::ValueParser;
 use clap::error::ErrorKind;
 use clap::{Arg, ArgAction, ArgMatches, Command, Error};
 use std::alloc::{AllocError, Global};
+
+/// The version of the program, and the line by which the kit that proves it names itself (`rt version`).
+const VERSION: &str = "0.1.0\nrattle-kit-13b logic dac8208d650f15bf";
 
 const ABOUT: &str =
     "Keeps shared JSON documents in rooms, and tells each watcher what changed in the parts that it watches";
@@ -41,23 +47,19 @@ const OUTBOX: &str = "32";
 
 const EPOCH: &str = "1";
 
-const TURNS_MOST: u64 = 1_000_000_000_000;
-
-const EPOCH_MOST: u64 = 9_007_199_254_740_991;
-
-/// What the words ask for; the first of them is the program's name.
-pub fn job_of(alloc: Global, words: &[String]) -> Result<Job, Stop> {
+/// What the words ask for; the first of them is the program's name. Each number of a job is within its range.
+pub fn job_of(alloc: Global, words: &[String]) -> Result<Job, Stop>
+    ensures { IfOk result IsPossible }
+{
     match parsed(alloc, words) {
-        Ok(matches) => match chosen(&matches) {
-            Some(job) => Ok(job),
-            None => Err(Stop::NoMemory),
-        },
+        Ok(matches) => chosen(alloc, &matches),
         Err(error) => Err(stop_of(alloc, &error)),
     }
 }
 
 fn parsed<'a>(alloc: Global, words: &'a [String]) -> Result<ArgMatches<'a>, Error> {
     let relay = Command::new(alloc, "relay")
+        .version(VERSION)
         .about(ABOUT)
         .after_help(EXAMPLE)
         .subcommand(script(alloc)?)?
@@ -82,7 +84,7 @@ fn looped<'a>(alloc: Global) -> Result<Command<'a>, AllocError> {
 }
 
 fn serve<'a>(alloc: Global) -> Result<Command<'a>, AllocError> {
-    let port = number(alloc, "port", ValueParser::unsigned(0, 65_535))
+    let port = number(alloc, "port", ValueParser::unsigned(0, PORT_MOST))
         .help("The port, 0 to 65535; 0 lets the system choose")
         .required(true);
     let turns = number(alloc, "turns", ValueParser::unsigned(1, TURNS_MOST))
@@ -101,10 +103,10 @@ fn follow<'a>(alloc: Global) -> Command<'a> {
 }
 
 fn with_settings<'a>(alloc: Global, command: Command<'a>) -> Result<Command<'a>, AllocError> {
-    let history = number(alloc, "history", ValueParser::unsigned(1, 1_024))
+    let history = number(alloc, "history", ValueParser::unsigned(1, HISTORY_MOST))
         .help("How many revisions each room holds, 1 to 1024")
         .default_value(HISTORY);
-    let outbox = number(alloc, "outbox", ValueParser::unsigned(1, 256))
+    let outbox = number(alloc, "outbox", ValueParser::unsigned(1, OUTBOX_MOST))
         .help("How many patches wait for a session at most, 1 to 256")
         .default_value(OUTBOX);
     let epoch = number(alloc, "epoch", ValueParser::unsigned(0, EPOCH_MOST))
@@ -122,26 +124,53 @@ fn number<'a>(alloc: Global, name: &'a str, parser: ValueParser<'a>) -> Arg<'a> 
         .value_parser(parser)
 }
 
-fn chosen(matches: &ArgMatches<'_>) -> Option<Job> {
+/// The job of the subcommand that was chosen.
+fn chosen(alloc: Global, matches: &ArgMatches<'_>) -> Result<Job, Stop>
+    ensures { IfOk result IsPossible }
+{
     match matches.subcommand() {
-        None => Some(Job::Script(Settings::DEFAULT)),
-        Some(("script", given)) => Some(Job::Script(settings_of(given)?)),
-        Some(("loop", given)) => Some(Job::Loop(settings_of(given)?)),
-        Some(("serve", given)) => Some(Job::Serve {
-            port: given.get_one::<u16>("port")?,
-            turns: given.get_one::<u64>("turns")?,
-            settings: settings_of(given)?,
+        None => Ok(Job::Script(Settings::DEFAULT)),
+        Some(("script", given)) => Ok(Job::Script(settings_of(alloc, given)?)),
+        Some(("loop", given)) => Ok(Job::Loop(settings_of(alloc, given)?)),
+        Some(("follow", _)) => Ok(Job::Follow),
+        Some(("serve", given)) => Ok(Job::Serve {
+            port: number_of(alloc, given, "port", 0, PORT_MOST)? as u16,
+            turns: number_of(alloc, given, "turns", 1, TURNS_MOST)?,
+            settings: settings_of(alloc, given)?,
         }),
-        Some(_) => Some(Job::Follow),
+        Some((other, _)) => Err(Stop::Misuse(format!(in alloc;
+            "error: unrecognized subcommand '{other}'\n"
+        )?)),
     }
 }
 
-fn settings_of(given: &ArgMatches<'_>) -> Option<Settings> {
-    Some(Settings {
-        history: given.get_one::<u64>("history")?,
-        outbox: given.get_one::<u64>("outbox")?,
-        epoch: given.get_one::<u64>("epoch")?,
+fn settings_of(alloc: Global, given: &ArgMatches<'_>) -> Result<Settings, Stop>
+    ensures { IfOk result AreSettings }
+{
+    Ok(Settings {
+        history: number_of(alloc, given, "history", 1, HISTORY_MOST)?,
+        outbox: number_of(alloc, given, "outbox", 1, OUTBOX_MOST)?,
+        epoch: number_of(alloc, given, "epoch", 0, EPOCH_MOST)?,
     })
+}
+
+/// The number of an option. `clap` refuses one that is out of range in words of its own; it is judged here as well, since
+/// `clap` promises nothing of what a subcommand's options hold.
+fn number_of(
+    alloc: Global,
+    given: &ArgMatches<'_>,
+    name: &str,
+    least: u64,
+    most: u64,
+) -> Result<u64, Stop>
+    ensures { IfOk result (λ number. (least ≤ number) × (number ≤ most)) }
+{
+    match given.get_one::<u64>(name) {
+        Some(number) if least <= number && number <= most => Ok(number),
+        Some(_) | None => Err(Stop::Misuse(format!(in alloc;
+            "error: --{name} takes a number from {least} to {most}\n"
+        )?)),
+    }
 }
 
 fn stop_of(alloc: Global, error: &Error) -> Stop {

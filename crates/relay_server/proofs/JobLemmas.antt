@@ -1,25 +1,51 @@
 -- Lemmas on how jobs end.
-use Rattle.std.proofs.Common.{◌≡◌, ◌≢◌, ℕ, List, Option, Result, Ok, Err, OnOk, IfErr, sym, subst}
+use Rattle.std.proofs.Common.{◌≡◌, ◌≢◌, ◌↔◌, ℕ, List, Option, Result, Ok, Err, OnOk, IfErr, IsErrOf, refl, sym, ap, subst}
+use Rattle.std.specs.Io.KnownBytes.{IsAtEnd}
 use Rattle.relay_options.specs.declared.job.Job.{Job}
 use Rattle.relay_server.specs.Jobs.{Ends, JobEnds}
 use Rattle.relay_server.specs.Respond.{Answering, AnswersAll, AnswersSome}
 use Rattle.relay_server.specs.declared.fault.ScriptFault.{ScriptFault}
-use Rattle.relay_server.specs.declared.fault.ScriptFault.TheVariants.{BadLimit}
+use Rattle.relay_server.specs.declared.fault.ScriptFault.TheVariants.{BadLimit, Input, Output, LineTooLong, TooManyLines, NoMemory}
 use Rattle.relay_server.specs.declared.status.Status.{Status}
 
 -- the job is known
-pub JobEnds-at : (todo known : Job) (status : Status) (input old new : Option (List ℕ)) → todo ≡ known → JobEnds known status input old new → JobEnds todo status input old new
-JobEnds-at todo known status input old new e ends = subst (λ j. JobEnds j status input old new) (sym e) ends
+pub JobEnds-at : (todo known : Job) (status : Status) (input left old new : Option (List ℕ)) → todo ≡ known → JobEnds known status input left old new
+    → JobEnds todo status input left old new
+JobEnds-at todo known status input left old new e ends = subst (λ j. JobEnds j status input left old new) (sym e) ends
 
-module _ {S : Type 0} (answers : Answering S) (from : S) (input old new : Option (List ℕ)) where
+module _ {S : Type 0} (answers : Answering S) (from : S) (input left old new : Option (List ℕ)) where
   -- a run that may find a limit out of range
   pub Ends-limited : (ended : Result (Unit {0}) ScriptFault) → OnOk ended (AnswersAll answers from input old new)
-      → IfErr ended (λ fault. fault ≢ BadLimit → AnswersSome answers fault from input old new) → Ends answers from ended input old new
-  Ends-limited (Ok u) all some = all
-  Ends-limited (Err fault) all some = some
+      → OnOk ended (IsAtEnd left) → IfErr ended (λ fault. fault ≢ BadLimit → AnswersSome answers fault from input old new)
+      → IfErr ended (λ fault. fault ≡ BadLimit → (left ≡ input) × (new ≡ old)) → Ends answers from ended input left old new
+  Ends-limited (Ok u) all end some same = (all, end)
+  Ends-limited (Err BadLimit) all end some same = same refl
+  Ends-limited (Err Input) all end some same = some (λ e. cc)
+  Ends-limited (Err Output) all end some same = some (λ e. cc)
+  Ends-limited (Err LineTooLong) all end some same = some (λ e. cc)
+  Ends-limited (Err TooManyLines) all end some same = some (λ e. cc)
+  Ends-limited (Err NoMemory) all end some same = some (λ e. cc)
 
   -- a run with no limits
   pub Ends-free : (ended : Result (Unit {0}) ScriptFault) → OnOk ended (AnswersAll answers from input old new)
-      → IfErr ended (λ fault. AnswersSome answers fault from input old new) → Ends answers from ended input old new
-  Ends-free (Ok u) all some = all
-  Ends-free (Err fault) all some = λ _. some
+      → OnOk ended (IsAtEnd left) → IfErr ended (λ fault. AnswersSome answers fault from input old new)
+      → IfErr ended (λ fault. fault ≢ BadLimit) → Ends answers from ended input left old new
+  Ends-free (Ok u) all end some limits = (all, end)
+  Ends-free (Err BadLimit) all end some limits = absurd (limits refl)
+  Ends-free (Err Input) all end some limits = some
+  Ends-free (Err Output) all end some limits = some
+  Ends-free (Err LineTooLong) all end some limits = some
+  Ends-free (Err TooManyLines) all end some limits = some
+  Ends-free (Err NoMemory) all end some limits = some
+
+-- a run that has no limits finds none out of range
+pub no_limits : (ended : Result (Unit {0}) ScriptFault) → IfErr ended (λ fault. fault ≢ BadLimit) → IsErrOf ended BadLimit ↔ ⊥
+no_limits (Ok u) limits = (λ bad. cc, λ none. absurd none)
+no_limits (Err fault) limits = (λ bad. let same : fault ≡ BadLimit = cc in limits same, λ none. absurd none)
+
+-- a reader and a writer that stayed as they were show what they showed
+pub untouched : {A B : Type 0} (ended : Result (Unit {0}) ScriptFault) (remaining : A → Option (List ℕ)) (contents : B → Option (List ℕ)) (input left : A) (old new : B)
+    → IfErr ended (λ fault. fault ≡ BadLimit → (left ≡ input) × (new ≡ old))
+    → IfErr ended (λ fault. fault ≡ BadLimit → (remaining left ≡ remaining input) × (contents new ≡ contents old))
+untouched (Ok u) remaining contents input left old new same = tt
+untouched (Err fault) remaining contents input left old new same = λ bad. (ap remaining (same bad).0, ap contents (same bad).1)

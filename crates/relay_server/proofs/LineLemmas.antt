@@ -1,5 +1,5 @@
 -- Lemmas on the lines of a text.
-use Rattle.std.proofs.Common.{◌≡◌, ◌≢◌, ℕ, ◌+◌, ◌-◌, ◌<◌, ◌≤◌, List, [], ◌∷◌, ◌++◌, length, take, drop, true, false, cond, ne_eqb, refl, sym, ◌∙◌, ap, subst, arith, not, ◌==◌, length-append, append_assoc, append-nil, Option, Some, None}
+use Rattle.std.proofs.Common.{◌≡◌, ◌≢◌, ℕ, ◌+◌, ◌-◌, ◌<◌, ◌≤◌, List, [], ◌∷◌, ◌++◌, length, take, drop, Bool, true, false, cond, ne_eqb, refl, sym, ◌∙◌, ap, subst, arith, not, ◌==◌, length-append, append_assoc, append-nil, Option, Some, None}
 use Rattle.std.proofs.lemmas.List.{drop-take, drop-drop}
 use Rattle.std.proofs.lemmas.List.Elements.{All-head, All-tail, All-append}
 use Rattle.relay_server.specs.Lines.{onto_first, lines_of, HasNoBreak, TakesLine, BeginsTooLong}
@@ -11,6 +11,18 @@ lines_of-line [] rest h = refl
 lines_of-line (b ∷ part) rest h =
     ap (λ t. cond t ([] ∷ lines_of (part ++ 10 ∷ rest)) (onto_first b (lines_of (part ++ 10 ∷ rest)))) (ne_eqb b 10 (All-head (λ y. y ≢ 10) b part h))
     ∙ ap (onto_first b) (lines_of-line part rest (All-tail (λ y. y ≢ 10) b part h))
+
+-- where a byte is, a line is
+onto_first-some : (b : ℕ) (lines : List (List ℕ)) → onto_first b lines ≢ []
+onto_first-some b [] e = cc
+onto_first-some b (line ∷ lines) e = cc
+
+pub lines_of-some : (b : ℕ) (rest : List ℕ) → lines_of (b ∷ rest) ≢ []
+lines_of-some b rest = go (b == 10)
+  where
+    go : (t : Bool) → cond t ([] ∷ lines_of rest) (onto_first b (lines_of rest)) ≢ []
+    go true e = cc
+    go false e = onto_first-some b (lines_of rest) e
 
 -- what begins a line stands at the front of the first line
 pub lines_of-part : (b : ℕ) (part rest : List ℕ) → HasNoBreak (b ∷ part)

@@ -12,5 +12,5 @@ ActsNamed-new name act found old mid new answer none same acts =
 
 -- a name that was opened
 pub ActsNamed-known : (name : List ℕ) (act : Act) (found : Option Player) (p q : Player) (old new : Stage) (answer : List ℕ) → found ≡ Some p
-    → Attends name act p.unheard p old.hub q new.hub answer → OnlyName name q old.players new.players → ActsNamed name act found old new answer
+    → Attends name act p old.hub q new.hub answer → OnlyName name q old.players new.players → ActsNamed name act found old new answer
 ActsNamed-known name act found p q old new answer some attends only = subst (λ f. ActsNamed name act f old new answer) (sym some) (q, attends, only)

@@ -14,6 +14,7 @@ use Rattle.relay_hub.specs.declared.event.Event.TheVariants.{Open, Receive, Draw
 use Rattle.relay_tree.specs.Document.{Document}
 use Rattle.relay_server.specs.Line.{Act, opens, says, draws, closes, shows, tells, Form, blank, unknown, named, LineIs}
 use Rattle.relay_server.specs.Words.{unknown_text, no_memory_text, form_text, taken_text, opened_text, said_text, drawn_text, closed_text, off_text, held_text, truth_text}
+use Rattle.relay_server.specs.declared.ear.Ear.{Ear}
 use Rattle.relay_server.specs.declared.player.Player.{Player}
 
 -- a script so far: its hub, and what each of its names has
@@ -30,17 +31,29 @@ new_stage epoch history waiting = stage (new_hub epoch 1 history waiting) []
 abbrev pub player_of : List (List ℕ × Player) → List ℕ → Option Player
 player_of players name = lookup (bytes_eq name) players
 
--- a name: its session, where one is open, what its follower holds, and a text that found no memory and is to be heard again
-abbrev pub player : Option ℕ → Option (ℕ × Document) → Option (List ℕ) → Player
-player session held unheard = record { session = session; follower = held; unheard = unheard }
+-- what a follower holds, and a text that found no memory and is to be heard again
+abbrev pub ear : Option (ℕ × Document) → Option (List ℕ) → Ear
+ear held unheard = record { follower = held; unheard = unheard }
+
+-- a name: its session, where one is open, and what it hears
+abbrev pub player : Option ℕ → Ear → Player
+player session ear = record { session = session; ear = ear }
 
 -- What a follower hears: the text makes of what it held what it makes of a client; or it is not taken, with the first fault; or
 -- it found no memory, and is kept.
-abbrev pub Hears : Player → List ℕ → Option HearFault → Player → Type 0
-Hears p text None q =
-    (hear_fault p.follower text ≡ None) × (told (as_client p.follower) text ≡ Some (as_client q.follower)) × (q ≡ player p.session q.follower None)
-Hears p text (Some NoMemory) q = q ≡ player p.session p.follower (Some text)
-Hears p text (Some fault) q = (hear_fault p.follower text ≡ Some fault) × (q ≡ player p.session p.follower None)
+abbrev pub Hears : Option (ℕ × Document) → List ℕ → Option HearFault → Ear → Type 0
+Hears held text None next =
+    (hear_fault held text ≡ None) × (told (as_client held) text ≡ Some (as_client next.follower)) × (next.unheard ≡ None)
+Hears held text (Some NoMemory) next = next ≡ ear held (Some text)
+Hears held text (Some fault) next = (hear_fault held text ≡ Some fault) × (next ≡ ear held None)
+
+-- the text that was kept, if there is one
+abbrev pub HearsKept : Option (List ℕ) → Ear → Option HearFault → Ear → Type 0
+HearsKept None old fault next = (fault ≡ None) × (next ≡ old)
+HearsKept (Some text) old fault next = Hears old.follower text fault next
+
+abbrev pub HearsAgain : Ear → Option HearFault → Ear → Type 0
+HearsAgain old fault next = HearsKept old.unheard old fault next
 
 abbrev pub after_hearing : List ℕ → Option HearFault → List ℕ
 after_hearing name None = []
@@ -57,12 +70,12 @@ session_after _ was = was
 abbrev pub Opens : List ℕ → List ℕ → Option ℕ → Player → Hub → Player → Hub → List ℕ → Type 0
 Opens name room (Some s) p hub q next answer = (q ≡ p) × (next ≡ hub) × (answer ≡ taken_text name)
 Opens name room None p hub q next answer = (a : Option Answer) × StepIf hub (Open room) a next
-    × (q ≡ player (session_after a None) p.follower p.unheard) × (answer ≡ opened_text name a)
+    × (q ≡ player (session_after a None) p.ear) × (answer ≡ opened_text name a)
 
 -- what a session drew, and its follower heard
 abbrev pub DrawsAs : List ℕ → Option Answer → Player → Player → List ℕ → Type 0
 DrawsAs name (Some (Drawn (Some text))) p q answer =
-    (fault : Option HearFault) × Hears p text fault q × (answer ≡ drawn_text name (Some (Drawn (Some text))) ++ after_hearing name fault)
+    (fault : Option HearFault) × Hears p.ear.follower text fault q.ear × (q.session ≡ p.session) × (answer ≡ drawn_text name (Some (Drawn (Some text))) ++ after_hearing name fault)
 DrawsAs name a p q answer = (q ≡ p) × (answer ≡ drawn_text name a)
 
 -- what the follower should hold; nothing is told where the view found no memory
@@ -77,23 +90,23 @@ ActsOpen name (says text) (Some s) p hub q next answer = (a : Option Answer) × 
     × (q ≡ p) × (answer ≡ said_text name a)
 ActsOpen name draws (Some s) p hub q next answer = (a : Option Answer) × StepIf hub (Draw s) a next × DrawsAs name a p q answer
 ActsOpen name closes (Some s) p hub q next answer = (a : Answer) × Step hub (Close s) a next
-    × (q ≡ player (session_after (Some a) (Some s)) p.follower p.unheard) × (answer ≡ closed_text name a)
-ActsOpen name shows session p hub q next answer = (q ≡ p) × (next ≡ hub) × (answer ≡ held_text name p.follower)
+    × (q ≡ player (session_after (Some a) (Some s)) p.ear) × (answer ≡ closed_text name a)
+ActsOpen name shows session p hub q next answer = (q ≡ p) × (next ≡ hub) × (answer ≡ held_text name p.ear.follower)
 ActsOpen name tells (Some s) p hub q next answer = (q ≡ p) × (next ≡ hub) × TellsTruth name (truth hub s) answer
 ActsOpen name _ None p hub q next answer = (q ≡ p) × (next ≡ hub) × (answer ≡ unknown_text name)
 
 abbrev pub Acts : List ℕ → Act → Player → Hub → Player → Hub → List ℕ → Type 0
 Acts name act p hub q next answer = ActsOpen name act p.session p hub q next answer
 
--- a text that was kept is heard again first; where it still finds no memory, that is all
+-- behind the line of a follower's fault, if there is one; where a text still found no memory, that is all
 abbrev pub Goes : List ℕ → Act → Option HearFault → Player → Hub → Player → Hub → List ℕ → Type 0
 Goes name act (Some NoMemory) p hub q next answer = (q ≡ p) × (next ≡ hub) × (answer ≡ off_text name NoMemory)
 Goes name act fault p hub q next answer = (rest : List ℕ) × Acts name act p hub q next rest × (answer ≡ after_hearing name fault ++ rest)
 
-abbrev pub Attends : List ℕ → Act → Option (List ℕ) → Player → Hub → Player → Hub → List ℕ → Type 0
-Attends name act None p hub q next answer = Acts name act p hub q next answer
-Attends name act (Some text) p hub q next answer =
-    (mid : Player) × (fault : Option HearFault) × Hears p text fault mid × Goes name act fault mid hub q next answer
+-- a text that was kept is heard again first
+abbrev pub Attends : List ℕ → Act → Player → Hub → Player → Hub → List ℕ → Type 0
+Attends name act p hub q next answer =
+    (mid : Ear) × (fault : Option HearFault) × HearsAgain p.ear fault mid × Goes name act fault (player p.session mid) hub q next answer
 
 -- The lines.
 
@@ -103,7 +116,7 @@ OnlyName name q old new = (other : List ℕ) → player_of new other ≡ (if byt
 
 -- a name that was never opened can open, and holds nothing as it does
 abbrev pub Enters : List ℕ → Option Answer → List (List ℕ × Player) → List (List ℕ × Player) → Type 0
-Enters name (Some (Opened s)) old new = OnlyName name (player (Some s) None None) old new
+Enters name (Some (Opened s)) old new = OnlyName name (player (Some s) (ear None None)) old new
 Enters name _ old new = new ≡ old
 
 abbrev pub ActsNew : List ℕ → Act → Stage → Stage → List ℕ → Type 0
@@ -113,7 +126,7 @@ ActsNew name _ old new answer = (new.hub ≡ old.hub) × (new.players ≡ old.pl
 
 abbrev pub ActsNamed : List ℕ → Act → Option Player → Stage → Stage → List ℕ → Type 0
 ActsNamed name act None old new answer = ActsNew name act old new answer
-ActsNamed name act (Some p) old new answer = (q : Player) × Attends name act p.unheard p old.hub q new.hub answer
+ActsNamed name act (Some p) old new answer = (q : Player) × Attends name act p old.hub q new.hub answer
     × OnlyName name q old.players new.players
 
 -- what the line of a number does, by its form

@@ -44,7 +44,7 @@ impl<S: Read + Write + Drop> Knocking<S> {
         self.reply.reserve(READ_MOST).ok()?;
         let mut part = [0; READ_MOST];
         if let Ok(count) = self.stream.read(&mut part) {
-            let _ = self.reply.extend_from_slice(&part[..count.min(READ_MOST)]);
+            let _ = self.reply.extend_from_slice(&part[..count]);
         }
         if !self.reply.ends_with(b"\r\n\r\n") {
             return None;

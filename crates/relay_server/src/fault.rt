@@ -7,7 +7,7 @@ use thiserror::Error;
 /// may be cut.
 #[derive(Clone, Copy, Debug, PartialEq, Eq, Error)]
 pub enum ScriptFault {
-    /// The epoch is no count, or a limit is out of its range. Nothing was read.
+    /// The epoch is no count, or a limit is out of its range. Nothing was read, and nothing written.
     #[error("a limit out of range")]
     BadLimit,
     /// The reader failed, or was interrupted 1,000 times in a row.
@@ -16,10 +16,10 @@ pub enum ScriptFault {
     /// The writer failed, took no byte, or was interrupted 1,000 times in a row.
     #[error("output")]
     Output,
-    /// A line of more than 270,336 bytes.
+    /// A line of more than 270,336 bytes, among as many as there may be. The lines before it were answered.
     #[error("line too long")]
     LineTooLong,
-    /// More than 65,536 lines.
+    /// More than 65,536 lines, however long the next one is. So many were answered.
     #[error("too many lines")]
     TooManyLines,
     /// Memory was refused outside a call of the hub.

@@ -2,12 +2,17 @@
 ghost use Rattle.std.specs.Prelude.{◌≡◌, ◌↔◌, ℕ, ◌+◌, ◌-◌, ◌<◌, ◌≤◌, ◌==◌, if◌then◌else◌, List, [], ◌++◌, take, drop, length, position, IfOk, IfErr, OnErr, IsTrue, vec_len, OnOk, Ok, Err, ◌⊎◌, ◌≢◌, false};
 ghost use Rattle.std.specs.Io.KnownBytes.{Keeps, Consumes, IsAtEnd, prepend_known};
 ghost use Rattle.relay_server.specs.Lines.{HasNoBreak, TakesPart, TakesLine, BeginsTooLong};
+ghost use Rattle.relay_server.specs.declared.input.TheConstants.{LINE_MOST, READ_MOST};
 
 use crate::fault::ScriptFault;
 use std::io::{ErrorKind, Read};
 use std::marker::Model;
 
+/// How many bytes a line has at most, its line feed aside.
 pub const LINE_MOST: usize = 270_336;
+
+/// How many bytes one read asks for.
+const READ_MOST: usize = 4_096;
 
 const INTERRUPTIONS_MOST: u32 = 1_000;
 
@@ -37,7 +42,7 @@ pub fn read_some<R: Read>(reader: &mut R, buf: &mut [u8]) -> Result<usize, Scrip
 /// The bytes that were read and not handed out yet.
 #[derive(Drop)]
 pub struct LineReader {
-    bytes: [u8; 4096],
+    bytes: [u8; READ_MOST],
     start: usize,
     end: usize,
 }
@@ -47,7 +52,7 @@ impl Model for LineReader {
 
     ghost view = { λ s. take (s.end - s.start) (drop s.start s.bytes) };
 
-    ghost invariant = { λ s. (s.start ≤ s.end) × (s.end ≤ 4096) };
+    ghost invariant = { λ s. (s.start ≤ s.end) × (s.end ≤ READ_MOST) };
 }
 
 impl LineReader {
@@ -55,7 +60,7 @@ impl LineReader {
         ensures { result ≡ [] }
     {
         LineReader {
-            bytes: [0; 4096],
+            bytes: [0; READ_MOST],
             start: 0,
             end: 0,
         }
@@ -76,7 +81,7 @@ impl LineReader {
     }
 
     /// Whether a byte is ahead; where none is left here, more is read.
-    fn has_more<R: Read>(&mut self, reader: &mut R) -> Result<bool, ScriptFault>
+    pub fn has_more<R: Read>(&mut self, reader: &mut R) -> Result<bool, ScriptFault>
         ensures same { OnOk result (Keeps (prepend_known self.old (R.remaining reader.old)) (prepend_known self.new (R.remaining reader.new))) }
         ensures more { IfOk result (λ more. IsTrue more ↔ (0 < length self.new)) }
         ensures end { IfOk result (λ more. more ≡ false → (self.new ≡ []) × IsAtEnd (R.remaining reader.new)) }
@@ -91,13 +96,13 @@ impl LineReader {
 
     /// Moves what is left of a line, up to its end, onto `line`, and says whether the line ended.
     fn take_part(&mut self, line: &mut Vec<u8>) -> Result<bool, ScriptFault>
-        requires { vec_len line.old ≤ 270336 }
+        requires { vec_len line.old ≤ LINE_MOST }
         ensures ok { IfOk result (λ ended. (part : List ℕ) × TakesPart self.old self.new part ended
             × (line.new.items ≡ line.old.items ++ part)) }
-        ensures fits { OnOk result (vec_len line.new ≤ 270336) }
+        ensures fits { OnOk result (vec_len line.new ≤ LINE_MOST) }
         ensures too_long { IfErr result (λ fault. fault ≡ ScriptFault.LineTooLong
             → (part : List ℕ) × (rest : List ℕ) × HasNoBreak part × (self.old ≡ part ++ rest)
-            × (270336 < vec_len line.old + length part)) }
+            × (LINE_MOST < vec_len line.old + length part)) }
         ensures fault { IfErr result (λ fault. (fault ≡ ScriptFault.LineTooLong) ⊎ (fault ≡ ScriptFault.NoMemory)) }
     {
         let (count, ended) = line_part(self.unread());
@@ -122,8 +127,9 @@ pub fn next_line<R: Read>(
     ensures line { IfOk result (λ found. TakesLine
         (prepend_known lines.old (R.remaining reader.old)) (prepend_known lines.new (R.remaining reader.new)) found line.new.items) }
     ensures end { OnOk result (result ≡ Ok false → (lines.new ≡ []) × IsAtEnd (R.remaining reader.new)) }
+    ensures fits { OnOk result (vec_len line.new ≤ LINE_MOST) }
     ensures too_long { IfErr result (λ fault. fault ≡ ScriptFault.LineTooLong
-        → BeginsTooLong 270336 (prepend_known lines.old (R.remaining reader.old))) }
+        → BeginsTooLong LINE_MOST (prepend_known lines.old (R.remaining reader.old))) }
     ensures fault { IfErr result (λ fault. (fault ≡ ScriptFault.Input) ⊎ (fault ≡ ScriptFault.LineTooLong) ⊎ (fault ≡ ScriptFault.NoMemory)) }
 {
     line.clear();

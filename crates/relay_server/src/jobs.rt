@@ -1,5 +1,6 @@
 //! The program's jobs, from its words to its exit status.
-ghost use Rattle.relay_server.specs.Jobs.{IsExit, JobEnds, StopEnds};
+ghost use Rattle.std.specs.Prelude.{◌≡◌};
+ghost use Rattle.relay_server.specs.Jobs.{IsExit, JobEnds, StopEnds, code_of, unread_status};
 
 use crate::fault::{ScriptFault, ServeFault};
 use crate::looped::Looped;
@@ -9,7 +10,7 @@ use crate::status::{Status, report, say};
 use crate::whole::{run_follow, run_script};
 use relay_options::{Job, Settings, Stop, job_of};
 use std::alloc::{AllocGlobal, Global};
-use std::io::{Read, Write};
+use std::io::{ErrorKind, Read, Write};
 use std::net::Net;
 
 /// Does what the words ask for, the first of which is the program's name, over a reader and a writer, with faults told on
@@ -31,6 +32,25 @@ pub fn start<H: AllocGlobal + Net, R: Read, W: Write, E: Write>(
     }
 }
 
+/// Tells on `errors` why the words could not be read. The exit status: 2 where one of them is not UTF-8, 3 for want of memory,
+/// and else 1.
+pub fn refuse_words<E: Write>(why: ErrorKind, errors: &mut E) -> u8
+    ensures { result ≡ code_of (unread_status why) }
+{
+    let status = match why {
+        ErrorKind::InvalidData => {
+            say("relay: an argument is not UTF-8\n", errors);
+            Status::Misused
+        }
+        ErrorKind::OutOfMemory => report(Err(ScriptFault::NoMemory), errors),
+        _ => {
+            say("relay: the arguments cannot be read\n", errors);
+            Status::Failed
+        }
+    };
+    status.code()
+}
+
 /// Does a job, over a reader and a writer, with faults told on `errors`; sockets come from `net`.
 pub fn carry_out<N: Net, R: Read, W: Write, E: Write>(
     alloc: Global,
@@ -40,7 +60,7 @@ pub fn carry_out<N: Net, R: Read, W: Write, E: Write>(
     writer: &mut W,
     errors: &mut E,
 ) -> Status
-    ensures { JobEnds job result (R.remaining reader.old) (W.contents writer.old) (W.contents writer.new) }
+    ensures { JobEnds job result (R.remaining reader.old) (R.remaining reader.new) (W.contents writer.old) (W.contents writer.new) }
 {
     match job {
         Job::Script(settings) => {
@@ -49,16 +69,15 @@ pub fn carry_out<N: Net, R: Read, W: Write, E: Write>(
                 outbox,
                 epoch,
             } = settings;
-            let ended = run_script(alloc, reader, writer, epoch, history, outbox);
-            report(ended, errors)
+            report(
+                run_script(alloc, reader, writer, epoch, history, outbox),
+                errors,
+            )
         }
-        Job::Follow => {
-            let ended = run_follow(alloc, reader, writer);
-            report(ended, errors)
-        }
+        Job::Follow => report(run_follow(alloc, reader, writer), errors),
         Job::Loop(settings) => {
             let ended = run_loop(alloc, net, reader, writer, settings);
-            told(ended, 0, errors)
+            report_sockets(ended, 0, errors)
         }
         Job::Serve {
             port,
@@ -66,7 +85,7 @@ pub fn carry_out<N: Net, R: Read, W: Write, E: Write>(
             settings,
         } => {
             let ended = serve(alloc, net, writer, port, turns, settings);
-            told(ended, port, errors)
+            report_sockets(ended, port, errors)
         }
     }
 }
@@ -84,8 +103,8 @@ fn run_loop<N: Net, R: Read, W: Write>(
     Ok(())
 }
 
-/// Tells why listening ended early.
-fn told<E: Write>(ended: Result<(), ServeFault>, port: u16, errors: &mut E) -> Status {
+/// Says on `errors` why a job with sockets ended early, and gives the status.
+fn report_sockets<E: Write>(ended: Result<(), ServeFault>, port: u16, errors: &mut E) -> Status {
     match ended {
         Ok(()) => Status::Done,
         Err(ServeFault::Listen) => {

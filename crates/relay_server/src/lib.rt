@@ -3,6 +3,8 @@
 #![tactic(auto)]
 
 mod client;
+mod connection;
+mod ear;
 mod fault;
 mod follow;
 mod input;
@@ -23,7 +25,7 @@ mod words;
 pub use client::{Client, Knocking};
 pub use fault::{ScriptFault, ServeFault};
 pub use input::LINE_MOST;
-pub use jobs::{carry_out, start};
+pub use jobs::{carry_out, refuse_words, start};
 pub use respond::Respond;
 pub use run::LINES_MOST;
 pub use script::Script;

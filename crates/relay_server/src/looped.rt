@@ -2,47 +2,28 @@
 ghost use Rattle.std.specs.Prelude.{⊤, ◌≡◌, ◌≢◌, None};
 ghost use Rattle.relay_follow.specs.declared.fault.HearFault.TheVariants.{NoMemory};
 
-use crate::client::{Client, Knocking};
+use crate::connection::{Connection, Door, Drawing, Entering, Saying};
+use crate::ear::Ear;
 use crate::fault::ServeFault;
 use crate::line::{Asks, Line, line_of};
-use crate::player::{Player, truth};
+use crate::player::truth;
 use crate::respond::Respond;
 use crate::serve::{FIRST, listen};
 use crate::words;
 use indexmap::IndexMap;
 use relay_follow::HearFault;
-use relay_hub::{Event, Hub, Text};
-use relay_link::{Link, Stage};
+use relay_hub::{Hub, Text};
 use relay_options::Settings;
 use std::alloc::{AllocError, Global};
 use std::io::{Read, Write};
-use std::net::{Net, OpenListener, OpenStream, SocketAddr};
-use tungstenite::Utf8Bytes;
-
-/// How many turns a line may take.
-const TURNS_MOST: u32 = 10_000;
-
-/// Both ends of one socket.
-#[derive(Drop)]
-struct Connection<S> {
-    session: u64,
-    link: Link<S>,
-    client: Client<S>,
-}
+use std::net::{Net, OpenStream};
 
 /// A name of the script.
 #[derive(Drop)]
 struct Peer<S> {
-    player: Player,
+    ear: Ear,
+    /// Where a session is open.
     connection: Option<Connection<S>>,
-}
-
-/// Where clients come in.
-#[derive(Drop)]
-struct Door<'n, N: Net> {
-    net: &'n N,
-    listener: N::Listener,
-    address: SocketAddr,
 }
 
 /// A hub behind a listener, and what each name of the script has.
@@ -63,16 +44,11 @@ impl<'n, N: Net> Looped<'n, N> {
             settings.history,
             settings.outbox,
         )?;
-        let listener = listen(net, 0)?;
-        let Ok(address) = listener.local_addr() else {
+        let Some(door) = Door::new(net, listen(net, 0)?) else {
             return Err(ServeFault::Listen);
         };
         Ok(Looped {
-            door: Door {
-                net,
-                listener,
-                address,
-            },
+            door,
             hub,
             peers: IndexMap::new(alloc),
         })
@@ -87,25 +63,30 @@ impl<'n, N: Net> Respond for Looped<'n, N> {
         match line_of(line) {
             Line::Blank => Ok(String::new(alloc)),
             Line::Unknown => words::unknown_form(alloc, number),
-            Line::Named { name, asks } => self.act(alloc, name, asks),
+            Line::Named { name, asks } => self.answer_name(alloc, name, asks),
         }
     }
 }
 
 impl<'n, N: Net> Looped<'n, N> {
     /// Does what a name is to do.
-    fn act(&mut self, alloc: Global, name: &str, asks: Asks<'_>) -> Result<String, AllocError> {
+    fn answer_name(
+        &mut self,
+        alloc: Global,
+        name: &str,
+        asks: Asks<'_>,
+    ) -> Result<String, AllocError> {
         if let Some(peer) = self.peers.get_mut(name) {
             return peer.attend(alloc, &self.door, &mut self.hub, name, asks);
         }
         let Asks::Open(room) = asks else {
             return words::unknown(alloc, name);
         };
-        let entering = enter(alloc, &self.door, &mut self.hub, room)?;
+        let entering = self.door.enter(alloc, &mut self.hub, room)?;
         let answer = entered(alloc, name, &entering)?;
         if let Entering::Opened(connection) = entering {
             let peer = Peer {
-                player: Player::new(connection.session),
+                ear: Ear::new(),
                 connection: Some(connection),
             };
             drop(self.peers.insert(String::from_str(alloc, name)?, peer)?);
@@ -124,12 +105,9 @@ impl<S: Read + Write + OpenStream + Drop> Peer<S> {
         name: &str,
         asks: Asks<'_>,
     ) -> Result<String, AllocError> {
-        match self.player.unheard.take() {
+        match self.ear.hear_again(alloc) {
             None => self.act(alloc, door, hub, name, asks),
-            Some(text) => match self.player.hear(alloc, text) {
-                None => self.act(alloc, door, hub, name, asks),
-                Some(fault) => self.go_on(alloc, door, hub, name, asks, fault),
-            },
+            Some(fault) => self.go_on(alloc, door, hub, name, asks, fault),
         }
     }
 
@@ -143,7 +121,7 @@ impl<S: Read + Write + OpenStream + Drop> Peer<S> {
         asks: Asks<'_>,
         fault: HearFault,
     ) -> Result<String, AllocError>
-        requires { fault ≢ NoMemory → self.old.player.unheard ≡ None }
+        requires { fault ≢ NoMemory → self.old.ear.unheard ≡ None }
     {
         match fault {
             HearFault::NoMemory => words::off(alloc, name, fault),
@@ -163,13 +141,13 @@ impl<S: Read + Write + OpenStream + Drop> Peer<S> {
         name: &str,
         asks: Asks<'_>,
     ) -> Result<String, AllocError>
-        requires { self.old.player.unheard ≡ None }
+        requires { self.old.ear.unheard ≡ None }
     {
         match (asks, &mut self.connection) {
-            (Asks::Held, _) => self.player.held(alloc, name),
+            (Asks::Held, _) => self.ear.held(alloc, name),
             (Asks::Open(_), Some(_)) => words::taken(alloc, name),
             (Asks::Open(room), None) => {
-                let entering = enter(alloc, door, hub, room)?;
+                let entering = door.enter(alloc, hub, room)?;
                 let answer = entered(alloc, name, &entering)?;
                 if let Entering::Opened(connection) = entering {
                     self.connection = Some(connection);
@@ -177,21 +155,18 @@ impl<S: Read + Write + OpenStream + Drop> Peer<S> {
                 Ok(answer)
             }
             (_, None) => words::unknown(alloc, name),
-            (Asks::Say(text), Some(connection)) => say(alloc, connection, hub, name, text),
-            (Asks::Draw, Some(connection)) => match draw(alloc, connection, hub) {
+            (Asks::Say(text), Some(connection)) => match connection.say(alloc, hub, text)? {
+                Saying::Answered => format!(in alloc; "{name} answered\n"),
+                Saying::Busy => format!(in alloc; "{name} busy\n"),
+                Saying::Stuck => stuck(alloc, name),
+            },
+            (Asks::Draw, Some(connection)) => match connection.draw(alloc, hub) {
                 Drawing::Nothing => format!(in alloc; "{name} nothing\n"),
                 Drawing::Stuck => stuck(alloc, name),
-                Drawing::Text(text) => {
-                    let words = text.as_str();
-                    let answer = format!(in alloc; "{name} {words}\n")?;
-                    let text = Text::of(String::from_str(alloc, words)?);
-                    let fault = self.player.hear(alloc, text);
-                    let after = words::after_hearing(alloc, name, fault)?;
-                    format!(in alloc; "{answer}{after}")
-                }
+                Drawing::Text(text) => self.drawn(alloc, name, text.as_str()),
             },
             (Asks::Close, Some(connection)) => {
-                if !close(alloc, connection, hub) {
+                if !connection.close(alloc, hub) {
                     return stuck(alloc, name);
                 }
                 self.connection = None;
@@ -200,70 +175,17 @@ impl<S: Read + Write + OpenStream + Drop> Peer<S> {
             (Asks::Truth, Some(connection)) => truth(alloc, hub, connection.session, name),
         }
     }
-}
 
-/// What came of an opening.
-#[derive(Drop)]
-enum Entering<S> {
-    Opened(Connection<S>),
-    /// The handshake was refused with this status.
-    Refused(u16),
-    Stuck,
-}
-
-/// Connects a client, and lets it in.
-fn enter<N: Net>(
-    alloc: Global,
-    door: &Door<'_, N>,
-    hub: &mut Hub,
-    room: &str,
-) -> Result<Entering<N::Stream>, AllocError> {
-    let Ok(stream) = door.net.connect(door.address) else {
-        return Ok(Entering::Stuck);
-    };
-    let Some(accepted) = accept(&door.listener) else {
-        return Ok(Entering::Stuck);
-    };
-    if !prompt(&stream) || !prompt(&accepted) {
-        return Ok(Entering::Stuck);
+    /// Answers a text that was drawn, which the follower hears.
+    fn drawn(&mut self, alloc: Global, name: &str, text: &str) -> Result<String, AllocError>
+        requires { self.old.ear.unheard ≡ None }
+    {
+        let answer = format!(in alloc; "{name} {text}\n")?;
+        let kept = Text::of(String::from_str(alloc, text)?);
+        let fault = self.ear.hear(alloc, kept);
+        let after = words::after_hearing(alloc, name, fault)?;
+        format!(in alloc; "{answer}{after}")
     }
-    let mut link = Link::new(alloc, accepted)?;
-    let Some(mut knocking) = Knocking::at(alloc, stream, room)? else {
-        return Ok(Entering::Stuck);
-    };
-    for _ in 0..TURNS_MOST {
-        let _ = link.turn(alloc, hub, 0);
-        if link.stage() == Stage::Head {
-            continue;
-        }
-        if let Some(status) = knocking.status() {
-            return Ok(match link.session() {
-                Some(session) => Entering::Opened(Connection {
-                    session,
-                    link,
-                    client: knocking.client(alloc),
-                }),
-                None => Entering::Refused(status),
-            });
-        }
-    }
-    Ok(Entering::Stuck)
-}
-
-/// The connection that a client made.
-fn accept<L: OpenListener>(listener: &L) -> Option<L::Stream> {
-    for _ in 0..TURNS_MOST {
-        if let Ok((stream, _)) = listener.accept() {
-            return Some(stream);
-        }
-    }
-    None
-}
-
-/// Has a socket never wait, neither for bytes nor for an acknowledgement before it sends more: a text would else be on its way
-/// for longer than the turns of a line last. Whether it is so.
-fn prompt<S: OpenStream>(stream: &S) -> bool {
-    stream.set_nonblocking(true).is_ok() && stream.set_nodelay(true).is_ok()
 }
 
 fn entered<S>(alloc: Global, name: &str, entering: &Entering<S>) -> Result<String, AllocError> {
@@ -279,91 +201,4 @@ fn entered<S>(alloc: Global, name: &str, entering: &Entering<S>) -> Result<Strin
 
 fn stuck(alloc: Global, name: &str) -> Result<String, AllocError> {
     format!(in alloc; "{name} stuck\n")
-}
-
-/// Sends a text, and gives the link turns until the hub has it.
-fn say<S: Read + Write + Drop>(
-    alloc: Global,
-    connection: &mut Connection<S>,
-    hub: &mut Hub,
-    name: &str,
-    text: &str,
-) -> Result<String, AllocError> {
-    if !hub.may_hear(connection.session) {
-        return format!(in alloc; "{name} busy\n");
-    }
-    connection.client.send(alloc, text)?;
-    for _ in 0..TURNS_MOST {
-        connection.client.send_rest();
-        if let Ok(turn) = connection.link.turn(alloc, hub, 0) {
-            if turn
-                .made
-                .iter()
-                .any(|event| matches!(event, Event::Receive { .. }))
-            {
-                return format!(in alloc; "{name} answered\n");
-            }
-        }
-    }
-    stuck(alloc, name)
-}
-
-/// What came of a draw.
-#[derive(Drop)]
-enum Drawing {
-    Nothing,
-    Text(Utf8Bytes),
-    Stuck,
-}
-
-/// Gives the link turns with one draw until one is made, and then with none until the client has the text.
-fn draw<S: Read + Write + Drop>(
-    alloc: Global,
-    connection: &mut Connection<S>,
-    hub: &mut Hub,
-) -> Drawing {
-    if hub.waiting(connection.session) == Some(0) {
-        return Drawing::Nothing;
-    }
-    let mut draws = 1;
-    for _ in 0..TURNS_MOST {
-        if let Ok(turn) = connection.link.turn(alloc, hub, draws) {
-            if turn
-                .made
-                .iter()
-                .any(|event| matches!(event, Event::Draw { .. }))
-            {
-                draws = 0;
-            }
-        }
-        if draws == 0 {
-            if let Some(text) = connection.client.text() {
-                return Drawing::Text(text);
-            }
-        }
-    }
-    Drawing::Stuck
-}
-
-/// Sends a close, and gives the link turns until it is gone; where 32 replies wait, one is drawn first, so that the close can
-/// be read. Whether it is gone.
-fn close<S: Read + Write + Drop>(
-    alloc: Global,
-    connection: &mut Connection<S>,
-    hub: &mut Hub,
-) -> bool {
-    connection.client.close();
-    for _ in 0..TURNS_MOST {
-        let draws = if hub.may_hear(connection.session) {
-            0
-        } else {
-            1
-        };
-        let _ = connection.link.turn(alloc, hub, draws);
-        if connection.link.stage() == Stage::Gone {
-            return true;
-        }
-        let _ = connection.client.text();
-    }
-    false
 }

@@ -1,12 +1,13 @@
-//! One name of a script: its session and its follower.
+//! One name of a script: its session, and what it hears.
 ghost use Rattle.std.specs.Prelude.{◌≡◌, ◌≢◌, IfOk, Some, None, string_bytes};
 ghost use Rattle.relay_follow.specs.declared.fault.HearFault.TheVariants.{NoMemory};
 ghost use Rattle.relay_server.specs.Line.{act_of};
 ghost use Rattle.relay_hub.specs.Call.{drawing};
 ghost use Rattle.relay_hub.specs.Telling.{truth};
-ghost use Rattle.relay_server.specs.Script.{player, Hears, Opens, Acts, Goes, Attends, DrawsAs, TellsTruth};
-ghost use Rattle.relay_server.specs.Words.{held_text, truth_text};
+ghost use Rattle.relay_server.specs.Script.{player, ear, Opens, Acts, Goes, Attends, DrawsAs, TellsTruth};
+ghost use Rattle.relay_server.specs.Words.{truth_text};
 
+use crate::ear::Ear;
 use crate::line::Asks;
 use crate::words;
 use relay_follow::{Follower, HearFault};
@@ -18,20 +19,17 @@ use std::alloc::{AllocError, Global};
 pub struct Player {
     /// The session, where one is open.
     pub session: Option<u64>,
-    pub follower: Follower,
-    /// A drawn text that found no memory: it is heard again before the next line of the name.
-    pub unheard: Option<Text>,
+    pub ear: Ear,
 }
 
 impl Player {
     /// A name whose first session was just opened.
     pub fn new(session: u64) -> Player
-        ensures { result ≡ player (Some session) None None }
+        ensures { result ≡ player (Some session) (ear None None) }
     {
         Player {
             session: Some(session),
-            follower: Follower::new(),
-            unheard: None,
+            ear: Ear::new(),
         }
     }
 
@@ -43,14 +41,11 @@ impl Player {
         name: &str,
         asks: Asks<'_>,
     ) -> Result<String, AllocError>
-        ensures { IfOk result (λ answer. Attends name.now (act_of asks.entry) self.old.unheard self.old hub.old self.new hub.new (string_bytes answer)) }
+        ensures { IfOk result (λ answer. Attends name.now (act_of asks.entry) self.old hub.old self.new hub.new (string_bytes answer)) }
     {
-        match self.unheard.take() {
+        match self.ear.hear_again(alloc) {
             None => self.act(alloc, hub, name, asks),
-            Some(text) => match self.hear(alloc, text) {
-                None => self.act(alloc, hub, name, asks),
-                Some(fault) => self.go_on(alloc, hub, name, asks, fault),
-            },
+            Some(fault) => self.go_on(alloc, hub, name, asks, fault),
         }
     }
 
@@ -63,7 +58,7 @@ impl Player {
         asks: Asks<'_>,
         fault: HearFault,
     ) -> Result<String, AllocError>
-        requires { fault ≢ NoMemory → self.old.unheard ≡ None }
+        requires { fault ≢ NoMemory → self.old.ear.unheard ≡ None }
         ensures { IfOk result (λ answer. Goes name.now (act_of asks.entry) (Some fault) self.old hub.old self.new hub.new (string_bytes answer)) }
     {
         match fault {
@@ -76,21 +71,6 @@ impl Player {
         }
     }
 
-    /// Has the follower hear a text, which is kept where it found no memory. The fault, if there is one.
-    pub fn hear(&mut self, alloc: Global, text: Text) -> Option<HearFault>
-        requires { self.old.unheard ≡ None }
-        ensures { Hears self.old text result self.new }
-    {
-        match self.follower.hear(alloc, text.as_str()) {
-            Ok(()) => None,
-            Err(HearFault::NoMemory) => {
-                self.unheard = Some(text);
-                Some(HearFault::NoMemory)
-            }
-            Err(fault) => Some(fault),
-        }
-    }
-
     fn act(
         &mut self,
         alloc: Global,
@@ -98,12 +78,12 @@ impl Player {
         name: &str,
         asks: Asks<'_>,
     ) -> Result<String, AllocError>
-        requires { self.old.unheard ≡ None }
+        requires { self.old.ear.unheard ≡ None }
         ensures { IfOk result (λ answer. Acts name.now (act_of asks.entry) self.old hub.old self.new hub.new (string_bytes answer)) }
     {
         match (asks, self.session) {
             (Asks::Open(room), _) => self.open(alloc, hub, name, room),
-            (Asks::Held, _) => self.held(alloc, name),
+            (Asks::Held, _) => self.ear.held(alloc, name),
             (_, None) => words::unknown(alloc, name),
             (Asks::Say(text), Some(session)) => {
                 let heard = hub.receive(alloc, session, text);
@@ -151,24 +131,16 @@ impl Player {
         name: &str,
         drawn: Result<Option<String>, HubFault>,
     ) -> Result<String, AllocError>
-        requires { self.old.unheard ≡ None }
+        requires { self.old.ear.unheard ≡ None }
         ensures { IfOk result (λ answer. DrawsAs name.now (drawing drawn) self.old self.new (string_bytes answer)) }
     {
         let answer = words::drawn(alloc, name, &drawn)?;
         let Ok(Some(text)) = drawn else {
             return Ok(answer);
         };
-        let fault = self.hear(alloc, Text::of(text));
+        let fault = self.ear.hear(alloc, Text::of(text));
         let after = words::after_hearing(alloc, name, fault)?;
         format!(in alloc; "{answer}{after}")
-    }
-
-    /// What the follower holds.
-    pub fn held(&self, alloc: Global, name: &str) -> Result<String, AllocError>
-        ensures { IfOk result (λ answer. string_bytes answer ≡ held_text name.now self.now.follower) }
-    {
-        let held = words::view(alloc, "held", &self.follower)?;
-        format!(in alloc; "{name} {held}")
     }
 }
 
@@ -177,14 +149,14 @@ pub fn truth(alloc: Global, hub: &Hub, session: u64, name: &str) -> Result<Strin
     ensures { IfOk result (λ answer. TellsTruth name.now (truth hub.now session) (string_bytes answer)) }
 {
     match hub.truth(alloc, session) {
-        Ok(shown) => told(alloc, name, shown),
+        Ok(shown) => truth_words(alloc, name, shown),
         Err(HubFault::NoSession) => words::unknown(alloc, name),
         Err(HubFault::NoMemory) => words::no_memory(alloc, name),
     }
 }
 
 /// What a follower should hold, in words.
-fn told(alloc: Global, name: &str, shown: Option<(u64, Tree)>) -> Result<String, AllocError>
+fn truth_words(alloc: Global, name: &str, shown: Option<(u64, Tree)>) -> Result<String, AllocError>
     ensures { IfOk result (λ answer. string_bytes answer ≡ truth_text name.now shown) }
 {
     let follower = match shown {

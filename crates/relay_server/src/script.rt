@@ -3,7 +3,7 @@ ghost use Rattle.std.specs.Prelude.{◌≡◌, ◌↔◌, ◌⊎◌, Some, None,
 ghost use Rattle.relay_hub.specs.Telling.{BadLimits};
 ghost use Rattle.relay_server.specs.Kept.{players_of, stage_of};
 ghost use Rattle.relay_server.specs.Line.{act_of, opens};
-ghost use Rattle.relay_server.specs.Script.{stage, new_stage, player, Answers, OnlyName, ActsNamed, ActsNew, player_of};
+ghost use Rattle.relay_server.specs.Script.{stage, new_stage, player, ear, Answers, OnlyName, ActsNamed, ActsNew, player_of};
 
 use crate::fault::ScriptFault;
 use crate::line::{Asks, Line, line_of};
@@ -63,12 +63,12 @@ fn answer(
     match line_of(line) {
         Line::Blank => Ok(String::new(alloc)),
         Line::Unknown => words::unknown_form(alloc, number),
-        Line::Named { name, asks } => act(alloc, hub, players, name, asks),
+        Line::Named { name, asks } => answer_name(alloc, hub, players, name, asks),
     }
 }
 
 /// Does what a name is to do.
-fn act(
+fn answer_name(
     alloc: Global,
     hub: &mut Hub,
     players: &mut IndexMap<String, Player>,
@@ -96,13 +96,13 @@ fn begin(
         (stage hub.old (players_of players.old)) (stage hub.new (players_of players.new)) (string_bytes answer)) }
 {
     match asks {
-        Asks::Open(room) => enter(alloc, hub, players, name, room),
+        Asks::Open(room) => open_first(alloc, hub, players, name, room),
         _ => words::unknown(alloc, name),
     }
 }
 
 /// Opens the first session of a name.
-fn enter(
+fn open_first(
     alloc: Global,
     hub: &mut Hub,
     players: &mut IndexMap<String, Player>,
@@ -128,7 +128,7 @@ fn add(
     name: &str,
     session: u64,
 ) -> Result<(), AllocError>
-    ensures { OnOk result (OnlyName name.now (player (Some session) None None) (players_of players.old) (players_of players.new)) }
+    ensures { OnOk result (OnlyName name.now (player (Some session) (ear None None)) (players_of players.old) (players_of players.new)) }
 {
     let known = String::from_str(alloc, name)?;
     drop(players.insert(known, Player::new(session))?);

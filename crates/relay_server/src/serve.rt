@@ -32,13 +32,13 @@ pub fn serve<N: Net, W: Write>(
         return Err(ServeFault::Listen);
     };
     let port = address.port();
-    tell(writer, format!(in alloc; "listening {port}\n")?.as_str())?;
+    print(writer, format!(in alloc; "listening {port}\n")?.as_str())?;
     let mut serving = Serving::new(alloc, hub);
     for _ in 0..turns {
         serving.round(alloc, &listener);
     }
     serving.end(alloc);
-    tell(writer, format!(in alloc; "turns {turns}\n")?.as_str())
+    print(writer, format!(in alloc; "turns {turns}\n")?.as_str())
 }
 
 /// A listener that never waits.
@@ -52,9 +52,10 @@ pub fn listen<N: Net>(net: &N, port: u16) -> Result<N::Listener, ServeFault> {
     }
 }
 
-fn tell<W: Write>(writer: &mut W, text: &str) -> Result<(), ServeFault> {
-    let told = writer.write_all(text.as_bytes());
-    match told.and_then(|()| writer.flush()) {
+/// Writes a line at once.
+fn print<W: Write>(writer: &mut W, text: &str) -> Result<(), ServeFault> {
+    let written = writer.write_all(text.as_bytes());
+    match written.and_then(|()| writer.flush()) {
         Ok(()) => Ok(()),
         Err(_) => Err(ServeFault::Ended(ScriptFault::Output)),
     }

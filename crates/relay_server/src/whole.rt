@@ -7,6 +7,8 @@ ghost use Rattle.relay_server.specs.Lines.{lines_of};
 ghost use Rattle.relay_server.specs.Respond.{AnswersAll, AnswersSome, HasLongLine};
 ghost use Rattle.relay_server.specs.Script as script;
 ghost use Rattle.relay_server.specs.Script.{new_stage};
+ghost use Rattle.relay_server.specs.declared.input.TheConstants.{LINE_MOST};
+ghost use Rattle.relay_server.specs.declared.run.TheConstants.{LINES_MOST};
 
 use crate::fault::ScriptFault;
 use crate::follow::Following;
@@ -16,8 +18,9 @@ use std::alloc::Global;
 use std::io::{Read, Write};
 
 /// Carries out the lines of a script, and writes their answers, over a new hub of this epoch whose rooms hold `history`
-/// revisions, and in whose lines at most `outbox` patches wait. The lines before a fault were carried out and their answers
-/// written; after `Output` the last answer may be cut.
+/// revisions, and where at most `outbox` patches wait for a session. At `BadLimit` nothing was read and nothing written. The
+/// lines before another fault were carried out and their answers written: at `TooManyLines` as many as there may be, and at
+/// `LineTooLong` those before the first that is too long. After `Output` the last answer may be cut.
 pub fn run_script<R: Read, W: Write>(
     alloc: Global,
     reader: &mut R,
@@ -29,12 +32,13 @@ pub fn run_script<R: Read, W: Write>(
     ensures done { OnOk result (AnswersAll script.Answers (new_stage epoch history outbox) (R.remaining reader.old) (W.contents writer.old) (W.contents writer.new)) }
     ensures read { OnOk result (IsAtEnd (R.remaining reader.new)) }
     ensures bad_limit { IsErrOf result ScriptFault.BadLimit ↔ BadLimits epoch 1 history outbox }
+    ensures untouched { IfErr result (λ fault. fault ≡ ScriptFault.BadLimit → (reader.new ≡ reader.old) × (writer.new ≡ writer.old)) }
     ensures stopped { IfErr result (λ fault. fault ≢ ScriptFault.BadLimit
         → AnswersSome script.Answers fault (new_stage epoch history outbox) (R.remaining reader.old) (W.contents writer.old) (W.contents writer.new)) }
     ensures too_long { IfErr result (λ fault. fault ≡ ScriptFault.LineTooLong
-        → IfSome (R.remaining reader.old) (λ bytes. HasLongLine 270336 (lines_of bytes))) }
+        → IfSome (R.remaining reader.old) (λ bytes. HasLongLine LINE_MOST (lines_of bytes))) }
     ensures too_many { IfErr result (λ fault. fault ≡ ScriptFault.TooManyLines
-        → IfSome (R.remaining reader.old) (λ bytes. 65536 < length (lines_of bytes))) }
+        → IfSome (R.remaining reader.old) (λ bytes. LINES_MOST < length (lines_of bytes))) }
 {
     let mut script = Script::new(alloc, epoch, history, outbox)?;
     run_lines(alloc, &mut script, reader, writer)
@@ -52,9 +56,9 @@ pub fn run_follow<R: Read, W: Write>(
     ensures limits { IfErr result (λ fault. fault ≢ ScriptFault.BadLimit) }
     ensures stopped { IfErr result (λ fault. AnswersSome follow.Answers fault None (R.remaining reader.old) (W.contents writer.old) (W.contents writer.new)) }
     ensures too_long { IfErr result (λ fault. fault ≡ ScriptFault.LineTooLong
-        → IfSome (R.remaining reader.old) (λ bytes. HasLongLine 270336 (lines_of bytes))) }
+        → IfSome (R.remaining reader.old) (λ bytes. HasLongLine LINE_MOST (lines_of bytes))) }
     ensures too_many { IfErr result (λ fault. fault ≡ ScriptFault.TooManyLines
-        → IfSome (R.remaining reader.old) (λ bytes. 65536 < length (lines_of bytes))) }
+        → IfSome (R.remaining reader.old) (λ bytes. LINES_MOST < length (lines_of bytes))) }
 {
     run_lines(alloc, &mut Following::new(), reader, writer)
 }

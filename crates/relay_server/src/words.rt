@@ -1,5 +1,5 @@
 //! The texts of answers (`docs/PROTOCOL.md`): `NAME` and what became of its line, with a line feed behind.
-ghost use Rattle.std.specs.Prelude.{◌≡◌, Some, IfOk, string_bytes};
+ghost use Rattle.std.specs.Prelude.{◌≡◌, ◌≢◌, Some, IfOk, string_bytes};
 ghost use Rattle.relay_hub.specs.Call.{opening, not_opened, receiving, drawing, closing};
 ghost use Rattle.relay_hub.specs.declared.event.Answer.TheVariants as answer;
 ghost use Rattle.relay_hub.specs.declared.event.Heard.TheVariants as heard;
@@ -69,7 +69,9 @@ pub fn refused(alloc: Global, name: &str, fault: OpenFault) -> Result<String, Al
     }
 }
 
+/// The word of a refusal. Want of memory refuses nothing.
 fn open_word(fault: OpenFault) -> &'static str
+    requires { fault ≢ OpenFault.NoMemory }
     ensures { result.now ≡ open_word fault }
 {
     match fault {
@@ -77,7 +79,7 @@ fn open_word(fault: OpenFault) -> &'static str
         OpenFault::RoomsFull => "rooms-full",
         OpenFault::SessionsFull => "sessions-full",
         OpenFault::Exhausted => "exhausted",
-        OpenFault::NoMemory => "no-memory",
+        OpenFault::NoMemory => unreachable!(),
     }
 }
 

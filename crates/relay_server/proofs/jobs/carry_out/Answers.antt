@@ -3,27 +3,36 @@ use Rattle.std.proofs.Common.{None}
 use Rattle.relay_server.specs.Follow as follow
 use Rattle.relay_server.specs.Script as script
 use Rattle.relay_server.specs.Script.{new_stage}
-use Rattle.relay_server.proofs.JobLemmas.{JobEnds-at, Ends-limited, Ends-free}
+use Rattle.relay_server.proofs.JobLemmas.{JobEnds-at, Ends-limited, Ends-free, no_limits, untouched}
 use Rattle.relay_server.proofs.jobs.carry_out.Goals as goal
 
 pub returns-in-Script : goal.returns-in-Script
 returns-in-Script g c =
     let input = g.R.Read.remaining c.args.reader.now in
     let old = g.W.Write.contents c.args.writer.now in
-    let new = g.W.Write.contents c.run_script-ended.new.writer in
-    let run = c.run_script-ended in
-    JobEnds-at _ _ _ input old new c.in-Script.is (run.result, c.report.ensures, Ends-limited script.Answers _ input old new run.result run.ensures.done run.ensures.stopped)
+    let left = g.R.Read.remaining c.run_script.new.reader in
+    let new = g.W.Write.contents c.run_script.new.writer in
+    let run = c.run_script in
+    let same = untouched run.result g.R.Read.remaining g.W.Write.contents _ _ _ _ run.ensures.untouched in
+    JobEnds-at _ _ _ input left old new c.in-Script.is
+    (run.result, c.report.ensures, run.ensures.bad_limit, Ends-limited script.Answers _ input left old new run.result run.ensures.done run.ensures.read run.ensures.stopped same)
 
 pub returns-in-Follow : goal.returns-in-Follow
 returns-in-Follow g c =
     let input = g.R.Read.remaining c.args.reader.now in
     let old = g.W.Write.contents c.args.writer.now in
-    let new = g.W.Write.contents c.run_follow-ended.new.writer in
-    let run = c.run_follow-ended in
-    JobEnds-at _ _ _ input old new c.in-Follow.is (run.result, c.report-in-Follow.ensures, Ends-free follow.Answers None input old new run.result run.ensures.done run.ensures.stopped)
+    let left = g.R.Read.remaining c.run_follow.new.reader in
+    let new = g.W.Write.contents c.run_follow.new.writer in
+    let run = c.run_follow in
+    JobEnds-at _ _ _ input left old new c.in-Follow.is (
+      run.result,
+      c.report-in-Follow.ensures,
+      no_limits run.result run.ensures.limits,
+      Ends-free follow.Answers None input left old new run.result run.ensures.done run.ensures.read run.ensures.stopped run.ensures.limits,
+    )
 
 pub returns-in-Loop : goal.returns-in-Loop
-returns-in-Loop g c = JobEnds-at _ _ _ _ _ _ c.in-Loop.is tt
+returns-in-Loop g c = JobEnds-at _ _ _ _ _ _ _ c.in-Loop.is tt
 
 pub returns-in-Serve : goal.returns-in-Serve
-returns-in-Serve g c = JobEnds-at _ _ _ _ _ _ c.in-Serve.is tt
+returns-in-Serve g c = JobEnds-at _ _ _ _ _ _ _ c.in-Serve.is tt

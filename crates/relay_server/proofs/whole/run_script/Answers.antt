@@ -1,13 +1,19 @@
 -- A run of the code is a run of the stages that it keeps.
-use Rattle.std.proofs.Common.{subst}
+use Rattle.std.proofs.Common.{subst, inl, inr}
+use Rattle.std.proofs.lemmas.Result.{err_from_is_err_and}
 use Rattle.relay_server.specs.Kept.{stage_of}
 use Rattle.relay_server.specs.Respond.{AnswersAll, AnswersSome}
 use Rattle.relay_server.specs.Script.{Answers}
-use Rattle.relay_server.proofs.RunLemmas.{on_success, if_fault, any_fault, AnswersAll-seen, AnswersSome-none, AnswersSome-seen}
+use Rattle.relay_server.proofs.RunLemmas.{on_success, if_fault, AnswersAll-seen, AnswersSome-none, AnswersSome-seen}
 use Rattle.relay_server.proofs.whole.run_script.Goals as goal
 
 pub returns-in_err-script-clause-stopped : goal.returns-in_err-script-clause-stopped
-returns-in_err-script-clause-stopped g c = any_fault c.from_residual.result (λ fault _. AnswersSome-none Answers fault _ _ _)
+returns-in_err-script-clause-stopped g c =
+    let p = err_from_is_err_and c.from_residual.result c.from_residual.ensures.1 in
+    elim c.in_err-script.ensures.fault [
+      | inl bad ↦ rw (p.1, p.2) (λ other. absurd (other bad))
+      | inr memory ↦ rw (p.1, p.2, memory) (λ other. AnswersSome-none Answers _ _ _)
+    ]
 
 pub returns-clause-done : goal.returns-clause-done
 returns-clause-done g c =

@@ -6,7 +6,7 @@ use Rattle.relay_server.specs.Line.{act_of}
 use Rattle.relay_server.specs.Script.{stage}
 use Rattle.relay_server.proofs.Players.{player_of-players_of, OnlyName-updates}
 use Rattle.relay_server.proofs.ScriptLemmas.{ActsNamed-new, ActsNamed-known}
-use Rattle.relay_server.proofs.script.act.Goals as goal
+use Rattle.relay_server.proofs.script.answer_name.Goals as goal
 
 pub returns-in-None : goal.returns-in-None
 returns-in-None c =
