@@ -221,13 +221,17 @@
     // Messages.
 
     #hear(message) {
-      if (message.kind === "welcome") this.#enterRoom(message);
-      else if (message.kind === "snapshot") this.#take(message.rev, message.view, null);
-      else if (message.kind === "patch") this.#follow(message);
-      else this.#sent.shift().answered(message);
-      if (this.#socket !== null) {
-        this.#send();
-        this.#listen();
+      try {
+        if (message.kind === "welcome") this.#enterRoom(message);
+        else if (message.kind === "snapshot") this.#take(message.rev, message.view, null);
+        else if (message.kind === "patch") this.#follow(message);
+        else this.#sent.shift().answered(message);
+      } finally {
+        // Also where an application's function throws.
+        if (this.#socket !== null) {
+          this.#send();
+          this.#listen();
+        }
       }
     }
 
