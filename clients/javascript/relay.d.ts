@@ -58,6 +58,8 @@ export interface Board {
   readonly slots: Slot[] | null;
   /** The revision whose slots these are; null before the first snapshot. */
   readonly rev: number | null;
+  /** The run of the relay of which they are; null before the first snapshot. */
+  readonly epoch: number | null;
   readonly state: State;
   /** The first slots. Fails with `Refused` where the view is refused, and with `Closed`. */
   readonly ready: Promise<Slot[]>;

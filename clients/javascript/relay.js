@@ -80,6 +80,10 @@
       return this.#held.rev;
     }
 
+    get epoch() {
+      return this.#held.epoch;
+    }
+
     get state() {
       return this.#state;
     }

@@ -149,6 +149,11 @@ class Board:
         return self._held.rev if self._held else None
 
     @property
+    def epoch(self) -> Optional[int]:
+        """The run of the relay of which they are; None before the first snapshot."""
+        return self._held.epoch if self._held else None
+
+    @property
     def state(self) -> State:
         return self._state
 

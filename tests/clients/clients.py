@@ -32,13 +32,15 @@ class Play:
     async def play(self):
         self.proxy = Proxy()
         url = f"ws://127.0.0.1:{await self.proxy.begin()}/rooms/{ROOM}"
-        await self.start()
+        await self.start(0)
         views = [self.chance.choice(VIEWS) for _ in range(4)]
         self.players = [InPython(url, view) for view in views[:2]]
         self.players += [await InJavaScript.begin(self.node, url, view) for view in views[2:]]
         try:
             for _ in range(CHECKS):
                 await self.stir()
+                if self.chance.random() < 0.4:
+                    await self.restart()
                 await self.settle()
         finally:
             for player in self.players:
@@ -46,19 +48,23 @@ class Play:
             await self.relay.end()
             await self.proxy.end()
 
-    async def start(self):
+    async def start(self, rev):
+        """Begins another run, whose room has a board at revision 1, or one as high as `rev`."""
         self.run += 1
-        history, outbox = self.chance.choice([1, 2, 4, 64]), self.chance.choice([1, 2, 32])
+        history, outbox = self.chance.choice([1, 2, 4, 64, 64]), self.chance.choice([1, 2, 32])
         self.relay = await Relay.begin(self.program, 1000 + self.run, history, outbox)
         begin = [{"op": "test", "path": "", "value": None}, {"op": "add", "path": "", "value": BEGUN}]
         await self.relay.request(ROOM, {"do": "edit", "patch": begin}, "done")
+        await self.relay.raise_to(ROOM, rev)
         self.proxy.port = self.relay.port
 
     async def restart(self):
+        """Another run, which may be at the revision of the one before: only the epoch tells that nothing of it is left."""
         self.counts["restarts"] += 1
+        rev, _ = await self.relay.shows(ROOM, [])
         self.proxy.port = None
         await self.relay.end()
-        await self.start()
+        await self.start(self.chance.choice([0, rev, rev + 1]))
 
     # What happens.
 

@@ -28,6 +28,15 @@ class Relay:
                 if message["kind"] == kind:
                     return message
 
+    async def raise_to(self, room, rev):
+        """Edits that change nothing, up to that revision."""
+        begun, _ = await self.shows(room, [])
+        async with websockets.connect(f"ws://127.0.0.1:{self.port}/rooms/{room}", max_size=None) as link:
+            await link.recv()
+            for _ in range(begun, rev):
+                await link.send(json.dumps({"id": 1, "do": "edit", "patch": []}))
+                await link.recv()
+
     async def shows(self, room, view):
         """The revision, and the slots that a fresh watcher is shown."""
         snapshot = await self.request(room, {"do": "watch", "view": view}, "snapshot")
