@@ -99,7 +99,7 @@ class Board:
     """A room, seen through a view. `on_change` is told after each change of the slots, `on_state` of each new state, with the cause of
     `closed` if there is one: `connecting` (the slots are awaited), `open`, `waiting` (the connection was lost, and the next try
     comes after a while), `closed`. The first try after a loss waits at most `first_wait` seconds, each further one up to twice as
-    long, and at most `longest_wait`."""
+    long, and at most `longest_wait`. `link` has further words for `websockets.connect`, as `{"ssl": context}`."""
 
     def __init__(
         self,
@@ -110,8 +110,10 @@ class Board:
         on_state: Callable[[State, Optional[Exception]], None] = lambda state, cause: None,
         first_wait: float = 0.2,
         longest_wait: float = 10.0,
+        link: Optional[dict] = None,
     ):
         self._url, self._on_change, self._on_state = url, on_change, on_state
+        self._link = {"max_size": None, **(link or {})}
         self._first_wait, self._longest_wait, self._failures = first_wait, longest_wait, 0
         self._wanted = _Wanted(0, view)  # the view that was asked for last, by the number of its asking
         self._taken: Optional[_Wanted] = None  # that which the newest `watching` or `resumed` of this connection is about
@@ -198,7 +200,7 @@ class Board:
     async def _run(self) -> None:
         while self._state != "closed":
             try:
-                async with websockets.connect(self._url, max_size=None) as link:
+                async with websockets.connect(self._url, **self._link) as link:
                     await self._serve(link)
             except (_Astray, OSError, asyncio.TimeoutError, websockets.exceptions.WebSocketException):
                 pass
