@@ -7,7 +7,7 @@ At each quiet moment every client's slots are those that a fresh watcher is show
 no slots that were handed out have changed.
 """
 import asyncio, itertools, os, random, sys, time
-from players import ROOT, InJavaScript, InPython
+from players import ROOT, Browser, InBrowser, InNode, InPython
 from server import Proxy, Relay
 
 ROOM = "play"
@@ -22,8 +22,8 @@ class Wrong(Exception):
 
 
 class Play:
-    def __init__(self, seed, program, node):
-        self.chance, self.program, self.node = random.Random(seed), program, node
+    def __init__(self, seed, program, node, browser):
+        self.chance, self.program, self.node, self.browser = random.Random(seed), program, node, browser
         self.numbers = itertools.count()
         self.run = 0  # which run of the relay this is
         self.edits = {}  # by its tag: the run that it began in, the one that it was answered in, and the answer
@@ -35,7 +35,9 @@ class Play:
         await self.start(0)
         views = [self.chance.choice(VIEWS) for _ in range(4)]
         self.players = [InPython(url, view) for view in views[:2]]
-        self.players += [await InJavaScript.begin(self.node, url, view) for view in views[2:]]
+        self.players += [await InNode.begin(self.node, url, views[2])]
+        if self.browser:
+            self.players += [await InBrowser.begin(self.browser, url, views[3])]
         try:
             for _ in range(CHECKS):
                 await self.stir()
@@ -85,7 +87,7 @@ class Play:
                 await asyncio.sleep(self.chance.random() * 0.03)
             else:
                 editing.append(asyncio.ensure_future(self.edit(self.chance.choice(self.players))))
-        await asyncio.wait_for(asyncio.gather(*editing), 30)
+        await asyncio.wait_for(asyncio.gather(*editing), 60)
 
     async def edit(self, player):
         tag, began = f"e{next(self.numbers)}", self.run
@@ -112,7 +114,7 @@ class Play:
 
     async def settle(self):
         """Everything was answered: soon every client holds what a fresh watcher is shown."""
-        until = time.monotonic() + 20
+        until = time.monotonic() + 40
         while wrong := await self.first_difference():
             if time.monotonic() > until:
                 raise Wrong(wrong)
@@ -126,10 +128,10 @@ class Play:
             if seen["spoiled"]:
                 raise Wrong("slots that were handed out have changed")
             if seen["state"] != "open":
-                return f"{player} is {seen['state']}"
+                return f"{type(player).__name__} is {seen['state']}"
             rev, slots = await self.relay.shows(ROOM, seen["view"])
             if seen["slots"] != slots or seen["rev"] > rev:
-                return f"{player} holds {seen}, and not {slots} of revision {rev}"
+                return f"{type(player).__name__} holds {seen}, and not {slots} of revision {rev}"
         return None
 
     def compare_log(self, log):
@@ -149,19 +151,29 @@ class Play:
             raise Wrong("edits were not done in the order of their revisions")
 
 
-async def play(seeds, first):
+async def play(seeds, first, browser):
     program = os.environ.get("RELAY", f"{ROOT}/relay")
     node = os.environ.get("NODE_WORDS", "node").split()
     begun = time.monotonic()
     for seed in range(first, first + seeds):
-        player = Play(seed, program, node)
+        player = Play(seed, program, node, browser)
         try:
             await player.play()
         except Wrong as wrong:
             sys.exit(f"seed {seed}: {wrong}")
         print(f"seed {seed}: " + ", ".join(f"{count} {word}" for word, count in player.counts.items()), flush=True)
-    print(f"{seeds} seeds in {time.monotonic() - begun:.0f} seconds")
+    print(f"{seeds} seeds in {time.monotonic() - begun:.0f} seconds, {'with' if browser else 'without'} a browser")
+
+
+async def main(seeds=20, first=1):
+    program = os.environ.get("BROWSER_PROGRAM")
+    browser = await Browser.begin(program) if program else None
+    try:
+        await play(int(seeds), int(first), browser)
+    finally:
+        if browser:
+            await browser.end()
 
 
 if __name__ == "__main__":
-    asyncio.run(play(*[int(word) for word in sys.argv[1:]], *[20, 1][len(sys.argv) - 1 :]))
+    asyncio.run(main(*sys.argv[1:]))
