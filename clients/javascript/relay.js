@@ -42,6 +42,11 @@
     patience: 10_000,
   };
 
+  // What is sent is what it was when it was asked for, and what is no JSON is refused then.
+  function asJson(value) {
+    return JSON.parse(JSON.stringify(value));
+  }
+
   class Board {
     #url;
     #options;
@@ -61,7 +66,7 @@
     constructor(url, { view, ...options }) {
       this.#url = url;
       this.#options = { WebSocket: globalThis.WebSocket, ...DEFAULTS, ...options };
-      this.#wanted = { number: 0, view };
+      this.#wanted = { number: 0, view: asJson(view) };
       this.ready = this.#shown();
       this.ready.catch(() => {});
       this.#connect();
@@ -89,7 +94,7 @@
     }
 
     watch(view) {
-      this.#wanted = { number: this.#wanted.number + 1, view };
+      this.#wanted = { number: this.#wanted.number + 1, view: asJson(view) };
       const shown = this.#shown();
       if (this.#epoch !== null) this.#ask(this.#watching());
       return shown;
@@ -97,7 +102,7 @@
 
     edit(patch) {
       return new Promise((resolve, reject) => {
-        const request = { do: "edit", patch: structuredClone(patch) };
+        const request = { do: "edit", patch: asJson(patch) };
         this.#ask({
           request,
           answered: (reply) => (reply.kind === "done" ? resolve(reply.rev) : reject(new Refused(reply))),

@@ -12,7 +12,7 @@ import json
 import random
 from collections import deque
 from dataclasses import dataclass, replace
-from typing import Any, Callable, Deque, List, Literal, Optional
+from typing import Any, Callable, Deque, Dict, List, Literal, Optional
 
 import jsonpatch
 import websockets
@@ -21,6 +21,8 @@ import websockets.exceptions
 __all__ = ["Board", "Change", "Closed", "Refused", "Unknown", "connect"]
 
 Json = Any
+Message = Dict[str, Any]
+Patch = List[Dict[str, Any]]
 View = List[str]
 Slots = List[List[Json]]
 State = Literal["connecting", "open", "waiting", "closed"]
@@ -58,7 +60,7 @@ class Change:
     """One for each pointer of the view: `[value]`, or `[]` where it leads to nothing. No later change writes to it."""
     rev: int
     """The revision whose slots these are."""
-    patch: Optional[List[dict]]
+    patch: Optional[Patch]
     """What led here from the slots before, with slot k's value at /k/0; None where all slots came anew."""
 
 
@@ -78,8 +80,8 @@ class _Held:
 
 @dataclass
 class _Asked:
-    request: dict
-    answered: Callable[[dict], None]
+    request: Message
+    answered: Callable[[Message], None]
     edit: Optional["asyncio.Future[int]"] = None
 
 
@@ -110,12 +112,12 @@ class Board:
         on_state: Callable[[State, Optional[Exception]], None] = lambda state, cause: None,
         first_wait: float = 0.2,
         longest_wait: float = 10.0,
-        link: Optional[dict] = None,
+        link: Optional[Dict[str, Any]] = None,
     ):
         self._url, self._on_change, self._on_state = url, on_change, on_state
         self._link = {"max_size": None, **(link or {})}
         self._first_wait, self._longest_wait, self._failures = first_wait, longest_wait, 0
-        self._wanted = _Wanted(0, view)  # the view that was asked for last, by the number of its asking
+        self._wanted = _Wanted(0, _as_json(view))  # the view that was asked for last, by the number of its asking
         self._taken: Optional[_Wanted] = None  # that which the newest `watching` or `resumed` of this connection is about
         self._held: Optional[_Held] = None
         self._waiters: List[_Waiter] = []
@@ -162,22 +164,23 @@ class Board:
     async def watch(self, view: View) -> Slots:
         """Shows other pointers from now on. Gives their slots, or those of a later view where one was asked for in the meantime. Fails
         with `Refused`, and the view before stays; and with `Closed`."""
-        self._wanted = _Wanted(self._wanted.number + 1, view)
+        self._wanted = _Wanted(self._wanted.number + 1, _as_json(view))
         shown = self._shown()
         if self._epoch is not None:
             self._ask(self._watching())
         return await shown
 
-    async def edit(self, patch: List[dict]) -> int:
+    async def edit(self, patch: Patch) -> int:
         """Edits the document, all of it or nothing. Gives the new revision, which the slots may still be on their way to.
 
         Fails with `Refused`, where nothing changed; with `Unknown`, where the connection was lost before the answer; with `Closed`.
         At most 31 requests are on their way at once; the others wait here, also for a connection, and are sent in order."""
+        request = {"do": "edit", "patch": _as_json(patch)}
         done: "asyncio.Future[int]" = asyncio.get_running_loop().create_future()
         if self._state == "closed":
             raise Closed()
 
-        def answered(reply: dict) -> None:
+        def answered(reply: Message) -> None:
             if done.done():
                 return
             if reply["kind"] == "done":
@@ -185,7 +188,7 @@ class Board:
             else:
                 done.set_exception(Refused(reply["fault"], reply["at"]))
 
-        self._ask(_Asked({"do": "edit", "patch": json.loads(json.dumps(patch))}, answered, done))
+        self._ask(_Asked(request, answered, done))
         return await done
 
     async def close(self) -> None:
@@ -257,12 +260,15 @@ class Board:
                 asked = self._unsent.popleft()
                 self._ids += 1
                 self._sent.append(asked)
-                await link.send(json.dumps({"id": self._ids, **asked.request}))
+                try:
+                    await link.send(json.dumps({"id": self._ids, **asked.request}))
+                except websockets.exceptions.ConnectionClosed:
+                    return
 
     def _watching(self) -> _Asked:
         wanted = self._wanted
 
-        def answered(reply: dict) -> None:
+        def answered(reply: Message) -> None:
             if reply["kind"] == "watching":
                 self._taken = wanted
             else:
@@ -271,7 +277,7 @@ class Board:
         return _Asked({"do": "watch", "view": wanted.view}, answered)
 
     def _resuming(self, held: _Held) -> _Asked:
-        def answered(reply: dict) -> None:
+        def answered(reply: Message) -> None:
             if reply["kind"] != "resumed":
                 # `future`: an epoch was given to two runs, and what is held is of the other one.
                 self._ask(self._watching())
@@ -311,13 +317,12 @@ class Board:
 
     # Messages.
 
-    def _hear(self, message: dict) -> None:
+    def _hear(self, message: Message) -> None:
         kind = message["kind"]
         if kind == "welcome":
             self._enter_room(message["epoch"])
         elif kind == "snapshot":
-            self._held = _Held(self._taken, message["view"], message["rev"], self._epoch)
-            self._show(None)
+            self._take(message["rev"], message["view"])
         elif kind == "patch":
             self._follow(message["rev"], message["patch"])
         else:
@@ -330,21 +335,28 @@ class Board:
         held = self._held
         self._unsent.appendleft(self._resuming(held) if held and held.of is self._wanted else self._watching())
 
-    def _follow(self, rev: int, patch: List[dict]) -> None:
+    def _take(self, rev: int, slots: Slots) -> None:
+        if self._taken is None or self._epoch is None:
+            raise _Astray()
+        self._show(_Held(self._taken, slots, rev, self._epoch), None)
+
+    def _follow(self, rev: int, patch: Patch) -> None:
         held = self._held
+        if held is None:
+            raise _Astray()
         try:
             if rev <= held.rev:
                 raise _Astray()
             # A copy: the slots that were handed out stay what they were.
-            self._held = replace(held, slots=jsonpatch.apply_patch(held.slots, patch), rev=rev)
+            slots: Slots = jsonpatch.apply_patch(held.slots, patch)
         except (_Astray, jsonpatch.JsonPatchException, jsonpatch.JsonPointerException):
             # The slots are asked for anew, by a connection that has nothing to resume.
             self._held = replace(held, of=_Wanted(-1, held.of.view))
             raise _Astray()
-        self._show(patch)
+        self._show(replace(held, slots=slots, rev=rev), patch)
 
-    def _show(self, patch: Optional[List[dict]]) -> None:
-        held = self._held
+    def _show(self, held: _Held, patch: Optional[Patch]) -> None:
+        self._held = held
         for waiter in self._waiters:
             if waiter.number <= held.of.number and not waiter.shown.done():
                 waiter.shown.set_result(held.slots)
@@ -364,6 +376,11 @@ class Board:
         except Exception as error:
             context = {"message": "told by a board of the relay", "exception": error}
             asyncio.get_running_loop().call_exception_handler(context)
+
+
+def _as_json(value: Json) -> Json:
+    """What is sent is what it was when it was asked for, and what is no JSON is refused then."""
+    return json.loads(json.dumps(value))
 
 
 def _fail(future: "asyncio.Future[Any]", cause: Exception) -> None:
