@@ -19,7 +19,7 @@ async def edit(board, *patch):
     try:
         await board.edit(list(patch))
     except (relay_client.Refused, relay_client.Unknown) as error:
-        print(error or "the connection was lost before the answer", flush=True)
+        print(error, flush=True)
 
 
 async def main(port, room="board"):

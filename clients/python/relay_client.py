@@ -45,9 +45,15 @@ class Refused(Exception):
 class Unknown(Exception):
     """The connection was lost before the answer: the edit may have been done, may not, and may still be done."""
 
+    def __init__(self) -> None:
+        super().__init__("the connection was lost before the answer")
+
 
 class Closed(Exception):
     """The board was closed before what was asked for was sent."""
+
+    def __init__(self) -> None:
+        super().__init__("the board is closed")
 
 
 class _Astray(Exception):
