@@ -340,6 +340,8 @@
   }
 
   function connect(url, options) {
+    const sockets = options.WebSocket ?? globalThis.WebSocket;
+    if (typeof sockets !== "function") throw new TypeError("no WebSocket here: hand in a class of sockets");
     return new Board(url, options);
   }
 
