@@ -7,7 +7,8 @@ At each quiet moment every client's slots are those that a fresh watcher is show
 no slots that were handed out have changed.
 """
 import asyncio, itertools, os, random, sys, time
-from players import ROOT, Browser, InBrowser, InNode, InPython
+from browser import Browser
+from players import ROOT, InBrowser, InNode, InPython
 from server import Proxy, Relay
 
 ROOM = "play"

@@ -1,6 +1,6 @@
 """Both clients, played in the same way: the one in Python, and the one in JavaScript in Node and in a browser."""
-import asyncio, itertools, json, os, shutil, sys, tempfile, urllib.request
-import websockets
+import asyncio, itertools, json, os, sys
+from browser import Page
 
 ROOT = os.path.dirname(os.path.dirname(os.path.dirname(os.path.abspath(__file__))))
 sys.path.insert(0, f"{ROOT}/clients/python")
@@ -36,15 +36,6 @@ class InPython:
 
 
 class InJavaScript:
-    """Answers come by the number of what was asked."""
-
-    def __init__(self):
-        self.ids, self.asked = itertools.count(1), {}
-
-    def expect(self, number):
-        self.asked[number] = asyncio.get_running_loop().create_future()
-        return self.asked[number]
-
     async def edit(self, patch):
         return await self.ask(do="edit", patch=patch)
 
@@ -64,6 +55,7 @@ class InNode(InJavaScript):
         words = [*node, f"{ROOT}/tests/clients/player.js", url, json.dumps(view)]
         pipe = asyncio.subprocess.PIPE
         player.node = await asyncio.create_subprocess_exec(*words, stdin=pipe, stdout=pipe, limit=2**24)
+        player.ids, player.asked = itertools.count(1), {}
         player.reading = asyncio.ensure_future(player.read())
         return player
 
@@ -74,45 +66,14 @@ class InNode(InJavaScript):
 
     async def ask(self, **words):
         number = next(self.ids)
-        answer = self.expect(number)
+        self.asked[number] = asyncio.get_running_loop().create_future()
         self.node.stdin.write(json.dumps({"id": number, **words}).encode() + b"\n")
-        return await answer
+        return await self.asked[number]
 
     async def leave(self):
         self.node.stdin.close()
         await self.node.wait()
         self.reading.cancel()
-
-
-class Browser:
-    """A headless Chromium, which listens for a debugger."""
-
-    @classmethod
-    async def begin(cls, program):
-        browser = cls()
-        browser.folder = tempfile.mkdtemp()
-        flags = ["--headless=new", "--disable-gpu", "--remote-debugging-port=0", f"--user-data-dir={browser.folder}"]
-        flags += ["--disable-background-timer-throttling", "--disable-renderer-backgrounding", "--remote-allow-origins=*"]
-        flags += ["--no-sandbox"] if os.getuid() == 0 else []
-        nowhere = asyncio.subprocess.DEVNULL
-        browser.process = await asyncio.create_subprocess_exec(program, *flags, stdout=nowhere, stderr=nowhere)
-        told = f"{browser.folder}/DevToolsActivePort"
-        while not (os.path.exists(told) and os.path.getsize(told)):
-            await asyncio.sleep(0.05)
-        browser.port = int(open(told).readline())
-        return browser
-
-    async def page(self):
-        """A debugger's connection to a new page."""
-        target = f"http://127.0.0.1:{self.port}/json/new?file://{ROOT}/tests/clients/player.html"
-        asking = urllib.request.Request(target, method="PUT")
-        page = json.load(await asyncio.to_thread(urllib.request.urlopen, asking))
-        return await websockets.connect(page["webSocketDebuggerUrl"], max_size=None)
-
-    async def end(self):
-        self.process.terminate()
-        await self.process.wait()
-        shutil.rmtree(self.folder, ignore_errors=True)
 
 
 class InBrowser(InJavaScript):
@@ -121,35 +82,13 @@ class InBrowser(InJavaScript):
     @classmethod
     async def begin(cls, browser, url, view):
         player = cls()
-        player.link = await browser.page()
-        player.reading = asyncio.ensure_future(player.read())
-        while not await player.evaluate("document.readyState === 'complete' && 'play' in globalThis"):
-            await asyncio.sleep(0.02)
-        await player.evaluate(f"globalThis.player = play(relay, {json.dumps(url)}, {json.dumps(view)}), true")
+        player.page = await Page.open(browser, f"file://{ROOT}/tests/clients/player.html")
+        await player.page.until("document.readyState === 'complete' && 'play' in globalThis", True)
+        await player.page.evaluate(f"globalThis.player = play(relay, {json.dumps(url)}, {json.dumps(view)}), true")
         return player
 
-    async def read(self):
-        async for text in self.link:
-            message = json.loads(text)
-            if "id" in message:
-                self.asked.pop(message["id"]).set_result(message["result"])
-
-    async def say(self, method, **words):
-        number = next(self.ids)
-        answer = self.expect(number)
-        await self.link.send(json.dumps({"id": number, "method": method, "params": words}))
-        return await answer
-
-    async def evaluate(self, expression):
-        answer = await self.say("Runtime.evaluate", expression=expression, awaitPromise=True, returnByValue=True)
-        return answer["result"].get("value")
-
     async def ask(self, **words):
-        return await self.evaluate(f"player({json.dumps(words)})")
+        return await self.page.evaluate(f"player({json.dumps(words)})")
 
     async def leave(self):
-        closing = asyncio.ensure_future(self.say("Page.close"))
-        await asyncio.wait([closing, self.reading], return_when=asyncio.FIRST_COMPLETED)
-        closing.cancel()
-        self.reading.cancel()
-        await self.link.close()
+        await self.page.leave()
