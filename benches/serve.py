@@ -3,13 +3,25 @@
 
     python3 benches/serve.py [WATCHERS] [EDITS]
 
-RELAY names another program to start than `./relay`. It wants what examples/board.py wants.
+RELAY names another program to start than `./relay`. It wants websocket-client, from pip or as Debian's python3-websocket.
 """
-import os, subprocess, sys, time
+import json, os, subprocess, sys, time
+import websocket
 
 root = os.path.dirname(os.path.dirname(os.path.abspath(__file__)))
-sys.path.insert(0, f"{root}/examples")
-from board import connect, messages, say
+
+
+def connect(port, room):
+    return websocket.create_connection(f"ws://127.0.0.1:{port}/rooms/{room}")
+
+
+def say(link, **request):
+    link.send(json.dumps(request))
+
+
+def messages(link):
+    while text := link.recv():
+        yield json.loads(text)
 
 
 def wait_for(link, kind):

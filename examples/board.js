@@ -1,35 +1,31 @@
-// A board in a terminal: shows the cards of a room as they change, and adds each line that is typed as a card.
+// The first list of a board in a terminal: shows its cards as they change, and adds each line that is typed. The line `drop` drops the
+// connection on purpose: the client comes back, and is told what it missed.
 //
 //     node --experimental-websocket examples/board.js PORT [ROOM]        (without the option from node 22 on)
 const { createInterface } = require("node:readline");
-const { heard } = require("./view.js");
+const { connect } = require("../clients/javascript/relay.js");
 
 const [port, room = "board"] = process.argv.slice(2);
-const socket = new WebSocket(`ws://127.0.0.1:${port}/rooms/${room}`);
-let view = [[]];
-let id = 0;
+let socket = null;
 
-function say(request) {
-  socket.send(JSON.stringify({ ...request, id: ++id }));
+class Droppable extends WebSocket {
+  constructor(url) {
+    super(url);
+    socket = this;
+  }
 }
 
-function edit(...patch) {
-  say({ do: "edit", patch });
-}
+const board = connect(`ws://127.0.0.1:${port}/rooms/${room}`, {
+  view: ["/todo"],
+  WebSocket: Droppable,
+  onChange: ({ slots, rev, patch }) => console.log(rev, patch ? "patch:" : "snapshot:", ...(slots[0][0] ?? ["no board yet"])),
+  onState: (state) => console.log(state),
+});
 
-socket.onopen = () => {
-  say({ do: "watch", view: ["/cards"] });
-  // Refused, and so without effect, where the room has a board already.
-  edit({ op: "test", path: "", value: null }, { op: "add", path: "", value: { cards: [] } });
-  const lines = createInterface({ input: process.stdin });
-  lines.on("line", (card) => edit({ op: "add", path: "/cards/-", value: card }));
-  lines.on("close", () => socket.close());
-};
+const edit = (...patch) => board.edit(patch).catch((error) => console.log(error.message));
 
-socket.onmessage = ({ data }) => {
-  const message = JSON.parse(data);
-  view = heard(view, message);
-  if (message.kind === "snapshot" || message.kind === "patch") console.log(message.rev, ...(view[0][0] ?? ["no board yet"]));
-};
-
-socket.onclose = () => process.exit();
+// Refused, and so without effect, where the room has a board already.
+edit({ op: "test", path: "", value: null }, { op: "add", path: "", value: { todo: [], doing: [], done: [] } });
+createInterface({ input: process.stdin })
+  .on("line", (line) => (line === "drop" ? socket.close() : edit({ op: "add", path: "/todo/-", value: line })))
+  .on("close", () => board.close());

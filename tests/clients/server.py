@@ -1,0 +1,83 @@
+"""The relay, started again and again, behind a proxy that cuts connections."""
+import asyncio, json, os
+import websockets
+
+
+class Relay:
+    """One run of `relay serve`."""
+
+    @classmethod
+    async def begin(cls, program, epoch, history, outbox):
+        relay = cls()
+        words = ["serve", "--port", "0", "--turns", "1000000000000", "--epoch", str(epoch)]
+        words += ["--history", str(history), "--outbox", str(outbox)]
+        relay.process = await asyncio.create_subprocess_exec(program, *words, stdout=asyncio.subprocess.PIPE)
+        relay.port = int((await relay.process.stdout.readline()).split()[1])
+        return relay
+
+    async def end(self):
+        self.process.kill()
+        await self.process.wait()
+
+    async def request(self, room, request, kind):
+        """What a client of its own is told in answer to one request: the first message of a kind."""
+        async with websockets.connect(f"ws://127.0.0.1:{self.port}/rooms/{room}", max_size=None) as link:
+            await link.send(json.dumps({"id": 1, **request}))
+            async for text in link:
+                message = json.loads(text)
+                if message["kind"] == kind:
+                    return message
+
+    async def raise_to(self, room, rev):
+        """Edits that change nothing, up to that revision."""
+        begun, _ = await self.shows(room, [])
+        async with websockets.connect(f"ws://127.0.0.1:{self.port}/rooms/{room}", max_size=None) as link:
+            await link.recv()
+            for _ in range(begun, rev):
+                await link.send(json.dumps({"id": 1, "do": "edit", "patch": []}))
+                await link.recv()
+
+    async def shows(self, room, view):
+        """The revision, and the slots that a fresh watcher is shown."""
+        snapshot = await self.request(room, {"do": "watch", "view": view}, "snapshot")
+        return snapshot["rev"], snapshot["view"]
+
+
+class Proxy:
+    """Passes bytes on to `port`, if there is one, until it is told to cut."""
+
+    async def begin(self):
+        self.port, self.links = None, set()
+        self.listener = await asyncio.start_server(self.link, "127.0.0.1", 0)
+        return self.listener.sockets[0].getsockname()[1]
+
+    async def link(self, reader, writer):
+        try:
+            far_reader, far_writer = await asyncio.open_connection("127.0.0.1", self.port)
+        except (OSError, TypeError):
+            writer.transport.abort()
+            return
+        ends = (writer.transport, far_writer.transport)
+        self.links.add(ends)
+        await asyncio.gather(self.pass_on(reader, far_writer), self.pass_on(far_reader, writer))
+        self.links.discard(ends)
+
+    async def pass_on(self, reader, writer):
+        try:
+            while some := await reader.read(4096):
+                writer.write(some)
+                await writer.drain()
+        except OSError:
+            pass
+        writer.transport.abort()
+
+    def cut(self, chance):
+        """Cuts links, each if the chance has it. What is on the way is lost."""
+        for ends in list(self.links):
+            if chance():
+                for end in ends:
+                    end.abort()
+
+    async def end(self):
+        self.listener.close()
+        self.cut(lambda: True)
