@@ -2,7 +2,7 @@ use crate::shared::{gives, is, patch_of, pointer_of, text_of, tree_of, view_of};
 use relay_patch::{Bounds, Change, Patch, Place, apply};
 use relay_translate::{Touch, touch, translate};
 use relay_tree::Tree;
-use relay_view::View;
+use relay_view::{SlotKind, View};
 use std::alloc::AllocGlobal;
 use std::process::Abort;
 
@@ -188,6 +188,42 @@ fn relays_moves_and_copies_by_what_a_view_sees_of_them(rt: HostRuntime) {
     );
 }
 
+const SIZED: &str = r#"[{"size":"/items"},"/items/0"]"#;
+
+#[test]
+fn relays_sizes_where_a_part_comes_or_goes(rt: HostRuntime) {
+    relays(
+        &rt,
+        &[
+            (
+                ITEMS,
+                r#"[{"op":"add","path":"/items/-","value":"z"}]"#,
+                SIZED,
+                r#"[{"op":"replace","path":"/0","value":[3]}]"#,
+            ),
+            (
+                ITEMS,
+                r#"[{"op":"replace","path":"/items/1","value":"c"}]"#,
+                SIZED,
+                "[]",
+            ),
+            (
+                ITEMS,
+                r#"[{"op":"replace","path":"/items","value":null}]"#,
+                SIZED,
+                r#"[{"op":"replace","path":"/0","value":[]},{"op":"replace","path":"/1","value":[]}]"#,
+            ),
+            (r#"{"a":{"x":1}}"#, MEMBER, r#"[{"size":""}]"#, "[]"),
+            (
+                r#"{"a":{"x":1}}"#,
+                r#"[{"op":"move","from":"/a/x","path":"/x"}]"#,
+                r#"[{"size":""}]"#,
+                r#"[{"op":"replace","path":"/0","value":[2]}]"#,
+            ),
+        ],
+    );
+}
+
 fn added(rt: &(impl Abort + AllocGlobal), path: &str, value: &str) -> Change {
     Change::AddItem {
         path: pointer_of(rt, path),
@@ -226,10 +262,20 @@ fn move_out(rt: &(impl Abort + AllocGlobal), from: &str, to: &str) -> Change {
     }
 }
 
-// Asserts how a change touches what each path leads to.
-fn touches(rt: &(impl Abort + AllocGlobal), change: &Change, rows: &[(&str, Touch)]) {
+// Asserts how a change touches a slot of that kind at each path.
+fn touches(
+    rt: &(impl Abort + AllocGlobal),
+    change: &Change,
+    kind: SlotKind,
+    rows: &[(&str, Touch)],
+) {
     for (path, judged) in rows {
-        is(rt, touch(change, &pointer_of(rt, path)), *judged, path);
+        is(
+            rt,
+            touch(change, &pointer_of(rt, path), kind),
+            *judged,
+            path,
+        );
     }
 }
 
@@ -239,6 +285,7 @@ fn judges_moves_at_both_ends(rt: HostRuntime) {
     touches(
         &rt,
         &moved,
+        SlotKind::Value,
         &[
             ("", Touch::Inside),
             ("/list", Touch::Inside),
@@ -250,6 +297,25 @@ fn judges_moves_at_both_ends(rt: HostRuntime) {
             ("/list/02", Touch::Apart),
             ("/a/x/y", Touch::Reset),
             ("/a/y", Touch::Apart),
+            ("/b", Touch::Apart),
+        ],
+    );
+}
+
+#[test]
+fn judges_sizes_by_their_own_parts(rt: HostRuntime) {
+    let moved = move_out(&rt, "/list/1", "/a/x");
+    touches(
+        &rt,
+        &moved,
+        SlotKind::Size,
+        &[
+            ("", Touch::Apart),
+            ("/list", Touch::Reset),
+            ("/a", Touch::Reset),
+            ("/list/0", Touch::Apart),
+            ("/list/1", Touch::Reset),
+            ("/a/x/y", Touch::Reset),
             ("/b", Touch::Apart),
         ],
     );

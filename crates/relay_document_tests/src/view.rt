@@ -1,5 +1,5 @@
 use crate::shared::{gives, is, owned, repeated, text_of, tree_of, view_of};
-use relay_view::{View, ViewFault};
+use relay_view::{SlotKind, View, ViewFault};
 use std::alloc::AllocGlobal;
 use std::process::Abort;
 
@@ -16,6 +16,18 @@ fn shows_null_and_absent_apart(rt: HostRuntime) {
     let parts = shown(&rt, r#"{"a":[1,{"b":2}]}"#, r#"["","/a/1/b","/a/2"]"#);
     gives(&rt, parts, r#"[[{"a":[1,{"b":2}]}],[2],[]]"#, "three parts");
     gives(&rt, shown(&rt, "5", "[]"), "[]", "no pointer");
+}
+
+#[test]
+fn shows_sizes(rt: HostRuntime) {
+    let sizes = r#"[{"size":""},{"size":"/a"},{"size":"/a/1"},{"size":"/a/0"},{"size":"/b"}]"#;
+    let shown = shown(&rt, r#"{"a":[1,{"b":2,"c":3},4]}"#, sizes);
+    gives(
+        &rt,
+        shown,
+        "[[1],[3],[2],[],[]]",
+        "an object, lists, a scalar and nothing",
+    );
 }
 
 fn fault_of(rt: &(impl Abort + AllocGlobal), text: &str) -> Option<ViewFault> {
@@ -42,6 +54,9 @@ fn refuses_in_order(rt: HostRuntime) {
             (r#"["a",5]"#, ViewFault::Pointer { at: 0 }),
             ("5", ViewFault::Shape { at: None }),
             ("{}", ViewFault::Shape { at: None }),
+            (r#"[{"size":5}]"#, ViewFault::Shape { at: Some(0) }),
+            (r#"[{"len":"/a"}]"#, ViewFault::Shape { at: Some(0) }),
+            (r#"["/a",{"size":"a"}]"#, ViewFault::Pointer { at: 1 }),
         ],
     );
 }
@@ -78,4 +93,18 @@ fn tells_its_pointers(rt: HostRuntime) {
     gives(&rt, slot_pointer(&rt, pointers, 0), "/a", "slot 0");
     gives(&rt, slot_pointer(&rt, pointers, 1), "/b", "slot 1");
     gives(&rt, slot_pointer(&rt, pointers, 2), "none", "slot 2");
+}
+
+#[test]
+fn tells_its_kinds(rt: HostRuntime) {
+    let view = view_of(&rt, r#"["/a",{"size":"/b"}]"#);
+    is(&rt, view.kind(0), Some(SlotKind::Value), "slot 0");
+    is(&rt, view.kind(1), Some(SlotKind::Size), "slot 1");
+    is(&rt, view.kind(2), None, "slot 2");
+    gives(
+        &rt,
+        slot_pointer(&rt, r#"["/a",{"size":"/b"}]"#, 1),
+        "/b",
+        "slot 1",
+    );
 }

@@ -196,6 +196,21 @@ fn refuses_parts_by_their_place(rt: HostRuntime) {
                 Some(0),
             ),
             (
+                r#"{"do":"watch","id":5,"view":[{"size":5}]}"#,
+                Word::Shape,
+                Some(0),
+            ),
+            (
+                r#"{"do":"watch","id":5,"view":[{"len":"/a"}]}"#,
+                Word::Shape,
+                Some(0),
+            ),
+            (
+                r#"{"do":"watch","id":5,"view":["/a",{"size":"a"}]}"#,
+                Word::Pointer,
+                Some(1),
+            ),
+            (
                 r#"{"do":"edit","id":5,"patch":[{"op":"put","path":""}]}"#,
                 Word::UnknownOp,
                 Some(0),
