@@ -59,13 +59,21 @@ fn serve_prints_its_port_and_its_turns(rt: HostRuntime) -> Result<(), Fail> {
     assert_eq!(rt; ran.status, 0);
     assert!(rt; ran.output()?.starts_with("listening "));
     assert!(rt; ran.output()?.ends_with("\nturns 1\n"));
+    assert!(rt; ran.errors()?.starts_with("relay: epoch 1, as without --epoch"));
+    Ok(())
+}
+
+#[test]
+fn serve_in_an_epoch_of_its_own_says_no_more(rt: HostRuntime) -> Result<(), Fail> {
+    let ran = Ran::of(&rt, "relay serve --port 0 --turns 1 --epoch 2", "")?;
+    assert_eq!(rt; ran.status, 0);
     assert_eq!(rt; ran.errors()?, "");
     Ok(())
 }
 
 /// What `serve` complains of at a port, and its status.
 fn served_at(rt: &(impl AllocGlobal + Net), port: u16) -> Result<String, Fail> {
-    let line = format!(in rt.alloc(); "relay serve --port {port} --turns 1")?;
+    let line = format!(in rt.alloc(); "relay serve --port {port} --turns 1 --epoch 2")?;
     let ran = Ran::of(rt, line.as_str(), "")?;
     let status = ran.status;
     let errors = ran.errors()?;
