@@ -13,10 +13,10 @@ const NAMES: u64 = 5;
 fn view_of(name: u64) -> &'static str {
     match name {
         0 => r#""""#,
-        1 => r#""/l""#,
-        2 => r#""/l/1","/l/0""#,
+        1 => r#""/l",{"size":"/m"}"#,
+        2 => r#"{"size":"/l"},"/l/1","/l/0""#,
         3 => r#""/l/2","/m","/l""#,
-        _ => r#""/m/0","/nowhere","""#,
+        _ => r#""/m/0",{"size":""},"/nowhere","""#,
     }
 }
 
