@@ -3,6 +3,8 @@ use Rattle.std.specs.Prelude.{◌≡◌, ◌+◌, List, [], ◌∷◌, Some, Non
 use Rattle.relay_tree.specs.Document.{null, truth, list, object, no_items, item, no_members, member}
 use Rattle.relay_pointer.specs.Index.{index_text}
 use Rattle.relay_pointer.specs.Path.{Path}
+use Rattle.relay_view.specs.View.{View}
+use Rattle.relay_view.specs.declared.slot.SlotKind.TheVariants.{Value}
 use Rattle.relay_patch.specs.declared.op.Op.TheVariants.{Replace}
 use Rattle.relay_patch.specs.declared.change.Change.{Change}
 use Rattle.relay_patch.specs.declared.change.Change.TheVariants.{Set}
@@ -33,6 +35,10 @@ n = codes "n" ∷ []
 m : Path
 m = codes "m" ∷ []
 
+-- the view of the value at a path
+abbrev seen : Path → View
+seen q = record { pointer = q; kind = Value } ∷ []
+
 module _ (a b c : List Change) where
   five : State
   five = record {
@@ -40,18 +46,18 @@ module _ (a b c : List Change) where
     history = with_revision (Set n (truth true) ∷ []) (with_revision (Set n (truth false) ∷ []) (with_revision c (with_revision b (with_revision a (history.begun 2 0)))));
   }
 
-  from_5 : caught_up five 5 (n ∷ []) ≡ Nothing
+  from_5 : caught_up five 5 (seen n) ≡ Nothing
   unfolding five n index_text
   from_5 = refl
 
-  from_3 : caught_up five 3 (n ∷ []) ≡ Patch (Replace (codes "0" ∷ []) (list (item (truth true) no_items)) ∷ [])
+  from_3 : caught_up five 3 (seen n) ≡ Patch (Replace (codes "0" ∷ []) (list (item (truth true) no_items)) ∷ [])
   unfolding five n index_text
   from_3 = refl
 
-  from_3_elsewhere : caught_up five 3 (m ∷ []) ≡ Nothing
+  from_3_elsewhere : caught_up five 3 (seen m) ≡ Nothing
   unfolding five n m
   from_3_elsewhere = refl
 
-  from_2 : caught_up five 2 (m ∷ []) ≡ Snapshot
+  from_2 : caught_up five 2 (seen m) ≡ Snapshot
   unfolding five
   from_2 = refl
