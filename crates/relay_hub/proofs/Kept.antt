@@ -76,26 +76,25 @@ module _ (h : Inside) (s i : ℕ) (is : IsHub (hub_of h)) (at : place_of (hub_of
   pub never_no_entry : slice_get h.rooms.entries i ≡ None → ⊥
   never_no_entry none = let no = slice_get-map named h.rooms.entries i ∙ ap (option_map named) none in absurd (cc (no, home.3))
 
-  pub entry_session : (name : List ℕ) (g : Group) → slice_get (hub_of h).rooms i ≡ Some (name, group_of g) → (x : Session) × (session_in g.sessions.items s ≡ Some x)
-  entry_session name g there =
+  same_group : (name : List ℕ) (g : Group) → slice_get (hub_of h).rooms i ≡ Some (name, group_of g) → home.1 ≡ group_of g
+  same_group name g there =
       let both : ◌≡◌ {A = Option (List ℕ × plain.Group)} (Some (home.0, home.1)) (Some (name, group_of g)) = sym home.3 ∙ there in
       let one : ◌≡◌ {A = List ℕ × plain.Group} (home.0, home.1) (name, group_of g) = cc in
-      (home.2, subst (λ (k : plain.Group). session_in k.sessions s ≡ Some home.2) (ap (λ (r : List ℕ × plain.Group). r.1) one) home.4)
+      ap (λ (r : List ℕ × plain.Group). r.1) one
+
+  -- and the session is in it
+  pub entry_session : (name : List ℕ) (g : Group) → slice_get (hub_of h).rooms i ≡ Some (name, group_of g) → (x : Session) × (session_in g.sessions.items s ≡ Some x)
+  entry_session name g there = (home.2, subst (λ (k : plain.Group). session_in k.sessions s ≡ Some home.2) (same_group name g there) home.4)
 
   module _ (g : Group) (there : slice_get (values h.rooms) i ≡ Some g) where
-    is_group : home.1 ≡ group_of g
-    is_group =
-        let w = written h.rooms.entries i g g there in
-        let both : ◌≡◌ {A = Option (List ℕ × plain.Group)} (Some (home.0, home.1)) (Some (w.name, group_of g)) = sym home.3 ∙ w.was in
-        let one : ◌≡◌ {A = List ℕ × plain.Group} (home.0, home.1) (w.name, group_of g) = cc in
-        ap (λ (r : List ℕ × plain.Group). r.1) one
+    here : Written h.rooms.entries i g g
+    here = written h.rooms.entries i g g there
 
-    -- and it is there
     pub session_there : (x : Session) × (session_in g.sessions.items s ≡ Some x)
-    session_there = (home.2, subst (λ (k : plain.Group). session_in k.sessions s ≡ Some home.2) is_group home.4)
+    session_there = entry_session here.name g here.was
 
     pub session_is : session_of (hub_of h) s ≡ session_in g.sessions.items s
-    session_is = rw (at, home.3, is_group) refl
+    session_is = rw (at, here.was) refl
 
     pub hears : HasRoom g.sessions.items s → may_hear (session_of (hub_of h) s) ≡ true
     hears space =

@@ -35,7 +35,7 @@ absent key es none = (Missing-position (string_eq key) es (place_is (string_byte
 
 -- The reasons not to open a session, in the order of the checks.
 
--- there are 64 rooms, and another one is wanted
+-- there are as many rooms as there may be, and another one is wanted
 abbrev pub is_crowded : Option ℕ → State → Bool
 is_crowded place hub = not (is_some place) && nat_le ROOMS_MOST (length hub.rooms)
 

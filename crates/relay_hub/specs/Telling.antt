@@ -23,7 +23,7 @@ BadLimits epoch first history waiting =
     (COUNT_MOST < epoch) ⊎ (COUNT_MOST < first)
     ⊎ (history < 1) ⊎ (MOST_REVISIONS < history) ⊎ (waiting < 1) ⊎ (MOST_PATCHES < waiting)
 
--- fewer than 32 replies wait for a session that is open
+-- a further reply may wait for a session that is open
 abbrev pub may_hear : Option Session → Bool
 may_hear (Some x) = nat_lt (length x.outbox.replies) REPLIES
 may_hear None = false

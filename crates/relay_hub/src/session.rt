@@ -46,11 +46,14 @@ impl Session {
             Err(OutboxFault::NoMemory) => return Err(AllocError),
             Err(OutboxFault::BadLimit) => unreachable!(),
         };
-        drop(outbox.reply(Reply::Welcome {
+        let welcome = Reply::Welcome {
             epoch,
             rev,
             session: number,
-        }));
+        };
+        let Ok(()) = outbox.reply(welcome) else {
+            unreachable!()
+        };
         Ok(Session {
             number,
             view: None,
@@ -71,7 +74,9 @@ impl Session {
         requires { length self.old.outbox.replies < REPLIES }
         ensures { self.new ≡ replied reply self.old }
     {
-        drop(self.outbox.reply(reply));
+        let Ok(()) = self.outbox.reply(reply) else {
+            unreachable!()
+        };
     }
 
     /// Holds the view from now on; a snapshot is due.
