@@ -25,7 +25,7 @@ const board = connect(`ws://127.0.0.1:${port}/rooms/${room}`, {
 const edit = (...patch) => board.edit(patch).catch((error) => console.log(error.message));
 
 // Refused, and so without effect, where the room has a board already.
-edit({ op: "test", path: "", value: null }, { op: "add", path: "", value: { todo: [], doing: [], done: [] } });
+edit({ op: "test", path: "", value: null }, { op: "add", path: "", value: { todo: [], doing: [], done: [], away: [] } });
 createInterface({ input: process.stdin })
   .on("line", (line) => (line === "drop" ? socket.close() : edit({ op: "add", path: "/todo/-", value: line })))
   .on("close", () => board.close());

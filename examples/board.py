@@ -25,7 +25,7 @@ async def edit(board, *patch):
 async def main(port, room="board"):
     async with relay_client.connect(f"ws://127.0.0.1:{port}/rooms/{room}", view=["/todo"], on_change=show) as board:
         # Refused, and so without effect, where the room has a board already.
-        empty = {"todo": [], "doing": [], "done": []}
+        empty = {"todo": [], "doing": [], "done": [], "away": []}
         await edit(board, {"op": "test", "path": "", "value": None}, {"op": "add", "path": "", "value": empty})
         while line := await asyncio.to_thread(sys.stdin.readline):
             await edit(board, {"op": "add", "path": "/todo/-", "value": line.strip()})

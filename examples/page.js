@@ -1,5 +1,6 @@
 // The board of board.html: three lists of cards in one document, each shown as a slot. A card is dragged, edited in place by a click,
-// sent on by its arrows, and taken away by its cross. Each edit tests first that the card is still the one that was seen.
+// sent on by its arrows, and put away by its cross, into a fourth list of which only the size is watched. Each edit tests first that the
+// card is still the one that was seen.
 "use strict";
 
 const LISTS = [
@@ -7,6 +8,8 @@ const LISTS = [
   { name: "Doing", path: "/doing" },
   { name: "Done", path: "/done" },
 ];
+
+const AWAY = "/away";
 
 const FAULTS = {
   "test-failed": "somebody changed that card first",
@@ -23,9 +26,10 @@ const columns = LISTS.map(column);
 let dragged = null; // the card under the pointer: its list, its place and its text
 
 const board = relay.connect(url, {
-  view: LISTS.map(({ path }) => path),
+  view: [...LISTS.map(({ path }) => path), { size: AWAY }],
   onChange: ({ slots, rev }) => {
     columns.forEach((shown, k) => shown.show(slots[k][0] ?? []));
+    document.querySelector("#away").textContent = `${slots[LISTS.length][0] ?? 0} put away`;
     document.title = `A board, revision ${rev}`;
   },
   onState: (state) => {
@@ -39,7 +43,7 @@ const board = relay.connect(url, {
 
 // Refused, and so without effect, where the room has a board already.
 function begin() {
-  const value = Object.fromEntries(LISTS.map(({ path }) => [path.slice(1), []]));
+  const value = Object.fromEntries([...LISTS.map(({ path }) => path), AWAY].map((path) => [path.slice(1), []]));
   board.edit([{ op: "test", path: "", value: null }, { op: "add", path: "", value }]).catch(() => {});
 }
 
@@ -124,7 +128,7 @@ function card(seen, redraw) {
   item.append(words);
   if (list > 0) item.append(button("‹", "back", () => move(seen, list - 1, "-")));
   if (list + 1 < LISTS.length) item.append(button("›", "on", () => move(seen, list + 1, "-")));
-  item.append(button("×", "take away", () => change(seen, (path) => ({ op: "remove", path }))));
+  item.append(button("×", "put away", () => change(seen, (from) => ({ op: "move", from, path: `${AWAY}/-` }))));
   return item;
 }
 

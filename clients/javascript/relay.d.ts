@@ -6,7 +6,10 @@ export type Pointer = string;
 
 export type Json = null | boolean | number | string | Json[] | { [name: string]: Json };
 
-/** What a pointer shows: `[value]`, or `[]` where it leads to nothing. */
+/** What is shown: the value to which a pointer leads, or how many elements or members that has. */
+export type Shown = Pointer | { size: Pointer };
+
+/** What stands there: `[value]`, or `[]` where the pointer leads to nothing; of a size `[number]`, or `[]` where there is no list and no object. */
 export type Slot = [] | [Json];
 
 /** An operation of a JSON Patch (RFC 6902). Numbers are whole; those above 2^53 go into texts. */
@@ -33,8 +36,8 @@ export interface Change {
 }
 
 export interface Options {
-  /** The pointers whose slots are to be shown, at most 16. */
-  view: Pointer[];
+  /** What is to be shown, at most 16. */
+  view: Shown[];
   /** Told after each change of the slots. */
   onChange?: (change: Change) => void;
   /** Told of each new state; with `closed`, of the cause, if there is one. */
@@ -52,8 +55,8 @@ export interface Options {
 }
 
 export interface Board {
-  /** The pointers whose slots are shown. */
-  readonly view: Pointer[];
+  /** What is shown. */
+  readonly view: Shown[];
   /** What they show; null before the first snapshot. */
   readonly slots: Slot[] | null;
   /** The revision whose slots these are; null before the first snapshot. */
@@ -63,8 +66,8 @@ export interface Board {
   readonly state: State;
   /** The first slots. Fails with `Refused` where the view is refused, and with `Closed`. */
   readonly ready: Promise<Slot[]>;
-  /** Shows other pointers from now on. Gives their slots, or those of a later view where one was asked for in the meantime. Fails with `Refused`, and the view before stays; and with `Closed`. */
-  watch(view: Pointer[]): Promise<Slot[]>;
+  /** Shows another view from now on. Gives its slots, or those of a later view where one was asked for in the meantime. Fails with `Refused`, and the view before stays; and with `Closed`. */
+  watch(view: Shown[]): Promise<Slot[]>;
   /**
    * Edits the document, all of it or nothing. Gives the new revision, which the slots may still be on their way to.
    *

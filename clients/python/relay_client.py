@@ -12,7 +12,7 @@ import json
 import random
 from collections import deque
 from dataclasses import dataclass, replace
-from typing import Any, Callable, Deque, Dict, List, Literal, Optional
+from typing import Any, Callable, Deque, Dict, List, Literal, Optional, Union
 
 import jsonpatch
 import websockets
@@ -23,7 +23,8 @@ __all__ = ["Board", "Change", "Closed", "Refused", "Unknown", "connect"]
 Json = Any
 Message = Dict[str, Any]
 Patch = List[Dict[str, Any]]
-View = List[str]
+Shown = Union[str, Dict[str, str]]  # a pointer, or {"size": pointer}
+View = List[Shown]
 Slots = List[List[Json]]
 State = Literal["connecting", "open", "waiting", "closed"]
 

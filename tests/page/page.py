@@ -8,6 +8,7 @@ from server import Relay
 
 LISTS = """[...document.querySelectorAll('section')].map((list) => [...list.querySelectorAll('li span')].map((card) => card.textContent))"""
 REFUSED = """document.querySelector('#refused').hidden ? null : document.querySelector('#refused').textContent"""
+AWAY = """document.querySelector('#away').textContent"""
 STATE = """document.querySelector('#state').textContent"""
 
 
@@ -103,6 +104,12 @@ async def play(wide, narrow, folder):
     await narrow.until(REFUSED, "Not done: that card is gone.")
     await both_show([posters], ["Buy oat milk"], ["Paint the door"])
     print("an edit of a card that went elsewhere is refused, in words")
+
+    await wide.click(f"{card(3, 1)} button:nth-of-type(2)")
+    await both_show([posters], ["Buy oat milk"], [])
+    await wide.until(AWAY, "1 put away")
+    await narrow.until(AWAY, "1 put away")
+    print("a card is put away into a list of which only the size is watched")
 
     if folder:
         await wide.picture(f"{folder}/wide.png")
