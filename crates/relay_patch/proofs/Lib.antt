@@ -23,6 +23,7 @@ pub mod Folds
 pub mod Fits
 pub mod Measures
 pub mod Puts
+pub mod Undone
 pub mod Written
 pub mod Places
 pub mod Rows

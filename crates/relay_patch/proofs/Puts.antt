@@ -29,7 +29,7 @@ put_sets v t (whole z) c' w h there = cc
 put_sets v t (text s) c' w h there = cc
 put_sets v t (list ds) c' w h there = cc
 
-sets : (place : Place) (v d e w : Document) → displaced place d ≡ Some w → inserted place v d ≡ Ok e → replaced place.path v d ≡ Ok e
+pub sets : (place : Place) (v d e w : Document) → displaced place d ≡ Some w → inserted place v d ≡ Ok e → replaced place.path v d ≡ Ok e
 sets place v d e w = go place.item place.path
   where
     go : (b : Bool) (path : Path) → (if b then None else at d path) ≡ Some w → inserted_at b path v d ≡ Ok e → replaced path v d ≡ Ok e

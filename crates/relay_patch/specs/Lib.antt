@@ -4,5 +4,6 @@ pub mod Patch
 pub mod Change
 pub mod Sizes
 pub mod Measure
+pub mod Undo
 pub mod Steps
 pub mod Form

@@ -1,5 +1,5 @@
 //! Patches applied: all of their operations, or none.
-ghost use Rattle.std.specs.Prelude.{Some, ◌≡◌, ◌≢◌, ◌<◌, ◌-◌, ◌^◌, ◌++◌, Ok, Err, false, IsOk, IsSome, IfSome, IfOk, IfErr, OnOk, [], ◌∷◌};
+ghost use Rattle.std.specs.Prelude.{Some, None, ◌≡◌, ◌≢◌, ◌<◌, ◌-◌, ◌^◌, ◌++◌, Ok, Err, false, IsOk, IsSome, IfSome, IfOk, IfErr, OnOk, [], ◌∷◌};
 ghost use Rattle.std.specs.List.{AllByRecursion};
 ghost use Rattle.relay_tree.specs.Document.{Document, weight};
 ghost use Rattle.relay_patch.specs.Walk.{then_do};
@@ -8,6 +8,7 @@ ghost use Rattle.relay_patch.specs.Change.{Makes, Leads, changes_of, all_changes
 ghost use Rattle.relay_patch.specs.Sizes.{ChangeFits};
 ghost use Rattle.relay_patch.specs.Measure.{is_move, Known};
 ghost use Rattle.relay_patch.specs.Steps.{listed, present, Reaches};
+ghost use Rattle.relay_patch.specs.Undo.{taken_back};
 ghost use Rattle.relay_patch.specs.declared.fault.Cause.TheVariants.{NoMemory};
 
 mod container;
@@ -18,11 +19,13 @@ mod moving;
 mod place;
 mod recording;
 mod spot;
+mod undo;
 mod walk;
 
 use self::making::make;
 use self::measuring::{bound, foresee, measure};
 use self::recording::record;
+use self::undo::{Kept, take_back, target};
 use crate::bounds::Bounds;
 use crate::change::Change;
 use crate::fault::{ApplyFault, Cause};
@@ -38,10 +41,11 @@ use std::alloc::{AllocError, Global};
 /// one. A `test`, and a `move` to its own place, change nothing. Where there is a bound on the depth, which the old
 /// document keeps, no path of a change has more tokens and no value is deeper.
 ///
-/// The last operation that changes something is made in the tree itself, if none before it did and it is no move: it costs
-/// its path, what it takes away and three times its value. Before that, where a change is followed by another operation, a
-/// copy of the document is changed. The document is measured once, as far as there are bounds; from then on what an
-/// operation changed tells.
+/// The tree itself is changed, at the cost of an operation's paths, of what it takes away and of three times its value. What
+/// brings something (`add`, `replace`, `copy`) is taken back where a later operation is refused. What takes something away
+/// (`remove`, `move`) can't be: from the first such operation that another one follows, and for a move, a copy of the
+/// document is changed. The document is measured once, as far as there are bounds; from then on what an operation changed
+/// tells.
 pub fn apply(
     alloc: Global,
     tree: &mut Tree,
@@ -128,7 +132,7 @@ struct Done {
     weight: Option<u64>,
 }
 
-// The operations in order. The tree itself is changed by the last one alone.
+// The operations in order; where one is refused, those before it are taken back.
 fn run(
     alloc: Global,
     tree: &mut Tree,
@@ -145,6 +149,34 @@ fn run(
     ensures memory { IfErr result (λ fault. fault.cause ≡ NoMemory → Reaches tree.old ops.now bounds fault.at) }
     ensures unchanged { IfErr result (λ _. tree.new ≡ tree.old) }
 {
+    let mut kept = Vec::new(alloc);
+    match run_keeping(alloc, tree, &mut kept, known, ops, bounds) {
+        Ok(done) => Ok(done),
+        Err(fault) => {
+            take_back(tree, kept);
+            Err(fault)
+        }
+    }
+}
+
+// The operations in order, with what takes back those that changed the tree itself.
+fn run_keeping(
+    alloc: Global,
+    tree: &mut Tree,
+    kept: &mut Vec<Kept>,
+    known: Option<u64>,
+    ops: &[Op],
+    bounds: Bounds,
+) -> Result<Done, ApplyFault>
+    requires { Known bounds tree.old known }
+    ensures known { IfOk result (λ done. Known bounds (present done.draft tree.new) done.weight) }
+    ensures weighed { IfOk result (λ done. IsSome known → IsSome done.weight) }
+    ensures document { IfOk result (λ done. after tree.old ops.now bounds ≡ Ok (present done.draft tree.new)) }
+    ensures changes { IfOk result (λ done. done.changes.items ≡ all_changes tree.old ops.now) }
+    ensures refused { IfErr result (λ fault. fault.cause ≢ NoMemory → after tree.old ops.now bounds ≡ Err fault) }
+    ensures memory { IfErr result (λ fault. fault.cause ≡ NoMemory → Reaches tree.old ops.now bounds fault.at) }
+    ensures back { IfErr result (λ _. taken_back tree.new kept.new.items ≡ taken_back tree.old kept.old.items) }
+{
     let mut done = Done {
         draft: None,
         changes: Vec::new(alloc),
@@ -152,7 +184,7 @@ fn run(
     };
     for (at, op) in ops.iter().enumerate() {
         let left = ops.len() - at - 1;
-        done = match perform(alloc, tree, done, op, bounds, left) {
+        done = match perform(alloc, tree, kept, done, op, bounds, left) {
             Ok(done) => done,
             Err(cause) => return Err(ApplyFault {
                 at: at as u64,
@@ -167,6 +199,7 @@ fn run(
 fn perform(
     alloc: Global,
     tree: &mut Tree,
+    kept: &mut Vec<Kept>,
     done: Done,
     op: &Op,
     bounds: Bounds,
@@ -179,11 +212,11 @@ fn perform(
     ensures changes { IfOk result (λ next. next.changes.items ≡ done.changes.items ++ changes_of (present done.draft tree.old) op.now) }
     ensures refused { IfErr result (λ cause. cause ≢ NoMemory → then_do (effect (present done.draft tree.old) op.now) (within bounds) ≡ Err cause) }
     ensures memory { IfErr result (λ cause. cause ≡ NoMemory → IsOk (effect (present done.draft tree.old) op.now)) }
-    ensures still { IfOk result (λ _. 0 < left → tree.new ≡ tree.old) }
-    ensures unchanged { IfErr result (λ _. tree.new ≡ tree.old) }
+    ensures back { IfOk result (λ _. 0 < left → taken_back tree.new kept.new.items ≡ taken_back tree.old kept.old.items) }
+    ensures refused_back { IfErr result (λ _. taken_back tree.new kept.new.items ≡ taken_back tree.old kept.old.items) }
 {
     let change = record(alloc, present(&done, tree), op)?;
-    advance(alloc, tree, done, change, bounds, left)
+    advance(alloc, tree, kept, done, change, bounds, left)
 }
 
 fn present<'t>(done: &'t Done, old: &'t Tree) -> &'t Tree
@@ -195,11 +228,12 @@ fn present<'t>(done: &'t Done, old: &'t Tree) -> &'t Tree
     }
 }
 
-// Makes the change, if there is one, within the bounds: in the tree itself, if no operation follows and none before it
-// changed anything.
+// Makes the change, if there is one, within the bounds: in the tree itself, as long as it can be taken back or no operation
+// follows.
 fn advance(
     alloc: Global,
     tree: &mut Tree,
+    kept: &mut Vec<Kept>,
     done: Done,
     change: Option<Change>,
     bounds: Bounds,
@@ -213,21 +247,22 @@ fn advance(
     ensures document { IfOk result (λ next. Leads (present done.draft tree.old) (listed change) (present next.draft tree.new)) }
     ensures changes { IfOk result (λ next. next.changes.items ≡ done.changes.items ++ listed change) }
     ensures refused { IfErr result (λ cause. cause ≢ NoMemory → (next : Document) × Leads (present done.draft tree.old) (listed change) next × (within bounds next ≡ Err cause)) }
-    ensures still { IfOk result (λ _. 0 < left → tree.new ≡ tree.old) }
-    ensures unchanged { IfErr result (λ _. tree.new ≡ tree.old) }
+    ensures back { IfOk result (λ _. 0 < left → taken_back tree.new kept.new.items ≡ taken_back tree.old kept.old.items) }
+    ensures refused_back { IfErr result (λ _. taken_back tree.new kept.new.items ≡ taken_back tree.old kept.old.items) }
 {
     let Some(change) = change else {
         return confine(tree, done, bounds);
     };
-    if left > 0 || done.draft.is_some() || is_move(&change) {
+    if done.draft.is_some() || is_move(&change) {
         return carry_out(alloc, tree, done, change, bounds);
     }
-    let Done {
-        changes,
-        weight,
-        ..
-    } = done;
-    carry_out_here(alloc, tree, changes, weight, change, bounds)
+    let Some(weight) = weight_within(tree, done.weight, bounds) else {
+        return carry_out(alloc, tree, done, change, bounds);
+    };
+    if left == 0 {
+        return edit(alloc, tree, done.changes, weight, change, bounds);
+    }
+    edit_keeping(alloc, tree, kept, done, weight, change, bounds)
 }
 
 // A move takes its value away before it puts it elsewhere, which may want memory.
@@ -235,38 +270,6 @@ fn is_move(change: &Change) -> bool
     ensures { result ≡ is_move change.now }
 {
     matches!(change, Change::Move { .. })
-}
-
-// Makes a change of the tree itself, within the bounds: all that can be refused comes first. A document that is not known
-// to be within the bounds is changed in a copy.
-fn carry_out_here(
-    alloc: Global,
-    tree: &mut Tree,
-    changes: Vec<Change>,
-    known: Option<u64>,
-    change: Change,
-    bounds: Bounds,
-) -> Result<Done, Cause>
-    requires makes { (next : Document) × Makes tree.old change next }
-    requires stays { is_move change ≡ false }
-    requires known { Known bounds tree.old known }
-    ensures known { IfOk result (λ next. Known bounds (present next.draft tree.new) next.weight) }
-    ensures weighed { IfOk result (λ next. IsSome next.weight) }
-    ensures fits { IfOk result (λ next. within bounds (present next.draft tree.new) ≡ Ok (present next.draft tree.new)) }
-    ensures document { IfOk result (λ next. Makes tree.old change (present next.draft tree.new)) }
-    ensures changes { IfOk result (λ next. next.changes.items ≡ changes.items ++ change ∷ []) }
-    ensures refused { IfErr result (λ cause. cause ≢ NoMemory → (next : Document) × Makes tree.old change next × (within bounds next ≡ Err cause)) }
-    ensures unchanged { IfErr result (λ _. tree.new ≡ tree.old) }
-{
-    let Some(weight) = weight_within(tree, known, bounds) else {
-        let done = Done {
-            draft: None,
-            changes,
-            weight: None,
-        };
-        return carry_out(alloc, tree, done, change, bounds);
-    };
-    edit(alloc, tree, changes, weight, change, bounds)
 }
 
 // The weight of a document that is within the bounds.
@@ -309,6 +312,47 @@ fn edit(
         draft: None,
         changes,
         weight: Some(weight),
+    })
+}
+
+// Makes a change of the tree itself, which is kept, if it can be taken back; else in a copy.
+fn edit_keeping(
+    alloc: Global,
+    tree: &mut Tree,
+    kept: &mut Vec<Kept>,
+    done: Done,
+    weight: u64,
+    change: Change,
+    bounds: Bounds,
+) -> Result<Done, Cause>
+    requires none { done.draft ≡ None }
+    requires makes { (next : Document) × Makes tree.old change next }
+    requires stays { is_move change ≡ false }
+    requires known { Known bounds tree.old (Some weight) }
+    requires before { Known bounds tree.old done.weight }
+    ensures known { IfOk result (λ next. Known bounds (present next.draft tree.new) next.weight) }
+    ensures weighed { IfOk result (λ next. IsSome next.weight) }
+    ensures fits { IfOk result (λ next. within bounds (present next.draft tree.new) ≡ Ok (present next.draft tree.new)) }
+    ensures document { IfOk result (λ next. Makes tree.old change (present next.draft tree.new)) }
+    ensures changes { IfOk result (λ next. next.changes.items ≡ done.changes.items ++ change ∷ []) }
+    ensures refused { IfErr result (λ cause. cause ≢ NoMemory → (next : Document) × Makes tree.old change next × (within bounds next ≡ Err cause)) }
+    ensures back { taken_back tree.new kept.new.items ≡ taken_back tree.old kept.old.items }
+{
+    let Some(path) = target(&change) else {
+        return carry_out(alloc, tree, done, change, bounds);
+    };
+    let path = path.copy(alloc)?;
+    kept.reserve(1)?;
+    let mut changes = done.changes;
+    changes.reserve(1)?;
+    let after = foresee(tree, weight, &change, bounds)?;
+    let part = make(alloc, tree, &change)?;
+    kept.push_reserved(Kept { path, part });
+    changes.push_reserved(change);
+    Ok(Done {
+        draft: None,
+        changes,
+        weight: Some(after),
     })
 }
 

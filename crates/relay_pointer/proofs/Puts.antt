@@ -90,3 +90,14 @@ with_child-depth (object ms) t e = let w = set_member-depth ms t e in omega (ari
 pub put_element-length : (ds : Items) (o : Option ℕ) (e : Document) → items_length (put_element ds o e) ≡ items_length ds
 put_element-length ds None e = refl
 put_element-length ds (Some i) e = put_item-length ds i e
+
+-- where the path leads to nothing, nothing is put
+pub put-missing : (d : Document) (path : Path) (v : Document) → at d path ≡ None → put d path v ≡ d
+put-missing d [] v h = cc
+put-missing d (t ∷ path) v h = go (child d t) refl (λ c k. put-missing c path v k)
+  where
+    go : (o : Option Document) → child d t ≡ o → ((c : Document) → at c path ≡ None → put c path v ≡ c) → put d (t ∷ path) v ≡ d
+    go None e below = rw e refl
+    go (Some c) e below =
+        let k : at c path ≡ None = rw e at h in
+        rw (e, below c k) (with_child-same d t c e)

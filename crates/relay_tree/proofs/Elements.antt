@@ -159,3 +159,16 @@ pub put_item-twice : (ds : Items) (i : ℕ) (a b : Document) → put_item (put_i
 put_item-twice no_items i a b = refl
 put_item-twice (item d ds) zero a b = refl
 put_item-twice (item d ds) (suc i) a b = ap (item d) (put_item-twice ds i a b)
+
+-- an element that was inserted is dropped again
+pub drop_item-insert : (ds : Items) (i : ℕ) (v : Document) (es : Items) → insert_item ds i v ≡ Some es → drop_item es i ≡ Some ds
+drop_item-insert ds zero v es h = let same : item v ds ≡ es = cc in ap (λ x. drop_item x zero) (sym same)
+drop_item-insert no_items (suc i) v es h = cc
+drop_item-insert (item d ds) (suc i) v es h = go (insert_item ds i v) refl (drop_item-insert ds i v)
+  where
+    go : (o : Option Items) → insert_item ds i v ≡ o → ((fs : Items) → insert_item ds i v ≡ Some fs → drop_item fs i ≡ Some ds) → drop_item es (suc i) ≡ Some (item d ds)
+    go None f ih = let found : None ≡ Some es = rw f at h in cc
+    go (Some fs) f ih =
+        let found : Some (item d fs) ≡ Some es = rw f at h in
+        let is : es ≡ item d fs = cc in
+        rw (is, ih fs f) refl

@@ -220,3 +220,20 @@ drop_member-there (member n d ms) k c h = go (bytes_eq n k) refl h (drop_member-
     go : (x : Bool) → bytes_eq n k ≡ x → (if x then Some d else member_at ms k) ≡ Some c → (member_at ms k ≡ Some c → (ns : Members) × (drop_member ms k ≡ Some ns)) → (ns : Members) × ((if x then Some ms else option_map (member n d) (drop_member ms k)) ≡ Some ns)
     go true e h ih = (ms, refl)
     go false e h ih = let r = ih h in (member n d r.0, ap (option_map (member n d)) r.1)
+
+dropped_step : (o : Ordering) (n a : List ℕ) (d e : Document) (ms rest : Members) → is_eq o ≡ bytes_eq a n → drop_member rest a ≡ Some ms → bytes_eq n a ≡ false → drop_member (match_ordering o (member a e (member n d ms)) (member a e ms) (member n d rest)) a ≡ Some (member n d ms)
+dropped_step Less n a d e ms rest o ih other = rw (bytes_same a) refl
+dropped_step Equal n a d e ms rest o ih other =
+    let same : a ≡ n = equal_bytes a n (sym o) in
+    let yes : bytes_eq n a ≡ true = subst (λ s. bytes_eq s a ≡ true) same (bytes_same a) in
+    cc
+dropped_step Greater n a d e ms rest o ih other = rw (other, ih) refl
+
+-- a member that was added is dropped again
+pub drop_member-add : (ms : Members) (a : List ℕ) (e : Document) → member_at ms a ≡ None → drop_member (add_member ms a e) a ≡ Some ms
+drop_member-add no_members a e h = rw (bytes_same a) refl
+drop_member-add (member n d ms) a e h = go (bytes_eq n a) refl h (drop_member-add ms a e)
+  where
+    go : (x : Bool) → bytes_eq n a ≡ x → (if x then Some d else member_at ms a) ≡ None → (member_at ms a ≡ None → drop_member (add_member ms a e) a ≡ Some ms) → drop_member (add_member (member n d ms) a e) a ≡ Some (member n d ms)
+    go true k none ih = cc
+    go false k none ih = dropped_step (slice_cmp nat_cmp a n) n a d e ms (add_member ms a e) (is_eq-slice_cmp a n) (ih none) k

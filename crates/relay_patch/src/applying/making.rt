@@ -104,8 +104,8 @@ fn insert_at(alloc: Global, tree: &mut Tree, path: &[String], value: Tree) -> Re
     insert_at(alloc, part, rest, value)
 }
 
-// Takes the value at the path away, and gives it.
-fn remove_at(tree: &mut Tree, path: &[String]) -> Tree
+/// Takes the value at the path away, and gives it.
+pub(crate) fn remove_at(tree: &mut Tree, path: &[String]) -> Tree
     requires { IsOk (at_path drop_child (path_of path.now) tree.old) }
     ensures value { walk tree.old (path_of path.now) ≡ Ok result }
     ensures rest { at_path drop_child (path_of path.now) tree.old ≡ Ok tree.new }

@@ -4,7 +4,8 @@ use Rattle.relay_patch.specs.Patch.{after, after_from}
 use Rattle.relay_patch.specs.Change.{all_changes}
 use Rattle.relay_patch.specs.Measure.{Known}
 use Rattle.relay_patch.specs.Steps.{present}
-use Rattle.relay_patch.proofs.applying.run.Given as goal
+use Rattle.relay_patch.specs.Undo.{taken_back}
+use Rattle.relay_patch.proofs.applying.run_keeping.Given as goal
 
 abbrev pub invariant-loop-at : goal.invariant-loop-at
 invariant-loop-at l =
@@ -14,5 +15,5 @@ invariant-loop-at l =
       known : Known l.bounds (present l.done.draft l.tree) l.done.weight;
       reached : after l.initial.tree (take l.at l.ops) l.bounds ≡ Ok (present l.done.draft l.tree);
       weighed : IsSome l.initial.done.weight → IsSome l.done.weight;
-      still : l.at < length l.ops → l.tree ≡ l.initial.tree;
+      back : l.at < length l.ops → taken_back l.tree l.kept.items ≡ taken_back l.initial.tree l.initial.kept.items;
     }

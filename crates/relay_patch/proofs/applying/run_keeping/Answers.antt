@@ -1,7 +1,7 @@
 use Rattle.std.proofs.Common.{sym, ◌∙◌, arith}
 use Rattle.relay_patch.specs.Steps.{present}
 use Rattle.relay_patch.proofs.Folds.{after_more, changes_more, after_done}
-use Rattle.relay_patch.proofs.applying.run.Goals as goal
+use Rattle.relay_patch.proofs.applying.run_keeping.Goals as goal
 
 pub loop-at-preserved : goal.loop-at-preserved
 loop-at-preserved c =
@@ -16,5 +16,5 @@ loop-at-preserved c =
       known = c.in-Ok.ensures.known;
       reached = after_done ops at op c.args.bounds c.args.tree.now d e c.loop-at-test.true c.index-ops-at.is c.loop-at.invariant.reached c.in-Ok.ensures.document;
       weighed = λ _. c.in-Ok.ensures.weighed;
-      still = λ more. c.in-Ok.ensures.still (omega arith) ∙ c.loop-at.invariant.still c.loop-at-test.true;
+      back = λ more. c.in-Ok.ensures.back (omega arith) ∙ c.loop-at.invariant.back c.loop-at-test.true;
     }
