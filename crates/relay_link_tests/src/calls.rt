@@ -7,7 +7,7 @@ use crate::side::{Act, SAMPLE, Side};
 use crate::wire::{Trick, Wire};
 use crate::written::words;
 use relay_hub::{Event, Hub};
-use relay_link::{Stage, Turn};
+use relay_link::{DRAWS_MOST, Stage, Turn};
 use std::alloc::{AllocGlobal, Global};
 use std::cell::RefCell;
 use std::process::Abort;
@@ -27,7 +27,7 @@ const MESSAGES: [Act; 5] = [
 /// How many turns, and how many calls, are more than enough.
 const TURNS: u64 = 64;
 
-const CALLS: u64 = 40;
+const CALLS_MOST: u64 = 40;
 
 /// A run of a link with session 2, and a twin of its hub, which is handed the events that the link reports.
 #[derive(Drop)]
@@ -104,7 +104,7 @@ impl<'a> Run<'a> {
     fn turn(&mut self) -> Result<(), Fail> {
         let failures = self.failures()?;
         let session = self.side.link.session();
-        let turn = self.side.link.turn(self.alloc, &mut self.hub, 32)?;
+        let turn = self.side.link.turn(self.alloc, &mut self.hub, DRAWS_MOST)?;
         self.tell_events(&turn, session)?;
         self.tell_cause(&turn, self.failures()? > failures)?;
         match self.twin.run(self.alloc, turn.made.as_slice()) {
@@ -160,7 +160,7 @@ impl<'a> Run<'a> {
         if self.hub.waiting(2).is_some() {
             self.told.push_str("still open ")?;
         }
-        if self.side.wire.try_borrow()?.calls > CALLS {
+        if self.side.wire.try_borrow()?.calls > CALLS_MOST {
             self.told.push_str("too many calls ")?;
         }
         Ok(write!(self.told, "{:?}\n", self.side.link.stage())?)
@@ -181,59 +181,106 @@ impl<'a> Run<'a> {
         self.told.push_str(words.as_str())?;
         Ok(self.told.push('\n')?)
     }
-
-    /// Whether what was told begins by one of some words.
-    fn is_one_of(&self, beginnings: &[&str]) -> bool {
-        for beginning in beginnings {
-            if self.told.as_str().starts_with(*beginning) {
-                return true;
-            }
-        }
-        false
-    }
 }
 
-/// A run in which one call goes wrong. What is told begins by one of the words.
-fn goes_wrong(
-    rt: &(impl Abort + AllocGlobal),
-    call: u64,
-    trick: Trick,
-    beginnings: &[&str],
-) -> Result<(), Fail> {
-    let wire = Wire::new(rt.alloc());
-    wire.try_borrow_mut()?.trick = Some((call, trick));
-    runs(rt, &wire, beginnings)
-}
-
-fn runs(
-    rt: &(impl Abort + AllocGlobal),
-    wire: &RefCell<Wire>,
-    beginnings: &[&str],
-) -> Result<(), Fail> {
-    let mut run = Run::new(rt.alloc(), wire)?;
+/// What is told of a run over a wire.
+fn told_of(alloc: Global, wire: &RefCell<Wire>) -> Result<String, Fail> {
+    let mut run = Run::new(alloc, wire)?;
     run.all()?;
-    assert!(rt; run.is_one_of(beginnings), "{}", run.told);
-    Ok(())
+    Ok(run.told)
+}
+
+/// What is told of a run in which one call goes wrong.
+fn told_at(alloc: Global, call: u64, trick: Trick) -> Result<String, Fail> {
+    let wire = Wire::new(alloc);
+    wire.try_borrow_mut()?.trick = Some((call, trick));
+    told_of(alloc, &wire)
 }
 
 /// The causes of a run in which no call goes wrong, what session 1 draws, and what is written.
 const WHOLE: &str =
     "Peer Peer Gone\n{\"kind\":\"patch\",\"patch\":[{\"op\":\"replace\",\"path\":\"/0\",\"value\":[{\"x\":1}]}],\"rev\":1}\n{\"kind\":\"patch\",\"patch\":[{\"op\":\"replace\",\"path\":\"/0/0/x\",\"value\":2}],\"rev\":2}\n > switched > {\"epoch\":1,\"kind\":\"welcome\",\"rev\":0,\"session\":2} > {\"id\":1,\"kind\":\"watching\"} > {\"kind\":\"snapshot\",\"rev\":0,\"view\":[[null]]} > {\"id\":2,\"kind\":\"done\",\"rev\":1} > {\"kind\":\"patch\",\"patch\":[{\"op\":\"replace\",\"path\":\"/0\",\"value\":[{\"x\":1}]}],\"rev\":1} > {\"id\":3,\"kind\":\"done\",\"rev\":2} > {\"kind\":\"patch\",\"patch\":[{\"op\":\"replace\",\"path\":\"/0/0/x\",\"value\":2}],\"rev\":2} > close 1000\n";
 
+/// How many calls a run makes of each kind.
+#[derive(Clone, Copy)]
+struct Calls {
+    all: u64,
+    reads: u64,
+    writes: u64,
+}
+
+/// The calls of a run in which none goes wrong.
+fn whole_run(rt: &(impl Abort + AllocGlobal)) -> Result<Calls, Fail> {
+    let wire = Wire::new(rt.alloc());
+    let told = told_of(rt.alloc(), &wire)?;
+    assert_eq!(rt; told.as_str(), WHOLE);
+    let wire = wire.try_borrow()?;
+    Ok(Calls {
+        all: wire.calls,
+        reads: wire.read_calls,
+        writes: wire.write_calls,
+    })
+}
+
+/// How many runs ended in which way.
+#[derive(Clone, Copy, Debug, PartialEq, Eq)]
+struct Ends {
+    /// As where no call goes wrong.
+    whole: u64,
+    peer: u64,
+    stream: u64,
+}
+
+impl Ends {
+    /// Counts a run by what was told of it, where it ended in one of the ways.
+    fn count(&mut self, told: &str, stream: &str) {
+        if told == WHOLE {
+            self.whole = self.whole.saturating_add(1);
+        } else if told.starts_with("Peer Gone\n") {
+            self.peer = self.peer.saturating_add(1);
+        } else if told.starts_with(stream) {
+            self.stream = self.stream.saturating_add(1);
+        }
+    }
+}
+
+/// How the runs end in each of which another call of the whole run goes wrong, by the words for a stream.
+fn ends_of(alloc: Global, calls: Calls, trick: Trick, stream: &str) -> Result<Ends, Fail> {
+    let mut ends = Ends {
+        whole: 0,
+        peer: 0,
+        stream: 0,
+    };
+    for call in 0..calls.all {
+        let told = told_at(alloc, call, trick)?;
+        ends.count(told.as_str(), stream);
+    }
+    Ok(ends)
+}
+
 /// A call that moves nothing, or little, changes nothing; one that fails ends the link. A read that gives nothing is the
-/// end, a write that takes nothing fails, and a flush moves nothing anyway. Behind the last call nothing can go wrong.
+/// end, a write that takes nothing ends the link as one that fails, and a flush moves nothing anyway.
 #[test]
 fn each_call_goes_wrong_in_each_way(rt: HostRuntime) -> Result<(), Fail> {
-    for (trick, beginnings) in [
-        (Trick::Nothing, &[WHOLE][..]),
-        (Trick::Interrupt, &[WHOLE]),
-        (Trick::OneByte, &[WHOLE]),
-        (Trick::Fail, &["Stream ! Gone\n", WHOLE]),
-        (Trick::End, &["Peer Gone\n", "Stream Gone\n", WHOLE]),
+    let calls = whole_run(&rt)?;
+    for (trick, stream_words, peer, stream) in [
+        (Trick::Nothing, "Stream Gone\n", 0, 0),
+        (Trick::Interrupt, "Stream Gone\n", 0, 0),
+        (Trick::OneByte, "Stream Gone\n", 0, 0),
+        (Trick::Fail, "Stream ! Gone\n", 0, calls.all),
+        (Trick::End, "Stream Gone\n", calls.reads, calls.writes),
     ] {
-        for call in 0..=CALLS {
-            goes_wrong(&rt, call, trick, beginnings)?;
-        }
+        let ends = ends_of(rt.alloc(), calls, trick, stream_words)?;
+        let whole = calls.all.saturating_sub(peer).saturating_sub(stream);
+        assert_eq!(rt;
+            ends,
+            Ends {
+                whole,
+                peer,
+                stream
+            },
+            "{trick:?}"
+        );
     }
     Ok(())
 }

@@ -2,7 +2,7 @@
 use crate::side::Act::{Comes, End, Idle, Look, Reads};
 use crate::side::{SAMPLE, play, play_on};
 use crate::wire::Trick;
-use relay_hub::Hub;
+use relay_hub::{Hub, SESSIONS_MOST};
 use std::test::Fail;
 
 const OLD_VERSION: &[u8] =
@@ -32,7 +32,7 @@ fn opens_and_ends(rt: HostRuntime) -> Result<(), Fail> {
 #[test]
 fn refuses_where_the_hub_is_full(rt: HostRuntime) -> Result<(), Fail> {
     let mut hub = Hub::new(rt.alloc(), 1, 1, 64, 1)?;
-    for _ in 0..256 {
+    for _ in 0..SESSIONS_MOST {
         hub.open(rt.alloc(), "a")?;
     }
     play_on(

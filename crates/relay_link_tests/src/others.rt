@@ -3,10 +3,16 @@ use crate::side::Act::{Comes, Draws, Idle, Says, Writes};
 use crate::side::{Act, Row, SAMPLE, Side};
 use crate::wire::{Trick, Wire};
 use relay_hub::Hub;
+use relay_link::DRAWS_MOST;
 use std::alloc::{AllocGlobal, Global};
 use std::cell::RefCell;
 use std::process::Abort;
 use std::test::Fail;
+
+/// How many patches may wait for a session, and how many replies.
+const PATCHES: u64 = 4;
+
+const REPLIES: u64 = 32;
 
 /// A link with session 1 and, beside it, session 2 of the same room, which is driven directly.
 #[derive(Drop)]
@@ -17,11 +23,10 @@ struct Beside<'a> {
 }
 
 impl<'a> Beside<'a> {
-    /// Four patches may wait for a session.
     fn new(alloc: Global, wire: &'a RefCell<Wire>) -> Result<Beside<'a>, Fail> {
         Ok(Beside {
             alloc,
-            hub: Hub::new(alloc, 1, 1, 64, 4)?,
+            hub: Hub::new(alloc, 1, 1, 64, PATCHES)?,
             side: Side::new(alloc, wire)?,
         })
     }
@@ -45,7 +50,7 @@ impl<'a> Beside<'a> {
         )?;
         self.tell_answer(&mut told)?;
         let waiting = self.hub.waiting(1).ok_or("a session")?;
-        told.push_str(if waiting <= 36 {
+        told.push_str(if waiting <= PATCHES + REPLIES {
             ", few wait"
         } else {
             ", too many wait"
@@ -98,7 +103,7 @@ fn a_full_stream_stops_the_draws(rt: HostRuntime) -> Result<(), Fail> {
                 "receive 1; Open as 1, done, few wait",
             ),
             (1, Writes(Some(Trick::Nothing)), "Open as 1, done, few wait"),
-            (1, Draws(32), "draw 1; Open as 1, done, few wait"),
+            (1, Draws(DRAWS_MOST), "draw 1; Open as 1, done, few wait"),
             (999, Idle, "Open as 1, done, few wait"),
         ],
     )

@@ -2,7 +2,7 @@
 use crate::wire::{Memory, Trick, Wire};
 use crate::written::words;
 use relay_hub::{Event, Hub};
-use relay_link::{Link, Turn};
+use relay_link::{DRAWS_MOST, Link, Turn};
 use std::alloc::{AllocError, AllocGlobal, Global};
 use std::cell::RefCell;
 use std::process::Abort;
@@ -105,7 +105,7 @@ impl<'a> Side<'a> {
             alloc,
             wire,
             link: Link::new(alloc, Memory { wire })?,
-            draws: 32,
+            draws: DRAWS_MOST,
         })
     }
 

@@ -32,7 +32,10 @@ pub(crate) struct Wire {
     pub writes: Option<Trick>,
     /// What one call does, by its number from 0.
     pub trick: Option<(u64, Trick)>,
+    /// How many calls were made, and how many of them read or wrote; the others flushed.
     pub calls: u64,
+    pub read_calls: u64,
+    pub write_calls: u64,
     pub failures: u64,
 }
 
@@ -47,6 +50,8 @@ impl Wire {
             writes: None,
             trick: None,
             calls: 0,
+            read_calls: 0,
+            write_calls: 0,
             failures: 0,
         })
     }
@@ -102,6 +107,7 @@ impl Wire {
     fn give(&mut self, buf: &mut [u8]) -> io::Result<usize>
         ensures { IfOk result (λ len. len ≤ length buf.new) }
     {
+        self.read_calls = self.read_calls.saturating_add(1);
         let most = self.call(buf.len(), self.reads)?;
         let rest = self.input.get(self.at..).unwrap_or(&[]);
         if rest.is_empty() && !self.ended && most > 0 {
@@ -116,6 +122,7 @@ impl Wire {
     fn take(&mut self, buf: &[u8]) -> io::Result<usize>
         ensures { IfOk result (λ len. len ≤ length buf.now) }
     {
+        self.write_calls = self.write_calls.saturating_add(1);
         let len = self.call(buf.len(), self.writes)?.min(buf.len());
         self.output.extend_from_slice(&buf[..len])?;
         Ok(len)

@@ -1,5 +1,6 @@
 //! What lines ask for, and how many there may be.
 use crate::story::{played, plays};
+use relay_server::{LINE_MOST, LINES_MOST};
 use std::alloc::Global;
 use std::test::Fail;
 
@@ -70,17 +71,46 @@ fn repeated(alloc: Global, byte: u8, count: usize) -> Result<String, Fail> {
     played(alloc, 64, 32, script.as_slice())
 }
 
-/// 270,336 bytes in a line, and 65,536 lines.
+/// The longest line, and the most lines.
 #[test]
 fn keeps_to_its_limits(rt: HostRuntime) -> Result<(), Fail> {
     for (byte, count, wanted) in [
-        (b'#', 270_336, ""),
-        (b'#', 270_337, "fault: line too long"),
-        (b'\n', 65_536, ""),
-        (b'\n', 65_537, "fault: too many lines"),
+        (b'#', LINE_MOST, ""),
+        (b'#', LINE_MOST + 1, "fault: line too long"),
+        (b'\n', LINES_MOST as usize, ""),
+        (b'\n', LINES_MOST as usize + 1, "fault: too many lines"),
     ] {
         let written = repeated(rt.alloc(), byte, count)?;
         assert_eq!(rt; written.as_str(), wanted, "{count} bytes");
+    }
+    Ok(())
+}
+
+/// What comes of so many lines that ask for an unknown name, and a comment of so many bytes behind them: the number of
+/// answers, and the fault that ended it, if there was one.
+fn answers_before(alloc: Global, lines: usize, len: usize) -> Result<String, Fail> {
+    let mut script = "x draw\n".repeat(alloc, lines)?;
+    script.push_str("#".repeat(alloc, len)?.as_str())?;
+    let written = played(alloc, 64, 32, script.as_bytes())?;
+    let answers = written.matches("x unknown\n").count();
+    let end = written.trim_start_matches("x unknown\n");
+    Ok(format!(in alloc; "{answers} answers, {end}")?)
+}
+
+/// The lines before the fault are answered. A line past the most lines is one too many, also where it is too long.
+#[test]
+fn answers_all_lines_before_a_fault(rt: HostRuntime) -> Result<(), Fail> {
+    let most = LINES_MOST as usize;
+    for (lines, len, end) in [
+        (2, LINE_MOST + 1, "fault: line too long"),
+        (most - 1, LINE_MOST, ""),
+        (most - 1, LINE_MOST + 1, "fault: line too long"),
+        (most, 1, "fault: too many lines"),
+        (most, LINE_MOST + 1, "fault: too many lines"),
+    ] {
+        let told = answers_before(rt.alloc(), lines, len)?;
+        let wanted = format!(in rt.alloc(); "{lines} answers, {end}")?;
+        assert_eq!(rt; told.as_str(), wanted.as_str());
     }
     Ok(())
 }

@@ -130,6 +130,17 @@ fn refuses_words_that_belong_to_no_job(rt: HostRuntime) -> Result<(), Fail> {
     Ok(())
 }
 
+/// The version of the program, and of the kit that proves it (`rt version`).
+#[test]
+fn says_its_version(rt: HostRuntime) -> Result<(), Fail> {
+    for line in ["relay --version", "relay -V"] {
+        let told = help(rt.alloc(), line)?;
+        let wanted = "relay 0.1.0\nrattle-kit-13b logic dac8208d650f15bf\n";
+        assert_eq!(rt; told.as_str(), wanted, "{line}");
+    }
+    Ok(())
+}
+
 #[test]
 fn explains_each_job(rt: HostRuntime) -> Result<(), Fail> {
     for (line, part) in [

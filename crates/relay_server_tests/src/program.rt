@@ -1,8 +1,9 @@
 //! The program's jobs, and how they end.
 use crate::options::words_of;
 use crate::story::{Story, with_end};
-use relay_server::{ScriptFault, report, run_follow, start};
+use relay_server::{ScriptFault, refuse_words, report, run_follow, start};
 use std::alloc::{AllocGlobal, Global};
+use std::io::ErrorKind;
 use std::net::Net;
 use std::str;
 use std::test::Fail;
@@ -36,6 +37,34 @@ fn ends_with_a_status(rt: HostRuntime) -> Result<(), Fail> {
         (Err(ScriptFault::NoMemory), "relay: no memory\nstatus 3"),
     ] {
         let told = reported(rt.alloc(), ended)?;
+        assert_eq!(rt; told.as_str(), wanted);
+    }
+    Ok(())
+}
+
+/// What is complained of where the words cannot be read, and behind it the status.
+fn refused(alloc: Global, why: ErrorKind) -> Result<String, Fail> {
+    let mut errors = Vec::new(alloc);
+    let code = refuse_words(why, &mut errors);
+    let complaint = str::from_utf8(errors.as_slice())?;
+    Ok(format!(in alloc; "{complaint}status {code}")?)
+}
+
+/// A word that is not UTF-8 is a fault of the command line.
+#[test]
+fn refuses_words_that_cannot_be_read(rt: HostRuntime) -> Result<(), Fail> {
+    for (why, wanted) in [
+        (
+            ErrorKind::InvalidData,
+            "relay: an argument is not UTF-8\nstatus 2",
+        ),
+        (ErrorKind::OutOfMemory, "relay: no memory\nstatus 3"),
+        (
+            ErrorKind::Other,
+            "relay: the arguments cannot be read\nstatus 1",
+        ),
+    ] {
+        let told = refused(rt.alloc(), why)?;
         assert_eq!(rt; told.as_str(), wanted);
     }
     Ok(())

@@ -1,5 +1,5 @@
 //! A long script that a small generator writes: names of two rooms edit lists that shift, draw, leave, and resume from what they
-//! hold. At its end each name holds what it should.
+//! hold. No follower is ever off its view, and at the end each name holds what it should.
 use crate::story::Playing;
 use std::alloc::{AllocError, AllocGlobal, Global};
 use std::process::Abort;
@@ -58,19 +58,58 @@ impl Chance {
     }
 }
 
-/// The script so far, and what chooses its next line.
+/// How many answers there were of some kinds.
+#[derive(Clone, Copy, Debug, PartialEq, Eq)]
+struct Seen {
+    patches: u64,
+    snapshots: u64,
+    /// Resumptions that needed no snapshot.
+    resumed: u64,
+    /// Followers that a message took off their view.
+    off: u64,
+}
+
+impl Seen {
+    const NOTHING: Seen = Seen {
+        patches: 0,
+        snapshots: 0,
+        resumed: 0,
+        off: 0,
+    };
+
+    fn note(&mut self, answer: &str) {
+        if answer.contains(r#""kind":"patch""#) {
+            self.patches = self.patches.saturating_add(1);
+        }
+        if answer.contains(r#""kind":"snapshot""#) {
+            self.snapshots = self.snapshots.saturating_add(1);
+        }
+        if answer.contains(r#""how":"patch""#) {
+            self.resumed = self.resumed.saturating_add(1);
+        }
+        if answer.contains(" off ") {
+            self.off = self.off.saturating_add(1);
+        }
+    }
+}
+
+/// The script so far, what chooses its next line, and what its answers were.
 #[derive(Drop)]
 struct Soak {
     playing: Playing,
     chance: Chance,
+    seen: Seen,
 }
 
 impl Soak {
     /// A script at a history of 3 revisions and 2 waiting patches.
     fn new(alloc: Global) -> Result<Soak, Fail> {
         let playing = Playing::new(alloc, 3, 2)?;
-        let chance = Chance { last: 11 };
-        Ok(Soak { playing, chance })
+        Ok(Soak {
+            playing,
+            chance: Chance { last: 11 },
+            seen: Seen::NOTHING,
+        })
     }
 
     /// Each name comes in, and then names take many steps.
@@ -88,7 +127,9 @@ impl Soak {
     /// The answer to one more line of a name.
     fn answer(&mut self, alloc: Global, name: u64, words: &str) -> Result<String, AllocError> {
         let line = format!(in alloc; "n{name} {words}")?;
-        self.playing.line(alloc, line.as_str())
+        let answer = self.playing.line(alloc, line.as_str())?;
+        self.seen.note(answer.as_str());
+        Ok(answer)
     }
 
     /// One more line of a name, whatever its answer.
@@ -97,13 +138,13 @@ impl Soak {
         Ok(())
     }
 
-    /// One step of a name.
+    /// One step of a name. More is drawn than said, so that replies do not keep patches waiting.
     fn step(&mut self, alloc: Global, name: u64) -> Result<(), AllocError> {
         match self.chance.below(20) {
-            0 => self.come_back(alloc, name),
-            1 => self.watch(alloc, name),
-            2 => self.go_on(alloc, name, "close"),
-            3..=9 => self.go_on(alloc, name, "draw"),
+            0 | 1 => self.come_back(alloc, name),
+            2 => self.watch(alloc, name),
+            3 => self.go_on(alloc, name, "close"),
+            4..=15 => self.go_on(alloc, name, "draw"),
             _ => self.edit(alloc, name),
         }
     }
@@ -165,13 +206,18 @@ impl Soak {
     }
 }
 
-/// Each name ends with the view that it should hold.
+/// Each name ends with the view that it should hold, and was never off it, in a run that told edits and resumed often.
 fn ends_with_the_truth(rt: &(impl Abort + AllocGlobal), soak: &mut Soak) -> Result<(), Fail> {
     for name in 0..NAMES {
         soak.settle(rt.alloc(), name)?;
         assert!(rt; soak.holds_the_truth(rt.alloc(), name)?, "name {name}");
     }
-    assert!(rt; soak.playing.lines() > 3_000);
+    let seen = soak.seen;
+    assert_eq!(rt; seen.off, 0);
+    assert!(rt;
+        seen.patches > 50 && seen.snapshots > 50 && seen.resumed > 20,
+        "{seen:?}"
+    );
     Ok(())
 }
 

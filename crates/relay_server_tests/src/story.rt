@@ -87,11 +87,6 @@ impl Playing {
         }
     }
 
-    /// How many lines were answered.
-    pub fn lines(&self) -> u32 {
-        self.lines
-    }
-
     /// The answer to one more line.
     pub fn line(&mut self, alloc: Global, line: &str) -> Result<String, AllocError> {
         self.lines = self.lines.saturating_add(1);
