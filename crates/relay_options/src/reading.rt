@@ -33,7 +33,7 @@ const SERVE_ABOUT: &str =
     "Listens on 127.0.0.1, and serves WebSocket clients for a number of rounds";
 
 const SERVE_EXAMPLE: &str =
-    "Example, on a port that the system chooses, for about an hour:\n\n  relay serve --port 0 --turns 1000000000\n\nA client connects to ws://127.0.0.1:PORT/rooms/ROOM. Documents end with the program: give it an --epoch not used before when\nit is started again.";
+    "Example, on a port that the system chooses, for about an hour:\n\n  relay serve --port 0 --turns 1000000000 --epoch $(date +%s)\n\nA client connects to ws://127.0.0.1:PORT/rooms/ROOM. Documents end with the program: give it an --epoch not used before when\nit is started again.";
 
 const FOLLOW_ABOUT: &str =
     "Hears the relay's messages, one a line, and tells after each what its client holds";

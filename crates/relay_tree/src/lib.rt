@@ -1,7 +1,8 @@
 //! JSON documents as trees: read from texts, written, copied, compared and weighed.
 //!
 //! The promise: a text and its tree agree. [`read`] gives the tree that a JSON text (RFC 8259) names, where all its
-//! numbers are whole and in 64 bits, and [`Tree::text`] writes the one compact text that reads back as the tree.
+//! numbers are whole and in 64 bits, and [`Tree::text`] writes the one compact text, which reads back as the tree
+//! where it nests at most 127 containers.
 //! Contracts see a tree as a `Document` of `specs/`, so `≡` compares documents and not memory.
 #![tactic(auto)]
 
