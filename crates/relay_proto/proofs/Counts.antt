@@ -24,7 +24,8 @@ use Rattle.relay_view.specs.declared.slot.SlotKind.{SlotKind}
 use Rattle.relay_view.specs.declared.slot.SlotKind.TheVariants.{Value, Size}
 use Rattle.relay_view.specs.declared.fault.ViewFault.{ViewFault}
 use Rattle.relay_view.specs.declared.fault.ViewFault.TheVariants as view
-use Rattle.relay_view.specs.declared.view.TheConstants.{SLOTS_MOST, TOKENS_MOST}
+use Rattle.relay_view.specs.declared.view.TheConstants.{SLOTS_MOST}
+use Rattle.relay_pointer.specs.declared.reading.TheConstants.{TOKENS_MOST}
 use Rattle.relay_proto.specs.declared.reading.TheConstants.{REQUEST_MOST}
 use Rattle.relay_proto.specs.Request.{with_part, and_then, patch_refusal, patch_read, patch_in, view_refusal, view_read, view_in, resume_of, asked, request_of, request_of_tree, request_of_json, request_of_text}
 use Rattle.relay_proto.specs.Written.{IsCount, IsCountOrNull, HasCounts}

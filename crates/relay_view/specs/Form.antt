@@ -4,11 +4,12 @@ use Rattle.relay_tree.specs.Document.{Document, text, list, object}
 use Rattle.relay_tree.specs.Each.{each_from}
 use Rattle.relay_tree.specs.Part.{items_length, object_member}
 use Rattle.relay_pointer.specs.Path.{Path}
+use Rattle.relay_pointer.specs.declared.reading.TheConstants.{TOKENS_MOST}
 use Rattle.relay_pointer.specs.Spelling.{path_of_text}
 use Rattle.relay_view.specs.View.{View, Slot, SlotKind, Value, Size}
 use Rattle.relay_view.specs.declared.fault.ViewFault.{ViewFault}
 use Rattle.relay_view.specs.declared.fault.ViewFault.TheVariants.{TooMany, Shape, Pointer}
-use Rattle.relay_view.specs.declared.view.TheConstants.{SLOTS_MOST, TOKENS_MOST}
+use Rattle.relay_view.specs.declared.view.TheConstants.{SLOTS_MOST}
 
 -- the slot at place k, by its pointer of few enough tokens
 abbrev pub slot_within : ℕ → SlotKind → Option Path → Result Slot ViewFault

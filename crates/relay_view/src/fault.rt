@@ -11,7 +11,7 @@ pub enum ViewFault {
     /// The tree is no list (no place), or an element is neither a text nor an object with a text `size`.
     #[error("a view is a list of texts, or of objects with a text `size`")]
     Shape { at: Option<u64> },
-    /// A text that is no JSON Pointer (RFC 6901), or one of more than [`crate::TOKENS_MOST`] tokens.
+    /// A text that is no JSON Pointer (RFC 6901), or one of more than [`relay_pointer::TOKENS_MOST`] tokens.
     #[error("element {at} is no pointer of at most 64 tokens")]
     Pointer { at: u64 },
     #[error("out of memory")]

@@ -13,4 +13,4 @@ mod view;
 
 pub use fault::ViewFault;
 pub use slot::{Slot, SlotKind};
-pub use view::{SLOTS_MOST, TOKENS_MOST, View};
+pub use view::{SLOTS_MOST, View};

@@ -7,8 +7,8 @@ ghost use Rattle.relay_view.specs.declared.fault.ViewFault.TheVariants.{NoMemory
 
 use crate::fault::ViewFault;
 use crate::slot::{Slot, SlotKind};
-use crate::view::{SLOTS_MOST, TOKENS_MOST, View};
-use relay_pointer::{Pointer, PointerFault};
+use crate::view::{SLOTS_MOST, View};
+use relay_pointer::{Pointer, PointerFault, TOKENS_MOST};
 use relay_tree::{Node, Tree};
 use std::alloc::Global;
 

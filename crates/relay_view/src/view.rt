@@ -8,9 +8,6 @@ use std::marker::Model;
 /// How many slots a view has at most.
 pub const SLOTS_MOST: u64 = 16;
 
-/// How many tokens a pointer of a request has at most.
-pub const TOKENS_MOST: u64 = 64;
-
 /// A list of slots, each of which shows a part of a document, or its size. Contracts see it as that list.
 #[derive(Drop)]
 pub struct View {
