@@ -49,7 +49,12 @@ impl Room {
     /// A room whose document is the tree, at revision `rev`, that holds the changes of the last `limit` revisions after it.
     /// TooDeep, TooHeavy: the tree is not within `Bounds::DOCUMENT`. BadRevision: `rev` is above `2^53 - 1`. BadLimit: `limit` is
     /// not 1 to 1,024. The first of them that holds is the answer, and the tree is dropped. It costs the tree's measure.
-    pub fn starting_at(alloc: Global, document: Tree, rev: u64, limit: u64) -> Result<Room, RoomFault>
+    pub fn starting_at(
+        alloc: Global,
+        document: Tree,
+        rev: u64,
+        limit: u64,
+    ) -> Result<Room, RoomFault>
         ensures ok { IfOk result (λ room. (room ≡ begun document rev limit) × (room_fault document rev limit ≡ None)) }
         ensures refused { IfErr result (λ fault. (room_fault document rev limit ≡ Some fault) ⊎ ((fault ≡ NoMemory) × (room_fault document rev limit ≡ None))) }
     {

@@ -14,7 +14,8 @@ use std::io::{ErrorKind, Read, Write};
 use std::net::Net;
 
 /// What is said to whoever serves in the epoch that all runs without `--epoch` share.
-const SHARED_EPOCH: &str = "relay: epoch 1, as without --epoch: a client of an earlier run may be told that nothing changed\nrelay: give --epoch a number not used before, as --epoch $(date +%s)\n";
+const SHARED_EPOCH: &str =
+    "relay: epoch 1, as without --epoch: a client of an earlier run may be told that nothing changed\nrelay: give --epoch a number not used before, as --epoch $(date +%s)\n";
 
 /// Does what the words ask for, the first of which is the program's name, over a reader and a writer, with faults told on
 /// `errors`. The exit status: 0 where all was done, 1 for a fault of input, output or a line, 2 for the words, 3 for want of

@@ -59,7 +59,10 @@ fn serve_prints_its_port_and_its_turns(rt: HostRuntime) -> Result<(), Fail> {
     assert_eq!(rt; ran.status, 0);
     assert!(rt; ran.output()?.starts_with("listening "));
     assert!(rt; ran.output()?.ends_with("\nturns 1\n"));
-    assert!(rt; ran.errors()?.starts_with("relay: epoch 1, as without --epoch"));
+    assert!(rt;
+        ran.errors()?
+            .starts_with("relay: epoch 1, as without --epoch")
+    );
     Ok(())
 }
 
