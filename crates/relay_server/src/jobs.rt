@@ -88,12 +88,17 @@ pub fn carry_out<N: Net, R: Read, W: Write, E: Write>(
             turns,
             settings,
         } => {
-            if settings.epoch == Settings::DEFAULT.epoch {
-                say(SHARED_EPOCH, errors);
-            }
+            say_epoch(settings.epoch, errors);
             let ended = serve(alloc, net, writer, port, turns, settings);
             report_sockets(ended, port, errors)
         }
+    }
+}
+
+/// Says on `errors` what an epoch means in which other runs served too.
+fn say_epoch<E: Write>(epoch: u64, errors: &mut E) {
+    if epoch == Settings::DEFAULT.epoch {
+        say(SHARED_EPOCH, errors);
     }
 }
 
