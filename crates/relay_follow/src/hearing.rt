@@ -13,8 +13,8 @@ use std::alloc::Global;
 
 impl Follower {
     /// Hears the text of a message. A snapshot sets the view and its revision, a patch leads the view to its revision, and
-    /// a reply changes nothing. The first fault that holds is the answer, and the follower is then as it was. A patch that
-    /// changes something costs a copy of the view.
+    /// a reply changes nothing. The first fault that holds is the answer, and the follower is then as it was. A patch
+    /// costs what `relay_patch::apply` costs on the view.
     pub fn hear(&mut self, alloc: Global, text: &str) -> Result<(), HearFault>
         ensures ok { OnOk result (told (as_client self.old) text.now ≡ Some (as_client self.new)) }
         ensures lost { IfErr result (λ fault. fault ≢ NoMemory → IsLost (told (as_client self.old) text.now)) }
