@@ -6,6 +6,8 @@ mod changes;
 mod forms;
 #[cfg(test)]
 mod operations;
+#[cfg(test)]
+mod undo;
 
 use crate::shared::{patch_of, text_of, tree_of};
 use relay_patch::{ApplyFault, Bounds, apply};

@@ -1,6 +1,6 @@
 use crate::shared::{gives, is, part_text, pointer_of, repeated, text_of, tree_of};
 use relay_pointer::{
-    Pointer, PointerFault, child, exchange, index_of, resolve, resolve_mut, set, take,
+    Pointer, PointerFault, TOKENS_MOST, child, exchange, index_of, resolve, resolve_mut, set, take,
 };
 use relay_tree::{Node, Tree};
 use std::alloc::AllocGlobal;
@@ -142,7 +142,7 @@ fn spells_tokens_with_escapes(rt: HostRuntime) {
 }
 
 fn count_of(rt: &impl AllocGlobal, path: &str) -> Result<usize, PointerFault> {
-    let path = Pointer::read(rt.alloc(), path, 64)?;
+    let path = Pointer::read(rt.alloc(), path, TOKENS_MOST)?;
     Ok(path.tokens().len())
 }
 
@@ -184,16 +184,22 @@ fn count_of_slashes(
 
 #[test]
 fn limits_the_number_of_tokens(rt: HostRuntime) {
-    is(&rt, count_of_slashes(&rt, 64, ""), Ok(64), "64 slashes");
+    let most = TOKENS_MOST as usize;
     is(
         &rt,
-        count_of_slashes(&rt, 65, ""),
-        Err(PointerFault::TooManyTokens),
-        "65 slashes",
+        count_of_slashes(&rt, most, ""),
+        Ok(most),
+        "so many slashes",
     );
     is(
         &rt,
-        count_of_slashes(&rt, 65, "~"),
+        count_of_slashes(&rt, most + 1, ""),
+        Err(PointerFault::TooManyTokens),
+        "one more slash",
+    );
+    is(
+        &rt,
+        count_of_slashes(&rt, most + 1, "~"),
         Err(PointerFault::BadPointer),
         "a bad end",
     );

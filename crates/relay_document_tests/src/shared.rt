@@ -1,6 +1,6 @@
 //! Assertions, and what texts read as.
 use relay_patch::{Patch, PatchLimits};
-use relay_pointer::Pointer;
+use relay_pointer::{Pointer, TOKENS_MOST};
 use relay_tree::{Tree, read};
 use relay_view::View;
 use std::alloc::AllocGlobal;
@@ -22,7 +22,7 @@ pub(crate) fn tree_of(rt: &(impl Abort + AllocGlobal), text: &str) -> Tree {
 }
 
 pub(crate) fn pointer_of(rt: &(impl Abort + AllocGlobal), text: &str) -> Pointer {
-    Pointer::read(rt.alloc(), text, 64).expect(rt, "a pointer")
+    Pointer::read(rt.alloc(), text, TOKENS_MOST).expect(rt, "a pointer")
 }
 
 pub(crate) fn view_of(rt: &(impl Abort + AllocGlobal), text: &str) -> View {

@@ -1,4 +1,5 @@
 use crate::shared::{gives, is, owned, repeated, text_of, tree_of, view_of};
+use relay_pointer::TOKENS_MOST;
 use relay_view::{SlotKind, View, ViewFault};
 use std::alloc::AllocGlobal;
 use std::process::Abort;
@@ -69,13 +70,14 @@ fn fault_of_tokens(rt: &(impl Abort + AllocGlobal), count: usize) -> Option<View
 }
 
 #[test]
-fn takes_64_tokens(rt: HostRuntime) {
-    is(&rt, fault_of_tokens(&rt, 64), None, "64 tokens");
+fn takes_as_many_tokens_as_a_request_may_have(rt: HostRuntime) {
+    let most = TOKENS_MOST as usize;
+    is(&rt, fault_of_tokens(&rt, most), None, "so many tokens");
     is(
         &rt,
-        fault_of_tokens(&rt, 65),
+        fault_of_tokens(&rt, most + 1),
         Some(ViewFault::Pointer { at: 1 }),
-        "65 tokens",
+        "one more token",
     );
 }
 

@@ -1,7 +1,7 @@
 -- Acts at a path whose last token is split off.
-use Rattle.std.proofs.Common.{◌≡◌, ℕ, zero, suc, List, [], ◌∷◌, ◌++◌, Option, Some, None, Ok, Err, Result, IsOk, refl, sym, ap, ◌∙◌, bytes_eq, ok_or, option_map, Bool, true, false, if◌then◌else◌}
-use Rattle.relay_tree.specs.Document.{Document, null, truth, whole, text, list, object, Items, no_items, item, Members, no_members, member}
-use Rattle.relay_tree.specs.Part.{item_at, drop_item, member_at, drop_member}
+use Rattle.std.proofs.Common.{◌≡◌, ℕ, [], ◌∷◌, ◌++◌, Option, Some, None, Ok, Err, Result, IsOk, refl, sym, ap, ◌∙◌, ok_or}
+use Rattle.relay_tree.specs.Document.{Document, null, truth, whole, text, list, object, Items}
+use Rattle.relay_tree.specs.Part.{item_at, member_at}
 use Rattle.relay_pointer.specs.Index.{Token, index_of}
 use Rattle.relay_pointer.specs.Path.{put, Path, with_child}
 use Rattle.relay_patch.specs.Walk.{Cause, Missing, then_do, element, step, walk}

@@ -3,12 +3,13 @@ use Rattle.std.proofs.Common.{◌≡◌, [], ◌∷◌, Bool, true, false, Resul
 use Rattle.relay_tree.specs.Document.{Document, null, truth, whole, text, list, object}
 use Rattle.relay_pointer.specs.Index.{Token, index_of}
 use Rattle.relay_pointer.specs.Path.{Path}
-use Rattle.relay_patch.specs.Walk.{Cause, then_do, walk}
+use Rattle.relay_patch.specs.Walk.{Cause, then_do}
 use Rattle.relay_patch.specs.Place.{Place}
 use Rattle.relay_patch.specs.Patch.{Act, below, at_path, insert_child, drop_child, added, replaced}
-use Rattle.relay_patch.specs.Change.{Change, Makes, Moves, in_list, in_object, placed, inserted, inserted_at}
+use Rattle.relay_patch.specs.Change.{Change, Makes, Moves, in_list, in_object, placed, dropped, inserted, inserted_at}
 use Rattle.relay_patch.specs.declared.change.Change.TheVariants as change
-use Rattle.relay_patch.specs.Measure.{displaced, gone}
+use Rattle.relay_patch.specs.Measure.{displaced, gone, is_move}
+use Rattle.relay_tree.proofs.Outcomes.{is_ok_then, some_ok}
 use Rattle.relay_patch.proofs.Parts.{at_index}
 use Rattle.relay_patch.proofs.Inside.{was_inside}
 
@@ -86,29 +87,44 @@ passes_as c e d is m = rw (← is, makes_made c d m.0 m.1) refl
 pub makes_as : (c e : Change) (d n : Document) → c ≡ e → CanMake d c → made d e ≡ Ok n → Makes d c n
 makes_as c e d n is m h = makes_so c d m.0 n m.1 (rw is h)
 
-moves_as : (c : Change) (d : Document) (from to : Place) (v : Document) → c ≡ change.Move from to v → (m : CanMake d c) → Moves d from to v m.0
+pub moves_as : (c : Change) (d : Document) (from to : Place) (v : Document) → c ≡ change.Move from to v → (m : CanMake d c) → Moves d from to v m.0
 moves_as c d from to v is m = subst (λ e. Makes d e m.0) is m.1
 
-pub move_leaves : (c : Change) (d : Document) (from to : Place) (v : Document) → c ≡ change.Move from to v → CanMake d c → IsOk (at_path drop_child from.path d)
-move_leaves c d from to v is m = let k = moves_as c d from to v is m in rw (plainly from.item drop_child from.path d k.between k.went) refl
+-- a change that stays is no move
+pub no_move : (c : Change) (from to : Place) (v : Document) → c ≡ change.Move from to v → is_move c ≡ false → ⊥
+no_move c from to v is stays = let moves : true ≡ false = rw is at stays in cc
 
--- the value that is taken away is the one that goes
-pub move_lands : (c : Change) (d : Document) (from to : Place) (v r b : Document) → c ≡ change.Move from to v → CanMake d c → walk d from.path ≡ Ok r → at_path drop_child from.path d ≡ Ok b → IsOk (inserted to r b)
-move_lands c d from to v r b is m there went =
+-- what goes where a value lands, in the document without it
+pub move_gone : (c : Change) (d : Document) (from to : Place) (v b : Document) → c ≡ change.Move from to v → dropped from d ≡ Ok b → displaced to b ≡ gone d c
+move_gone c d from to v b is went = rw (is, plainly from.item drop_child from.path d b went) refl
+
+pub move_goes : (c : Change) (d : Document) (from to : Place) (v : Document) → c ≡ change.Move from to v → CanMake d c → IsOk (dropped from d)
+move_goes c d from to v is m = is_ok_then _ _ (moves_as c d from to v is m).went
+
+pub move_lands : (c : Change) (d : Document) (from to : Place) (v b : Document) → c ≡ change.Move from to v → CanMake d c → dropped from d ≡ Ok b → IsOk (inserted to v b)
+move_lands c d from to v b is m went =
     let k = moves_as c d from to v is m in
-    let value : Ok v ≡ Ok r = sym k.there ∙ there in
-    let same : v ≡ r = cc in
-    let rest : Ok k.between ≡ Ok b = sym (plainly from.item drop_child from.path d k.between k.went) ∙ went in
+    let rest : Ok k.between ≡ Ok b = sym k.went ∙ went in
     let between : k.between ≡ b = cc in
-    rw (← same, ← between, k.came) refl
+    rw (← between, k.came) refl
 
-pub move_made : (c : Change) (d : Document) (from to : Place) (v r b n : Document) → c ≡ change.Move from to v → CanMake d c → walk d from.path ≡ Ok r → at_path drop_child from.path d ≡ Ok b → added to.path r b ≡ Ok n → Makes d c n
-move_made c d from to v r b n is m there went came =
-    let k = moves_as c d from to v is m in
-    let value : Ok v ≡ Ok r = sym k.there ∙ there in
-    let same : v ≡ r = cc in
-    makes_as c (change.Move from to v) d n is m (rw (went, same) came)
+pub move_made : (c : Change) (d : Document) (from to : Place) (v b n : Document) → c ≡ change.Move from to v → CanMake d c → dropped from d ≡ Ok b → inserted to v b ≡ Ok n → Makes d c n
+move_made c d from to v b n is m went came =
+    makes_as c (change.Move from to v) d n is m (rw (plainly from.item drop_child from.path d b went) (inserts_plainly to.item to.path v b n came))
 
--- what goes where the value lands, in the document without it
-pub move_gone : (c : Change) (d : Document) (from to : Place) (v b : Document) → c ≡ change.Move from to v → at_path drop_child from.path d ≡ Ok b → displaced to b ≡ gone d c
-move_gone c d from to v b is went = rw (is, went) refl
+-- What a removal or an insertion gives, whatever the kinds of the containers.
+
+pub drops_plainly : (item : Bool) (path : Path) (d : Document) → IsOk (at_path (placed item drop_child) path d) → IsOk (at_path drop_child path d)
+drops_plainly item path d h = let s = some_ok _ h in is_ok_then _ s.0 (plainly item drop_child path d s.0 s.1)
+
+pub drops_so : (item : Bool) (path : Path) (d n : Document) → IsOk (at_path (placed item drop_child) path d) → at_path drop_child path d ≡ Ok n → at_path (placed item drop_child) path d ≡ Ok n
+drops_so item path d n h plain =
+    let s = some_ok _ h in
+    let whole : Ok s.0 ≡ Ok n = sym (plainly item drop_child path d s.0 s.1) ∙ plain in
+    s.1 ∙ whole
+
+pub inserts_so : (place : Place) (v d n : Document) → IsOk (inserted place v d) → added place.path v d ≡ Ok n → inserted place v d ≡ Ok n
+inserts_so place v d n h plain =
+    let s = some_ok _ h in
+    let whole : Ok s.0 ≡ Ok n = sym (inserts_plainly place.item place.path v d s.0 s.1) ∙ plain in
+    s.1 ∙ whole

@@ -1,5 +1,5 @@
 -- Insertions and removals in a vector of documents, and in a map's entries.
-use Rattle.std.proofs.Common.{◌≡◌, ℕ, ◌-◌, ◌^◌, ◌<◌, ◌≤◌, min, List, length, get_or, Bool, true, false, Option, Some, None, Ok, Err, IsOk, ok_or, String, Global, Vec, BTreeMap, string_bytes, refl, sym, ap, ◌∙◌, nat_le, nat_cmp, option_map, arith}
+use Rattle.std.proofs.Common.{◌≡◌, ℕ, ◌<◌, ◌≤◌, List, length, get_or, Bool, true, false, Option, Some, None, Ok, Err, IsOk, ok_or, String, Global, Vec, BTreeMap, string_bytes, refl, sym, ap, ◌∙◌, nat_le, nat_cmp, arith}
 use Rattle.std.specs.Prelude.{slice_get}
 use Rattle.std.specs.List.{insert, remove}
 use Rattle.std.specs.Map.{lookup, remove_entry}
@@ -14,7 +14,7 @@ use Rattle.relay_tree.specs.declared.tree.Node.{Node}
 use Rattle.relay_tree.specs.declared.tree.Node.TheVariants as node
 use Rattle.relay_tree.proofs.Elements.{items_length-items_of, slice_get-items_of, insert_item-items_of, drop_item-items_of, item_at-past}
 use Rattle.relay_tree.proofs.Members.{Entry, members_of-lookup, dropped_member}
-use Rattle.relay_pointer.specs.Index.{Token, index_of, number_of}
+use Rattle.relay_pointer.specs.Index.{Token, index_of}
 use Rattle.relay_patch.specs.Walk.{Missing, NotIndex, PastEnd, is_dash, element, step}
 use Rattle.relay_patch.specs.Patch.{insert_child, insert_element, drop_child}
 use Rattle.relay_patch.specs.Steps.{insertion_index, index_within}

@@ -1,15 +1,12 @@
 -- What an exchange of a part does, and an act at a path as an exchange of the container.
-use Rattle.std.proofs.Common.{◌≡◌, ℕ, [], ◌∷◌, ◌++◌, Bool, true, false, List, Option, Some, None, Result, Ok, Err, IsOk, refl, sym, ap, ◌∙◌, bytes_eq, if◌then◌else◌, suc, zero}
-use Rattle.std.specs.Result.{result_ok}
-use Rattle.relay_tree.specs.Document.{Document, null, truth, whole, text, list, object, Items, no_items, item, Members, no_members, member}
-use Rattle.relay_tree.specs.Part.{put_item, set_member}
-use Rattle.relay_pointer.specs.Index.{Token, index_of}
-use Rattle.relay_pointer.specs.Path.{Path, child, put_element, with_child, at, put}
-use Rattle.relay_pointer.proofs.Walks.{with_child-same}
+use Rattle.std.proofs.Common.{◌≡◌, [], ◌∷◌, ◌++◌, Option, Some, Result, Ok, Err, IsOk, refl, sym, ap, ◌∙◌}
+use Rattle.relay_tree.specs.Document.{Document}
+use Rattle.relay_pointer.specs.Index.{Token}
+use Rattle.relay_pointer.specs.Path.{Path, with_child, at, put}
 use Rattle.relay_patch.specs.Walk.{Cause, then_do, step, walk}
 use Rattle.relay_patch.specs.Patch.{Act, inside, at_path, replaced}
 use Rattle.relay_patch.proofs.Refusals.{then_ok}
-use Rattle.relay_patch.proofs.Walks.{child-step, child_reached, at_reached}
+use Rattle.relay_patch.proofs.Walks.{child_reached, at_reached}
 use Rattle.relay_patch.proofs.Inside.{was_inside, step-was_inside}
 use Rattle.relay_tree.proofs.Outcomes.{is_ok_then, some_ok}
 use Rattle.relay_pointer.proofs.Puts.{put-twice}

@@ -1,16 +1,12 @@
 -- What a change tells stands in the document before it or after it, so it is as short and as flat as these are.
-use Rattle.std.proofs.Common.{◌≡◌, ℕ, zero, suc, ◌-◌, ◌^◌, ◌<◌, ◌≤◌, min, List, [], ◌∷◌, ◌++◌, Bool, true, false, Option, Some, None, ok_or, Ok, Err, refl, sym, ap, subst, ◌∙◌, bytes_eq, is_eq, nat_lt, nat_cmp, Ordering, Less, Equal, Greater, if◌then◌else◌, arith}
+use Rattle.std.proofs.Common.{◌≡◌, ℕ, suc, ◌-◌, ◌^◌, ◌<◌, ◌≤◌, min, List, [], ◌∷◌, ◌++◌, Bool, true, false, Option, Some, None, ok_or, Ok, Err, refl, sym, ap, subst, ◌∙◌, nat_lt, if◌then◌else◌, arith}
 use Rattle.std.specs.Bool.{⊤}
 use Rattle.std.specs.List.{AllByRecursion}
-use Rattle.std.specs.Ordering.{match_ordering}
-use Rattle.std.specs.Cmp.Lexicographic.{slice_cmp}
 use Rattle.std.specs.Result.{result_ok}
 use Rattle.std.proofs.lemmas.Bool.Decides.{nat_tests}
-use Rattle.std.proofs.lemmas.Map.Text.{is_eq-slice_cmp}
-use Rattle.relay_tree.specs.Document.{Document, null, truth, whole, text, list, object, Items, no_items, item, Members, no_members, member, depth, weight}
-use Rattle.relay_tree.specs.Part.{item_at, insert_item, member_at, add_member, put_member}
-use Rattle.relay_tree.proofs.Names.{bytes_same}
-use Rattle.relay_tree.proofs.Members.{member_at-set_same, member_at-put_same}
+use Rattle.relay_tree.specs.Document.{Document, null, truth, whole, text, list, object, Items, depth, weight}
+use Rattle.relay_tree.specs.Part.{insert_item, put_member}
+use Rattle.relay_tree.proofs.Members.{member_at-put_same}
 use Rattle.relay_pointer.specs.Index.{Token, index_of}
 use Rattle.relay_pointer.specs.Path.{Path, at, same_path}
 use Rattle.relay_patch.specs.declared.change.Change.TheVariants as change

@@ -1,9 +1,9 @@
 -- What the spot of an insertion or a removal says of the operation.
-use Rattle.std.proofs.Common.{◌≡◌, ℕ, zero, suc, ◌<◌, ◌≤◌, [], ◌∷◌, ◌++◌, Bool, true, false, Option, Some, None, is_some, option_map, ok_or, Result, Ok, Err, IsOk, refl, sym, ap, subst, ◌∙◌, nat_le, if◌then◌else◌, arith}
+use Rattle.std.proofs.Common.{◌≡◌, ℕ, ◌<◌, [], ◌∷◌, ◌++◌, Bool, true, false, Option, Some, None, is_some, ok_or, Result, Ok, Err, IsOk, refl, sym, ap, subst, ◌∙◌, nat_le, if◌then◌else◌, arith}
 use Rattle.std.specs.Result.{result_ok}
 use Rattle.std.proofs.lemmas.Bool.Decides.{nat_tests}
-use Rattle.relay_tree.specs.Document.{Document, null, truth, whole, text, list, object, Items, no_items, item}
-use Rattle.relay_tree.specs.Part.{items_length, insert_item, member_at}
+use Rattle.relay_tree.specs.Document.{Document, null, truth, whole, text, list, object, Items}
+use Rattle.relay_tree.specs.Part.{items_length, member_at}
 use Rattle.relay_pointer.specs.Index.{Token, index_of}
 use Rattle.relay_pointer.specs.Path.{Path, at}
 use Rattle.relay_patch.specs.Walk.{Cause, Missing, NotIndex, PastEnd, NoContainer, then_do, is_dash, element, step, walk}

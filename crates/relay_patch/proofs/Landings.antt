@@ -1,11 +1,9 @@
 -- Where an insertion goes in a document that lost a part.
-use Rattle.std.proofs.Common.{◌≡◌, ℕ, zero, suc, [], ◌∷◌, List, length, Bool, true, false, Option, Some, None, is_some, Result, Ok, Err, String, Global, refl, sym, ap, ◌∙◌, bytes_eq, ◌==◌, if◌then◌else◌, arith}
-use Rattle.std.proofs.lemmas.Bool.Decides.{nat_tests}
-use Rattle.relay_tree.specs.Document.{Document, null, truth, whole, text, list, object, Items, no_items, item, Members, no_members, member}
-use Rattle.relay_tree.specs.Part.{items_length, put_item, member_at, set_member}
+use Rattle.std.proofs.Common.{◌≡◌, [], ◌∷◌, Bool, true, false, Result, Ok, Err, refl, sym, ap, ◌∙◌, bytes_eq}
+use Rattle.relay_tree.specs.Document.{Document, null, truth, whole, text, list, object}
 use Rattle.relay_tree.proofs.Names.{equal_bytes}
 use Rattle.relay_pointer.specs.Index.{Token, index_of}
-use Rattle.relay_pointer.specs.Path.{Path, path_of, put_element, with_child}
+use Rattle.relay_pointer.specs.Path.{Path, with_child}
 use Rattle.relay_patch.specs.Walk.{Cause, then_do, step, walk}
 use Rattle.relay_patch.specs.Place.{parent, last}
 use Rattle.relay_patch.specs.Patch.{at_path, below, drop_child}

@@ -24,6 +24,7 @@ pub mod Fits
 pub mod Measures
 pub mod Puts
 pub mod Undone
+pub mod Regained
 pub mod Written
 pub mod Places
 pub mod Rows

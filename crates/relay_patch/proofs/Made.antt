@@ -1,5 +1,5 @@
 -- The changes of an accepted operation lead from the document before it to the one after it.
-use Rattle.std.proofs.Common.{◌≡◌, ℕ, suc, List, [], ◌∷◌, ◌++◌, Bool, true, false, ◌&&◌, Option, Some, None, Result, Ok, Err, refl, sym, ap, subst, ◌∙◌, bytes_eq, if◌then◌else◌, is_some}
+use Rattle.std.proofs.Common.{◌≡◌, ℕ, suc, List, [], ◌∷◌, ◌++◌, Bool, true, false, Option, Some, None, Result, Ok, Err, refl, sym, ap, subst, ◌∙◌, bytes_eq, if◌then◌else◌, is_some}
 use Rattle.std.specs.Result.{result_ok}
 use Rattle.relay_patch.specs.declared.change.Change.TheVariants as change
 use Rattle.relay_tree.specs.Document.{Document, null, truth, whole, text, list, object, Items, Members, depth, weight}
@@ -17,7 +17,7 @@ use Rattle.relay_patch.proofs.Walks.{at-walk, at_reached, walk-append}
 use Rattle.relay_patch.proofs.Parts.{no_dash, place_in_at_index}
 use Rattle.relay_patch.proofs.Sites.{site, parent-last}
 use Rattle.relay_patch.proofs.Moved.{did_move, DidMove}
-use Rattle.relay_pointer.proofs.Prefixes.{and_false, proper_prefix_last}
+use Rattle.relay_pointer.proofs.Prefixes.{proper_prefix_last}
 
 index_of-canonical : (ds : Items) (t : Token) → index_of (canonical ds t) ≡ place_in ds t
 index_of-canonical ds t = go (bytes_eq t dash) refl

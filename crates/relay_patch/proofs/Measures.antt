@@ -1,19 +1,16 @@
 -- How deep and how heavy a document is after a change, from what the change brought and took.
-use Rattle.std.proofs.Common.{◌≡◌, ℕ, zero, suc, ◌+◌, ◌-◌, ◌^◌, ◌<◌, ◌≤◌, max, List, [], ◌∷◌, ◌++◌, length, Bool, true, false, Option, Some, None, option_map, Result, Ok, Err, ok_or, refl, sym, ap, subst, ◌∙◌, bytes_eq, is_eq, nat_cmp, Ordering, Less, Equal, Greater, if◌then◌else◌, is_some, nat_lt, IsOk, String, Global, string_bytes, get_or, take, arith}
-use Rattle.std.specs.Ordering.{match_ordering}
-use Rattle.std.specs.Cmp.Lexicographic.{slice_cmp}
-use Rattle.std.proofs.lemmas.Map.Text.{is_eq-slice_cmp}
-use Rattle.relay_tree.specs.Document.{Document, null, truth, whole, text, list, object, Items, no_items, item, Members, no_members, member, depth, items_depth, members_depth, weight, items_weight, members_weight}
-use Rattle.relay_tree.specs.Part.{item_at, put_item, insert_item, drop_item, member_at, set_member, add_member, put_member, drop_member}
+use Rattle.std.proofs.Common.{◌≡◌, ℕ, suc, ◌+◌, ◌-◌, ◌^◌, ◌<◌, ◌≤◌, max, List, [], ◌∷◌, ◌++◌, length, Bool, true, false, Option, Some, None, Result, Ok, Err, ok_or, refl, sym, ap, subst, ◌∙◌, bytes_eq, if◌then◌else◌, nat_lt, IsOk, String, Global, string_bytes, get_or, take, OnOk, arith}
+use Rattle.std.specs.Prelude.{IfOk}
+use Rattle.relay_tree.specs.Document.{Document, null, truth, whole, text, list, object, Items, Members, no_members, member, depth, weight, items_weight, members_weight}
+use Rattle.relay_tree.specs.Part.{insert_item, drop_item, member_at, set_member, put_member, drop_member}
 use Rattle.relay_pointer.specs.Index.{Token, index_of}
 use Rattle.relay_pointer.specs.Path.{Path, path_of, at, put, put_element, with_child}
-use Rattle.relay_tree.proofs.Names.{bytes_same, equal_bytes}
 use Rattle.relay_patch.specs.Walk.{Cause, TooDeep, TooHeavy, Missing, PastEnd, then_do, element, step, walk}
 use Rattle.relay_patch.specs.Place.{Place, parent, last}
 use Rattle.relay_patch.specs.Patch.{Bounds, exceeds, within, Act, at_path, below, insert_child, insert_element, drop_child, drop_element, replaced}
 use Rattle.relay_patch.specs.Change.{Change, Makes, in_list, in_object, placed, inserted_at}
 use Rattle.relay_patch.specs.declared.change.Change.TheVariants as change
-use Rattle.relay_patch.specs.Measure.{reach, displaced, gone, part_weight, name_weight, place_weight, new_name, lost, gained, judged, Became}
+use Rattle.relay_patch.specs.Measure.{reach, displaced, gone, part_weight, name_weight, place_weight, new_name, lost, gained, judged, Known, Became}
 use Rattle.relay_patch.proofs.Refusals.{then_ok, then_itself, ok_or_some, ok_or_found, not_refused}
 use Rattle.relay_patch.proofs.Parts.{at_index, place_in_at_index}
 use Rattle.relay_patch.proofs.Sites.{parent-last}
@@ -390,3 +387,8 @@ judged_fit bounds n c went d b h = let s = some_ok _ h in judged_known bounds n 
 
 pub judged_excess : (bounds : Bounds) (n : ℕ) (c : Change) (went : Option Document) (d : Document) (cause : Cause) → Became bounds (Some n) c went d → judged bounds c (n - lost c went + gained c went) ≡ Err cause → within bounds d ≡ Err cause
 judged_excess bounds n c went d cause b h = judged_known bounds n c went d b ∙ rw h refl
+
+-- what a judgement foresees
+pub foreseen : (bounds : Bounds) (n : ℕ) (c : Change) (went : Option Document) (r : Result ℕ Cause) → OnOk r (IsOk (judged bounds c (n - lost c went + gained c went))) → IfOk r (λ m. bounds.weight < 2 ^ 64 - 1 → m ≡ n - lost c went + gained c went) → IfOk r (λ m. (next : Document) → Became bounds (Some n) c went next → Known bounds next (Some m))
+foreseen bounds n c went (Ok m) fits same = λ next b. (judged_fit bounds n c went next b fits, λ small. same small ∙ sym (weight_known bounds n c went next b small))
+foreseen bounds n c went (Err e) fits same = tt

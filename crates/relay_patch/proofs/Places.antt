@@ -1,10 +1,8 @@
 -- Which operation a fault names: one of the patch. And how many operations a patch has that was read.
-use Rattle.std.proofs.Common.{◌≡◌, ℕ, suc, ◌+◌, ◌<◌, ◌≤◌, List, [], ◌∷◌, length, Bool, true, false, Option, Some, None, Result, Ok, Err, nat_lt, nat_le, if◌then◌else◌, refl, subst, arith}
+use Rattle.std.proofs.Common.{◌≡◌, ℕ, suc, ◌+◌, ◌<◌, ◌≤◌, List, [], ◌∷◌, length, Bool, true, false, Option, Some, None, Result, Ok, Err, nat_le, if◌then◌else◌, refl, subst, arith}
 use Rattle.std.specs.Prelude.{IfOk, IfErr, codes}
-use Rattle.std.proofs.lemmas.Bool.Decides.{nat_tests}
-use Rattle.relay_tree.specs.Document.{Document, list, Items, no_items, item}
-use Rattle.relay_tree.specs.Each.{onto, each_from}
-use Rattle.relay_tree.specs.Part.{items_length, text_in}
+use Rattle.relay_tree.specs.Document.{Document, list}
+use Rattle.relay_tree.specs.Part.{object_member, text_in}
 use Rattle.relay_pointer.specs.Path.{Path}
 use Rattle.relay_pointer.specs.Spelling.{path_of_text}
 use Rattle.relay_patch.specs.Form.{with_part, and_then, kind_of, path_within, path_in, valued, sourced, op_of_kind, op_at, patch_of}
@@ -70,27 +68,27 @@ path-names most n s = go (path_of_text s)
     go None = refl
     go (Some path) = short (nat_le (length path) most) path
 
-valued-names : (most n : ℕ) (d : Document) (path : List ℕ) (make : Path → Document → Op) → IfErr (valued most n d path make) (Names n)
-valued-names most n d path make = part-names n _ _ _ refl (λ v. then-names n (path_in most n path) _ (path-names most n path) (λ p. tt))
+valued-names : (most n : ℕ) (value : Option Document) (path : List ℕ) (make : Path → Document → Op) → IfErr (valued most n value path make) (Names n)
+valued-names most n value path make = part-names n value _ _ refl (λ v. then-names n (path_in most n path) _ (path-names most n path) (λ p. tt))
 
-sourced-names : (most n : ℕ) (d : Document) (path : List ℕ) (make : Path → Path → Op) → IfErr (sourced most n d path make) (Names n)
-sourced-names most n d path make =
-    part-names n _ _ _ refl (λ from. then-names n (path_in most n path) _ (path-names most n path)
+sourced-names : (most n : ℕ) (source : Option (List ℕ)) (path : List ℕ) (make : Path → Path → Op) → IfErr (sourced most n source path make) (Names n)
+sourced-names most n source path make =
+    part-names n source _ _ refl (λ from. then-names n (path_in most n path) _ (path-names most n path)
     (λ p. then-names n (path_in most n from) _ (path-names most n from) (λ f. tt)))
 
-kind-names : (k : Kind) (most n : ℕ) (d : Document) (path : List ℕ) → IfErr (op_of_kind k most n d path) (Names n)
-kind-names kind.Add most n d path = valued-names most n d path _
-kind-names kind.Remove most n d path = then-names n (path_in most n path) _ (path-names most n path) (λ p. tt)
-kind-names kind.Replace most n d path = valued-names most n d path _
-kind-names kind.Move most n d path = sourced-names most n d path _
-kind-names kind.Copy most n d path = sourced-names most n d path _
-kind-names kind.Test most n d path = valued-names most n d path _
+kind-names : (k : Kind) (most n : ℕ) (value : Option Document) (from : Option (List ℕ)) (path : List ℕ) → IfErr (op_of_kind k most n value from path) (Names n)
+kind-names kind.Add most n value from path = valued-names most n value path _
+kind-names kind.Remove most n value from path = then-names n (path_in most n path) _ (path-names most n path) (λ p. tt)
+kind-names kind.Replace most n value from path = valued-names most n value path _
+kind-names kind.Move most n value from path = sourced-names most n from path _
+kind-names kind.Copy most n value from path = sourced-names most n from path _
+kind-names kind.Test most n value from path = valued-names most n value path _
 
 -- an element that is no operation is named by its place
 op_at-names : (most n : ℕ) (d : Document) → IfErr (op_at most n d) (Names n)
 op_at-names most n d =
     part-names n (text_in d (codes "op")) (Shape (Some n)) _ refl (λ name. part-names n (kind_of name) (UnknownOp n) _ refl (λ k.
-    part-names n (text_in d (codes "path")) (Shape (Some n)) _ refl (λ path. kind-names k most n d path)))
+    part-names n (text_in d (codes "path")) (Shape (Some n)) _ refl (λ path. kind-names k most n (object_member d (codes "value")) (text_in d (codes "from")) path)))
 
 -- a patch that was read has no more operations than it may
 pub patch_of-length : (ops tokens : ℕ) (d : Document) → IfOk (patch_of ops tokens d) (λ xs. length xs ≤ ops)

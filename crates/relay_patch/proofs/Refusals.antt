@@ -1,6 +1,6 @@
 -- Steps that may be refused.
 use Rattle.std.proofs.Common.{◌≡◌, ◌≢◌, Bool, true, false, Option, Some, None, Bor, Result, Ok, Err, IsOk, OnOk, IfErr, refl, ok_or, if◌then◌else◌}
-use Rattle.std.specs.Prelude.{IfOk, IsErrAnd, option_copied}
+use Rattle.std.specs.Prelude.{IfOk, option_copied}
 use Rattle.std.specs.Result.{result_ok}
 use Rattle.relay_tree.specs.Document.{Document}
 use Rattle.relay_patch.specs.Walk.{Cause, NoMemory, then_do}
@@ -36,6 +36,10 @@ pub if_missing : {D : Type 0} {Q : Cause → Type 0} (r : Result (Bor D) Cause) 
 if_missing (Ok x) o e s h k f = tt
 if_missing (Err c) (Some y) e s h k f = cc
 if_missing (Err c) None e s h k f = let same : c ≡ e = cc in f c (rw (← k, same) refl)
+
+pub on_both : {A E : Type 0} {P Q R : Type 0} (r : Result A E) → OnOk r P → OnOk r Q → (P → Q → R) → OnOk r R
+on_both (Ok x) p q f = f p q
+on_both (Err e) p q f = tt
 
 -- A fault is a refusal, or want of memory in a step that passes.
 

@@ -1,15 +1,13 @@
 -- Whether a part comes to the place that it had.
 use Rattle.std.proofs.Common.{◌≡◌, ℕ, suc, [], ◌∷◌, ◌++◌, Bool, true, false, ◌&&◌, ◌||◌, Some, Result, Ok, refl, sym, ap, ◌∙◌, bytes_eq, nat_eq, ◌==◌, ◌<◌, ◌-◌, ◌+◌, ◌^◌, min, List, length, if◌then◌else◌, arith}
 use Rattle.std.proofs.lemmas.Bool.Decides.{nat_tests}
-use Rattle.std.proofs.lemmas.Slice.Eq.{bytes_eq-Decides}
 use Rattle.relay_tree.specs.Document.{Document, null, truth, whole, text, list, object, Items, items_of}
 use Rattle.relay_tree.specs.Part.{items_length}
 use Rattle.relay_tree.proofs.Elements.{items_length-items_of, drop_item-shorter}
-use Rattle.relay_tree.proofs.Names.{bytes_same, equal_bytes}
+use Rattle.relay_tree.proofs.Names.{equal_bytes}
 use Rattle.relay_pointer.specs.Index.{Token, index_of, number_of, index_text}
 use Rattle.relay_pointer.specs.Path.{Path, at, same_path}
-use Rattle.relay_pointer.proofs.Indexes.{index_of_injective, index_of-index_text, last_index}
-use Rattle.relay_tree.proofs.Equal.{both}
+use Rattle.relay_pointer.proofs.Indexes.{last_index}
 use Rattle.relay_pointer.proofs.Walks.{some_index}
 use Rattle.relay_patch.specs.Walk.{Cause, then_do, dash, is_dash, walk}
 use Rattle.relay_patch.specs.Place.{place_within, place_of, canonical}
@@ -22,7 +20,7 @@ use Rattle.relay_patch.proofs.Walks.{at_reached}
 use Rattle.relay_patch.proofs.Exchanges.{at_end, walk-replaced}
 use Rattle.relay_patch.proofs.Drops.{shorter, fewer}
 use Rattle.relay_patch.proofs.Made.{within_last}
-use Rattle.relay_pointer.proofs.Prefixes.{same_path-end, same_itself, equal_paths, other_parent}
+use Rattle.relay_pointer.proofs.Prefixes.{same_path-end, same_itself, equal_paths}
 
 -- the last token of a place in a container
 abbrev token_within : Document → Token → Token

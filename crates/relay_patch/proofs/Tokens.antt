@@ -1,8 +1,7 @@
 -- The first and the last token of a path.
-use Rattle.std.proofs.Common.{◌≡◌, ℕ, zero, suc, ◌-◌, ◌≤◌, List, [], ◌∷◌, ◌++◌, length, take, drop, get_or, String, Global, string_bytes, refl, sym, ap, arith}
-use Rattle.std.proofs.lemmas.List.{take_all}
+use Rattle.std.proofs.Common.{◌≡◌, [], ◌∷◌, ◌++◌, refl, ap}
 use Rattle.relay_pointer.specs.Index.{Token}
-use Rattle.relay_pointer.specs.Path.{Path, path_of}
+use Rattle.relay_pointer.specs.Path.{Path}
 use Rattle.relay_tree.specs.Document.{Document}
 use Rattle.relay_pointer.specs.Path.{at}
 use Rattle.relay_patch.specs.Place.{parent, last, place_within, place_of}

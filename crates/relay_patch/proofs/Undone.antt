@@ -1,28 +1,27 @@
 -- A change that is kept leaves what taking back gives.
-use Rattle.std.proofs.Common.{◌≡◌, ℕ, List, [], ◌∷◌, ◌++◌, Bool, true, false, Option, Some, None, Result, Ok, Err, ok_or, is_some, is_ok, IsOk, refl, sym, ap, subst, ◌∙◌, if◌then◌else◌}
+use Rattle.std.proofs.Common.{◌≡◌, ℕ, List, [], ◌∷◌, ◌++◌, Bool, true, false, Option, Some, None, Result, Ok, Err, ok_or, is_ok, IsOk, refl, sym, ap, subst, ◌∙◌, if◌then◌else◌}
 use Rattle.std.specs.Result.{result_ok}
 use Rattle.std.specs.Prelude.{IsNone, IfSome, option_to_list}
-use Rattle.relay_tree.specs.Document.{Document, null, truth, whole, text, list, object, Items, Members}
-use Rattle.relay_tree.specs.Part.{insert_item, drop_item, member_at, add_member}
+use Rattle.relay_tree.specs.Document.{Document, null, truth, whole, text, list, object, Items}
+use Rattle.relay_tree.specs.Part.{insert_item, member_at, add_member}
 use Rattle.relay_tree.proofs.Elements.{drop_item-insert}
 use Rattle.relay_tree.proofs.Members.{drop_member-add}
 use Rattle.relay_pointer.specs.Index.{Token, index_of}
 use Rattle.relay_pointer.specs.Path.{Path, with_child, at, put}
 use Rattle.relay_pointer.proofs.Puts.{put-back, put-missing, with_child-twice}
 use Rattle.relay_pointer.proofs.Walks.{with_child-same}
-use Rattle.relay_patch.specs.Walk.{Cause, Missing, PastEnd, then_do, step, walk}
+use Rattle.relay_patch.specs.Walk.{Cause, Missing, PastEnd, step, walk}
 use Rattle.relay_patch.specs.Place.{Place, parent, last}
-use Rattle.relay_patch.specs.Patch.{Act, replaced, insert_child, insert_element, drop_child, drop_element, below, at_path}
-use Rattle.relay_patch.specs.Change.{Change, Makes, at_element, in_list, in_object, placed, inserted, inserted_at}
+use Rattle.relay_patch.specs.Patch.{Act, replaced, insert_child, insert_element, drop_child, below, at_path}
+use Rattle.relay_patch.specs.Change.{Change, Makes, in_list, in_object, inserted, inserted_at}
 use Rattle.relay_patch.specs.Measure.{displaced, gone}
-use Rattle.relay_patch.specs.Undo.{target, or_same, undone, taken_back}
+use Rattle.relay_patch.specs.Undo.{target, brought, or_same, undone, taken_back}
 use Rattle.relay_patch.specs.declared.applying.undo.Kept.{Kept}
 use Rattle.relay_patch.specs.declared.change.Change.TheVariants as change
 use Rattle.relay_patch.proofs.Refusals.{then_ok, ok_or_some}
 use Rattle.relay_patch.proofs.Parts.{at_index, place_in_at_index}
 use Rattle.relay_patch.proofs.Inside.{was_inside, step-was_inside}
-use Rattle.relay_patch.proofs.Walks.{child_reached, at_reached}
-use Rattle.relay_patch.proofs.Sites.{parent-last}
+use Rattle.relay_patch.proofs.Walks.{child_reached}
 use Rattle.relay_patch.proofs.Made.{at_last}
 use Rattle.relay_patch.proofs.Exchanges.{replaced-is}
 use Rattle.relay_patch.proofs.Puts.{sets}
@@ -84,12 +83,12 @@ object_back v (t ∷ path) d d' none h =
 
 -- A change that only brings something, taken back.
 
-exchange_back : (path : Path) (v d d' w : Document) → at d path ≡ Some w → replaced path v d ≡ Ok d' → undone path (Some w) d' ≡ d
+pub exchange_back : (path : Path) (v d d' w : Document) → at d path ≡ Some w → replaced path v d ≡ Ok d' → undone (brought path (Some w)) d' ≡ d
 exchange_back path v d d' w there h =
     let r = replaced-is path v d d' h in
     rw r.2 (put-back d path w v there)
 
-copy_back : (item : Bool) (path : Path) (v d d' : Document) → (if item then None else at d path) ≡ None → inserted_at item path v d ≡ Ok d' → undone path None d' ≡ d
+copy_back : (item : Bool) (path : Path) (v d d' : Document) → (if item then None else at d path) ≡ None → inserted_at item path v d ≡ Ok d' → undone (brought path None) d' ≡ d
 copy_back true path v d d' none h = rw (list_back v path d d' h) refl
 copy_back false [] v d d' none h = cc
 copy_back false (t ∷ path) v d d' none h = rw (object_back v (t ∷ path) d d' none h) refl
@@ -98,20 +97,20 @@ displaced_there : (item : Bool) (path : Path) (d w : Document) → (if item then
 displaced_there true path d w h = cc
 displaced_there false path d w h = h
 
-pub copied_back : (place : Place) (v d d' : Document) → inserted place v d ≡ Ok d' → undone place.path (displaced place d) d' ≡ d
+pub copied_back : (place : Place) (v d d' : Document) → inserted place v d ≡ Ok d' → undone (brought place.path (displaced place d)) d' ≡ d
 copied_back place v d d' h = go (displaced place d) refl
   where
-    go : (o : Option Document) → displaced place d ≡ o → undone place.path o d' ≡ d
+    go : (o : Option Document) → displaced place d ≡ o → undone (brought place.path o) d' ≡ d
     go (Some w) e = exchange_back place.path v d d' w (displaced_there place.item place.path d w e) (sets place v d d' w e h)
     go None e = copy_back place.item place.path v d d' e h
 
-set_back : (path : Path) (v d d' : Document) → replaced path v d ≡ Ok d' → undone path (at d path) d' ≡ d
+set_back : (path : Path) (v d d' : Document) → replaced path v d ≡ Ok d' → undone (brought path (at d path)) d' ≡ d
 set_back path v d d' h = let r = replaced-is path v d d' h in rw r.1 (exchange_back path v d d' r.0 r.1 h)
 
-at_target : (path p : Path) (o : Option Document) (d d' : Document) → Some path ≡ Some p → undone path o d' ≡ d → undone p o d' ≡ d
-at_target path p o d d' is h = let same : path ≡ p = cc in subst (λ q. undone q o d' ≡ d) same h
+at_target : (path p : Path) (o : Option Document) (d d' : Document) → Some path ≡ Some p → undone (brought path o) d' ≡ d → undone (brought p o) d' ≡ d
+at_target path p o d d' is h = let same : path ≡ p = cc in subst (λ q. undone (brought q o) d' ≡ d) same h
 
-pub change_back : (c : Change) (p : Path) (d d' : Document) → target c ≡ Some p → Makes d c d' → undone p (gone d c) d' ≡ d
+pub change_back : (c : Change) (p : Path) (d d' : Document) → target c ≡ Some p → Makes d c d' → undone (brought p (gone d c)) d' ≡ d
 change_back (change.Set path v) p d d' is m = at_target path p (at d path) d d' is (set_back path v d d' m)
 change_back (change.AddMember path v) p d d' is m = at_target path p None d d' is (rw (object_back v path d d' m.0 m.1) refl)
 change_back (change.AddItem path v) p d d' is m = at_target path p None d d' is (rw (list_back v path d d' m) refl)
@@ -122,18 +121,16 @@ change_back (change.Copy from to v) p d d' is m = at_target to.path p (displaced
 
 -- Lists of what is kept.
 
-taken_back-more : (d : Document) (kept : List Kept) (k : Kept) → taken_back d (kept ++ k ∷ []) ≡ taken_back (undone k.path k.part d) kept
+taken_back-more : (d : Document) (kept : List Kept) (k : Kept) → taken_back d (kept ++ k ∷ []) ≡ taken_back (undone k d) kept
 taken_back-more d [] k = refl
-taken_back-more d (x ∷ kept) k = ap (undone x.path x.part) (taken_back-more d kept k)
+taken_back-more d (x ∷ kept) k = ap (undone x) (taken_back-more d kept k)
 
 -- after a change that is kept, taking back gives what it gave before
-pub kept_back : (c : Change) (d d' : Document) (old new : List Kept) (k : Kept) → target c ≡ Some k.path → Makes d c d' → k.part ≡ gone d c → new ≡ old ++ k ∷ [] → taken_back d' new ≡ taken_back d old
-kept_back c d d' old new k is m went more =
-    let back : undone k.path k.part d' ≡ d = rw went (change_back c k.path d d' is m) in
-    rw more (taken_back-more d' old k ∙ ap (λ e. taken_back e old) back)
+pub kept_back : (d d' : Document) (old new : List Kept) (k : Kept) → undone k d' ≡ d → new ≡ old ++ k ∷ [] → taken_back d' new ≡ taken_back d old
+kept_back d d' old new k back more = rw more (taken_back-more d' old k ∙ ap (λ e. taken_back e old) back)
 
 -- what is kept last is taken back first
-pub one_back : (d n w : Document) (all kept : List Kept) (o : Option Kept) (k : Kept) → o ≡ Some k → all ≡ kept ++ option_to_list o → n ≡ undone k.path k.part d → taken_back d all ≡ w → taken_back n kept ≡ w
+pub one_back : (d n w : Document) (all kept : List Kept) (o : Option Kept) (k : Kept) → o ≡ Some k → all ≡ kept ++ option_to_list o → n ≡ undone k d → taken_back d all ≡ w → taken_back n kept ≡ w
 one_back d n w all kept o k is split new back =
     let whole : all ≡ kept ++ k ∷ [] = rw is at split in
     ap (λ e. taken_back e kept) new ∙ sym (taken_back-more d kept k) ∙ sym (ap (taken_back d) whole) ∙ back

@@ -40,26 +40,27 @@ path_within most n (Some path) = if nat_le (length path) most then Ok path else 
 abbrev pub path_in : ℕ → ℕ → List ℕ → Result Path PatchFault
 path_in most n s = path_within most n (path_of_text s)
 
-abbrev pub valued : ℕ → ℕ → Document → List ℕ → (Path → Document → Op) → Result Op PatchFault
-valued most n d path make = with_part (object_member d (codes "value")) (Shape (Some n)) (λ v. and_then (path_in most n path) (λ p. Ok (make p v)))
+-- an operation with a value, and one with a source, of what the members of those names are
+abbrev pub valued : ℕ → ℕ → Option Document → List ℕ → (Path → Document → Op) → Result Op PatchFault
+valued most n value path make = with_part value (Shape (Some n)) (λ v. and_then (path_in most n path) (λ p. Ok (make p v)))
 
-abbrev pub sourced : ℕ → ℕ → Document → List ℕ → (Path → Path → Op) → Result Op PatchFault
-sourced most n d path make = with_part (text_in d (codes "from")) (Shape (Some n)) (λ from. and_then (path_in most n path) (λ p. and_then (path_in most n from) (λ f. Ok (make f p))))
+abbrev pub sourced : ℕ → ℕ → Option (List ℕ) → List ℕ → (Path → Path → Op) → Result Op PatchFault
+sourced most n source path make = with_part source (Shape (Some n)) (λ from. and_then (path_in most n path) (λ p. and_then (path_in most n from) (λ f. Ok (make f p))))
 
-abbrev pub op_of_kind : Kind → ℕ → ℕ → Document → List ℕ → Result Op PatchFault
-op_of_kind kind.Add most n d path = valued most n d path op.Add
-op_of_kind kind.Remove most n d path = and_then (path_in most n path) (λ p. Ok (op.Remove p))
-op_of_kind kind.Replace most n d path = valued most n d path op.Replace
-op_of_kind kind.Move most n d path = sourced most n d path op.Move
-op_of_kind kind.Copy most n d path = sourced most n d path op.Copy
-op_of_kind kind.Test most n d path = valued most n d path op.Test
+abbrev pub op_of_kind : Kind → ℕ → ℕ → Option Document → Option (List ℕ) → List ℕ → Result Op PatchFault
+op_of_kind kind.Add most n value from path = valued most n value path op.Add
+op_of_kind kind.Remove most n value from path = and_then (path_in most n path) (λ p. Ok (op.Remove p))
+op_of_kind kind.Replace most n value from path = valued most n value path op.Replace
+op_of_kind kind.Move most n value from path = sourced most n from path op.Move
+op_of_kind kind.Copy most n value from path = sourced most n from path op.Copy
+op_of_kind kind.Test most n value from path = valued most n value path op.Test
 
 -- the operation that the element at place n is: its members are looked at in the order of this line
 abbrev pub op_at : ℕ → ℕ → Document → Result Op PatchFault
 op_at most n d =
     with_part (text_in d (codes "op")) (Shape (Some n)) (λ name.
     with_part (kind_of name) (UnknownOp n) (λ k.
-    with_part (text_in d (codes "path")) (Shape (Some n)) (λ path. op_of_kind k most n d path)))
+    with_part (text_in d (codes "path")) (Shape (Some n)) (λ path. op_of_kind k most n (object_member d (codes "value")) (text_in d (codes "from")) path)))
 
 -- a bound of 2 ^ 64 - 1 refuses nothing: no list is that long
 abbrev pub patch_of : ℕ → ℕ → Document → Result (List Op) PatchFault

@@ -103,11 +103,6 @@ abbrev pub listed : Option Change → List Change
 listed None = []
 listed (Some c) = c ∷ []
 
--- the document that the operations so far have made: the old one while none has changed it
-abbrev pub present : Option Document → Document → Document
-present (Some d) old = d
-present None old = old
-
 -- the operations before place n pass, and the one at n is not refused by its own checks
 abbrev pub Reaches : Document → List Op → Bounds → ℕ → Type 0
 Reaches d ops bounds n = (e : Document) × (op : Op) × (after d (take n ops) bounds ≡ Ok e) × (slice_get ops n ≡ Some op) × IsOk (effect e op)

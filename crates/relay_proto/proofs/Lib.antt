@@ -1,6 +1,7 @@
 pub mod Numbers
 pub mod Texts
 pub mod Quoted
+pub mod Requests
 pub mod Views
 pub mod Slots
 pub mod Patches

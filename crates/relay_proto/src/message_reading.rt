@@ -30,64 +30,63 @@ impl Message {
         ensures not_message { IfErr result (λ fault. fault ≡ NotMessage → message_of_text text.now ≡ None) }
     {
         match relay_tree::read(alloc, text) {
-            Ok(tree) => message_of(alloc, &tree),
+            Ok(tree) => message_of(alloc, tree),
             Err(TreeFault::NotJson | TreeFault::Number) => Err(MessageFault::NotMessage),
             Err(TreeFault::NoMemory) => Err(MessageFault::NoMemory),
         }
     }
 }
 
-fn message_of(alloc: Global, tree: &Tree) -> Result<Message, MessageFault>
-    ensures ok { IfOk result (λ message. message_of tree.now ≡ Some message) }
-    ensures not_message { IfErr result (λ fault. fault ≡ NotMessage → message_of tree.now ≡ None) }
+fn message_of(alloc: Global, tree: Tree) -> Result<Message, MessageFault>
+    ensures ok { IfOk result (λ message. message_of tree ≡ Some message) }
+    ensures not_message { IfErr result (λ fault. fault ≡ NotMessage → message_of tree ≡ None) }
 {
     let Some(kind) = tree.text_at("kind") else {
         return Err(MessageFault::NotMessage);
     };
     match kind {
         "patch" => patch_of(alloc, tree),
-        "snapshot" => snapshot_of(alloc, tree),
-        _ => match reply_of(kind, tree) {
+        "snapshot" => snapshot_of(tree),
+        _ => match reply_of(kind, &tree) {
             Some(reply) => Ok(Message::Reply(reply)),
             None => Err(MessageFault::NotMessage),
         },
     }
 }
 
-fn patch_of(alloc: Global, tree: &Tree) -> Result<Message, MessageFault>
-    ensures ok { IfOk result (λ message. patch_message_in tree.now ≡ Some message) }
-    ensures not_message { IfErr result (λ fault. fault ≡ NotMessage → patch_message_in tree.now ≡ None) }
+fn patch_of(alloc: Global, tree: Tree) -> Result<Message, MessageFault>
+    ensures ok { IfOk result (λ message. patch_message_in tree ≡ Some message) }
+    ensures not_message { IfErr result (λ fault. fault ≡ NotMessage → patch_message_in tree ≡ None) }
 {
+    let mut tree = tree;
     let Some(rev) = tree.count_at("rev") else {
         return Err(MessageFault::NotMessage);
     };
-    let Some(patch) = tree.member("patch") else {
+    let Some(patch) = tree.take_member("patch") else {
         return Err(MessageFault::NotMessage);
     };
-    match Patch::from_tree(alloc, patch, PatchLimits::RELAYED) {
+    match Patch::from_owned(alloc, patch, PatchLimits::RELAYED) {
         Ok(patch) => Ok(Message::Patch { rev, patch }),
         Err(PatchFault::NoMemory) => Err(MessageFault::NoMemory),
         Err(_) => Err(MessageFault::NotMessage),
     }
 }
 
-fn snapshot_of(alloc: Global, tree: &Tree) -> Result<Message, MessageFault>
-    ensures ok { IfOk result (λ message. snapshot_in tree.now ≡ Some message) }
-    ensures not_message { IfErr result (λ fault. fault ≡ NotMessage → snapshot_in tree.now ≡ None) }
+fn snapshot_of(tree: Tree) -> Result<Message, MessageFault>
+    ensures ok { IfOk result (λ message. snapshot_in tree ≡ Some message) }
+    ensures not_message { IfErr result (λ fault. fault ≡ NotMessage → snapshot_in tree ≡ None) }
 {
+    let mut tree = tree;
     let Some(rev) = tree.count_at("rev") else {
         return Err(MessageFault::NotMessage);
     };
-    let Some(view) = tree.member("view") else {
+    let Some(view) = tree.take_member("view") else {
         return Err(MessageFault::NotMessage);
     };
-    if !is_view(view) {
+    if !is_view(&view) {
         return Err(MessageFault::NotMessage);
     }
-    match view.copy(alloc) {
-        Ok(view) => Ok(Message::Snapshot { rev, view }),
-        Err(_) => Err(MessageFault::NoMemory),
-    }
+    Ok(Message::Snapshot { rev, view })
 }
 
 #[tactic(auto, using(crate::proofs::Slots::all_slots))]

@@ -26,18 +26,19 @@ impl Request {
         if text.len() as u64 > REQUEST_MOST {
             return refuse(Word::TooLong, None, None);
         }
-        match relay_tree::read(alloc, text) {
-            Ok(tree) => of_tree(alloc, &tree),
-            Err(TreeFault::NotJson) => refuse(Word::NotJson, None, None),
-            Err(TreeFault::Number) => refuse(Word::Number, None, None),
-            Err(TreeFault::NoMemory) => Err(RequestFault::NoMemory),
-        }
+        let tree = match relay_tree::read(alloc, text) {
+            Ok(tree) => tree,
+            Err(TreeFault::NotJson) => return refuse(Word::NotJson, None, None),
+            Err(TreeFault::Number) => return refuse(Word::Number, None, None),
+            Err(TreeFault::NoMemory) => return Err(RequestFault::NoMemory),
+        };
+        of_tree(alloc, tree)
     }
 }
 
-fn of_tree(alloc: Global, tree: &Tree) -> Result<Request, RequestFault>
-    ensures ok { IfOk result (λ request. request_of tree.now ≡ Ok request) }
-    ensures refused { IfErr result (λ fault. IsRefusedAs fault (request_of tree.now)) }
+fn of_tree(alloc: Global, tree: Tree) -> Result<Request, RequestFault>
+    ensures ok { IfOk result (λ request. request_of tree ≡ Ok request) }
+    ensures refused { IfErr result (λ fault. IsRefusedAs fault (request_of tree)) }
 {
     let Some(id) = tree.count_at("id") else {
         return refuse(Word::Shape, None, None);
@@ -49,9 +50,9 @@ fn of_tree(alloc: Global, tree: &Tree) -> Result<Request, RequestFault>
         }),
         Some("watch") => Ok(Request::Watch {
             id,
-            view: view_of(alloc, id, tree)?,
+            view: view_of(alloc, id, &tree)?,
         }),
-        Some("resume") => resume_of(alloc, id, tree),
+        Some("resume") => resume_of(alloc, id, &tree),
         Some("unwatch") => Ok(Request::Unwatch { id }),
         _ => refuse(Word::Shape, Some(id), None),
     }
@@ -75,14 +76,15 @@ fn resume_of(alloc: Global, id: u64, tree: &Tree) -> Result<Request, RequestFaul
     })
 }
 
-fn patch_of(alloc: Global, id: u64, tree: &Tree) -> Result<Patch, RequestFault>
-    ensures ok { IfOk result (λ patch. patch_in id tree.now ≡ Ok patch) }
-    ensures refused { IfErr result (λ fault. IsRefusedAs fault (patch_in id tree.now)) }
+fn patch_of(alloc: Global, id: u64, tree: Tree) -> Result<Patch, RequestFault>
+    ensures ok { IfOk result (λ patch. patch_in id tree ≡ Ok patch) }
+    ensures refused { IfErr result (λ fault. IsRefusedAs fault (patch_in id tree)) }
 {
-    let Some(patch) = tree.member("patch") else {
+    let mut tree = tree;
+    let Some(patch) = tree.take_member("patch") else {
         return refuse(Word::Shape, Some(id), None);
     };
-    match Patch::from_tree(alloc, patch, PatchLimits::REQUEST) {
+    match Patch::from_owned(alloc, patch, PatchLimits::REQUEST) {
         Ok(patch) => Ok(patch),
         Err(PatchFault::TooManyOps) => refuse(Word::TooMany, Some(id), None),
         Err(PatchFault::Shape { at }) => refuse(Word::Shape, Some(id), at),

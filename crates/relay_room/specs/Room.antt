@@ -2,7 +2,7 @@
 use Rattle.std.specs.Prelude.{◌≡◌, ℕ, List, Ok, refl}
 use Rattle.std.specs.List.{AllByRecursion}
 use Rattle.std.specs.Coded.{Coded, code_by, coded×}
-use Rattle.relay_tree.specs.Document.{Document}
+use Rattle.relay_tree.specs.Document.{Document, weight}
 use Rattle.relay_tree.specs.Code.{document_code}
 use Rattle.relay_patch.specs.declared.bounds.TheConstants.Bounds.{DOCUMENT}
 use Rattle.relay_patch.specs.declared.change.Change.{Change}
@@ -46,3 +46,8 @@ state_code change = code_by (Document × Past)
     (λ room. (room.document, room.history))
     (λ p. record { document = p.0; history = p.1 })
     (λ _. refl)
+
+-- what a room keeps: the document's weight stands beside it
+pub record IsWeighed (room : State) (n : ℕ) : Type 0 where
+  pub is : IsRoom room
+  pub weight : n ≡ weight room.document

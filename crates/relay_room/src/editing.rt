@@ -10,7 +10,7 @@ ghost use Rattle.relay_room.specs.declared.fault.EditFault.TheVariants.{Exhauste
 use crate::fault::EditFault;
 use crate::room::Room;
 use relay_history::LAST_REVISION;
-use relay_patch::{Bounds, Patch, apply};
+use relay_patch::{Applied, Bounds, Patch, apply_within};
 use std::alloc::Global;
 
 impl Room {
@@ -19,7 +19,8 @@ impl Room {
     /// Exhausted: the revision is the last that there can be, whatever the patch is. Apply: an operation is refused, or
     /// memory is. The room is as it was then.
     ///
-    /// It costs what `relay_patch::apply` costs. Where the most revisions are held, the oldest one's changes go.
+    /// It costs what the patch touches: the document is not measured. Where the most revisions are held, the oldest one's
+    /// changes go.
     pub fn edit(&mut self, alloc: Global, patch: &Patch) -> Result<u64, EditFault>
         ensures document { OnOk result (edited self.old patch.now ≡ Ok self.new.document) }
         ensures revision { IfOk result (λ rev. (rev ≡ revision self.old + 1) × (rev ≡ revision self.new)) }
@@ -33,7 +34,14 @@ impl Room {
         if self.history.newest() >= LAST_REVISION {
             return Err(EditFault::Exhausted);
         }
-        let changes = apply(alloc, &mut self.document, patch, Bounds::DOCUMENT)?;
+        let Applied { changes, weight } = apply_within(
+            alloc,
+            &mut self.document,
+            self.weight,
+            patch,
+            Bounds::DOCUMENT,
+        )?;
+        self.weight = weight;
         self.history.push(changes);
         Ok(self.history.newest())
     }

@@ -11,12 +11,14 @@ use std::marker::Model;
 #[derive(Drop)]
 pub struct Room {
     pub(crate) document: Tree,
+    // What the document weighs, so that no edit has to measure it.
+    pub(crate) weight: u64,
     pub(crate) history: History,
 }
 
 impl Model for Room {
     ghost use Rattle.relay_patch.specs.contracts.change.Change as change;
-    ghost use Rattle.relay_room.specs.Room.{State, IsRoom, state_code};
+    ghost use Rattle.relay_room.specs.Room.{State, IsWeighed, state_code};
 
     ghost Value = { State };
 
@@ -24,7 +26,7 @@ impl Model for Room {
 
     ghost view = { λ r. record { document = r.document; history = r.history } };
 
-    ghost invariant = { λ r. IsRoom (record { document = r.document; history = r.history }) };
+    ghost invariant = { λ r. IsWeighed (record { document = r.document; history = r.history }) r.weight };
 }
 
 impl Room {
@@ -61,14 +63,19 @@ impl Room {
         if document.depth() > Bounds::DOCUMENT.depth {
             return Err(RoomFault::TooDeep);
         }
-        if document.weight() > Bounds::DOCUMENT.weight {
+        let weight = document.weight();
+        if weight > Bounds::DOCUMENT.weight {
             return Err(RoomFault::TooHeavy);
         }
         if rev > LAST_REVISION {
             return Err(RoomFault::BadRevision);
         }
         let history = History::new(alloc, limit, rev)?;
-        Ok(Room { document, history })
+        Ok(Room {
+            document,
+            weight,
+            history,
+        })
     }
 
     /// The present document. No memory is taken.

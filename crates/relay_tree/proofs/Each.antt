@@ -21,6 +21,11 @@ behind_onto : {A E : Type 0} (done : List A) (x : A) (rest : Result (List A) E) 
 behind_onto done x (Ok xs) = ap Ok (append_assoc done (x ∷ []) xs)
 behind_onto done x (Err fault) = refl
 
+-- one more is read
+pub read_more : {A E : Type 0} (reads : ℕ → Document → Result A E) (n : ℕ) (d : Document) (ds : Items) (done : List A) (x : A) → reads n d ≡ Ok x
+    → behind (done ++ x ∷ []) (each_from reads (n + 1) ds) ≡ behind done (each_from reads n (item d ds))
+read_more reads n d ds done x found = rw (add-one, found) (behind_onto done x (each_from reads (suc n) ds))
+
 -- what is left to read from place n on
 abbrev pub rest_from : {A E : Type 0} → (ℕ → Document → Result A E) → ℕ → List Document → Result (List A) E
 rest_from reads n items = each_from reads n (items_of (drop n items))

@@ -167,6 +167,18 @@ member_at-drop_other (member n d ms) a b ns h k = go (bytes_eq n a) refl (drop_m
         let is : ns ≡ member n d ls = cc in
         rw (is, ih ls h f) refl
 
+pub removed_other : (es : List Entry) (k other : List ℕ) → bytes_eq k other ≡ false → member_at (members_of (remove_entry (is_at (λ l. slice_cmp nat_cmp k (string_bytes l))) es)) other ≡ member_at (members_of es) other
+removed_other [] k other h = refl
+removed_other (e ∷ es) k other h = go (bytes_eq (string_bytes e.0) k) refl (removed_other es k other h)
+  where
+    go : (x : Bool) → bytes_eq (string_bytes e.0) k ≡ x → member_at (members_of (remove_entry (is_at (λ l. slice_cmp nat_cmp k (string_bytes l))) es)) other ≡ member_at (members_of es) other
+        → member_at (members_of (cond (is_eq (slice_cmp nat_cmp k (string_bytes e.0))) es (e ∷ remove_entry (is_at (λ l. slice_cmp nat_cmp k (string_bytes l))) es))) other ≡ member_at (members_of (e ∷ es)) other
+    go true f ih =
+        let same : string_bytes e.0 ≡ k = equal_bytes (string_bytes e.0) k f in
+        let gone : bytes_eq (string_bytes e.0) other ≡ false = rw same h in
+        rw (← bytes_eq-slice_cmp (string_bytes e.0) k, f, gone) refl
+    go false f ih = rw (← bytes_eq-slice_cmp (string_bytes e.0) k, f, ih) refl
+
 pub set_member-twice : (ms : Members) (name : List ℕ) (a b : Document) → set_member (set_member ms name a) name b ≡ set_member ms name b
 set_member-twice no_members name a b = refl
 set_member-twice (member n d ms) name a b = go (bytes_eq n name) refl (set_member-twice ms name a b)

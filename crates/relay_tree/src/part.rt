@@ -1,5 +1,5 @@
 //! The parts of a tree, one level down: what one token of a path can name.
-ghost use Rattle.std.specs.Prelude.{◌≡◌, ◌<◌, ◌^◌, IfSome, option_copied};
+ghost use Rattle.std.specs.Prelude.{◌≡◌, ◌<◌, ◌^◌, ℕ, List as list_of, false, bytes_eq, IfSome, option_copied};
 ghost use Rattle.std.specs.Option.{option_map, option_copied_mut};
 ghost use Rattle.std.specs.Borrow.{LendsIf, sem};
 ghost use Rattle.relay_tree.specs.Part.{list_len, list_item, object_member, text_in};
@@ -30,6 +30,18 @@ impl Tree {
     {
         match &self.node {
             Node::Members(members) => members.get(name),
+            _ => None,
+        }
+    }
+
+    /// Takes the member `name` out of an object, and gives its value; None where there is none and where the tree is no object,
+    /// which then stays as it is. No memory is taken.
+    pub fn take_member(&mut self, name: &str) -> Option<Tree>
+        ensures value { result ≡ object_member self.old name.now }
+        ensures others { (other : list_of ℕ) → bytes_eq name.now other ≡ false → object_member self.new other ≡ object_member self.old other }
+    {
+        match &mut self.node {
+            Node::Members(members) => members.remove(name),
             _ => None,
         }
     }

@@ -41,22 +41,23 @@ pub fn read(alloc: Global, text: &str) -> Result<Tree, TreeFault>
     ensures number { IfErr result (λ fault. fault ≡ Number → IsNumberFault text.now) }
 {
     match Value::from_str(alloc, text) {
-        Ok(value) => tree_from(alloc, &value),
+        Ok(value) => tree_from(alloc, value),
         Err(error) if error.is_memory() => Err(TreeFault::NoMemory),
         Err(_) => Err(TreeFault::NotJson),
     }
 }
 
+// The value's texts and elements become the tree's.
 #[cycle(tree_from)]
-fn tree_from(alloc: Global, value: &Value) -> Result<Tree, TreeFault>
-    ensures ok { IfOk result (λ tree. tree_of (view value.now) ≡ Some tree) }
-    ensures number { IfErr result (λ fault. fault ≡ Number → tree_of (view value.now) ≡ None) }
+fn tree_from(alloc: Global, value: Value) -> Result<Tree, TreeFault>
+    ensures ok { IfOk result (λ tree. tree_of (view value) ≡ Some tree) }
+    ensures number { IfErr result (λ fault. fault ≡ Number → tree_of (view value) ≡ None) }
     ensures other { IfErr result (λ fault. fault ≢ NotJson) }
 {
     match value {
         Value::Null => Ok(Tree { node: Node::Null }),
         Value::Bool(truth) => Ok(Tree {
-            node: Node::Truth(*truth),
+            node: Node::Truth(truth),
         }),
         Value::Number(number) => match number.as_i64() {
             Some(whole) => Ok(Tree {
@@ -65,7 +66,7 @@ fn tree_from(alloc: Global, value: &Value) -> Result<Tree, TreeFault>
             None => Err(TreeFault::Number),
         },
         Value::String(text) => Ok(Tree {
-            node: Node::Text(text.clone()?),
+            node: Node::Text(text),
         }),
         Value::Array(items) => Ok(Tree {
             node: Node::List(list_from(alloc, items)?),
@@ -77,9 +78,9 @@ fn tree_from(alloc: Global, value: &Value) -> Result<Tree, TreeFault>
 }
 
 #[cycle(tree_from)]
-fn list_from(alloc: Global, items: &Vec<Value>) -> Result<Vec<Tree>, TreeFault>
-    ensures ok { IfOk result (λ trees. items_tree (items_view items.now.items) ≡ Some (items_of trees.items)) }
-    ensures number { IfErr result (λ fault. fault ≡ Number → items_tree (items_view items.now.items) ≡ None) }
+fn list_from(alloc: Global, items: Vec<Value>) -> Result<Vec<Tree>, TreeFault>
+    ensures ok { IfOk result (λ trees. items_tree (items_view items.items) ≡ Some (items_of trees.items)) }
+    ensures number { IfErr result (λ fault. fault ≡ Number → items_tree (items_view items.items) ≡ None) }
     ensures other { IfErr result (λ fault. fault ≢ NotJson) }
 {
     let mut trees = Vec::with_capacity(alloc, items.len())?;
@@ -100,17 +101,13 @@ fn list_from(alloc: Global, items: &Vec<Value>) -> Result<Vec<Tree>, TreeFault>
 }
 
 #[cycle(tree_from)]
-fn map_from(
-    alloc: Global,
-    members: &Map<String, Value>,
-) -> Result<BTreeMap<String, Tree>, TreeFault>
-    ensures ok { IfOk result (λ trees. members_tree (members_view members.now.entries) ≡ Some (members_of trees.entries)) }
-    ensures number { IfErr result (λ fault. fault ≡ Number → members_tree (members_view members.now.entries) ≡ None) }
+fn map_from(alloc: Global, members: Map<String, Value>) -> Result<BTreeMap<String, Tree>, TreeFault>
+    ensures ok { IfOk result (λ trees. members_tree (members_view members.entries) ≡ Some (members_of trees.entries)) }
+    ensures number { IfErr result (λ fault. fault ≡ Number → members_tree (members_view members.entries) ≡ None) }
     ensures other { IfErr result (λ fault. fault ≢ NotJson) }
 {
     let mut trees = BTreeMap::new(alloc);
-    for (name, member) in members.iter() {
-        let name = name.clone()?;
+    for (name, member) in members {
         let tree = match tree_from(alloc, member) {
             Ok(tree) => tree,
             Err(fault) => return Err(fault),

@@ -1,14 +1,14 @@
 use super::{applied, refused};
 use crate::shared::{is, tree_of};
-use relay_patch::{ApplyFault, Bounds, Cause};
+use relay_patch::{ApplyFault, Bounds, Cause, OPS_MOST};
 use std::alloc::AllocGlobal;
 use std::process::Abort;
 
-// A patch of 64 operations, which copy the whole document to a path.
+// A patch of as many operations as a request may have, which copy the whole document to a path.
 fn copies(rt: &(impl Abort + AllocGlobal), path: &str) -> String {
     let copy = format!(in rt.alloc(); "{{\"op\":\"copy\",\"from\":\"\",\"path\":\"{path}\"}}");
     let copy = copy.expect(rt, "memory");
-    let others = [copy.as_str(); 64]
+    let others = [copy.as_str(); OPS_MOST as usize]
         .join(rt.alloc(), ",")
         .expect(rt, "memory");
     format!(in rt.alloc(); "[{others}]").expect(rt, "memory")

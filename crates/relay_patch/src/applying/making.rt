@@ -14,17 +14,17 @@ use relay_pointer::{child_mut, resolve};
 use relay_tree::{Node, Tree};
 use std::alloc::{AllocError, Global};
 
-/// Makes a change, and gives what went with it. Want of memory leaves the tree as it was, but for a move, which may have
-/// lost its value.
+/// Makes a change, which is no move, and gives what went with it. Want of memory leaves the tree as it was.
 pub(crate) fn make(
     alloc: Global,
     tree: &mut Tree,
     change: &Change,
 ) -> Result<Option<Tree>, AllocError>
-    requires { (next : Document) × Makes tree.old change.now next }
+    requires makes { (next : Document) × Makes tree.old change.now next }
+    requires stays { is_move change.now ≡ false }
     ensures made { OnOk result (Makes tree.old change.now tree.new) }
     ensures went { IfOk result (λ went. went ≡ gone tree.old change.now) }
-    ensures err { OnErr result (is_move change.now ≡ false → tree.new ≡ tree.old) }
+    ensures err { OnErr result (tree.new ≡ tree.old) }
 {
     match change {
         Change::Set { path, value } => {
@@ -35,10 +35,7 @@ pub(crate) fn make(
         Change::AddItem { path, value } => insert_copy(alloc, tree, path.tokens(), value),
         Change::DropMember { path } => Ok(Some(remove_at(tree, path.tokens()))),
         Change::DropItem { path } => Ok(Some(remove_at(tree, path.tokens()))),
-        Change::Move { from, to, .. } => {
-            let value = remove_at(tree, from.path.tokens());
-            put(alloc, tree, to, value)
-        }
+        Change::Move { .. } => Ok(None),
         Change::Copy { to, value, .. } => {
             let value = value.copy(alloc)?;
             put(alloc, tree, to, value)
@@ -46,8 +43,8 @@ pub(crate) fn make(
     }
 }
 
-// Puts a value at a place, and gives the member that stood there, if one did.
-fn put(
+/// Puts a value at a place, and gives the member that stood there, if one did.
+pub(crate) fn put(
     alloc: Global,
     tree: &mut Tree,
     place: &Place,

@@ -39,48 +39,24 @@ fn exceeds_depth(tree: &Tree, most: u64) -> bool
     most < u64::MAX && most < tree.depth()
 }
 
-/// The weight of a document after a change. Where the one before it is known to be within the bounds, the document is
-/// not walked: what the change brought and took tells.
-pub(crate) fn bound(
-    tree: &Tree,
-    known: Option<u64>,
-    change: &Change,
-    went: &Option<Tree>,
-    bounds: Bounds,
-) -> Result<u64, Cause>
-    requires { Became bounds known change.now went.now tree.now }
-    ensures ok { OnOk result (within bounds tree.now ≡ Ok tree.now) }
-    ensures weight { IfOk result (λ n. bounds.weight < 2 ^ 64 - 1 → n ≡ weight tree.now) }
-    ensures err { IfErr result (λ cause. within bounds tree.now ≡ Err cause) }
-    ensures other { IfErr result (λ cause. cause ≢ NoMemory) }
-{
-    match known {
-        Some(weight) => judge(weight, change, went.as_ref(), bounds),
-        None => measure(tree, bounds),
-    }
-}
-
-/// The weight that a document will have after a change, which is no move, from the one that it has. The document is
-/// within the bounds, and is not walked.
+/// The weight that a document has after a change, from the one before it, and from what the change takes away. The
+/// document before it is within the bounds, and neither is walked.
 pub(crate) fn foresee(
-    tree: &Tree,
     known: u64,
     change: &Change,
+    went: Option<&Tree>,
     bounds: Bounds,
 ) -> Result<u64, Cause>
-    requires makes { (next : Document) × Makes tree.now change.now next }
-    requires still { is_move change.now ≡ false }
-    requires known { Known bounds tree.now (Some known) }
-    ensures ok { OnOk result ((next : Document) → Makes tree.now change.now next → within bounds next ≡ Ok next) }
-    ensures weight { IfOk result (λ n. (next : Document) → Makes tree.now change.now next → bounds.weight < 2 ^ 64 - 1 → n ≡ weight next) }
-    ensures err { IfErr result (λ cause. (next : Document) → Makes tree.now change.now next → within bounds next ≡ Err cause) }
+    requires { (next : Document) × Became bounds (Some known) change.now (option_copied went) next }
+    ensures known { IfOk result (λ n. (next : Document) → Became bounds (Some known) change.now (option_copied went.entry) next → Known bounds next (Some n)) }
+    ensures err { IfErr result (λ cause. (next : Document) → Became bounds (Some known) change.now (option_copied went.entry) next → within bounds next ≡ Err cause) }
     ensures other { IfErr result (λ cause. cause ≢ NoMemory) }
 {
-    judge(known, change, gone(tree, change), bounds)
+    judge(known, change, went, bounds)
 }
 
-// What is no longer there after a change, which is no move.
-fn gone<'t>(tree: &'t Tree, change: &Change) -> Option<&'t Tree>
+/// What is no longer there after a change, which is no move.
+pub(crate) fn gone<'t>(tree: &'t Tree, change: &Change) -> Option<&'t Tree>
     ensures { is_move change.now ≡ false → option_copied result ≡ gone tree.now change.now }
 {
     match change {
@@ -94,8 +70,8 @@ fn gone<'t>(tree: &'t Tree, change: &Change) -> Option<&'t Tree>
     }
 }
 
-// What stands where a value is put.
-fn displaced<'t>(tree: &'t Tree, place: &Place) -> Option<&'t Tree>
+/// What stands where a value is put.
+pub(crate) fn displaced<'t>(tree: &'t Tree, place: &Place) -> Option<&'t Tree>
     ensures { option_copied result ≡ displaced place.now tree.now }
 {
     if place.item {

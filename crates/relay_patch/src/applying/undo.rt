@@ -1,34 +1,45 @@
-//! What is kept of changes that only brought something, so that they can be taken back without taking memory.
-ghost use Rattle.std.specs.Prelude.{◌≡◌, ◌≢◌, Some, None, option_copied};
-ghost use Rattle.relay_pointer.specs.Path.{path_of, put};
+//! What is kept of changes, so that they can be taken back without taking memory.
+ghost use Rattle.std.specs.Prelude.{◌≡◌, vec_capacity};
+ghost use Rattle.relay_tree.specs.Document.{items_of};
+ghost use Rattle.relay_tree.specs.Seen.{document_of};
+ghost use Rattle.relay_pointer.specs.Path.{path_of, at, put};
 ghost use Rattle.relay_patch.specs.Patch.{at_path, drop_child};
-ghost use Rattle.relay_patch.specs.Undo.{target, or_same, undone, taken_back};
+ghost use Rattle.relay_patch.specs.Undo.{brought, or_same, refilled_items, refilled, with_part, undone, taken_back};
 
 use super::making::remove_at;
 use super::spot::stand;
-use crate::change::Change;
-use relay_pointer::{Pointer, exchange};
-use relay_tree::Tree;
+use relay_pointer::{Pointer, exchange, resolve_mut};
+use relay_tree::{Node, Tree};
 
-/// A path to which a value came, and what stood there: nothing where the value was inserted.
+/// What takes a change back.
 #[derive(Drop)]
-pub struct Kept {
-    pub path: Pointer,
-    pub part: Option<Tree>,
+pub enum Kept {
+    /// A value came to the path: this part stood there.
+    Part {
+        path: Pointer,
+        part: Tree,
+    },
+    /// A value was inserted at the path.
+    Inserted {
+        path: Pointer,
+    },
+    /// The element went from the index of a list. The room holds as many elements as the list had: only a vector with
+    /// spare room takes one more without growing, and what room the list itself keeps is not seen through a tree.
+    Element {
+        list: Pointer,
+        index: usize,
+        element: Tree,
+        room: Vec<Tree>,
+    },
 }
 
-/// Where a change brings its value, if it takes nothing from elsewhere.
-pub(crate) fn target(change: &Change) -> Option<&Pointer>
-    ensures { option_copied result ≡ target change.now }
+/// What is kept where a value came to the path, and what stood there, if something did.
+pub(crate) fn brought(path: Pointer, part: Option<Tree>) -> Kept
+    ensures { result ≡ brought path part }
 {
-    match change {
-        Change::Set { path, .. } => Some(path),
-        Change::AddMember { path, .. } => Some(path),
-        Change::AddItem { path, .. } => Some(path),
-        Change::DropMember { .. } => None,
-        Change::DropItem { .. } => None,
-        Change::Move { .. } => None,
-        Change::Copy { to, .. } => Some(&to.path),
+    match part {
+        Some(part) => Kept::Part { path, part },
+        None => Kept::Inserted { path },
     }
 }
 
@@ -37,17 +48,23 @@ pub(crate) fn take_back(tree: &mut Tree, kept: Vec<Kept>)
     ensures { tree.new ≡ taken_back tree.old kept.items }
 {
     let mut kept = kept;
-    while let Some(Kept { path, part }) = kept.pop() {
-        undo(tree, &path, part);
+    while let Some(last) = kept.pop() {
+        undo(tree, last);
     }
 }
 
-fn undo(tree: &mut Tree, path: &Pointer, part: Option<Tree>)
-    ensures { tree.new ≡ undone path.now part tree.old }
+fn undo(tree: &mut Tree, kept: Kept)
+    ensures { tree.new ≡ undone kept tree.old }
 {
-    match part {
-        Some(part) => put_back(tree, path, part),
-        None => drop_again(tree, path.tokens()),
+    match kept {
+        Kept::Part { path, part } => put_back(tree, &path, part),
+        Kept::Inserted { path } => drop_again(tree, path.tokens()),
+        Kept::Element {
+            list,
+            index,
+            element,
+            room,
+        } => refill_at(tree, &list, index, element, room),
     }
 }
 
@@ -63,4 +80,34 @@ fn drop_again(tree: &mut Tree, path: &[String])
     if stand(tree, path).is_ok() {
         drop(remove_at(tree, path));
     }
+}
+
+fn refill_at(tree: &mut Tree, path: &Pointer, index: usize, element: Tree, room: Vec<Tree>)
+    ensures { tree.new ≡ with_part (refilled (vec_capacity room) index element) path.now (at tree.old path.now) tree.old }
+{
+    if let Some(node) = resolve_mut(tree, path) {
+        refill(node, index, element, room);
+    }
+}
+
+fn refill(node: &mut Node, index: usize, element: Tree, room: Vec<Tree>)
+    ensures { document_of node.new ≡ refilled (vec_capacity room) index element (document_of node.old) }
+{
+    if let Node::List(items) = node {
+        insert_with_room(items, index, element, room);
+    }
+}
+
+// Moves the elements into the room, if that is large enough for one more.
+fn insert_with_room(items: &mut Vec<Tree>, index: usize, element: Tree, room: Vec<Tree>)
+    ensures { items_of items.new.items ≡ refilled_items (vec_capacity room) index element (items_of items.old.items) }
+{
+    if items.len() >= room.capacity() || index > items.len() {
+        return;
+    }
+    let mut whole = room;
+    whole.clear();
+    whole.append(items).unwrap();
+    whole.insert(index, element).unwrap();
+    *items = whole;
 }

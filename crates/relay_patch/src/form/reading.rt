@@ -1,5 +1,6 @@
 //! Patches of trees (RFC 6902, sections 3 and 4).
-ghost use Rattle.std.specs.Prelude.{◌≡◌, ◌≢◌, ◌≤◌, Ok, Err, IfOk, IfErr, IsSomeAnd, option_copied};
+ghost use Rattle.std.specs.Prelude.{◌≡◌, ◌≢◌, ◌≤◌, Ok, Err, IfOk, IfErr, IsSomeAnd};
+ghost use Rattle.std.specs.Option.{option_map};
 ghost use Rattle.relay_tree.specs.Document.{items_of};
 ghost use Rattle.relay_tree.specs.Each.{each_from};
 ghost use Rattle.relay_tree.specs.Part.{list_len};
@@ -18,35 +19,51 @@ use std::alloc::Global;
 impl Patch {
     /// The patch that a tree is. Members that an operation does not need are ignored. The fault is the first: of the
     /// list, then of its elements in order, each judged by `op`, `path`, the `value` or `from` that its operation needs,
-    /// and the pointers `path` and `from`. It costs a copy of the values, and no memory is taken for a tree that is no list
-    /// or too long a one.
+    /// and the pointers `path` and `from`. It costs a copy of the tree; no memory is taken for a tree that is no list or too
+    /// long a one.
     pub fn from_tree(alloc: Global, tree: &Tree, limits: PatchLimits) -> Result<Patch, PatchFault>
         ensures ok { IfOk result (λ patch. patch_of limits.ops limits.tokens tree.now ≡ Ok patch) }
         ensures err { IfErr result (λ fault. fault ≢ NoMemory → patch_of limits.ops limits.tokens tree.now ≡ Err fault) }
         ensures memory { IfErr result (λ fault. fault ≡ NoMemory → IsSomeAnd (list_len tree.now) (λ n. n ≤ limits.ops)) }
     {
-        let Node::List(items) = &tree.node else {
+        match tree.node.list_len() {
+            None => Err(PatchFault::Shape { at: None }),
+            Some(length) if length as u64 > limits.ops => Err(PatchFault::TooManyOps),
+            Some(_) => match tree.copy(alloc) {
+                Ok(tree) => Patch::from_owned(alloc, tree, limits),
+                Err(_) => Err(PatchFault::NoMemory),
+            },
+        }
+    }
+
+    /// As [`Patch::from_tree`], of a tree that goes: its values become those of the operations, without a copy.
+    pub fn from_owned(alloc: Global, tree: Tree, limits: PatchLimits) -> Result<Patch, PatchFault>
+        ensures ok { IfOk result (λ patch. patch_of limits.ops limits.tokens tree ≡ Ok patch) }
+        ensures err { IfErr result (λ fault. fault ≢ NoMemory → patch_of limits.ops limits.tokens tree ≡ Err fault) }
+        ensures memory { IfErr result (λ fault. fault ≡ NoMemory → IsSomeAnd (list_len tree) (λ n. n ≤ limits.ops)) }
+    {
+        let Node::List(items) = tree.node else {
             return Err(PatchFault::Shape { at: None });
         };
         if items.len() as u64 > limits.ops {
             return Err(PatchFault::TooManyOps);
         }
-        match ops_of(alloc, items.as_slice(), limits.tokens) {
+        match ops_of(alloc, items, limits.tokens) {
             Ok(ops) => Ok(Patch::from_ops(ops)),
             Err(fault) => Err(fault),
         }
     }
 }
 
-fn ops_of(alloc: Global, items: &[Tree], tokens: u64) -> Result<Vec<Op>, PatchFault>
-    ensures ok { IfOk result (λ ops. each_from (op_at tokens) 0 (items_of items.now) ≡ Ok ops.items) }
-    ensures err { IfErr result (λ fault. fault ≢ NoMemory → each_from (op_at tokens) 0 (items_of items.now) ≡ Err fault) }
+fn ops_of(alloc: Global, items: Vec<Tree>, tokens: u64) -> Result<Vec<Op>, PatchFault>
+    ensures ok { IfOk result (λ ops. each_from (op_at tokens) 0 (items_of items.items) ≡ Ok ops.items) }
+    ensures err { IfErr result (λ fault. fault ≢ NoMemory → each_from (op_at tokens) 0 (items_of items.items) ≡ Err fault) }
 {
     let Ok(mut ops) = Vec::with_capacity(alloc, items.len()) else {
         return Err(PatchFault::NoMemory);
     };
-    for (at, item) in items.iter().enumerate() {
-        match op_at(alloc, at as u64, item, tokens) {
+    for item in items {
+        match op_at(alloc, ops.len() as u64, item, tokens) {
             Ok(op) => ops.push_reserved(op),
             Err(fault) => return Err(fault),
         }
@@ -55,10 +72,12 @@ fn ops_of(alloc: Global, items: &[Tree], tokens: u64) -> Result<Vec<Op>, PatchFa
 }
 
 /// The operation that the element at place `at` is.
-fn op_at(alloc: Global, at: u64, tree: &Tree, tokens: u64) -> Result<Op, PatchFault>
-    ensures ok { IfOk result (λ op. op_at tokens at tree.now ≡ Ok op) }
-    ensures err { IfErr result (λ fault. fault ≢ NoMemory → op_at tokens at tree.now ≡ Err fault) }
+fn op_at(alloc: Global, at: u64, tree: Tree, tokens: u64) -> Result<Op, PatchFault>
+    ensures ok { IfOk result (λ op. op_at tokens at tree ≡ Ok op) }
+    ensures err { IfErr result (λ fault. fault ≢ NoMemory → op_at tokens at tree ≡ Err fault) }
 {
+    let mut tree = tree;
+    let value = tree.take_member("value");
     let shape = PatchFault::Shape { at: Some(at) };
     let Some(name) = tree.text_at("op") else {
         return Err(shape);
@@ -69,23 +88,25 @@ fn op_at(alloc: Global, at: u64, tree: &Tree, tokens: u64) -> Result<Op, PatchFa
     let Some(path) = tree.text_at("path") else {
         return Err(shape);
     };
-    op_of_kind(alloc, kind, at, tree, path, tokens)
+    let from = tree.text_at("from");
+    op_of_kind(alloc, kind, at, value, from, path, tokens)
 }
 
 fn op_of_kind(
     alloc: Global,
     kind: Kind,
     at: u64,
-    tree: &Tree,
+    value: Option<Tree>,
+    from: Option<&str>,
     path: &str,
     tokens: u64,
 ) -> Result<Op, PatchFault>
-    ensures ok { IfOk result (λ op. op_of_kind kind tokens at tree.now path.now ≡ Ok op) }
-    ensures err { IfErr result (λ fault. fault ≢ NoMemory → op_of_kind kind tokens at tree.now path.now ≡ Err fault) }
+    ensures ok { IfOk result (λ op. op_of_kind kind tokens at value (option_map (λ s. s.now) from.entry) path.now ≡ Ok op) }
+    ensures err { IfErr result (λ fault. fault ≢ NoMemory → op_of_kind kind tokens at value (option_map (λ s. s.now) from.entry) path.now ≡ Err fault) }
 {
     match kind {
         Kind::Add => {
-            let (path, value) = valued(alloc, at, tree, path, tokens)?;
+            let (path, value) = valued(alloc, at, value, path, tokens)?;
             Ok(Op::Add { path, value })
         }
         Kind::Remove => {
@@ -93,19 +114,19 @@ fn op_of_kind(
             Ok(Op::Remove { path })
         }
         Kind::Replace => {
-            let (path, value) = valued(alloc, at, tree, path, tokens)?;
+            let (path, value) = valued(alloc, at, value, path, tokens)?;
             Ok(Op::Replace { path, value })
         }
         Kind::Move => {
-            let (from, path) = sourced(alloc, at, tree, path, tokens)?;
+            let (from, path) = sourced(alloc, at, from, path, tokens)?;
             Ok(Op::Move { from, path })
         }
         Kind::Copy => {
-            let (from, path) = sourced(alloc, at, tree, path, tokens)?;
+            let (from, path) = sourced(alloc, at, from, path, tokens)?;
             Ok(Op::Copy { from, path })
         }
         Kind::Test => {
-            let (path, value) = valued(alloc, at, tree, path, tokens)?;
+            let (path, value) = valued(alloc, at, value, path, tokens)?;
             Ok(Op::Test { path, value })
         }
     }
@@ -115,35 +136,32 @@ fn op_of_kind(
 fn valued(
     alloc: Global,
     at: u64,
-    tree: &Tree,
+    value: Option<Tree>,
     path: &str,
     tokens: u64,
 ) -> Result<(Pointer, Tree), PatchFault>
-    ensures ok { IfOk result (λ parts. valued tokens at tree.now path.now op.Add ≡ Ok (op.Add parts.0 parts.1)) }
-    ensures err { IfErr result (λ fault. fault ≢ NoMemory → valued tokens at tree.now path.now op.Add ≡ Err fault) }
+    ensures ok { IfOk result (λ parts. valued tokens at value path.now op.Add ≡ Ok (op.Add parts.0 parts.1)) }
+    ensures err { IfErr result (λ fault. fault ≢ NoMemory → valued tokens at value path.now op.Add ≡ Err fault) }
 {
-    let Some(value) = tree.member("value") else {
+    let Some(value) = value else {
         return Err(PatchFault::Shape { at: Some(at) });
     };
     let path = pointer_of(alloc, at, path, tokens)?;
-    match value.copy(alloc) {
-        Ok(value) => Ok((path, value)),
-        Err(_) => Err(PatchFault::NoMemory),
-    }
+    Ok((path, value))
 }
 
 /// The two paths of an operation that has a source: `from` and `path`.
 fn sourced(
     alloc: Global,
     at: u64,
-    tree: &Tree,
+    from: Option<&str>,
     path: &str,
     tokens: u64,
 ) -> Result<(Pointer, Pointer), PatchFault>
-    ensures ok { IfOk result (λ paths. sourced tokens at tree.now path.now op.Move ≡ Ok (op.Move paths.0 paths.1)) }
-    ensures err { IfErr result (λ fault. fault ≢ NoMemory → sourced tokens at tree.now path.now op.Move ≡ Err fault) }
+    ensures ok { IfOk result (λ paths. sourced tokens at (option_map (λ s. s.now) from.entry) path.now op.Move ≡ Ok (op.Move paths.0 paths.1)) }
+    ensures err { IfErr result (λ fault. fault ≢ NoMemory → sourced tokens at (option_map (λ s. s.now) from.entry) path.now op.Move ≡ Err fault) }
 {
-    let Some(from) = tree.text_at("from") else {
+    let Some(from) = from else {
         return Err(PatchFault::Shape { at: Some(at) });
     };
     let path = pointer_of(alloc, at, path, tokens)?;

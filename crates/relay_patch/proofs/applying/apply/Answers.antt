@@ -5,7 +5,7 @@ use Rattle.relay_patch.proofs.applying.apply.Goals as goal
 pub returns-in-Ok-clause-led : goal.returns-in-Ok-clause-led
 returns-in-Ok-clause-led c =
     let lead = is_led c.args.tree.now _ c.args.patch.now c.args.bounds (rw c.ops.ensures at c.in-Ok.ensures.document) in
-    rw (c.settle.ensures, c.in-Ok.ensures.changes, c.ops.ensures) lead
+    rw (c.in-Ok.ensures.changes, c.ops.ensures) lead
 
 pub returns-in-Ok-clause-sizes : goal.returns-in-Ok-clause-sizes
 returns-in-Ok-clause-sizes c = λ small kept.

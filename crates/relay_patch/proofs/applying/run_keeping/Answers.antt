@@ -1,5 +1,4 @@
 use Rattle.std.proofs.Common.{sym, ◌∙◌, arith}
-use Rattle.relay_patch.specs.Steps.{present}
 use Rattle.relay_patch.proofs.Folds.{after_more, changes_more, after_done}
 use Rattle.relay_patch.proofs.applying.run_keeping.Goals as goal
 
@@ -8,8 +7,8 @@ loop-at-preserved c =
     let ops = c.args.ops.now in
     let at = c.loop-at.at in
     let op = c.index-ops-at.result in
-    let d = present c.loop-at.done.draft c.loop-at.tree in
-    let e = present c.in-Ok.done.draft c.perform.new.tree in
+    let d = c.loop-at.tree in
+    let e = c.perform.new.tree in
     record {
       onward = sym (after_more ops at op c.args.bounds d e c.loop-at-test.true c.index-ops-at.is c.in-Ok.ensures.document) ∙ c.loop-at.invariant.onward;
       changes = changes_more ops at op c.args.bounds d e c.loop-at.done.changes.items c.in-Ok.done.changes.items _ c.loop-at-test.true c.index-ops-at.is c.in-Ok.ensures.document c.in-Ok.ensures.changes c.loop-at.invariant.changes;

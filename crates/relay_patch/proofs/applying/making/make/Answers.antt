@@ -1,60 +1,46 @@
-use Rattle.std.proofs.Common.{sym, ◌∙◌}
-use Rattle.relay_patch.proofs.Carried.{passes_as, makes_as, move_leaves, move_lands, move_made, move_gone}
+use Rattle.std.proofs.Common.{sym}
+use Rattle.relay_patch.proofs.Carried.{passes_as, makes_as, no_move}
 use Rattle.relay_patch.proofs.Exchanges.{replaced_needs}
 use Rattle.relay_patch.proofs.Walks.{at_reached}
 use Rattle.relay_patch.proofs.applying.making.make.Goals as goal
-use Rattle.relay_tree.proofs.Outcomes.{on_ok, on_err_of, if_ok}
+use Rattle.relay_tree.proofs.Outcomes.{on_ok}
 
 pub exchange-requires : goal.exchange-requires
-exchange-requires c = replaced_needs c.in-Set.path c.in-Set.value c.args.tree.now (passes_as c.args.change.now _ c.args.tree.now c.in-Set.is c.requires)
+exchange-requires c = replaced_needs c.in-Set.path c.in-Set.value c.args.tree.now (passes_as c.args.change.now _ c.args.tree.now c.in-Set.is c.requires.makes)
 
 pub insert_copy-requires : goal.insert_copy-requires
-insert_copy-requires c = rw c.tokens.ensures (passes_as c.args.change.now _ c.args.tree.now c.in-AddMember.is c.requires)
+insert_copy-requires c = rw c.tokens.ensures (passes_as c.args.change.now _ c.args.tree.now c.in-AddMember.is c.requires.makes)
 
 pub insert_copy-requires-in-AddItem : goal.insert_copy-requires-in-AddItem
-insert_copy-requires-in-AddItem c = rw c.tokens-in-AddItem.ensures (passes_as c.args.change.now _ c.args.tree.now c.in-AddItem.is c.requires)
+insert_copy-requires-in-AddItem c = rw c.tokens-in-AddItem.ensures (passes_as c.args.change.now _ c.args.tree.now c.in-AddItem.is c.requires.makes)
 
 pub remove_at-requires : goal.remove_at-requires
-remove_at-requires c = rw c.tokens-in-DropMember.ensures (passes_as c.args.change.now _ c.args.tree.now c.in-DropMember.is c.requires)
+remove_at-requires c = rw c.tokens-in-DropMember.ensures (passes_as c.args.change.now _ c.args.tree.now c.in-DropMember.is c.requires.makes)
 
 pub remove_at-requires-in-DropItem : goal.remove_at-requires-in-DropItem
-remove_at-requires-in-DropItem c = rw c.tokens-in-DropItem.ensures (passes_as c.args.change.now _ c.args.tree.now c.in-DropItem.is c.requires)
-
-pub remove_at-value-requires : goal.remove_at-value-requires
-remove_at-value-requires c = rw c.tokens-in-Move.ensures (move_leaves c.args.change.now c.args.tree.now c.in-Move.from c.in-Move.to c.in-Move.value c.in-Move.is c.requires)
-
-pub put-requires : goal.put-requires
-put-requires c =
-    let there = rw c.tokens-in-Move.ensures at c.remove_at-value.ensures.value in
-    let went = rw c.tokens-in-Move.ensures at c.remove_at-value.ensures.rest in
-    move_lands c.args.change.now c.args.tree.now c.in-Move.from c.in-Move.to c.in-Move.value c.remove_at-value.result c.remove_at-value.new.tree c.in-Move.is c.requires there went
+remove_at-requires-in-DropItem c = rw c.tokens-in-DropItem.ensures (passes_as c.args.change.now _ c.args.tree.now c.in-DropItem.is c.requires.makes)
 
 pub returns-in-AddMember-clause-made : goal.returns-in-AddMember-clause-made
-returns-in-AddMember-clause-made c = on_ok c.insert_copy.result (rw c.tokens.ensures at c.insert_copy.ensures.made) (makes_as c.args.change.now _ c.args.tree.now c.insert_copy.new.tree c.in-AddMember.is c.requires)
+returns-in-AddMember-clause-made c = on_ok c.insert_copy.result (rw c.tokens.ensures at c.insert_copy.ensures.made) (makes_as c.args.change.now _ c.args.tree.now c.insert_copy.new.tree c.in-AddMember.is c.requires.makes)
 
 pub returns-in-AddItem-clause-made : goal.returns-in-AddItem-clause-made
-returns-in-AddItem-clause-made c = on_ok c.insert_copy-in-AddItem.result (rw c.tokens-in-AddItem.ensures at c.insert_copy-in-AddItem.ensures.made) (makes_as c.args.change.now _ c.args.tree.now c.insert_copy-in-AddItem.new.tree c.in-AddItem.is c.requires)
+returns-in-AddItem-clause-made c = on_ok c.insert_copy-in-AddItem.result (rw c.tokens-in-AddItem.ensures at c.insert_copy-in-AddItem.ensures.made) (makes_as c.args.change.now _ c.args.tree.now c.insert_copy-in-AddItem.new.tree c.in-AddItem.is c.requires.makes)
 
 pub returns-in-DropMember-clause-made : goal.returns-in-DropMember-clause-made
-returns-in-DropMember-clause-made c = makes_as c.args.change.now _ c.args.tree.now c.remove_at.new.tree c.in-DropMember.is c.requires (rw c.tokens-in-DropMember.ensures at c.remove_at.ensures.rest)
+returns-in-DropMember-clause-made c = makes_as c.args.change.now _ c.args.tree.now c.remove_at.new.tree c.in-DropMember.is c.requires.makes (rw c.tokens-in-DropMember.ensures at c.remove_at.ensures.rest)
 
 pub returns-in-DropItem-clause-made : goal.returns-in-DropItem-clause-made
-returns-in-DropItem-clause-made c = makes_as c.args.change.now _ c.args.tree.now c.remove_at-in-DropItem.new.tree c.in-DropItem.is c.requires (rw c.tokens-in-DropItem.ensures at c.remove_at-in-DropItem.ensures.rest)
+returns-in-DropItem-clause-made c = makes_as c.args.change.now _ c.args.tree.now c.remove_at-in-DropItem.new.tree c.in-DropItem.is c.requires.makes (rw c.tokens-in-DropItem.ensures at c.remove_at-in-DropItem.ensures.rest)
 
 pub returns-in-Move-clause-made : goal.returns-in-Move-clause-made
-returns-in-Move-clause-made c =
-    let there = rw c.tokens-in-Move.ensures at c.remove_at-value.ensures.value in
-    let went = rw c.tokens-in-Move.ensures at c.remove_at-value.ensures.rest in
-    on_ok c.put.result c.put.ensures.made (move_made c.args.change.now c.args.tree.now c.in-Move.from c.in-Move.to c.in-Move.value c.remove_at-value.result c.remove_at-value.new.tree c.put.new.tree c.in-Move.is c.requires there went)
+returns-in-Move-clause-made c = absurd (no_move c.args.change.now _ _ _ c.in-Move.is c.requires.stays)
 
 pub returns-in-Move-clause-went : goal.returns-in-Move-clause-went
-returns-in-Move-clause-went c =
-    let rest = rw c.tokens-in-Move.ensures at c.remove_at-value.ensures.rest in
-    if_ok c.put.result c.put.ensures.went (λ went h. h ∙ move_gone c.args.change.now c.args.tree.now c.in-Move.from c.in-Move.to c.in-Move.value c.remove_at-value.new.tree c.in-Move.is rest)
+returns-in-Move-clause-went c = absurd (no_move c.args.change.now _ _ _ c.in-Move.is c.requires.stays)
 
 pub returns-in_ok-value-in-Copy-clause-made : goal.returns-in_ok-value-in-Copy-clause-made
 returns-in_ok-value-in-Copy-clause-made c =
-    on_ok c.put-in-Copy.result (rw c.in_ok-value-in-Copy.ensures at c.put-in-Copy.ensures.made) (makes_as c.args.change.now _ c.args.tree.now c.put-in-Copy.new.tree c.in-Copy.is c.requires)
+    on_ok c.put.result (rw c.in_ok-value-in-Copy.ensures at c.put.ensures.made) (makes_as c.args.change.now _ c.args.tree.now c.put.new.tree c.in-Copy.is c.requires.makes)
 
 pub returns-in_ok-value-in-Set-clause-went : goal.returns-in_ok-value-in-Set-clause-went
 returns-in_ok-value-in-Set-clause-went c = rw c.in-Set.is (sym (at_reached c.in-Set.path c.args.tree.now c.exchange.result c.exchange.ensures.old))
@@ -65,6 +51,3 @@ returns-in-DropMember-clause-went c = rw c.in-DropMember.is (sym (at_reached c.i
 pub returns-in-DropItem-clause-went : goal.returns-in-DropItem-clause-went
 returns-in-DropItem-clause-went c =
     rw c.in-DropItem.is (sym (at_reached c.in-DropItem.path c.args.tree.now c.remove_at-in-DropItem.result (rw c.tokens-in-DropItem.ensures at c.remove_at-in-DropItem.ensures.value)))
-
-pub returns-in-Move-clause-err : goal.returns-in-Move-clause-err
-returns-in-Move-clause-err c = rw c.in-Move.is (on_err_of c.put.result (λ still. cc))

@@ -1,34 +1,53 @@
-use Rattle.std.proofs.Common.{◌∙◌, ◌+◌, ◌<◌, ◌≤◌, length, sym, ap, arith}
-use Rattle.relay_tree.proofs.Each.{behind, rest_from, behind_none, one_more, refused_here, all_read}
+use Rattle.std.proofs.Common.{◌∙◌, ◌≡◌, ◌+◌, ◌<◌, ◌≤◌, suc, Ok, Err, length, refl, sym, ap, subst, append-nil, arith}
+use Rattle.std.specs.Prelude.{vec_len, vec_capacity}
+use Rattle.std.specs.Vec.Iter.{into_iter_items, into_iter_len}
+use Rattle.std.proofs.lemmas.List.{nil_from_length}
+use Rattle.relay_tree.specs.Document.{items_of}
+use Rattle.relay_tree.specs.Each.{each_from}
+use Rattle.relay_tree.proofs.Each.{behind, behind_none, read_more}
 use Rattle.relay_patch.specs.Form.{op_at}
 use Rattle.relay_patch.proofs.form.reading.ops_of.Goals as goal
 
-pub loop-at-init : goal.loop-at-init
-loop-at-init c =
-    let items = c.args.items.now in
-    let reads = op_at c.args.tokens in
+pub loop-item-init : goal.loop-item-init
+loop-item-init c =
+    let given = c.into_iter-item-iterator.ensures.into_iter_gives in
     let vector = c.in-Ok.ensures in
-    record { read = ap (λ ops. behind ops (rest_from reads 0 items)) vector.items ∙ behind_none (rest_from reads 0 items); len = vector.len; room = vector.capacity }
+    let long = c.args.items.ok.0 in
+    let counted : into_iter_len c.into_iter-item-iterator.result ≡ length (into_iter_items c.into_iter-item-iterator.result) = given.1 ∙ long ∙ ap length (sym given.0) in
+    let none = vector.len in
+    let room = vector.capacity in
+    let same = ap length given.0 in
+    record { read = rw (vector.items, vector.len, given.0) (behind_none (each_from (op_at c.args.tokens) 0 (items_of c.args.items.items))); len = counted; room = grind (arith, none, room, same, long) }
+
+pub push_reserved-requires : goal.push_reserved-requires
+push_reserved-requires c =
+    let longer = ap length c.in-Some.ensures.steps.0 in
+    let room = c.loop-item.invariant.room in
+    grind (arith, longer, room)
 
 pub returns-in-Err-clause-err : goal.returns-in-Err-clause-err
 returns-in-Err-clause-err c is_refused =
-    let items = c.args.items.now in
-    let l = c.loop-at in
-    let within : l.at < length items = grind arith in
-    sym l.invariant.read ∙ refused_here (op_at c.args.tokens) items l.at c.index-items-at.result l.ops.items c.in-Err.fault within c.index-items-at.is (c.in-Err.ensures.err is_refused)
+    let l = c.loop-item in
+    let refused = subst (λ n. op_at c.args.tokens n c.in-Some.item ≡ Err c.in-Err.fault) c.len-in-loop-item.ensures (c.in-Err.ensures.err is_refused) in
+    let here = ap (λ xs. behind l.ops.items (each_from (op_at c.args.tokens) (vec_len l.ops) (items_of xs))) c.in-Some.ensures.steps.0 in
+    sym l.invariant.read ∙ here ∙ rw refused refl
 
-pub loop-at-preserved : goal.loop-at-preserved
-loop-at-preserved c =
-    let items = c.args.items.now in
-    let reads = op_at c.args.tokens in
-    let l = c.loop-at in
+pub loop-item-preserved : goal.loop-item-preserved
+loop-item-preserved c =
+    let l = c.loop-item in
+    let steps = c.in-Some.ensures.steps in
     let pushed = c.push_reserved.ensures in
-    let within : l.at < length items = grind arith in
-    let more = one_more reads items l.at c.index-items-at.result l.ops.items c.in-Ok-op_at.op within c.index-items-at.is c.in-Ok-op_at.ensures.ok in
-    record { read = ap (λ ops. behind ops (rest_from reads (l.at + 1) items)) pushed.items ∙ more ∙ l.invariant.read; len = grind arith; room = grind arith }
+    let left = into_iter_items c.next.new.self in
+    let found = subst (λ n. op_at c.args.tokens n c.in-Some.item ≡ Ok c.in-Ok-op_at.op) c.len-in-loop-item.ensures c.in-Ok-op_at.ensures.ok in
+    let more = read_more (op_at c.args.tokens) (vec_len l.ops) c.in-Some.item (items_of left) l.ops.items c.in-Ok-op_at.op found in
+    let here = ap (λ xs. behind l.ops.items (each_from (op_at c.args.tokens) (vec_len l.ops) (items_of xs))) steps.0 in
+    let longer = ap length steps.0 in
+    let room = l.invariant.room in
+    let over : into_iter_len c.next.new.self + 1 ≡ suc (length left) = steps.1 ∙ l.invariant.len ∙ longer in
+    record { read = rw (pushed.items, pushed.len) (more ∙ sym here ∙ l.invariant.read); len = omega (arith, over); room = grind (arith, longer, room) }
 
 pub returns-clause-ok : goal.returns-clause-ok
 returns-clause-ok c =
-    let items = c.args.items.now in
-    let past : length items ≤ c.loop-at.at = grind arith in
-    sym c.loop-at.invariant.read ∙ all_read (op_at c.args.tokens) items c.loop-at.at c.loop-at.ops.items past
+    let l = c.loop-item in
+    let none = nil_from_length (into_iter_items l.item-iterator) (sym l.invariant.len ∙ c.in-None.ensures.steps.0) in
+    sym l.invariant.read ∙ rw none (ap Ok (append-nil l.ops.items))

@@ -12,5 +12,5 @@ returns-clause-present c = λ now. returns-clause-exact c ∙ caught_up_present 
 
 pub returns-clause-sizes : goal.returns-clause-sizes
 returns-clause-sizes c =
-    let is : IsRoom c.args.self.now = subst IsRoom c.self.view_is c.self.invariant in
+    let is : IsRoom c.args.self.now = subst IsRoom c.self.view_is c.self.invariant.is in
     subst Fits (sym (returns-clause-exact c)) (caught_up_fits c.args.self.now c.args.rev c.args.view.now is)

@@ -11,14 +11,17 @@ use Rattle.relay_room.proofs.room.Room.edit.Goals as goal
 pub invariant_of-self-2 : goal.invariant_of-self-2
 invariant_of-self-2 c =
     let room : State = record { document = c.self.inside.document; history = c.self.inside.history } in
-    let changes = c.in_ok-changes.changes.items in
+    let changes = c.in_ok-changes.field-0.changes.items in
     let made : c.push.new.self ≡ with_revision changes room.history = c.push.ensures in
-    let inside = after_from_within c.args.patch.now 0 DOCUMENT room.document c.apply.new.tree c.self.invariant.within c.in_ok-changes.ensures.document in
-    let fit = c.in_ok-changes.ensures.sizes (omega arith) c.self.invariant.within in
-    rw made (edited_is_room room changes c.apply.new.tree c.self.invariant (subst IsHistory made c.newest-2.ensures.kept) inside fit c.in_ok-changes.ensures.led)
+    let inside = after_from_within c.args.patch.now 0 DOCUMENT room.document c.apply_within.new.tree c.self.invariant.is.within c.in_ok-changes.ensures.document in
+    let fit = c.in_ok-changes.ensures.sizes (omega arith) in
+    record {
+      is = rw made (edited_is_room room changes c.apply_within.new.tree c.self.invariant.is (subst IsHistory made c.newest-2.ensures.kept) inside fit c.in_ok-changes.ensures.led);
+      weight = c.in_ok-changes.ensures.weight (omega arith);
+    }
 
 pub returns-clause-kept : goal.returns-clause-kept
-returns-clause-kept c = invariant_of-self-2 c
+returns-clause-kept c = (invariant_of-self-2 c).is
 
 pub returns-clause-document : goal.returns-clause-document
 returns-clause-document c =

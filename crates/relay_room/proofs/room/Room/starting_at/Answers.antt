@@ -6,6 +6,9 @@ use Rattle.relay_room.proofs.room.Room.starting_at.Goals as goal
 
 pub invariant_of-result : goal.invariant_of-result
 invariant_of-result c =
-    rw c.in_ok-history.ensures.ok (begun_is_room c.args.document c.args.rev c.args.limit
+    let room = begun_is_room c.args.document c.args.rev c.args.limit
     (grind (arith, nat_tests, common_steps)) (grind (arith, nat_tests, common_steps))
-    (grind (arith, common_steps)) (grind (arith, common_steps)) c.if-rev-gt-LAST_REVISION.false)
+    (grind (arith, common_steps)) (grind (arith, common_steps)) c.if-rev-gt-LAST_REVISION.false in
+    let told = c.weight-weight.ensures in
+    let light = c.if-weight.false in
+    rw c.in_ok-history.ensures.ok (record { is = room; weight = omega (arith, told, light) })

@@ -1,10 +1,10 @@
-use Rattle.std.proofs.Common.{◌<◌, ◌≤◌, Ok, length, sym, ap, ◌∙◌, arith}
+use Rattle.std.proofs.Common.{◌<◌, ◌≤◌, ◌≡◌, Ok, length, sym, ap, ◌∙◌, arith}
 use Rattle.relay_tree.specs.Document.{items_of}
 use Rattle.relay_tree.specs.Each.{each_from}
 use Rattle.relay_tree.proofs.Elements.{items_length-items_of}
 use Rattle.relay_patch.specs.Form.{op_at}
 use Rattle.relay_patch.proofs.Forms.{few, many}
-use Rattle.relay_patch.proofs.patch.Patch.from_tree.Goals as goal
+use Rattle.relay_patch.proofs.patch.Patch.from_owned.Goals as goal
 
 pub returns-then-len-limits-clause-err : goal.returns-then-len-limits-clause-err
 returns-then-len-limits-clause-err c is_refused =
@@ -20,7 +20,8 @@ returns-in-Ok-clause-ok c =
     let ok = items.ok in
     let limits = c.args.limits in
     let short : length items.items ≤ limits.ops = grind (arith, ok.0) in
-    rw (← c.tree.view_is, c.in-List.is) (few limits.ops limits.tokens items.items short ∙ ap (λ xs. each_from (op_at limits.tokens) 0 (items_of xs)) (sym c.as_slice.ensures.value) ∙ c.in-Ok.ensures.ok ∙ ap Ok (sym c.from_ops.ensures))
+    let here = ap (λ v. each_from (op_at limits.tokens) 0 (items_of v.items)) (sym c.in-List.items-is) in
+    rw (← c.tree.view_is, c.in-List.is) (few limits.ops limits.tokens items.items short ∙ here ∙ c.in-Ok.ensures.ok ∙ ap Ok (sym c.from_ops.ensures))
 
 pub returns-in-Err-clause-err : goal.returns-in-Err-clause-err
 returns-in-Err-clause-err c is_refused =
@@ -28,7 +29,8 @@ returns-in-Err-clause-err c is_refused =
     let ok = items.ok in
     let limits = c.args.limits in
     let short : length items.items ≤ limits.ops = grind (arith, ok.0) in
-    rw (← c.tree.view_is, c.in-List.is) (few limits.ops limits.tokens items.items short ∙ ap (λ xs. each_from (op_at limits.tokens) 0 (items_of xs)) (sym c.as_slice.ensures.value) ∙ c.in-Err.ensures.err is_refused)
+    let here = ap (λ v. each_from (op_at limits.tokens) 0 (items_of v.items)) (sym c.in-List.items-is) in
+    rw (← c.tree.view_is, c.in-List.is) (few limits.ops limits.tokens items.items short ∙ here ∙ c.in-Err.ensures.err is_refused)
 
 pub returns-in-Err-clause-memory : goal.returns-in-Err-clause-memory
 returns-in-Err-clause-memory c is_memory =

@@ -1,0 +1,149 @@
+#!/usr/bin/env python3
+"""What an edit costs the server's processor, by the size of the document.
+
+    python3 benches/edits.py [EDITS]        (2,000 of each kind)
+
+Starts `./relay serve` (or the program that RELAY names), fills rooms with documents that weigh 1, 8 and 64 KiB, and has one client make
+edits of each kind, of which it keeps some on the way, so that the server is never idle. Frames are made beforehand and replies are
+counted and not read, so the client is not what is measured. It wants nothing but Python.
+"""
+import base64
+import json
+import os
+import socket
+import struct
+import subprocess
+import sys
+import threading
+
+ROOT = os.path.dirname(os.path.dirname(os.path.abspath(__file__)))
+KIBIBYTES = (1, 8, 64)
+
+# How many edits are on the way at most; the relay lets 32 replies wait.
+ON_THE_WAY = 16
+
+
+def frame(request):
+    """A text frame as a client sends it, masked by zeros."""
+    text = json.dumps(request, separators=(",", ":")).encode()
+    size = bytes([0x80 | len(text)]) if len(text) < 126 else (
+        struct.pack(">BH", 0xFE, len(text)) if len(text) < 65536 else struct.pack(">BQ", 0xFF, len(text)))
+    return b"\x81" + size + bytes(4) + text
+
+
+class Client:
+    def __init__(self, port, room):
+        self.stream = socket.create_connection(("127.0.0.1", port))
+        self.stream.setsockopt(socket.IPPROTO_TCP, socket.TCP_NODELAY, 1)
+        key = base64.b64encode(os.urandom(16)).decode()
+        self.stream.sendall(
+            f"GET /rooms/{room} HTTP/1.1\r\nHost: localhost\r\nUpgrade: websocket\r\nConnection: Upgrade\r\n"
+            f"Sec-WebSocket-Key: {key}\r\nSec-WebSocket-Version: 13\r\n\r\n".encode())
+        self.rest = b""
+        self.until(b'"kind":"welcome"', 1)
+
+    def until(self, word, count):
+        """Reads until the word came so often."""
+        while count > 0:
+            part = self.stream.recv(1 << 16)
+            if not part:
+                raise SystemExit("the relay closed the connection")
+            text = self.rest + part
+            count -= text.count(word)
+            self.rest = text[-(len(word) - 1):]
+
+    def edit(self, frames, word):
+        """Sends the frames, some at a time, and waits for an answer to each."""
+        for start in range(0, len(frames), ON_THE_WAY):
+            part = frames[start:start + ON_THE_WAY]
+            self.stream.sendall(b"".join(part))
+            self.until(word, len(part))
+
+
+def watch(port, room):
+    """A watcher that reads what comes and lets it go."""
+    client = Client(port, room)
+    client.stream.sendall(frame({"do": "watch", "id": 1, "view": [""]}))
+    client.until(b'"kind":"snapshot"', 1)
+
+    def drain():
+        while client.stream.recv(1 << 16):
+            pass
+
+    threading.Thread(target=drain, daemon=True).start()
+
+
+def document(kibibytes):
+    """Half a list, half an object, of texts of eight bytes: so many KiB by the relay's weight, less what an insertion takes.
+
+    A value weighs 8 and the bytes of its text and of its member's name.
+    """
+    half = kibibytes * 512 - 64
+    made = {"list": ["abcdefgh"] * (half // 16), "members": {}}
+    number = 0
+    while half > 0:
+        name = f"k{number}"
+        made["members"][name] = "abcdefgh"
+        half -= 16 + len(name)
+        number += 1
+    return made
+
+
+def edit(*ops):
+    return frame({"do": "edit", "id": 2, "patch": list(ops)})
+
+
+def replaced(key, value="ijklmnop"):
+    return {"op": "replace", "path": f"/members/k{key}", "value": value}
+
+
+KINDS = {
+    "replace a member": [edit(replaced(3))],
+    "insert into a list, then remove": [
+        edit({"op": "add", "path": "/list/3", "value": "ijklmnop"}),
+        edit({"op": "remove", "path": "/list/3"}),
+    ],
+    "move in a list": [edit({"op": "move", "from": "/list/0", "path": "/list/9"})],
+    "ten operations": [edit(*(replaced(key) for key in range(10)))],
+    "refused at its second operation": [edit(replaced(3), {"op": "test", "path": "/members/k4", "value": 0})],
+}
+
+
+def processor_seconds(pid):
+    return int(open(f"/proc/{pid}/schedstat").read().split()[0]) / 1e9
+
+
+def measure(serve, port, kibibytes, watched, edits):
+    room = f"r{kibibytes}-{watched}"
+    client = Client(port, room)
+    client.edit([edit({"op": "add", "path": "", "value": document(kibibytes)})], b'"kind":"done"')
+    if watched:
+        watch(port, room)
+    for kind, frames in KINDS.items():
+        word = b'"kind":"refused"' if kind.startswith("refused") else b'"kind":"done"'
+        many = (frames * edits)[:edits]
+        client.edit(many[:200], word)
+        before = processor_seconds(serve.pid)
+        client.edit(many, word)
+        yield kind, (processor_seconds(serve.pid) - before) / edits * 1e6
+    client.stream.close()
+
+
+def main(edits=2000):
+    words = [os.environ.get("RELAY", f"{ROOT}/relay"), "serve", "--port", "0", "--turns", "1000000000000"]
+    serve = subprocess.Popen(words, stdout=subprocess.PIPE, stderr=subprocess.DEVNULL, text=True)
+    try:
+        port = int(serve.stdout.readline().split()[1])
+        for watched in (0, 1):
+            columns = [dict(measure(serve, port, size, watched, int(edits))) for size in KIBIBYTES]
+            print(f"\nMicroseconds of the server's processor an edit, {'one watcher' if watched else 'no watcher'}\n")
+            print("| Edit | " + " | ".join(f"{size} KiB" for size in KIBIBYTES) + " |")
+            print("|---|" + "---|" * len(KIBIBYTES))
+            for kind in KINDS:
+                print(f"| {kind} | " + " | ".join(f"{column[kind]:.0f}" for column in columns) + " |")
+    finally:
+        serve.kill()
+
+
+if __name__ == "__main__":
+    main(*sys.argv[1:])

@@ -1,0 +1,35 @@
+use Rattle.std.proofs.Common.{◌≡◌, ◌++◌, length, ◌∙◌, arith}
+use Rattle.std.specs.List.{insert}
+use Rattle.std.specs.Prelude.{vec_capacity}
+use Rattle.relay_patch.proofs.Regained.{no_room, past_end, with_room}
+use Rattle.relay_patch.proofs.applying.undo.insert_with_room.Goals as goal
+use Rattle.relay_patch.proofs.applying.undo.insert_with_room.Goals.{then-len-capacity-via-then-len-capacity, then-len-capacity-via-else-len-capacity+then-index-len}
+
+pub returns-then-len-capacity : goal.returns-then-len-capacity
+returns-then-len-capacity c =
+    let v = c.args.items.now in
+    let ok = v.ok in
+    let long : c.len.result ≡ length v.items = c.len.ensures ∙ ok.0 in
+    elim c.then-len-capacity.branch [
+      | then-len-capacity-via-then-len-capacity w ↦
+          let full = w.if-len-capacity.true in
+          let size = c.capacity.ensures in
+          no_room v.items (vec_capacity c.args.room) c.args.index c.args.element (omega (arith, full, size, long))
+      | then-len-capacity-via-else-len-capacity+then-index-len w ↦
+          let past = w.if-index-len.true in
+          let again : w.len-else-len-capacity.result ≡ length v.items = w.len-else-len-capacity.ensures ∙ ok.0 in
+          past_end v.items (vec_capacity c.args.room) c.args.index c.args.element (omega (arith, past, again))
+    ]
+
+pub returns : goal.returns
+returns c =
+    let v = c.args.items.now in
+    let ok = v.ok in
+    let long : c.len.result ≡ length v.items = c.len.ensures ∙ ok.0 in
+    let again : c.len-else-len-capacity.result ≡ length v.items = c.len-else-len-capacity.ensures ∙ ok.0 in
+    let size = c.capacity.ensures in
+    let large = c.if-len-capacity.false in
+    let inside = c.if-index-len.false in
+    let whole : c.insert.new.self.items ≡ insert c.append.new.self.items c.args.index c.args.element = rw c.unwrap-2.ensures at c.insert.ensures.items in
+    let moved : c.append.new.self.items ≡ c.clear.new.self.items ++ v.items = rw c.unwrap.ensures at c.append.ensures.items in
+    rw (whole, moved, c.clear.ensures.items) (with_room v.items (vec_capacity c.args.room) c.args.index c.args.element (omega (arith, large, size, long)) (omega (arith, inside, again)))

@@ -1,0 +1,195 @@
+//! Changes carried out so that they can be taken back: all memory is taken, and what takes a change back is kept, before the
+//! tree is changed.
+ghost use Rattle.std.specs.Prelude.{◌≡◌, ◌<◌, ◌^◌, ℕ, Ok, Some, OnOk, IfOk, IsOk};
+ghost use Rattle.relay_tree.specs.Document.{Document, list, Items};
+ghost use Rattle.relay_tree.specs.Part.{items_length};
+ghost use Rattle.relay_pointer.specs.Index.{index_of};
+ghost use Rattle.relay_pointer.specs.Path.{path_of};
+ghost use Rattle.relay_patch.specs.Walk.{then_do, walk};
+ghost use Rattle.relay_patch.specs.Patch.{at_path, drop_child};
+ghost use Rattle.relay_patch.specs.Change.{Makes, in_list, dropped, inserted};
+ghost use Rattle.relay_patch.specs.Undo.{target, taken_back};
+
+use super::container::drop_child;
+use super::exchange::exchange;
+use super::making::{make, put, remove_at};
+use super::undo::{Kept, brought};
+use super::walk::walk;
+use crate::change::{Change, Place};
+use relay_pointer::{Pointer, copy_tokens, index_of};
+use relay_tree::{Node, Tree};
+use std::alloc::{AllocError, Global};
+
+/// Makes a change that is kept. Where memory is refused, what is kept takes back what has been done of it.
+pub(crate) fn make_keeping(
+    alloc: Global,
+    tree: &mut Tree,
+    kept: &mut Vec<Kept>,
+    change: &Change,
+) -> Result<(), AllocError>
+    requires { (next : Document) × Makes tree.old change.now next }
+    ensures made { OnOk result (Makes tree.old change.now tree.new) }
+    ensures back { taken_back tree.new kept.new.items ≡ taken_back tree.old kept.old.items }
+{
+    match change {
+        Change::Set { path, .. } => bring(alloc, tree, kept, path, change),
+        Change::AddMember { path, .. } => bring(alloc, tree, kept, path, change),
+        Change::AddItem { path, .. } => bring(alloc, tree, kept, path, change),
+        Change::DropMember { path } => take_member(alloc, tree, kept, path.tokens()),
+        Change::DropItem { path } => take_item(alloc, tree, kept, path.tokens()),
+        Change::Move { from, to, value } => {
+            take_out(alloc, tree, kept, from)?;
+            put_in(alloc, tree, kept, to, value)
+        }
+        Change::Copy { to, .. } => bring(alloc, tree, kept, &to.path, change),
+    }
+}
+
+// Makes a change that does no more than bring a value to the path.
+fn bring(
+    alloc: Global,
+    tree: &mut Tree,
+    kept: &mut Vec<Kept>,
+    path: &Pointer,
+    change: &Change,
+) -> Result<(), AllocError>
+    requires makes { (next : Document) × Makes tree.old change.now next }
+    requires here { target change.now ≡ Some path.now }
+    ensures made { OnOk result (Makes tree.old change.now tree.new) }
+    ensures back { taken_back tree.new kept.new.items ≡ taken_back tree.old kept.old.items }
+{
+    let path = path.copy(alloc)?;
+    kept.reserve(1)?;
+    let part = make(alloc, tree, change)?;
+    kept.push_reserved(brought(path, part));
+    Ok(())
+}
+
+/// Puts a copy of a value at a place, which is kept.
+pub(crate) fn put_in(
+    alloc: Global,
+    tree: &mut Tree,
+    kept: &mut Vec<Kept>,
+    place: &Place,
+    value: &Tree,
+) -> Result<(), AllocError>
+    requires { IsOk (inserted place.now value.now tree.old) }
+    ensures made { OnOk result (inserted place.now value.now tree.old ≡ Ok tree.new) }
+    ensures back { taken_back tree.new kept.new.items ≡ taken_back tree.old kept.old.items }
+{
+    let value = value.copy(alloc)?;
+    let path = place.path.copy(alloc)?;
+    kept.reserve(1)?;
+    let part = put(alloc, tree, place, value)?;
+    kept.push_reserved(brought(path, part));
+    Ok(())
+}
+
+/// Takes away what stands at a place, which is kept.
+pub(crate) fn take_out(
+    alloc: Global,
+    tree: &mut Tree,
+    kept: &mut Vec<Kept>,
+    place: &Place,
+) -> Result<(), AllocError>
+    requires { IsOk (dropped place.now tree.old) }
+    ensures made { OnOk result (dropped place.now tree.old ≡ Ok tree.new) }
+    ensures back { taken_back tree.new kept.new.items ≡ taken_back tree.old kept.old.items }
+{
+    if place.item {
+        take_item(alloc, tree, kept, place.path.tokens())
+    } else {
+        take_member(alloc, tree, kept, place.path.tokens())
+    }
+}
+
+// Takes an element out of its list.
+fn take_item(
+    alloc: Global,
+    tree: &mut Tree,
+    kept: &mut Vec<Kept>,
+    path: &[String],
+) -> Result<(), AllocError>
+    requires { IsOk (at_path (in_list drop_child) (path_of path.now) tree.old) }
+    ensures made { OnOk result (at_path (in_list drop_child) (path_of path.now) tree.old ≡ Ok tree.new) }
+    ensures back { taken_back tree.new kept.new.items ≡ taken_back tree.old kept.old.items }
+{
+    let [before @ .., last] = path else {
+        return Ok(());
+    };
+    let list = Pointer::from_tokens(copy_tokens(alloc, before)?);
+    let room = Vec::with_capacity(alloc, length_at(tree, before))?;
+    kept.reserve(1)?;
+    let index = position(last.as_str());
+    let element = remove_at(tree, path);
+    kept.push_reserved(Kept::Element {
+        list,
+        index,
+        element,
+        room,
+    });
+    Ok(())
+}
+
+// How many elements the list at the path has.
+fn length_at(tree: &Tree, path: &[String]) -> usize
+    ensures { (ds : Items) → walk tree.now (path_of path.now) ≡ Ok (list ds) → result ≡ items_length ds }
+{
+    match walk(tree, path) {
+        Ok(part) => part.node.list_len().unwrap_or(0),
+        Err(_) => 0,
+    }
+}
+
+// The index that a token is.
+fn position(token: &str) -> usize
+    ensures { (i : ℕ) → index_of token.now ≡ Some i → i < 2 ^ 64 → result ≡ i }
+{
+    match index_of(token) {
+        Some(index) => index as usize,
+        None => 0,
+    }
+}
+
+// Takes a member out of its object. It could not be put back without growth, so the object is exchanged for a copy of it
+// that lacks the member.
+fn take_member(
+    alloc: Global,
+    tree: &mut Tree,
+    kept: &mut Vec<Kept>,
+    path: &[String],
+) -> Result<(), AllocError>
+    requires { IsOk (at_path drop_child (path_of path.now) tree.old) }
+    ensures made { OnOk result (at_path drop_child (path_of path.now) tree.old ≡ Ok tree.new) }
+    ensures back { taken_back tree.new kept.new.items ≡ taken_back tree.old kept.old.items }
+{
+    let [before @ .., last] = path else {
+        return Ok(());
+    };
+    let path = Pointer::from_tokens(copy_tokens(alloc, before)?);
+    let rest = copy_without(alloc, tree, before, last.as_str())?;
+    kept.reserve(1)?;
+    let part = exchange(tree, &path, rest);
+    kept.push_reserved(Kept::Part { path, part });
+    Ok(())
+}
+
+// A copy of the container at the path, without the part that the token names.
+fn copy_without(
+    alloc: Global,
+    tree: &Tree,
+    path: &[String],
+    token: &str,
+) -> Result<Tree, AllocError>
+    requires { IsOk (then_do (walk tree.now (path_of path.now)) (drop_child token.now)) }
+    ensures { IfOk result (λ rest. then_do (walk tree.now (path_of path.now)) (drop_child token.now) ≡ Ok rest) }
+{
+    match walk(tree, path) {
+        Ok(container) => {
+            let mut rest = container.copy(alloc)?;
+            drop(drop_child(&mut rest, token));
+            Ok(rest)
+        }
+        Err(_) => Ok(Tree::from(Node::Null)),
+    }
+}

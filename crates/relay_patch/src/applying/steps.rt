@@ -1,0 +1,214 @@
+//! One operation of a patch: its checks, the change that it comes to, and the bounds on what that makes.
+ghost use Rattle.std.specs.Prelude.{◌≡◌, ◌≢◌, ◌<◌, ◌++◌, Ok, Err, Some, false, IsOk, IsSome, OnOk, OnErr, IfOk, IfErr};
+ghost use Rattle.relay_tree.specs.Document.{Document};
+ghost use Rattle.relay_patch.specs.Walk.{then_do};
+ghost use Rattle.relay_patch.specs.Patch.{effect, within};
+ghost use Rattle.relay_patch.specs.Change.{Makes, Leads, changes_of};
+ghost use Rattle.relay_patch.specs.Measure.{is_move, Known};
+ghost use Rattle.relay_patch.specs.Steps.{listed};
+ghost use Rattle.relay_patch.specs.Undo.{taken_back};
+ghost use Rattle.relay_patch.specs.declared.fault.Cause.TheVariants.{NoMemory};
+
+use super::keeping::{make_keeping, put_in, take_out};
+use super::making::make;
+use super::measuring::{displaced, foresee, gone, measure};
+use super::recording::record;
+use super::undo::Kept;
+use crate::bounds::Bounds;
+use crate::change::Change;
+use crate::fault::Cause;
+use crate::op::Op;
+use relay_tree::Tree;
+use std::alloc::Global;
+
+/// What the operations so far have done to the document.
+#[derive(Drop)]
+pub(crate) struct Done {
+    pub(crate) changes: Vec<Change>,
+    /// The weight of the document, as far as it is bounded, once that is known to be within the bounds.
+    pub(crate) weight: Option<u64>,
+}
+
+/// One operation, which so many others follow, and the bounds on what it makes. What takes it back is kept, unless it is the
+/// last one.
+pub(crate) fn perform(
+    alloc: Global,
+    tree: &mut Tree,
+    kept: &mut Vec<Kept>,
+    done: Done,
+    op: &Op,
+    bounds: Bounds,
+    left: usize,
+) -> Result<Done, Cause>
+    requires { Known bounds tree.old done.weight }
+    ensures known { IfOk result (λ next. Known bounds tree.new next.weight) }
+    ensures weighed { IfOk result (λ next. IsSome next.weight) }
+    ensures document { OnOk result (then_do (effect tree.old op.now) (within bounds) ≡ Ok tree.new) }
+    ensures changes { IfOk result (λ next. next.changes.items ≡ done.changes.items ++ changes_of tree.old op.now) }
+    ensures refused { IfErr result (λ cause. cause ≢ NoMemory → then_do (effect tree.old op.now) (within bounds) ≡ Err cause) }
+    ensures memory { IfErr result (λ cause. cause ≡ NoMemory → IsOk (effect tree.old op.now)) }
+    ensures back { OnOk result (0 < left → taken_back tree.new kept.new.items ≡ taken_back tree.old kept.old.items) }
+    ensures refused_back { OnErr result (taken_back tree.new kept.new.items ≡ taken_back tree.old kept.old.items) }
+{
+    let change = record(alloc, tree, op)?;
+    advance(alloc, tree, kept, done, change, bounds, left)
+}
+
+// Makes the change, if there is one, within the bounds.
+fn advance(
+    alloc: Global,
+    tree: &mut Tree,
+    kept: &mut Vec<Kept>,
+    done: Done,
+    change: Option<Change>,
+    bounds: Bounds,
+    left: usize,
+) -> Result<Done, Cause>
+    requires makes { (next : Document) × Leads tree.old (listed change) next }
+    requires known { Known bounds tree.old done.weight }
+    ensures known { IfOk result (λ next. Known bounds tree.new next.weight) }
+    ensures weighed { IfOk result (λ next. IsSome next.weight) }
+    ensures fits { OnOk result (within bounds tree.new ≡ Ok tree.new) }
+    ensures document { OnOk result (Leads tree.old (listed change) tree.new) }
+    ensures changes { IfOk result (λ next. next.changes.items ≡ done.changes.items ++ listed change) }
+    ensures refused { IfErr result (λ cause. cause ≢ NoMemory → (next : Document) × Leads tree.old (listed change) next × (within bounds next ≡ Err cause)) }
+    ensures back { OnOk result (0 < left → taken_back tree.new kept.new.items ≡ taken_back tree.old kept.old.items) }
+    ensures refused_back { OnErr result (taken_back tree.new kept.new.items ≡ taken_back tree.old kept.old.items) }
+{
+    let Done {
+        mut changes,
+        weight,
+    } = done;
+    let Some(change) = change else {
+        let weight = weigh(tree, weight, bounds)?;
+        return Ok(Done {
+            changes,
+            weight: Some(weight),
+        });
+    };
+    changes.reserve(1)?;
+    let weight = match alter(alloc, tree, kept, weight, &change, bounds, left) {
+        Ok(weight) => weight,
+        Err(cause) => return Err(cause),
+    };
+    changes.push_reserved(change);
+    Ok(Done {
+        changes,
+        weight: Some(weight),
+    })
+}
+
+// The weight of a document within the bounds, which is measured unless it is known.
+fn weigh(tree: &Tree, known: Option<u64>, bounds: Bounds) -> Result<u64, Cause>
+    requires { Known bounds tree.now known }
+    ensures ok { IfOk result (λ n. Known bounds tree.now (Some n)) }
+    ensures err { IfErr result (λ cause. within bounds tree.now ≡ Err cause) }
+{
+    match known {
+        Some(weight) => Ok(weight),
+        None => measure(tree, bounds),
+    }
+}
+
+// Makes a change, and gives the weight after it.
+fn alter(
+    alloc: Global,
+    tree: &mut Tree,
+    kept: &mut Vec<Kept>,
+    known: Option<u64>,
+    change: &Change,
+    bounds: Bounds,
+    left: usize,
+) -> Result<u64, Cause>
+    requires makes { (next : Document) × Makes tree.old change.now next }
+    requires known { Known bounds tree.old known }
+    ensures known { IfOk result (λ n. Known bounds tree.new (Some n)) }
+    ensures made { OnOk result (Makes tree.old change.now tree.new) }
+    ensures refused { IfErr result (λ cause. cause ≢ NoMemory → (next : Document) × Makes tree.old change.now next × (within bounds next ≡ Err cause)) }
+    ensures back { OnOk result (0 < left → taken_back tree.new kept.new.items ≡ taken_back tree.old kept.old.items) }
+    ensures refused_back { OnErr result (taken_back tree.new kept.new.items ≡ taken_back tree.old kept.old.items) }
+{
+    match weigh(tree, known, bounds) {
+        Ok(weight) if left == 0 && !is_move(change) => {
+            alter_last(alloc, tree, weight, change, bounds)
+        }
+        Ok(weight) => alter_keeping(alloc, tree, kept, weight, change, bounds),
+        Err(_) => alter_unjudged(alloc, tree, kept, change, bounds),
+    }
+}
+
+// A move takes its value away before it puts it elsewhere, which may want memory.
+fn is_move(change: &Change) -> bool
+    ensures { result ≡ is_move change.now }
+{
+    matches!(change, Change::Move { .. })
+}
+
+// Makes a change once nothing can refuse it any more, of a document of this weight.
+fn alter_last(
+    alloc: Global,
+    tree: &mut Tree,
+    weight: u64,
+    change: &Change,
+    bounds: Bounds,
+) -> Result<u64, Cause>
+    requires makes { (next : Document) × Makes tree.old change.now next }
+    requires stays { is_move change.now ≡ false }
+    requires known { Known bounds tree.old (Some weight) }
+    ensures known { IfOk result (λ n. Known bounds tree.new (Some n)) }
+    ensures made { OnOk result (Makes tree.old change.now tree.new) }
+    ensures refused { IfErr result (λ cause. cause ≢ NoMemory → (next : Document) × Makes tree.old change.now next × (within bounds next ≡ Err cause)) }
+    ensures unchanged { OnErr result (tree.new ≡ tree.old) }
+{
+    let weight = foresee(weight, change, gone(tree, change), bounds)?;
+    drop(make(alloc, tree, change)?);
+    Ok(weight)
+}
+
+// Makes a change that is kept, of a document of this weight. A move is judged once its value is taken out.
+fn alter_keeping(
+    alloc: Global,
+    tree: &mut Tree,
+    kept: &mut Vec<Kept>,
+    weight: u64,
+    change: &Change,
+    bounds: Bounds,
+) -> Result<u64, Cause>
+    requires makes { (next : Document) × Makes tree.old change.now next }
+    requires known { Known bounds tree.old (Some weight) }
+    ensures known { IfOk result (λ n. Known bounds tree.new (Some n)) }
+    ensures made { OnOk result (Makes tree.old change.now tree.new) }
+    ensures refused { IfErr result (λ cause. cause ≢ NoMemory → (next : Document) × Makes tree.old change.now next × (within bounds next ≡ Err cause)) }
+    ensures back { taken_back tree.new kept.new.items ≡ taken_back tree.old kept.old.items }
+{
+    let Change::Move { from, to, value } = change else {
+        let next = foresee(weight, change, gone(tree, change), bounds)?;
+        make_keeping(alloc, tree, kept, change)?;
+        return Ok(next);
+    };
+    take_out(alloc, tree, kept, from)?;
+    let next = match foresee(weight, change, displaced(tree, to), bounds) {
+        Ok(next) => next,
+        Err(cause) => return Err(cause),
+    };
+    put_in(alloc, tree, kept, to, value)?;
+    Ok(next)
+}
+
+// Makes a change that is kept, of a document that is not within the bounds, and measures what that has made.
+fn alter_unjudged(
+    alloc: Global,
+    tree: &mut Tree,
+    kept: &mut Vec<Kept>,
+    change: &Change,
+    bounds: Bounds,
+) -> Result<u64, Cause>
+    requires { (next : Document) × Makes tree.old change.now next }
+    ensures known { IfOk result (λ n. Known bounds tree.new (Some n)) }
+    ensures made { OnOk result (Makes tree.old change.now tree.new) }
+    ensures refused { IfErr result (λ cause. cause ≢ NoMemory → (next : Document) × Makes tree.old change.now next × (within bounds next ≡ Err cause)) }
+    ensures back { taken_back tree.new kept.new.items ≡ taken_back tree.old kept.old.items }
+{
+    make_keeping(alloc, tree, kept, change)?;
+    measure(tree, bounds)
+}
