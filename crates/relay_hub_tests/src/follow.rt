@@ -1,25 +1,9 @@
 //! What a follower holds after each text that it hears.
 use relay_follow::{Follower, HearFault};
-use relay_tree::{Tree, TreeFault};
+use relay_tree::{Tree, read};
 use std::alloc::{AllocError, AllocGlobal, Global};
 use std::process::Abort;
 use std::test::Fail;
-
-/// What the follower says to the text. Where it found no memory it is as it was, and hears it once more.
-fn hear(alloc: Global, follower: &mut Follower, text: &str) -> Result<(), HearFault> {
-    match follower.hear(alloc, text) {
-        Err(HearFault::NoMemory) => follower.hear(alloc, text),
-        heard => heard,
-    }
-}
-
-/// The tree of a text, sought once more where there was no memory.
-fn read(alloc: Global, text: &str) -> Result<Tree, TreeFault> {
-    match relay_tree::read(alloc, text) {
-        Err(TreeFault::NoMemory) => relay_tree::read(alloc, text),
-        tree => tree,
-    }
-}
 
 /// The revision and the view that the follower holds, in words.
 fn held(alloc: Global, follower: &Follower) -> Result<String, AllocError> {
@@ -41,7 +25,7 @@ fn hears(
     rows: &[(&str, Result<(), HearFault>, &str)],
 ) -> Result<(), Fail> {
     for (text, answer, expected) in rows {
-        assert_eq!(rt; hear(rt.alloc(), follower, *text), *answer, "{text}");
+        assert_eq!(rt; follower.hear(rt.alloc(), *text), *answer, "{text}");
         let found = held(rt.alloc(), follower)?;
         assert_eq!(rt; found.as_str(), *expected, "after {text}");
     }

@@ -2,7 +2,7 @@
 ghost use Rattle.std.specs.Prelude.{◌≡◌, map, IfOk, IfSome};
 ghost use Rattle.relay_history.specs.History.{changes_since};
 
-use relay_history::{History, HistoryFault, LAST_REVISION};
+use relay_history::{History, HistoryFault, LAST_REVISION, MOST_REVISIONS};
 use relay_patch::Change;
 use relay_pointer::Pointer;
 use relay_tree::{Node, Tree};
@@ -130,7 +130,12 @@ fn gives_all_changes_of_each_revision(rt: HostRuntime) -> Result<(), Fail> {
 
 #[test]
 fn refuses_limits_out_of_range(rt: HostRuntime) {
-    for (h, start) in [(0, 0), (1_025, 0), (u64::MAX, 0), (1, LAST_REVISION + 1)] {
+    for (h, start) in [
+        (0, 0),
+        (MOST_REVISIONS + 1, 0),
+        (u64::MAX, 0),
+        (1, LAST_REVISION + 1),
+    ] {
         assert_eq!(rt;
             History::new(rt.alloc(), h, start).err(),
             Some(HistoryFault::BadLimit),

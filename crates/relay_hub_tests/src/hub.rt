@@ -1,8 +1,10 @@
 //! Calls of a hub, one after the other, with their answers, and its limits. Scripts that watch, edit and resume are tested in
 //! `relay_server_tests`.
 use crate::hub::Call::{Close, Draw, MayHear, Open, Say, Truth, Waiting};
-use relay_hub::{Answer, Event, Heard, Hub, HubFault, HubNewFault, Text};
-use relay_tree::Tree;
+use relay_history::MOST_REVISIONS;
+use relay_hub::{Heard, Hub, HubFault, HubNewFault};
+use relay_outbox::{MOST_PATCHES, REPLIES};
+use relay_tree::{COUNT_MOST, Tree};
 use std::alloc::{AllocError, AllocGlobal, Global};
 use std::fmt::Debug;
 use std::process::Abort;
@@ -14,11 +16,12 @@ const NAME_65: &str = "aaaaaaaaaaaaaaaaaaaaaaaaaaaaaaaaaaaaaaaaaaaaaaaaaaaaaaaaa
 /// As many as it may have.
 const NAME_64: &str = "aaaaaaaaaaaaaaaaaaaaaaaaaaaaaaaaaaaaaaaaaaaaaaaaaaaaaaaaaaaaaaaa";
 
-const WATCH: &str = r#"{"do":"watch","id":1,"view":["/x"]}"#;
+pub(crate) const WATCH: &str = r#"{"do":"watch","id":1,"view":["/x"]}"#;
 
-const EDIT: &str = r#"{"do":"edit","id":2,"patch":[{"op":"add","path":"","value":{"x":1}}]}"#;
+pub(crate) const EDIT: &str =
+    r#"{"do":"edit","id":2,"patch":[{"op":"add","path":"","value":{"x":1}}]}"#;
 
-const REFUSED: &str =
+pub(crate) const REFUSED: &str =
     r#"{"do":"edit","id":3,"patch":[{"op":"replace","path":"/x","value":2},{"op":"remove","path":"/y"}]}"#;
 
 /// One call of a hub; all but the first name a session.
@@ -43,7 +46,10 @@ fn drawn(alloc: Global, text: Result<Option<String>, HubFault>) -> Result<String
 }
 
 /// The revision and the view that a session is to hold, in words.
-fn seen(alloc: Global, held: Result<Option<(u64, Tree)>, HubFault>) -> Result<String, AllocError> {
+pub(crate) fn seen(
+    alloc: Global,
+    held: Result<Option<(u64, Tree)>, HubFault>,
+) -> Result<String, AllocError> {
     match held {
         Ok(Some((rev, view))) => {
             let view = view.text(alloc)?;
@@ -84,98 +90,6 @@ fn tells(
     Ok(())
 }
 
-fn text_of(alloc: Global, text: &str) -> Result<Text, AllocError> {
-    Ok(Text::of(String::from_str(alloc, text)?))
-}
-
-/// The event that the call is; the others only look.
-fn event_of(alloc: Global, call: Call) -> Result<Event, Fail> {
-    match call {
-        Open(room) => Ok(Event::Open {
-            room: text_of(alloc, room)?,
-        }),
-        Say(session, text) => Ok(Event::Receive {
-            session,
-            text: text_of(alloc, text)?,
-        }),
-        Draw(session) => Ok(Event::Draw { session }),
-        Close(session) => Ok(Event::Close { session }),
-        _ => Err(Fail::from("no event")),
-    }
-}
-
-fn events_of(alloc: Global, calls: &[Call]) -> Result<Vec<Event>, Fail> {
-    let mut events = Vec::new(alloc);
-    for call in calls {
-        let event = event_of(alloc, *call)?;
-        events.push(event)?;
-    }
-    Ok(events)
-}
-
-/// What a new hub answers to these calls, as one run.
-fn run(alloc: Global, calls: &[Call]) -> Result<Vec<Answer>, Fail> {
-    let events = events_of(alloc, calls)?;
-    let mut hub = Hub::new(alloc, 1, 1, 64, 32)?;
-    match hub.run(alloc, events.as_slice()) {
-        Ok(answers) => Ok(answers),
-        Err(_) => Err(Fail::from("memory")),
-    }
-}
-
-/// An answer, in words: of a draw the text itself, where there was one.
-fn in_words(alloc: Global, answer: &Answer) -> Result<String, AllocError> {
-    match answer {
-        Answer::Drawn(Some(text)) => String::from_str(alloc, text.as_str()),
-        other => format!(in alloc; "{other:?}"),
-    }
-}
-
-/// The answers are these, one after the other.
-fn are(rt: &(impl Abort + AllocGlobal), answers: &[Answer], expected: &[&str]) -> Result<(), Fail> {
-    assert_eq!(rt; answers.len(), expected.len());
-    for (answer, want) in answers.iter().zip(expected) {
-        let answer = in_words(rt.alloc(), answer)?;
-        assert_eq!(rt; answer.as_str(), *want);
-    }
-    Ok(())
-}
-
-#[test]
-fn runs_the_first_script(rt: HostRuntime) -> Result<(), Fail> {
-    let answers = run(
-        rt.alloc(),
-        &[
-            Open("r"),
-            Say(1, WATCH),
-            Say(1, EDIT),
-            Say(1, REFUSED),
-            Draw(1),
-            Draw(1),
-            Draw(1),
-            Draw(1),
-            Draw(1),
-            Draw(1),
-        ],
-    )?;
-    are(
-        &rt,
-        answers.as_slice(),
-        &[
-            "Opened(1)",
-            "Heard(Answered { short: 0 })",
-            "Heard(Answered { short: 0 })",
-            "Heard(Answered { short: 0 })",
-            r#"{"epoch":1,"kind":"welcome","rev":0,"session":1}"#,
-            r#"{"id":1,"kind":"watching"}"#,
-            r#"{"id":2,"kind":"done","rev":1}"#,
-            r#"{"at":1,"fault":"missing","id":3,"kind":"refused"}"#,
-            r#"{"kind":"snapshot","rev":1,"view":[[1]]}"#,
-            "Drawn(None)",
-        ],
-    )
-}
-
 #[test]
 fn answers_the_first_script_call_by_call(rt: HostRuntime) -> Result<(), Fail> {
     let mut hub = Hub::new(rt.alloc(), 1, 1, 64, 32)?;
@@ -213,7 +127,7 @@ fn answers_the_first_script_call_by_call(rt: HostRuntime) -> Result<(), Fail> {
 fn with_32_replies(rt: &(impl Abort + AllocGlobal)) -> Result<Hub, Fail> {
     let mut hub = Hub::new(rt.alloc(), 1, 1, 64, 32)?;
     assert_eq!(rt; hub.open(rt.alloc(), "r"), Ok(1));
-    for _ in 0..31 {
+    for _ in 1..REPLIES {
         let heard = hub.receive(rt.alloc(), 1, "x");
         assert_eq!(rt; heard, Ok(Heard::Answered { short: 0 }));
     }
@@ -261,9 +175,9 @@ fn knows_no_session_that_was_closed(rt: HostRuntime) -> Result<(), Fail> {
 fn refuses_limits_out_of_range(rt: HostRuntime) {
     for (epoch, first, history, waiting) in [
         (1, 1, 0, 32),
-        (1, 1, 1_025, 32),
-        (1, 1, 64, 257),
-        (9_007_199_254_740_992, 1, 64, 32),
+        (1, 1, MOST_REVISIONS + 1, 32),
+        (1, 1, 64, MOST_PATCHES + 1),
+        (COUNT_MOST + 1, 1, 64, 32),
     ] {
         let refused = Hub::new(rt.alloc(), epoch, first, history, waiting).err();
         assert_eq!(rt; refused, Some(HubNewFault::BadLimit));
@@ -272,7 +186,7 @@ fn refuses_limits_out_of_range(rt: HostRuntime) {
 
 #[test]
 fn numbers_sessions_up_to_the_last_count(rt: HostRuntime) -> Result<(), Fail> {
-    let mut hub = Hub::new(rt.alloc(), 1, 9_007_199_254_740_991, 64, 32)?;
+    let mut hub = Hub::new(rt.alloc(), 1, COUNT_MOST, 64, 32)?;
     tells(
         &rt,
         &mut hub,

@@ -10,10 +10,14 @@ mod history;
 #[cfg(test)]
 mod hub;
 #[cfg(test)]
+mod limits;
+#[cfg(test)]
 mod outbox;
 #[cfg(test)]
 mod proto;
 #[cfg(test)]
 mod room;
+#[cfg(test)]
+mod runs;
 #[cfg(test)]
 mod shake;

@@ -1,6 +1,7 @@
 //! Texts of requests and messages, as `docs/PROTOCOL.md` shows them.
 use relay_proto::{
-    How, Message, MessageFault, Refusal, Reply, Request, RequestFault, Word, is_room_name,
+    How, Message, MessageFault, REQUEST_MOST, Refusal, Reply, Request, RequestFault, Word,
+    is_room_name,
 };
 use relay_tree::read;
 use std::alloc::{AllocError, AllocGlobal, Global};
@@ -239,15 +240,15 @@ fn unwatch_of(alloc: Global, len: usize) -> Result<String, AllocError> {
 }
 
 #[test]
-fn reads_262144_bytes(rt: HostRuntime) -> Result<(), Fail> {
-    let text = unwatch_of(rt.alloc(), 262_144)?;
+fn reads_as_many_bytes_as_a_request_may_have(rt: HostRuntime) -> Result<(), Fail> {
+    let text = unwatch_of(rt.alloc(), REQUEST_MOST as usize)?;
     assert!(rt; Request::read(rt.alloc(), text.as_str()).is_ok());
     Ok(())
 }
 
 #[test]
-fn refuses_262145_bytes(rt: HostRuntime) -> Result<(), Fail> {
-    let text = unwatch_of(rt.alloc(), 262_145)?;
+fn refuses_one_byte_more(rt: HostRuntime) -> Result<(), Fail> {
+    let text = unwatch_of(rt.alloc(), REQUEST_MOST as usize + 1)?;
     let expected = Refusal {
         fault: Word::TooLong,
         id: None,

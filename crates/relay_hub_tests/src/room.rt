@@ -1,7 +1,7 @@
 //! Rooms: how they start, what an edit makes of them, and what somebody missed.
-use relay_history::LAST_REVISION;
-use relay_patch::{Patch, PatchLimits};
-use relay_room::{CatchFault, CatchUp, Room, RoomFault};
+use relay_history::{LAST_REVISION, MOST_REVISIONS};
+use relay_patch::{DEPTH_MOST, Patch, PatchLimits};
+use relay_room::{CatchUp, Room, RoomFault};
 use relay_tree::{Node, Tree, read};
 use relay_view::View;
 use std::alloc::{AllocError, AllocGlobal, Global};
@@ -20,8 +20,7 @@ fn missed(alloc: Global, room: &Room, rev: u64, view: &View) -> Result<String, A
         Ok(CatchUp::Nothing) => String::from_str(alloc, "nothing"),
         Ok(CatchUp::Patch(patch)) => patch.to_tree(alloc)?.text(alloc),
         Ok(CatchUp::Snapshot) => String::from_str(alloc, "snapshot"),
-        Err(CatchFault::Future) => String::from_str(alloc, "future"),
-        Err(CatchFault::NoMemory) => Err(AllocError),
+        Err(fault) => format!(in alloc; "{fault:?}"),
     }
 }
 
@@ -95,16 +94,24 @@ fn nested(alloc: Global, levels: usize) -> Result<Tree, AllocError> {
     Ok(tree)
 }
 
+/// As many levels as a document may have.
+const DEEPEST: usize = DEPTH_MOST as usize;
+
 #[test]
 fn starts_with_a_document_that_is_not_too_deep(rt: HostRuntime) -> Result<(), Fail> {
     for (levels, rev, h, expected) in [
-        (65, 0, 64, Err(RoomFault::TooDeep)),
-        (65, LAST_REVISION + 1, 0, Err(RoomFault::TooDeep)),
-        (64, 0, 64, Ok(0)),
-        (1, 9_007_199_254_740_992, 0, Err(RoomFault::BadRevision)),
-        (1, 9_007_199_254_740_991, 0, Err(RoomFault::BadLimit)),
-        (1, 9_007_199_254_740_991, 1_025, Err(RoomFault::BadLimit)),
-        (1, 9_007_199_254_740_991, 1_024, Ok(9_007_199_254_740_991)),
+        (DEEPEST + 1, 0, 64, Err(RoomFault::TooDeep)),
+        (DEEPEST + 1, LAST_REVISION + 1, 0, Err(RoomFault::TooDeep)),
+        (DEEPEST, 0, 64, Ok(0)),
+        (1, LAST_REVISION + 1, 0, Err(RoomFault::BadRevision)),
+        (1, LAST_REVISION, 0, Err(RoomFault::BadLimit)),
+        (
+            1,
+            LAST_REVISION,
+            MOST_REVISIONS + 1,
+            Err(RoomFault::BadLimit),
+        ),
+        (1, LAST_REVISION, MOST_REVISIONS, Ok(LAST_REVISION)),
     ] {
         let tree = nested(rt.alloc(), levels)?;
         assert_eq!(rt;
@@ -141,7 +148,7 @@ fn begins_with_null(rt: HostRuntime) -> Result<(), Fail> {
     misses(
         &rt,
         &room,
-        &[(0, r#"[""]"#, "nothing"), (1, r#"[""]"#, "future")],
+        &[(0, r#"[""]"#, "nothing"), (1, r#"[""]"#, "Future")],
     )
 }
 
@@ -197,7 +204,7 @@ fn tells_what_was_missed(rt: HostRuntime) -> Result<(), Fail> {
             ),
             (2, r#"["/n"]"#, "snapshot"),
             (0, r#"["/n"]"#, "snapshot"),
-            (6, r#"["/n"]"#, "future"),
+            (6, r#"["/n"]"#, "Future"),
             (3, r#"["/other"]"#, "nothing"),
             (2, r#"["/other"]"#, "snapshot"),
             (

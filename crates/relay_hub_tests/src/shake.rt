@@ -209,15 +209,3 @@ fn refuses_where_there_is_no_room(rt: HostRuntime) -> Result<(), Fail> {
     assert_eq!(rt; reply.as_slice(), refused(503).as_bytes());
     Ok(())
 }
-
-// Also where an allocation is refused: the answer is the same, or there is none.
-#[test]
-fn want_of_memory_changes_no_answer(rt: HostRuntime) {
-    match shake(rt.alloc(), SAMPLE.as_bytes()) {
-        Ok(Shake::Accept { room, reply }) => {
-            assert_eq!(rt; room.as_str(), "a");
-            assert_eq!(rt; reply.len(), 129);
-        }
-        other => assert!(rt; other.is_err(), "another answer"),
-    }
-}

@@ -1,5 +1,5 @@
 -- The stage and the session of a link.
-use Rattle.std.specs.Prelude.{ℕ, ◌≤◌, Bool, true, false, Option, Some, None}
+use Rattle.std.specs.Prelude.{ℕ, ◌≤◌, Bool, true, false, not, Option, Some, None}
 use Rattle.relay_link.specs.declared.cause.Cause.{Cause}
 use Rattle.relay_link.specs.declared.cause.Cause.TheVariants as cause
 use Rattle.relay_link.specs.declared.reply.Verdict.{Verdict}
@@ -26,6 +26,14 @@ module _ {S : Type 0} where
   session_of (Replying stream reply) = entered reply.verdict
   session_of (Open socket s) = Some s
   session_of _ = None
+
+  -- nothing is left to go on with until the stream is ready or a message waits
+  abbrev pub rests : State S → Bool
+  rests (Head stream bytes) = not stream.restless
+  rests (Replying stream reply) = not stream.restless
+  rests (Open socket s) = not socket.stream.restless
+  rests (Closing socket turns) = not socket.stream.restless
+  rests Gone = true
 
 -- the order of the stages
 abbrev pub place : Stage → ℕ

@@ -4,7 +4,7 @@ ghost use Rattle.std.specs.List.{Contains};
 ghost use Rattle.relay_hub.specs.declared.event.Event.TheVariants.{Close};
 ghost use Rattle.relay_link.specs.Adds.{Adds, receives, draws as draws_of};
 ghost use Rattle.relay_link.specs.Follows.{Follows, at, closing_of};
-ghost use Rattle.relay_link.specs.Stage.{stage_of, session_of, leaves, is_over, ended, IsForward};
+ghost use Rattle.relay_link.specs.Stage.{stage_of, session_of, rests, leaves, is_over, ended, IsForward};
 ghost use Rattle.relay_link.specs.declared.link.TheConstants.{DRAWS_MOST};
 ghost use Rattle.relay_link.specs.declared.made.TheConstants.{EVENTS_MOST};
 ghost use Rattle.relay_link.specs.declared.stage.Stage.TheVariants.{Head, Gone};
@@ -73,6 +73,15 @@ impl<S: Read + Write + Drop> Link<S> {
         self.state.stage()
     }
 
+    /// Whether a turn would find nothing to do until the stream is ready for more or a message waits for the session. Not where
+    /// the last turn read a message, since another may have come with it, met want of memory or an interruption, or moved a
+    /// byte.
+    pub fn may_rest(&self) -> bool
+        ensures { result ≡ rests self.now }
+    {
+        self.state.rests()
+    }
+
     /// One turn. It reads a little, changes the hub by the events that it reports, and writes until output waits; at most
     /// `draws` messages are drawn, and at most 32. `AllocError` comes before anything was read, written or changed.
     ///
@@ -80,9 +89,10 @@ impl<S: Read + Write + Drop> Link<S> {
     ///   as a handshake. A good one opens a session; where the hub has no place the answer is 503. Once the reply is out the
     ///   link is Open, or Gone with [`Cause::Refused`].
     /// - Open: while output waits a turn only sends. Else, where the hub may hear the session, one message is read: a text goes
-    ///   to the hub, a ping or pong does nothing, a binary message is closed with 1003 and a close is answered. Then messages
-    ///   are drawn and sent, until output waits; a draw that finds no memory ends the turn. After a binary message or a close
-    ///   the link is Closing. Where the bytes end, the stream fails, frames break the protocol or memory is refused it is Gone.
+    ///   to the hub, a ping is answered, a pong does nothing, a binary message is closed with 1003 and a close is answered.
+    ///   Then messages are drawn, and sent together, 16 KiB at a time, until output waits; a draw that finds no memory ends
+    ///   the turn. After a binary message or a close the link is Closing. Where the bytes end, the stream fails, frames break
+    ///   the protocol or memory is refused it is Gone.
     /// - Closing: one message is read and let go. A link that has not heard the other side's close after 16 such turns is Gone
     ///   with [`Cause::Silent`].
     /// - Gone: nothing.
@@ -106,6 +116,34 @@ impl<S: Read + Write + Drop> Link<S> {
         let mut made = Made::new(alloc)?;
         let state = mem::replace(&mut self.state, State::Gone);
         let next = advance(alloc, state, draws.min(DRAWS_MOST), hub, &mut made);
+        self.state = next.state;
+        Ok(Turn {
+            made: made.into_events(),
+            stage: self.stage(),
+            cause: next.cause,
+        })
+    }
+
+    /// A turn in which nothing is read, for a link whose peer was heard enough: a reply that is not out yet is written on, and
+    /// an open link sends what waits, and then draws and sends as in [`Link::turn`]. All else is left as it is. `AllocError`
+    /// comes before anything was written or changed.
+    pub fn tell(&mut self, alloc: Global, hub: &mut Hub, draws: u64) -> Result<Turn, AllocError>
+        ensures follows { IfOk result (λ turn. Follows (at hub.old (session_of self.old) []) (at hub.new (session_of self.new) turn.made.items)) }
+        ensures few { IfOk result (λ turn. length turn.made.items ≤ EVENTS_MOST) }
+        ensures receives { IfOk result (λ turn. receives turn.made.items ≡ 0) }
+        ensures draws { IfOk result (λ turn. draws_of turn.made.items ≤ min draws DRAWS_MOST) }
+        ensures closed { IfOk result (λ turn. (s : ℕ) → session_of self.old ≡ Some s → session_of self.new ≡ None → Contains turn.made.items (Close s)) }
+        ensures over { OnOk result (is_over (stage_of self.new) ≡ true → session_of self.new ≡ None) }
+        ensures stage { IfOk result (λ turn. turn.stage ≡ stage_of self.new) }
+        ensures forward { IsForward (stage_of self.old) (stage_of self.new) }
+        ensures cause { IfOk result (λ turn. is_some turn.cause ≡ leaves (stage_of self.old) (stage_of self.new)) }
+        ensures gone { IfOk result (λ turn. stage_of self.old ≡ Gone → (turn.made.items ≡ []) × (self.new ≡ self.old)) }
+        ensures unchanged { OnErr result (self.new ≡ self.old) }
+        ensures hub_unchanged { OnErr result (hub.new ≡ hub.old) }
+    {
+        let mut made = Made::new(alloc)?;
+        let state = mem::replace(&mut self.state, State::Gone);
+        let next = say(alloc, state, draws.min(DRAWS_MOST), hub, &mut made);
         self.state = next.state;
         Ok(Turn {
             made: made.into_events(),
@@ -171,5 +209,30 @@ fn advance<S: Read + Write + Drop>(
         }
         State::Closing { socket, turns } => closing::turn(socket, turns),
         State::Gone => Next::on(State::Gone),
+    }
+}
+
+/// A turn in which nothing is read, by the stage of the link.
+#[tactic(auto, using(crate::proofs::Following::follows_same))]
+fn say<S: Read + Write + Drop>(
+    alloc: Global,
+    state: State<S>,
+    draws: u64,
+    hub: &mut Hub,
+    made: &mut Made,
+) -> Next<S>
+    requires { length made.old + draws + 2 ≤ EVENTS_MOST }
+    ensures follows { Follows (at hub.old (session_of state) made.old) (at hub.new (session_of result.state) made.new) }
+    ensures adds { Adds (draws + 2) 0 draws made.old made.new }
+    ensures cause { is_some result.cause ≡ leaves (stage_of state) (stage_of result.state) }
+    ensures forward { IsForward (stage_of state) (stage_of result.state) }
+    ensures gone { stage_of state ≡ Gone → (made.new ≡ made.old) × (result.state ≡ state) }
+{
+    match state {
+        State::Replying { stream, reply } => head::reply(alloc, stream, reply, hub, made),
+        State::Open { socket, session } => {
+            opened::tell(alloc, socket, session, draws, hub, made)
+        }
+        State::Head { .. } | State::Closing { .. } | State::Gone => Next::on(state),
     }
 }

@@ -10,7 +10,7 @@ use crate::cause::Cause;
 use crate::events;
 use crate::made::Made;
 use crate::next::Next;
-use crate::socket::{Socket, close, flush, read, send};
+use crate::socket::{Socket, close, flush, read, write};
 use crate::state::State;
 use relay_hub::Hub;
 use std::alloc::Global;
@@ -47,7 +47,46 @@ pub(crate) fn turn<S: Read + Write + Drop>(
     ensures forward { IsForward Open (stage_of result.state) }
 {
     socket.get_mut().renew();
-    match talk(alloc, &mut socket, session, draws, hub, made) {
+    let talked = talk(alloc, &mut socket, session, draws, hub, made);
+    settle(talked, socket, session, hub, made)
+}
+
+/// A turn of an open link in which nothing is read.
+#[tactic(auto, using(crate::proofs::Following::follows_same, crate::proofs::Following::follows_then))]
+pub(crate) fn tell<S: Read + Write + Drop>(
+    alloc: Global,
+    mut socket: Socket<S>,
+    session: u64,
+    draws: u64,
+    hub: &mut Hub,
+    made: &mut Made,
+) -> Next<S>
+    requires { length made.old + draws + 2 ≤ EVENTS_MOST }
+    ensures follows { Follows (at hub.old (Some session) made.old) (at hub.new (session_of result.state) made.new) }
+    ensures adds { Adds (draws + 2) 0 draws made.old made.new }
+    ensures cause { is_some result.cause ≡ leaves Open (stage_of result.state) }
+    ensures forward { IsForward Open (stage_of result.state) }
+{
+    let told = say_waiting(alloc, &mut socket, session, draws, hub, made);
+    settle(told, socket, session, hub, made)
+}
+
+/// The link after a turn: still open, or its session is closed.
+#[tactic(auto, using(crate::proofs::Following::follows_same, crate::proofs::Following::follows_then))]
+fn settle<S: Read + Write + Drop>(
+    turned: Result<(), Parting>,
+    socket: Socket<S>,
+    session: u64,
+    hub: &mut Hub,
+    made: &mut Made,
+) -> Next<S>
+    requires { length made.old + 1 ≤ EVENTS_MOST }
+    ensures follows { Follows (at hub.old (Some session) made.old) (at hub.new (session_of result.state) made.new) }
+    ensures adds { Adds 1 0 0 made.old made.new }
+    ensures cause { is_some result.cause ≡ leaves Open (stage_of result.state) }
+    ensures forward { IsForward Open (stage_of result.state) }
+{
+    match turned {
         Ok(()) => Next::on(State::Open { socket, session }),
         Err(parting) => {
             events::close(hub, session, made);
@@ -57,6 +96,26 @@ pub(crate) fn turn<S: Read + Write + Drop>(
             }
         }
     }
+}
+
+/// Sends what waits. Where nothing waits any more messages are drawn and sent.
+#[tactic(auto, using(crate::proofs::Following::follows_same, crate::proofs::Following::follows_then))]
+fn say_waiting<S: Read + Write + Drop>(
+    alloc: Global,
+    socket: &mut Socket<S>,
+    session: u64,
+    draws: u64,
+    hub: &mut Hub,
+    made: &mut Made,
+) -> Result<(), Parting>
+    requires { length made.old + draws ≤ EVENTS_MOST }
+    ensures follows { Follows (at hub.old (Some session) made.old) (at hub.new (Some session) made.new) }
+    ensures adds { Adds draws 0 draws made.old made.new }
+{
+    if !flush(socket)? {
+        return Ok(());
+    }
+    send_drawn(alloc, socket, session, draws, hub, made)
 }
 
 /// Sends what waits. Where nothing waits any more a message is heard, and messages are drawn and sent.
@@ -120,7 +179,7 @@ fn hear<S: Read + Write + Drop>(
     }
 }
 
-/// Draws up to so many messages and sends each, until output waits. Where a draw finds no memory it ends the turn.
+/// Draws up to so many messages, and sends them together.
 #[tactic(auto, using(crate::proofs::Following::follows_same, crate::proofs::Following::follows_then))]
 fn send_drawn<S: Read + Write + Drop>(
     alloc: Global,
@@ -134,14 +193,41 @@ fn send_drawn<S: Read + Write + Drop>(
     ensures follows { Follows (at hub.old (Some session) made.old) (at hub.new (Some session) made.new) }
     ensures adds { Adds draws 0 draws made.old made.new }
 {
+    let gathered = gather(alloc, socket, session, draws, hub, made);
+    // What was framed before a message found no memory goes out as well.
+    let sent = flush(socket);
+    gathered?;
+    sent?;
+    Ok(())
+}
+
+/// Draws up to so many messages and frames each, until output waits. Where a draw finds no memory it ends the turn.
+#[tactic(auto, using(crate::proofs::Following::follows_same, crate::proofs::Following::follows_then))]
+fn gather<S: Read + Write + Drop>(
+    alloc: Global,
+    socket: &mut Socket<S>,
+    session: u64,
+    draws: u64,
+    hub: &mut Hub,
+    made: &mut Made,
+) -> Result<(), Cause>
+    requires { length made.old + draws ≤ EVENTS_MOST }
+    ensures follows { Follows (at hub.old (Some session) made.old) (at hub.new (Some session) made.new) }
+    ensures adds { Adds draws 0 draws made.old made.new }
+{
     for _ in 0..draws {
-        let Ok(Some(text)) = events::draw(alloc, hub, session, made) else {
-            return Ok(());
+        let text = match events::draw(alloc, hub, session, made) {
+            Ok(Some(text)) => text,
+            Ok(None) => return Ok(()),
+            Err(_) => {
+                socket.get_mut().stir();
+                return Ok(());
+            }
         };
         let Ok(words) = Utf8Bytes::from_string(text) else {
-            return Err(Parting::Gone(Cause::Memory));
+            return Err(Cause::Memory);
         };
-        if !send(socket, words)? {
+        if !write(socket, words)? {
             return Ok(());
         }
     }

@@ -12,19 +12,49 @@ pub(crate) struct Polled<S> {
     stream: S,
     /// How many reads are left in this turn.
     reads: u64,
+    /// Whether another turn may find something to do although nothing new is ready.
+    restless: bool,
 }
 
 impl<S> Polled<S> {
+    ghost use Rattle.std.specs.Prelude.{◌≡◌, not};
+
     pub(crate) fn new(stream: S) -> Polled<S> {
         Polled {
             stream,
             reads: READS_MOST,
+            restless: false,
         }
     }
 
-    /// Begins a turn.
+    /// Begins a turn that reads.
     pub(crate) fn renew(&mut self) {
         self.reads = READS_MOST;
+        self.restless = false;
+    }
+
+    /// Asks for another turn.
+    pub(crate) fn stir(&mut self) {
+        self.restless = true;
+    }
+
+    /// Whether, since the last turn that read began, no byte was moved, no call was interrupted, and nothing asked for
+    /// another turn.
+    pub(crate) fn rests(&self) -> bool
+        ensures { result ≡ not self.now.restless }
+    {
+        !self.restless
+    }
+
+    /// Notes what a call came to.
+    fn note(&mut self, moved: &io::Result<usize>) {
+        let goes_on = match moved {
+            Ok(len) => *len > 0,
+            Err(error) => error.kind() == ErrorKind::Interrupted,
+        };
+        if goes_on {
+            self.stir();
+        }
     }
 }
 
@@ -32,19 +62,28 @@ impl<S: Read> Read for Polled<S> {
     fn read(&mut self, buf: &mut [u8]) -> io::Result<usize> {
         match self.reads.checked_sub(1) {
             Some(reads) => self.reads = reads,
-            None => return Err(Error::from(ErrorKind::WouldBlock)),
+            None => {
+                self.stir();
+                return Err(Error::from(ErrorKind::WouldBlock));
+            }
         }
-        self.stream.read(buf).map_err(calmed)
+        let moved = self.stream.read(buf);
+        self.note(&moved);
+        moved.map_err(calmed)
     }
 }
 
 impl<S: Write> Write for Polled<S> {
     fn write(&mut self, buf: &[u8]) -> io::Result<usize> {
-        self.stream.write(buf).map_err(calmed)
+        let moved = self.stream.write(buf);
+        self.note(&moved);
+        moved.map_err(calmed)
     }
 
     fn flush(&mut self) -> io::Result<()> {
-        self.stream.flush().map_err(calmed)
+        let moved = self.stream.flush().map(|()| 0);
+        self.note(&moved);
+        moved.map(|_| ()).map_err(calmed)
     }
 }
 

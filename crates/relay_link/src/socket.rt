@@ -13,18 +13,26 @@ pub(crate) type Socket<S> = WebSocket<Polled<S>, NoMask>;
 /// How many bytes one read asks for. The crate's own 128 KiB are much for sockets of which many are held.
 pub(crate) const READ_MOST: usize = 4_096;
 
+/// How many bytes of output are gathered before they are written.
+const GATHERED_MOST: usize = 16_384;
+
 /// The socket of a stream whose handshake is done.
 pub(crate) fn socket_on<S: Read + Write + Drop>(alloc: Global, stream: Polled<S>) -> Socket<S> {
-    let config = WebSocketConfig::default().read_buffer_size(READ_MOST);
+    let config = WebSocketConfig::default()
+        .read_buffer_size(READ_MOST)
+        .write_buffer_size(GATHERED_MOST);
     WebSocket::from_raw_socket(alloc, stream, NoMask, Role::Server, Some(config))
 }
 
-/// Reads one message. None where no whole message is there for now.
+/// Reads one message. None where no whole message is there for now. Where there was one another may be there already.
 pub(crate) fn read<S: Read + Write + Drop>(
     socket: &mut Socket<S>,
 ) -> Result<Option<Message>, Cause> {
     match socket.read() {
-        Ok(message) => Ok(Some(message)),
+        Ok(message) => {
+            socket.get_mut().stir();
+            Ok(Some(message))
+        }
         Err(Error::Io(error)) if is_nothing_now(&error) => Ok(None),
         Err(error) => Err(Cause::of(&error)),
     }
@@ -35,11 +43,13 @@ pub(crate) fn flush<S: Read + Write + Drop>(socket: &mut Socket<S>) -> Result<bo
     is_sent(socket.flush())
 }
 
-pub(crate) fn send<S: Read + Write + Drop>(
+/// Frames a text behind the output that was gathered. Once there are 16 KiB all of it is sent: false where output still waits
+/// then.
+pub(crate) fn write<S: Read + Write + Drop>(
     socket: &mut Socket<S>,
     words: Utf8Bytes,
 ) -> Result<bool, Cause> {
-    is_sent(socket.send(Message::Text(words)))
+    is_sent(socket.write(Message::Text(words)))
 }
 
 /// Sends a close frame with no reason.

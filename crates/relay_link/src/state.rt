@@ -1,6 +1,6 @@
 //! What a link holds, by its stage.
 ghost use Rattle.std.specs.Prelude.{◌≡◌};
-ghost use Rattle.relay_link.specs.Stage.{stage_of, session_of};
+ghost use Rattle.relay_link.specs.Stage.{stage_of, session_of, rests};
 
 use crate::polled::Polled;
 use crate::reply::{Reply, Verdict};
@@ -41,6 +41,20 @@ impl<S> State<S> {
                 Verdict::Refused(_) => None,
             },
             State::Head { .. } | State::Closing { .. } | State::Gone => None,
+        }
+    }
+}
+
+impl<S: Drop> State<S> {
+    pub(crate) fn rests(&self) -> bool
+        ensures { result ≡ rests self.now }
+    {
+        match self {
+            State::Head { stream, .. } => stream.rests(),
+            State::Replying { stream, .. } => stream.rests(),
+            State::Open { socket, .. } => socket.get_ref().rests(),
+            State::Closing { socket, .. } => socket.get_ref().rests(),
+            State::Gone => true,
         }
     }
 }

@@ -38,8 +38,10 @@ struct Run<'a> {
     twin: Hub,
     /// Which message comes next.
     next: usize,
-    /// The causes of the turns, each with a `!` where a call failed, and whatever a link must not do.
+    /// The causes of the turns, each with a `!` where a call failed.
     told: String,
+    /// How often the link did what it must not do.
+    wrong: u64,
 }
 
 /// Session 1 is opened, and watches; it has drawn what it was told so far.
@@ -82,6 +84,7 @@ impl<'a> Run<'a> {
             twin: Hub::new(alloc, 1, 1, 64, 32)?,
             next: 0,
             told: String::new(alloc),
+            wrong: 0,
         })
     }
 
@@ -105,16 +108,19 @@ impl<'a> Run<'a> {
         let failures = self.failures()?;
         let session = self.side.link.session();
         let turn = self.side.link.turn(self.alloc, &mut self.hub, DRAWS_MOST)?;
-        self.tell_events(&turn, session)?;
+        self.judge_events(&turn, session);
         self.tell_cause(&turn, self.failures()? > failures)?;
-        match self.twin.run(self.alloc, turn.made.as_slice()) {
-            Ok(_) => Ok(()),
-            Err(_) => Err(Fail::from("no memory in a twin")),
-        }
+        let done = self.twin.run(self.alloc, turn.made.as_slice());
+        drop(done.ok().ok_or("no memory in a twin")?);
+        Ok(())
     }
 
     fn failures(&self) -> Result<u64, Fail> {
         Ok(self.side.wire.try_borrow()?.failures)
+    }
+
+    fn calls(&self) -> Result<u64, Fail> {
+        Ok(self.side.wire.try_borrow()?.calls)
     }
 
     fn tell_cause(&mut self, turn: &Turn, failed: bool) -> Result<(), Fail> {
@@ -127,20 +133,20 @@ impl<'a> Run<'a> {
         Ok(())
     }
 
-    /// Tells of an event of another session, and of a session that is left without its close as the last event.
-    fn tell_events(&mut self, turn: &Turn, session: Option<u64>) -> Result<(), Fail> {
+    /// Counts what is wrong.
+    fn must(&mut self, holds: bool) {
+        self.wrong = self.wrong.saturating_add(u64::from(!holds));
+    }
+
+    /// No event is of another session, and a session is left where its close is the last event.
+    fn judge_events(&mut self, turn: &Turn, session: Option<u64>) {
         for event in turn.made.iter() {
-            if !is_own(event) {
-                self.told.push_str("a stranger ")?;
-            }
+            self.must(is_own(event));
         }
         let had_one = session.is_some() || !turn.made.is_empty();
         let is_left = had_one && self.side.link.session().is_none();
         let is_closed = matches!(turn.made.last(), Some(Event::Close { .. }));
-        if is_left != is_closed {
-            self.told.push_str("not closed ")?;
-        }
-        Ok(())
+        self.must(is_left == is_closed);
     }
 
     /// All turns, and what is left behind them.
@@ -151,28 +157,27 @@ impl<'a> Run<'a> {
             self.feed()?;
             self.turn()?;
         }
+        let texts = self.texts_of_other()?;
         self.tell_end()?;
-        self.tell_other()?;
+        self.told.push_str(texts.as_str())?;
         self.tell_written()
     }
 
     fn tell_end(&mut self) -> Result<(), Fail> {
-        if self.hub.waiting(2).is_some() {
-            self.told.push_str("still open ")?;
-        }
-        if self.side.wire.try_borrow()?.calls > CALLS_MOST {
-            self.told.push_str("too many calls ")?;
-        }
-        Ok(write!(self.told, "{:?}\n", self.side.link.stage())?)
+        let is_closed = self.hub.waiting(2).is_none();
+        self.must(is_closed);
+        let calls = self.calls()?;
+        self.must(calls <= CALLS_MOST);
+        let (stage, wrong) = (self.side.link.stage(), self.wrong);
+        Ok(write!(self.told, "{stage:?}, {wrong} wrong\n")?)
     }
 
     /// What session 1 draws, which is the same from the twin.
-    fn tell_other(&mut self) -> Result<(), Fail> {
+    fn texts_of_other(&mut self) -> Result<String, Fail> {
         let texts = drawn(self.alloc, &mut self.hub)?;
-        if drawn(self.alloc, &mut self.twin)?.as_str() != texts.as_str() {
-            self.told.push_str("another hub ")?;
-        }
-        Ok(self.told.push_str(texts.as_str())?)
+        let of_twin = drawn(self.alloc, &mut self.twin)?;
+        self.must(of_twin.as_str() == texts.as_str());
+        Ok(texts)
     }
 
     fn tell_written(&mut self) -> Result<(), Fail> {
@@ -199,7 +204,7 @@ fn told_at(alloc: Global, call: u64, trick: Trick) -> Result<String, Fail> {
 
 /// The causes of a run in which no call goes wrong, what session 1 draws, and what is written.
 const WHOLE: &str =
-    "Peer Peer Gone\n{\"kind\":\"patch\",\"patch\":[{\"op\":\"replace\",\"path\":\"/0\",\"value\":[{\"x\":1}]}],\"rev\":1}\n{\"kind\":\"patch\",\"patch\":[{\"op\":\"replace\",\"path\":\"/0/0/x\",\"value\":2}],\"rev\":2}\n > switched > {\"epoch\":1,\"kind\":\"welcome\",\"rev\":0,\"session\":2} > {\"id\":1,\"kind\":\"watching\"} > {\"kind\":\"snapshot\",\"rev\":0,\"view\":[[null]]} > {\"id\":2,\"kind\":\"done\",\"rev\":1} > {\"kind\":\"patch\",\"patch\":[{\"op\":\"replace\",\"path\":\"/0\",\"value\":[{\"x\":1}]}],\"rev\":1} > {\"id\":3,\"kind\":\"done\",\"rev\":2} > {\"kind\":\"patch\",\"patch\":[{\"op\":\"replace\",\"path\":\"/0/0/x\",\"value\":2}],\"rev\":2} > close 1000\n";
+    "Peer Peer Gone, 0 wrong\n{\"kind\":\"patch\",\"patch\":[{\"op\":\"replace\",\"path\":\"/0\",\"value\":[{\"x\":1}]}],\"rev\":1}\n{\"kind\":\"patch\",\"patch\":[{\"op\":\"replace\",\"path\":\"/0/0/x\",\"value\":2}],\"rev\":2}\n > switched > {\"epoch\":1,\"kind\":\"welcome\",\"rev\":0,\"session\":2} > {\"id\":1,\"kind\":\"watching\"} > {\"kind\":\"snapshot\",\"rev\":0,\"view\":[[null]]} > {\"id\":2,\"kind\":\"done\",\"rev\":1} > {\"kind\":\"patch\",\"patch\":[{\"op\":\"replace\",\"path\":\"/0\",\"value\":[{\"x\":1}]}],\"rev\":1} > {\"id\":3,\"kind\":\"done\",\"rev\":2} > {\"kind\":\"patch\",\"patch\":[{\"op\":\"replace\",\"path\":\"/0/0/x\",\"value\":2}],\"rev\":2} > close 1000\n";
 
 /// How many calls a run makes of each kind.
 #[derive(Clone, Copy)]
@@ -236,7 +241,7 @@ impl Ends {
     fn count(&mut self, told: &str, stream: &str) {
         if told == WHOLE {
             self.whole = self.whole.saturating_add(1);
-        } else if told.starts_with("Peer Gone\n") {
+        } else if told.starts_with("Peer Gone, 0 wrong\n") {
             self.peer = self.peer.saturating_add(1);
         } else if told.starts_with(stream) {
             self.stream = self.stream.saturating_add(1);
@@ -264,11 +269,16 @@ fn ends_of(alloc: Global, calls: Calls, trick: Trick, stream: &str) -> Result<En
 fn each_call_goes_wrong_in_each_way(rt: HostRuntime) -> Result<(), Fail> {
     let calls = whole_run(&rt)?;
     for (trick, stream_words, peer, stream) in [
-        (Trick::Nothing, "Stream Gone\n", 0, 0),
-        (Trick::Interrupt, "Stream Gone\n", 0, 0),
-        (Trick::OneByte, "Stream Gone\n", 0, 0),
-        (Trick::Fail, "Stream ! Gone\n", 0, calls.all),
-        (Trick::End, "Stream Gone\n", calls.reads, calls.writes),
+        (Trick::Nothing, "Stream Gone, 0 wrong\n", 0, 0),
+        (Trick::Interrupt, "Stream Gone, 0 wrong\n", 0, 0),
+        (Trick::OneByte, "Stream Gone, 0 wrong\n", 0, 0),
+        (Trick::Fail, "Stream ! Gone, 0 wrong\n", 0, calls.all),
+        (
+            Trick::End,
+            "Stream Gone, 0 wrong\n",
+            calls.reads,
+            calls.writes,
+        ),
     ] {
         let ends = ends_of(rt.alloc(), calls, trick, stream_words)?;
         let whole = calls.all.saturating_sub(peer).saturating_sub(stream);

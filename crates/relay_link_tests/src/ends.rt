@@ -25,7 +25,10 @@ const IN_OPEN: &[Row] = &[ENTERS, QUIET];
 /// A frame has a head, and its mask is still to come.
 const IN_FRAME: &[Row] = &[ENTERS, QUIET, (1, Comes(b"\x81\x85"), "Open as 1")];
 
-const IN_OUTPUT: &[Row] = &[ENTERS, (1, Writes(Some(Nothing)), "draw 1; Open as 1")];
+const IN_OUTPUT: &[Row] = &[
+    ENTERS,
+    (1, Writes(Some(Nothing)), "draw 1; draw 1; Open as 1"),
+];
 
 const IN_CLOSING: &[Row] = &[
     ENTERS,

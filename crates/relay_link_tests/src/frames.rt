@@ -34,8 +34,8 @@ fn answers_a_close(rt: HostRuntime) -> Result<(), Fail> {
     play_open(
         &rt,
         &[
-            (1, Comes(PING_AND_CLOSE), "Open as 1"),
-            (1, Idle, "close 1; Closing by Peer > pong > close 1000"),
+            (1, Comes(PING_AND_CLOSE), "Open as 1 > pong"),
+            (1, Idle, "close 1; Closing by Peer > close 1000"),
             (1, Idle, "Gone by Peer"),
         ],
     )
@@ -143,8 +143,8 @@ fn answers_a_ping_and_no_pong(rt: HostRuntime) -> Result<(), Fail> {
         &rt,
         &[
             (1, Comes(PONG), "Open as 1"),
-            (1, Comes(PING), "Open as 1"),
-            (1, Idle, "Open as 1 > pong"),
+            (1, Comes(PING), "Open as 1 > pong"),
+            (1, Idle, "Open as 1"),
         ],
     )
 }
@@ -156,11 +156,11 @@ fn joins_fragments(rt: HostRuntime) -> Result<(), Fail> {
         &rt,
         &[
             (1, Comes(b"\x01\x82\x00\x00\x00\x00\"\xc3"), "Open as 1"),
-            (1, Comes(PING), "Open as 1"),
+            (1, Comes(PING), "Open as 1 > pong"),
             (
                 1,
                 Comes(b"\x80\x82\x00\x00\x00\x00\xa9\""),
-                "receive 1; Open as 1 > pong",
+                "receive 1; Open as 1",
             ),
             (
                 1,

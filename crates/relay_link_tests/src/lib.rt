@@ -4,6 +4,8 @@
 #![tactic(auto)]
 
 #[cfg(test)]
+mod broken;
+#[cfg(test)]
 mod calls;
 #[cfg(test)]
 mod ends;
@@ -12,11 +14,15 @@ mod frames;
 #[cfg(test)]
 mod handshake;
 #[cfg(test)]
+mod large;
+#[cfg(test)]
 mod others;
 #[cfg(test)]
 mod side;
 #[cfg(test)]
 mod streams;
+#[cfg(test)]
+mod telling;
 #[cfg(test)]
 mod wire;
 #[cfg(test)]

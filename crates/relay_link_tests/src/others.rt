@@ -4,15 +4,14 @@ use crate::side::{Act, Row, SAMPLE, Side};
 use crate::wire::{Trick, Wire};
 use relay_hub::Hub;
 use relay_link::DRAWS_MOST;
+use relay_outbox::REPLIES;
 use std::alloc::{AllocGlobal, Global};
 use std::cell::RefCell;
 use std::process::Abort;
 use std::test::Fail;
 
-/// How many patches may wait for a session, and how many replies.
+/// How many patches may wait for a session.
 const PATCHES: u64 = 4;
-
-const REPLIES: u64 = 32;
 
 /// A link with session 1 and, beside it, session 2 of the same room, which is driven directly.
 #[derive(Drop)]
@@ -48,13 +47,10 @@ impl<'a> Beside<'a> {
             2,
             r#"{"do":"edit","id":2,"patch":[{"op":"add","path":"","value":[1]}]}"#,
         )?;
-        self.tell_answer(&mut told)?;
-        let waiting = self.hub.waiting(1).ok_or("a session")?;
-        told.push_str(if waiting <= PATCHES + REPLIES {
-            ", few wait"
-        } else {
-            ", too many wait"
-        })?;
+        let answer = self.hub.draw(self.alloc, 2)?.ok_or("an answer")?;
+        let is_done = answer.contains(r#"{"id":2,"kind":"done","rev":"#);
+        let few_wait = self.hub.waiting(1).ok_or("a session")? <= PATCHES + REPLIES;
+        write!(told, ", done: {is_done}, few wait: {few_wait}")?;
         Ok(told)
     }
 
@@ -64,16 +60,6 @@ impl<'a> Beside<'a> {
                 assert_eq!(rt; self.act(*act)?.as_str(), *wanted, "at {act:?}");
             }
         }
-        Ok(())
-    }
-
-    fn tell_answer(&mut self, told: &mut String) -> Result<(), Fail> {
-        let text = self.hub.draw(self.alloc, 2)?.ok_or("an answer")?;
-        told.push_str(if text.contains(r#"{"id":2,"kind":"done","rev":"#) {
-            ", done"
-        } else {
-            ", no answer"
-        })?;
         Ok(())
     }
 }
@@ -96,15 +82,23 @@ fn a_full_stream_stops_the_draws(rt: HostRuntime) -> Result<(), Fail> {
         &rt,
         &wire,
         &[
-            (1, Draws(0), "Open as 1, done, few wait"),
+            (1, Draws(0), "Open as 1, done: true, few wait: true"),
             (
                 1,
                 Says(r#"{"do":"watch","id":1,"view":[""]}"#),
-                "receive 1; Open as 1, done, few wait",
+                "receive 1; Open as 1, done: true, few wait: true",
             ),
-            (1, Writes(Some(Trick::Nothing)), "Open as 1, done, few wait"),
-            (1, Draws(DRAWS_MOST), "draw 1; Open as 1, done, few wait"),
-            (999, Idle, "Open as 1, done, few wait"),
+            (
+                1,
+                Writes(Some(Trick::Nothing)),
+                "Open as 1, done: true, few wait: true",
+            ),
+            (
+                1,
+                Draws(DRAWS_MOST),
+                "draw 1; draw 1; draw 1; draw 1; Open as 1, done: true, few wait: true",
+            ),
+            (999, Idle, "Open as 1, done: true, few wait: true"),
         ],
     )
 }
@@ -178,7 +172,7 @@ fn a_link_that_dies_leaves_the_other(rt: HostRuntime) -> Result<(), Fail> {
             (
                 Dying,
                 Writes(Some(Trick::Fail)),
-                "draw 1; close 1; Gone by Stream",
+                "draw 1; draw 1; close 1; Gone by Stream",
             ),
             (Dying, Idle, "Gone"),
             (

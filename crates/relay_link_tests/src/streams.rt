@@ -14,7 +14,11 @@ fn writes_that_are_interrupted_hang_no_turn(rt: HostRuntime) -> Result<(), Fail>
             (1, Comes(SAMPLE), "open a; Head as 1"),
             (9, Idle, "Head as 1"),
             (1, Writes(None), "Open as 1 > switched"),
-            (1, Writes(Some(Trick::Interrupt)), "draw 1; Open as 1"),
+            (
+                1,
+                Writes(Some(Trick::Interrupt)),
+                "draw 1; draw 1; Open as 1",
+            ),
             (9, Idle, "Open as 1"),
             (
                 1,

@@ -18,4 +18,4 @@ abbrev pub IsPossible : Job → Type 0
 IsPossible (Script settings) = AreSettings settings
 IsPossible (Loop settings) = AreSettings settings
 IsPossible Follow = ⊤
-IsPossible (Serve port turns settings) = (port ≤ PORT_MOST) × (1 ≤ turns) × (turns ≤ TURNS_MOST) × AreSettings settings
+IsPossible (Serve port turns log settings) = (port ≤ PORT_MOST) × (1 ≤ turns) × (turns ≤ TURNS_MOST) × AreSettings settings

@@ -17,6 +17,8 @@ pub enum Job {
         port: u16,
         /// How many rounds, 1 to 10^12.
         turns: u64,
+        /// Whether the server tells of its links.
+        log: bool,
         settings: Settings,
     },
 }

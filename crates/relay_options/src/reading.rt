@@ -30,10 +30,10 @@ const LOOP_ABOUT: &str =
 const LOOP_EXAMPLE: &str = "Example:\n\n  relay loop < examples/first.script";
 
 const SERVE_ABOUT: &str =
-    "Listens on 127.0.0.1, and serves WebSocket clients for a number of rounds";
+    "Listens on 127.0.0.1, and serves WebSocket clients; it sleeps while nothing happens";
 
 const SERVE_EXAMPLE: &str =
-    "Example, on a port that the system chooses, for about an hour:\n\n  relay serve --port 0 --turns 1000000000 --epoch $(date +%s)\n\nA client connects to ws://127.0.0.1:PORT/rooms/ROOM. Documents end with the program: give it an --epoch not used before when\nit is started again.";
+    "Example, on a port that the system chooses:\n\n  relay serve --port 0 --epoch $(date +%s)\n\nA client connects to ws://127.0.0.1:PORT/rooms/ROOM. Documents end with the program: give it an --epoch not used before when\nit is started again.";
 
 const FOLLOW_ABOUT: &str =
     "Hears the relay's messages, one a line, and tells after each what its client holds";
@@ -46,6 +46,8 @@ const HISTORY: &str = "64";
 const OUTBOX: &str = "32";
 
 const EPOCH: &str = "1";
+
+const TURNS: &str = "1000000000000";
 
 /// What the words ask for; the first of them is the program's name. Each number of a job is within its range.
 pub fn job_of(alloc: Global, words: &[String]) -> Result<Job, Stop>
@@ -88,12 +90,16 @@ fn serve<'a>(alloc: Global) -> Result<Command<'a>, AllocError> {
         .help("The port, 0 to 65535; 0 lets the system choose")
         .required(true);
     let turns = number(alloc, "turns", ValueParser::unsigned(1, TURNS_MOST))
-        .help("How many rounds to make, 1 to 1000000000000")
-        .required(true);
+        .help("How many rounds to make, 1 to 1000000000000; a round sleeps while nothing happens")
+        .default_value(TURNS);
+    let log = Arg::new(alloc, "log")
+        .long("log")
+        .help("Tells of each connection that is opened, refused or ended, a line on standard error")
+        .action(ArgAction::SetTrue);
     let serve = Command::new(alloc, "serve")
         .about(SERVE_ABOUT)
         .after_help(SERVE_EXAMPLE);
-    with_settings(alloc, serve)?.arg(port)?.arg(turns)
+    with_settings(alloc, serve)?.arg(port)?.arg(turns)?.arg(log)
 }
 
 fn follow<'a>(alloc: Global) -> Command<'a> {
@@ -136,6 +142,7 @@ fn chosen(alloc: Global, matches: &ArgMatches<'_>) -> Result<Job, Stop>
         Some(("serve", given)) => Ok(Job::Serve {
             port: number_of(alloc, given, "port", 0, PORT_MOST)? as u16,
             turns: number_of(alloc, given, "turns", 1, TURNS_MOST)?,
+            log: given.get_flag("log"),
             settings: settings_of(alloc, given)?,
         }),
         Some((other, _)) => Err(Stop::Misuse(format!(in alloc;

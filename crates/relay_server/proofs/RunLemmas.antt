@@ -103,11 +103,6 @@ pub if_fault : {A E : Type 0} (r : Result A E) {P Q : E → Type 0} → ((e : E)
 if_fault (Ok x) f p = tt
 if_fault (Err e) f p = f e p
 
--- what holds of every fault holds of the one that there is
-pub any_fault : {A E : Type 0} (r : Result A E) {P : E → Type 0} → ((e : E) → P e) → IfErr r P
-any_fault (Ok x) h = tt
-any_fault (Err e) h = h e
-
 -- no line is too long, and none too many
 none_within : AreWithin []
 none_within = record { few = omega arith; short = All-nil _ }

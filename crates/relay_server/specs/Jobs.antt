@@ -48,7 +48,7 @@ JobEnds (job.Script settings) status input left old new =
     EndsAs script.Answers (new_stage settings.epoch settings.history settings.outbox) (BadLimits settings.epoch 1 settings.history settings.outbox) status input left old new
 JobEnds job.Follow status input left old new = EndsAs follow.Answers None ⊥ status input left old new
 JobEnds (job.Loop settings) status input left old new = ⊤
-JobEnds (job.Serve port turns settings) status input left old new = ⊤
+JobEnds (job.Serve port turns log settings) status input left old new = ⊤
 
 -- there was no job; help that was asked for may not have been written
 abbrev pub StopEnds : Stop → Status → Type 0

@@ -6,6 +6,7 @@ use Rattle.std.specs.Str.{IsUtf8}
 use Rattle.relay_server.specs.declared.line.Asks.{Asks}
 use Rattle.relay_server.specs.declared.line.Asks.TheVariants as asks
 use Rattle.relay_server.specs.declared.line.Line.{Line}
+use Rattle.relay_server.specs.declared.line.TheConstants.{NAME_MOST}
 use Rattle.relay_server.specs.declared.line.Line.TheVariants as line
 
 -- what a name is to do
@@ -29,9 +30,9 @@ is_space b = nat_eq b 32
 abbrev pub has_space : List ℕ → Bool
 has_space s = nat_lt (position_or_len is_space s) (length s)
 
--- 1 to 16 ASCII letters or digits
+-- ASCII letters or digits, one at least and not too many
 abbrev pub is_name : List ℕ → Bool
-is_name s = nat_le 1 (length s) && nat_le (length s) 16 && list_all is_ascii_alphanumeric s
+is_name s = nat_le 1 (length s) && nat_le (length s) NAME_MOST && list_all is_ascii_alphanumeric s
 
 -- a word that stands alone, and one with more behind it
 

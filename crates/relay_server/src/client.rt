@@ -1,4 +1,6 @@
 //! The client's side of a loopback socket: a handshake by hand, then texts.
+ghost use Rattle.std.specs.Prelude.{◌≤◌, length, IfSome};
+
 use std::alloc::{AllocError, Global};
 use std::io::{Read, Write};
 use std::str;
@@ -46,19 +48,40 @@ impl<S: Read + Write + Drop> Knocking<S> {
         if let Ok(count) = self.stream.read(&mut part) {
             let _ = self.reply.extend_from_slice(&part[..count]);
         }
-        if !self.reply.ends_with(b"\r\n\r\n") {
-            return None;
-        }
+        head_len(self.reply.as_slice())?;
         let digits = self.reply.get(9..12)?;
         str::from_utf8(digits).ok()?.parse::<u16>().ok()
     }
 
-    /// The client, once it is let in.
+    /// The client, once it is let in. What came behind the reply's head are its first messages.
     pub fn client(self, alloc: Global) -> Client<S> {
+        let Knocking { stream, mut reply } = self;
+        if let Some(len) = head_len(reply.as_slice()) {
+            reply.drain(..len);
+        }
         Client {
-            socket: WebSocket::from_raw_socket(alloc, self.stream, LoopKeys, Role::Client, None),
+            socket: WebSocket::from_partially_read(
+                alloc,
+                stream,
+                LoopKeys,
+                reply,
+                Role::Client,
+                None,
+            ),
         }
     }
+}
+
+/// How long the head of a reply is, with the empty line that ends it. None where it is not whole.
+fn head_len(reply: &[u8]) -> Option<usize>
+    ensures { IfSome result (λ len. len ≤ length reply.now) }
+{
+    for start in 0..reply.len() {
+        if reply[start..].starts_with(b"\r\n\r\n") {
+            return Some(start.saturating_add(4).min(reply.len()));
+        }
+    }
+    None
 }
 
 /// A client that is let in.

@@ -44,6 +44,9 @@ pub enum ServeFault {
     /// The port cannot be listened on.
     #[error("cannot listen")]
     Listen,
+    /// The system cannot be asked which sockets are ready.
+    #[error("cannot wait for sockets")]
+    Wait,
     /// As a script ends early.
     #[error("{0}")]
     Ended(ScriptFault),

@@ -5,7 +5,7 @@ ghost use Rattle.relay_server.specs.Jobs.{IsExit, JobEnds, StopEnds, code_of, un
 use crate::fault::{ScriptFault, ServeFault};
 use crate::looped::Looped;
 use crate::run::run_lines;
-use crate::serve::serve;
+use crate::serve::{Served, serve};
 use crate::status::{Status, report, say};
 use crate::whole::{run_follow, run_script};
 use relay_options::{Job, Settings, Stop, job_of};
@@ -86,10 +86,12 @@ pub fn carry_out<N: Net, R: Read, W: Write, E: Write>(
         Job::Serve {
             port,
             turns,
+            log,
             settings,
         } => {
             say_epoch(settings.epoch, errors);
-            let ended = serve(alloc, net, writer, port, turns, settings);
+            let served = Served { port, turns, log };
+            let ended = serve(alloc, net, writer, errors, served, settings);
             report_sockets(ended, port, errors)
         }
     }
@@ -121,6 +123,10 @@ fn report_sockets<E: Write>(ended: Result<(), ServeFault>, port: u16, errors: &m
         Ok(()) => Status::Done,
         Err(ServeFault::Listen) => {
             let _ = writeln!(errors, "relay: cannot listen on port {port}");
+            Status::Failed
+        }
+        Err(ServeFault::Wait) => {
+            say("relay: cannot wait for sockets\n", errors);
             Status::Failed
         }
         Err(ServeFault::Ended(fault)) => report(Err(fault), errors),

@@ -230,6 +230,32 @@ fn long_texts(alloc: Global) -> Result<String, Fail> {
     Ok(story)
 }
 
+/// An edit of `count` tests that pass in a new room, and one more.
+fn null_tests(count: u64) -> Long {
+    Long {
+        part: r#"{"op":"test","path":"","value":null},"#,
+        after: r#"{"op":"test","path":"","value":null}]}"#,
+        ..tests(count)
+    }
+}
+
+/// 64 operations that pass, and 65.
+#[test]
+fn an_edit_has_64_operations_at_most(rt: HostRuntime) -> Result<(), Fail> {
+    let mut story = String::from_str(rt.alloc(), ENTERED)?;
+    for (count, reply) in [
+        (63, r#"{"id":1,"kind":"done","rev":1}"#),
+        (
+            64,
+            r#"{"at":null,"fault":"too-many","id":1,"kind":"refused"}"#,
+        ),
+    ] {
+        let text = null_tests(count).text(rt.alloc())?;
+        ask(rt.alloc(), &mut story, text.as_str(), reply)?;
+    }
+    plays(&rt, 64, 32, story.as_str())
+}
+
 /// 128 nested arrays are no JSON here, 127 are no request; a document nests 64 deep; 64 operations, and paths of 64 tokens.
 #[test]
 fn keeps_to_the_limits_of_texts(rt: HostRuntime) -> Result<(), Fail> {

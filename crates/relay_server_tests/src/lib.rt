@@ -4,6 +4,8 @@
 #![tactic(auto)]
 
 #[cfg(test)]
+mod desk;
+#[cfg(test)]
 mod hostile;
 #[cfg(test)]
 mod lines;
@@ -11,6 +13,8 @@ mod lines;
 mod options;
 #[cfg(test)]
 mod program;
+#[cfg(test)]
+mod rounds;
 #[cfg(test)]
 mod sessions;
 #[cfg(test)]

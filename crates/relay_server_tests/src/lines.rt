@@ -1,6 +1,7 @@
 //! What lines ask for, and how many there may be.
 use crate::story::{played, plays};
-use relay_server::{LINE_MOST, LINES_MOST};
+use relay_options::{HISTORY_MOST, OUTBOX_MOST};
+use relay_server::{LINE_MOST, LINES_MOST, LINKS_MOST};
 use std::alloc::Global;
 use std::test::Fail;
 
@@ -71,6 +72,15 @@ fn repeated(alloc: Global, byte: u8, count: usize) -> Result<String, Fail> {
     played(alloc, 64, 32, script.as_slice())
 }
 
+#[test]
+fn the_limits_are_those_of_the_protocol(rt: HostRuntime) {
+    assert_eq!(rt; LINE_MOST, 270_336, "bytes of a line");
+    assert_eq!(rt; LINES_MOST, 65_536, "lines of a script");
+    assert_eq!(rt; LINKS_MOST, 320, "connections");
+    assert_eq!(rt; HISTORY_MOST, 1_024, "revisions of a history");
+    assert_eq!(rt; OUTBOX_MOST, 256, "patches that wait");
+}
+
 /// The longest line, and the most lines.
 #[test]
 fn keeps_to_its_limits(rt: HostRuntime) -> Result<(), Fail> {
@@ -120,11 +130,11 @@ fn answers_all_lines_before_a_fault(rt: HostRuntime) -> Result<(), Fail> {
 fn reads_nothing_where_a_limit_is_out_of_range(rt: HostRuntime) -> Result<(), Fail> {
     for (history, outbox, wanted) in [
         (0, 32, "fault: a limit out of range"),
-        (1_025, 32, "fault: a limit out of range"),
+        (HISTORY_MOST + 1, 32, "fault: a limit out of range"),
         (64, 0, "fault: a limit out of range"),
-        (64, 257, "fault: a limit out of range"),
+        (64, OUTBOX_MOST + 1, "fault: a limit out of range"),
         (1, 1, "a opened 1\n"),
-        (1_024, 256, "a opened 1\n"),
+        (HISTORY_MOST, OUTBOX_MOST, "a opened 1\n"),
     ] {
         let written = played(rt.alloc(), history, outbox, b"a open r\n")?;
         assert_eq!(rt; written.as_str(), wanted, "{history} and {outbox}");

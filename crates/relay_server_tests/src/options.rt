@@ -20,10 +20,7 @@ fn asked(alloc: Global, line: &str) -> Result<Result<Job, Stop>, AllocError> {
 
 /// The job that a line asks for.
 fn job(alloc: Global, line: &str) -> Result<Job, Fail> {
-    match asked(alloc, line)? {
-        Ok(job) => Ok(job),
-        Err(_stop) => Err(Fail::from("no job")),
-    }
+    Ok(asked(alloc, line)?.ok().ok_or("no job")?)
 }
 
 /// The help that a line asks for.
@@ -72,10 +69,11 @@ fn reads_scripts(rt: HostRuntime) -> Result<(), Fail> {
     Ok(())
 }
 
-fn serve(port: u16, turns: u64) -> Job {
+fn serve(port: u16, turns: u64, log: bool) -> Job {
     Job::Serve {
         port,
         turns,
+        log,
         settings: Settings::DEFAULT,
     }
 }
@@ -86,10 +84,15 @@ fn reads_the_other_jobs(rt: HostRuntime) -> Result<(), Fail> {
         ("relay follow", Job::Follow),
         ("relay loop", Job::Loop(Settings::DEFAULT)),
         ("relay loop --outbox 2", Job::Loop(settings(64, 2, 1))),
-        ("relay serve --port 0 --turns 1", serve(0, 1)),
+        ("relay serve --port 0 --turns 1", serve(0, 1, false)),
+        ("relay serve --port 7", serve(7, 1_000_000_000_000, false)),
+        (
+            "relay serve --port 7 --log",
+            serve(7, 1_000_000_000_000, true),
+        ),
         (
             "relay serve --turns 1000000000000 --port 65535",
-            serve(65_535, 1_000_000_000_000),
+            serve(65_535, 1_000_000_000_000, false),
         ),
     ] {
         assert_eq!(rt; job(rt.alloc(), line)?, wanted, "{line}");
@@ -122,8 +125,9 @@ fn refuses_words_that_belong_to_no_job(rt: HostRuntime) -> Result<(), Fail> {
         "relay frob",
         "relay follow --epoch 1",
         "relay script --port 0",
-        "relay serve --port 0",
         "relay serve --turns 1",
+        "relay serve --port 0 --log 1",
+        "relay loop --log",
     ] {
         assert!(rt; is_misuse(rt.alloc(), line)?, "{line}");
     }
@@ -148,7 +152,7 @@ fn explains_each_job(rt: HostRuntime) -> Result<(), Fail> {
         ("relay script --help", "--history"),
         ("relay loop --help", "relay loop < examples/first.script"),
         ("relay follow --help", "| relay follow"),
-        ("relay serve --help", "--turns"),
+        ("relay serve --help", "it sleeps while nothing happens"),
     ] {
         assert!(rt; help(rt.alloc(), line)?.contains(part), "{line}");
     }

@@ -4,7 +4,7 @@ use crate::program::Ran;
 use crate::sessions;
 use crate::story::Story;
 use relay_hub::Hub;
-use relay_server::{Client, Knocking, Serving};
+use relay_server::{Client, Knocking, NoJournal, Polling, Serving};
 use std::alloc::{AllocGlobal, Global};
 use std::net::{Ipv4Addr, Net, OpenListener, OpenStream, SocketAddr};
 use std::process::Abort;
@@ -101,7 +101,7 @@ const ROUNDS_MOST: u64 = 10_000;
 struct Board<'n, N: Net> {
     net: &'n N,
     listener: N::Listener,
-    serving: Serving<N::Stream>,
+    serving: Serving<N::Stream, Polling>,
     a: Option<Client<N::Stream>>,
     b: Option<Client<N::Stream>>,
 }
@@ -110,10 +110,11 @@ impl<'n, N: Net> Board<'n, N> {
     fn new(alloc: Global, net: &'n N) -> Result<Board<'n, N>, Fail> {
         let listener = net.bind(SocketAddr::from((Ipv4Addr::LOCALHOST, 0)))?;
         listener.set_nonblocking(true)?;
+        let polling = Polling::new(alloc, net, &listener)?;
         Ok(Board {
             net,
             listener,
-            serving: Serving::new(alloc, Hub::new(alloc, 1, 1, 64, 32)?),
+            serving: Serving::new(alloc, Hub::new(alloc, 1, 1, 64, 32)?, 32, polling),
             a: None,
             b: None,
         })
@@ -135,7 +136,7 @@ impl<'n, N: Net> Board<'n, N> {
             "a opens" => self.a = Some(self.entered(alloc)?),
             "b opens" => self.b = Some(self.entered(alloc)?),
             "a drops" => drop(self.a.take()),
-            "end" => self.serving.end(alloc),
+            "end" => self.serving.end(alloc, &mut NoJournal),
             "no links" => return Ok(self.serving.links() == 0),
             "1 link" => return Ok(self.serving.links() == 1),
             "2 links" => return Ok(self.serving.links() == 2),
@@ -163,7 +164,7 @@ impl<'n, N: Net> Board<'n, N> {
 
     /// Makes a round.
     fn round(&mut self, alloc: Global) {
-        self.serving.round(alloc, &self.listener);
+        self.serving.round(alloc, &self.listener, &mut NoJournal);
     }
 
     /// Connects a client, and makes rounds until it is let in.

@@ -81,10 +81,8 @@ pub struct Playing {
 
 impl Playing {
     pub fn new(alloc: Global, history: u64, outbox: u64) -> Result<Playing, Fail> {
-        match Script::new(alloc, 1, history, outbox) {
-            Ok(script) => Ok(Playing { script, lines: 0 }),
-            Err(_fault) => Err(Fail::from("no script")),
-        }
+        let script = Script::new(alloc, 1, history, outbox)?;
+        Ok(Playing { script, lines: 0 })
     }
 
     /// The answer to one more line.

@@ -2,7 +2,7 @@
 use Rattle.std.proofs.Common.{Some}
 use Rattle.relay_link.specs.Adds.{Adds}
 use Rattle.relay_link.specs.Follows.{Follows, at}
-use Rattle.relay_link.proofs.opened.send_drawn.Given as goal
+use Rattle.relay_link.proofs.opened.gather.Given as goal
 
 abbrev pub invariant-loop : goal.invariant-loop
 invariant-loop g l = record {

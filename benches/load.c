@@ -1,0 +1,284 @@
+// Load for `relay serve`: watchers that count what they are told, editors that keep some edits on the way, and idle connections.
+//
+//     load PORT deliver WATCHERS SECONDS     edits and patches a second; 4 editors, 8 edits of 1 KiB on the way for each
+//     load PORT answer IDLE EDITS            microseconds from an edit to its own patch, IDLE links beside
+//     load PORT idle LINKS                   opens links, says so, and waits for the end of its input
+//     load PORT single WATCHERS EDITS        EDITS edits of one editor, each told to all before the next
+//
+// Three threads read what is told to watchers, so that counting is not the limit: a frame is a header and a length to skip.
+#include <arpa/inet.h>
+#include <errno.h>
+#include <netinet/tcp.h>
+#include <pthread.h>
+#include <stdint.h>
+#include <stdio.h>
+#include <stdlib.h>
+#include <string.h>
+#include <sys/epoll.h>
+#include <sys/socket.h>
+#include <time.h>
+#include <unistd.h>
+
+enum { EDITORS = 4, ON_THE_WAY = 8, TEXT = 1024, READERS = 3, ROOM = 1 << 18, SESSIONS = 250 };
+
+typedef struct {
+    int fd;
+    size_t len, skip; // bytes kept of a frame that is not whole; bytes of a long frame that are still to come
+    unsigned char *kept;
+    uint64_t patches, snapshots, replies;
+} Link;
+
+static int port;
+static volatile int stopped;
+
+static void fail(const char *what) {
+    perror(what);
+    exit(1);
+}
+
+static double now(void) {
+    struct timespec t;
+    clock_gettime(CLOCK_MONOTONIC, &t);
+    return t.tv_sec + t.tv_nsec / 1e9;
+}
+
+static int connected(void) {
+    int fd = socket(AF_INET, SOCK_STREAM, 0), one = 1;
+    struct sockaddr_in at = {.sin_family = AF_INET, .sin_port = htons(port), .sin_addr.s_addr = htonl(INADDR_LOOPBACK)};
+    if (fd < 0 || connect(fd, (struct sockaddr *)&at, sizeof at)) fail("connect");
+    setsockopt(fd, IPPROTO_TCP, TCP_NODELAY, &one, sizeof one);
+    return fd;
+}
+
+static void send_all(int fd, const void *bytes, size_t len) {
+    for (size_t sent = 0; sent < len;) {
+        ssize_t n = send(fd, (const char *)bytes + sent, len - sent, MSG_NOSIGNAL);
+        if (n <= 0) fail("send");
+        sent += n;
+    }
+}
+
+// A text in one frame, masked by zeros.
+static size_t framed(unsigned char *frame, const char *text, size_t len) {
+    size_t head = len < 126 ? 6 : 8;
+    frame[0] = 0x81;
+    frame[1] = 0x80 | (len < 126 ? len : 126);
+    if (len >= 126) frame[2] = len >> 8, frame[3] = len;
+    memset(frame + head - 4, 0, 4);
+    memcpy(frame + head, text, len);
+    return head + len;
+}
+
+static void say(int fd, const char *text) {
+    unsigned char frame[2 * TEXT];
+    send_all(fd, frame, framed(frame, text, strlen(text)));
+}
+
+static void edit(int fd, unsigned n) {
+    char text[2 * TEXT];
+    int len = snprintf(text, sizeof text, "{\"do\":\"edit\",\"id\":2,\"patch\":[{\"op\":\"replace\",\"path\":\"/x\",\"value\":\"%08u", n);
+    memset(text + len, 'x', TEXT - 8);
+    strcpy(text + len + TEXT - 8, "\"}]}");
+    say(fd, text);
+}
+
+// Counts the frames in `bytes` and those kept before. Messages begin with `{"kind":"patch"`, `{"kind":"snapshot"` or `{"id":`.
+static void count(Link *link, const unsigned char *bytes, size_t len) {
+    while (len > 0) {
+        if (link->skip > 0) {
+            size_t n = link->skip < len ? link->skip : len;
+            link->skip -= n, bytes += n, len -= n;
+            continue;
+        }
+        while (link->len < 24 && len > 0) { // a header, and enough of a text to know its kind; no message is shorter
+            link->kept[link->len++] = *bytes++, len--;
+        }
+        if (link->len < 24) return;
+        const unsigned char *f = link->kept;
+        uint64_t size = f[1] & 127;
+        size_t head = 2;
+        if (size == 126) size = f[2] << 8 | f[3], head = 4;
+        else if (size == 127) {
+            size = 0, head = 10;
+            for (int i = 2; i < 10; i++) size = size << 8 | f[i];
+        }
+        unsigned char kind = f[head + 9];
+        if (f[head + 2] != 'k') link->replies++;
+        else if (kind == 'p') link->patches++;
+        else link->snapshots++;
+        link->skip = head + size - 24;
+        link->len = 0;
+    }
+}
+
+static Link opened(const char *room) {
+    Link link = {.fd = connected(), .kept = malloc(24)};
+    char head[512], byte;
+    snprintf(head, sizeof head, "GET /rooms/%s HTTP/1.1\r\nHost: localhost\r\nUpgrade: websocket\r\nConnection: Upgrade\r\nSec-WebSocket-Key: dGhlIHNhbXBsZSBub25jZQ==\r\nSec-WebSocket-Version: 13\r\n\r\n", room);
+    send_all(link.fd, head, strlen(head));
+    for (int end = 0; end < 4;) { // to the empty line
+        if (recv(link.fd, &byte, 1, 0) != 1) fail("handshake");
+        end = byte == "\r\n\r\n"[end] ? end + 1 : byte == '\r';
+    }
+    return link;
+}
+
+static void read_some(Link *link, unsigned char *room) {
+    ssize_t n = recv(link->fd, room, ROOM, 0);
+    if (n <= 0) fail("the relay ended a link");
+    count(link, room, n);
+}
+
+static void read_replies(Link *link, uint64_t replies) {
+    static unsigned char room[ROOM];
+    while (link->replies < replies) read_some(link, room);
+}
+
+static Link watching(const char *room, const char *view) {
+    Link link = opened(room);
+    char text[256];
+    static unsigned char bytes[ROOM];
+    snprintf(text, sizeof text, "{\"do\":\"watch\",\"id\":1,\"view\":[\"%s\"]}", view);
+    say(link.fd, text);
+    while (link.snapshots == 0) read_some(&link, bytes);
+    return link;
+}
+
+typedef struct {
+    Link *links;
+    int count;
+} Share;
+
+static void *read_share(void *arg) {
+    Share *share = arg;
+    unsigned char *room = malloc(ROOM);
+    int poll = epoll_create1(0);
+    for (int i = 0; i < share->count; i++) {
+        struct epoll_event event = {.events = EPOLLIN, .data.ptr = &share->links[i]};
+        epoll_ctl(poll, EPOLL_CTL_ADD, share->links[i].fd, &event);
+    }
+    struct epoll_event events[64];
+    while (!stopped) {
+        int n = epoll_wait(poll, events, 64, 100);
+        for (int i = 0; i < n; i++) read_some(events[i].data.ptr, room);
+    }
+    return 0;
+}
+
+static void *edit_on(void *arg) {
+    Link *link = arg;
+    unsigned char *room = malloc(ROOM);
+    uint64_t first = link->replies, said = 0;
+    while (!stopped) {
+        while (said - (link->replies - first) < ON_THE_WAY) edit(link->fd, said++);
+        read_some(link, room);
+    }
+    return 0;
+}
+
+static Link begun(void) {
+    Link link = opened("bench");
+    say(link.fd, "{\"do\":\"edit\",\"id\":1,\"patch\":[{\"op\":\"add\",\"path\":\"\",\"value\":{\"x\":\"\"}}]}");
+    read_replies(&link, 2);
+    return link;
+}
+
+static void deliver(int watchers, int seconds) {
+    Link *links = calloc(watchers, sizeof *links), editors[EDITORS];
+    for (int i = 0; i < EDITORS; i++) editors[i] = i ? opened("bench") : begun();
+    for (int i = 1; i < EDITORS; i++) read_replies(&editors[i], 1);
+    for (int i = 0; i < watchers; i++) links[i] = watching("bench", "/x");
+    pthread_t threads[READERS + EDITORS];
+    Share shares[READERS];
+    for (int i = 0, from = 0; i < READERS; i++) {
+        int to = watchers * (i + 1) / READERS;
+        shares[i] = (Share){links + from, to - from};
+        pthread_create(&threads[i], 0, read_share, &shares[i]);
+        from = to;
+    }
+    for (int i = 0; i < EDITORS; i++) pthread_create(&threads[READERS + i], 0, edit_on, &editors[i]);
+    uint64_t patches = 0, snapshots = 0, edits = 0;
+    double begin = 0;
+    for (int round = 0; round < 2; round++) { // the first second only warms up
+        usleep(round ? seconds * 1000000 : 1000000);
+        uint64_t p = 0, s = 0, e = 0;
+        for (int i = 0; i < watchers; i++) p += links[i].patches, s += links[i].snapshots;
+        for (int i = 0; i < EDITORS; i++) e += editors[i].replies;
+        if (round) {
+            double took = now() - begin;
+            printf("%.0f edits, %.0f patches, %.0f snapshots a second\n", (e - edits) / took, (p - patches) / took, (s - snapshots) / took);
+        }
+        patches = p, snapshots = s, edits = e, begin = now();
+    }
+    exit(0);
+}
+
+// Idle links, in rooms of their own; past as many as may have sessions the others say nothing.
+static void idle(int links) {
+    for (int i = 0; i < links; i++) {
+        char room[32];
+        snprintf(room, sizeof room, "idle%d", i % 50);
+        if (i < SESSIONS) {
+            Link link = opened(room);
+            read_replies(&link, 1);
+        } else connected();
+    }
+}
+
+static int by_size(const void *a, const void *b) {
+    double x = *(const double *)a, y = *(const double *)b;
+    return x < y ? -1 : x > y;
+}
+
+static void answer(int links, int edits) {
+    static unsigned char room[ROOM];
+    idle(links);
+    Link writer = begun();
+    close(writer.fd);
+    Link link = watching("bench", "/x");
+    double *took = calloc(edits, sizeof *took), all = 0;
+    for (int n = 0; n < edits; n++) {
+        uint64_t before = link.patches;
+        double begin = now();
+        edit(link.fd, n);
+        while (link.patches == before) read_some(&link, room);
+        all += took[n] = now() - begin;
+    }
+    qsort(took, edits, sizeof *took, by_size);
+    printf("%.1f microseconds from an edit to its own patch in the middle, %.1f on average, %d links beside\n", took[edits / 2] * 1e6, all / edits * 1e6, links);
+}
+
+static void single(int watchers, int edits) {
+    static unsigned char room[ROOM];
+    Link writer = begun(), *links = calloc(watchers, sizeof *links);
+    for (int i = 0; i < watchers; i++) links[i] = watching("bench", "/x");
+    printf("ready\n");
+    fflush(stdout);
+    getchar();
+    for (int n = 0; n < edits; n++) {
+        uint64_t replies = writer.replies;
+        edit(writer.fd, n);
+        while (writer.replies == replies) read_some(&writer, room);
+        for (int i = 0; i < watchers; i++)
+            while (links[i].patches + links[i].snapshots < (uint64_t)n + 2) read_some(&links[i], room);
+    }
+    printf("done\n");
+    fflush(stdout);
+    getchar();
+}
+
+int main(int argc, char **argv) {
+    if (argc < 4) return fprintf(stderr, "usage: load PORT deliver|answer|idle|single NUMBER [NUMBER]\n"), 2;
+    port = atoi(argv[1]);
+    int first = atoi(argv[3]), second = argc > 4 ? atoi(argv[4]) : 1000;
+    if (!strcmp(argv[2], "deliver")) deliver(first, second);
+    else if (!strcmp(argv[2], "answer")) answer(first, second);
+    else if (!strcmp(argv[2], "single")) single(first, second);
+    else {
+        idle(first);
+        printf("ready\n");
+        fflush(stdout);
+        getchar();
+    }
+    return 0;
+}

@@ -1,0 +1,264 @@
+//! A server over streams in memory, whose readiness a test tells.
+ghost use Rattle.std.specs.Prelude.{◌≤◌, length, IfOk};
+
+use relay_hub::Hub;
+use relay_server::{Lines, News, Readiness, Serving};
+use std::alloc::{AllocError, Global};
+use std::cell::RefCell;
+use std::io;
+use std::io::{ErrorKind, Read, Write};
+use std::net::{Ipv4Addr, OpenListener, OpenStream, SocketAddr};
+use std::test::Fail;
+use std::time::Duration;
+
+/// Both ends of a stream.
+#[derive(Drop)]
+pub(crate) struct Wire {
+    input: Vec<u8>,
+    at: usize,
+    pub output: Vec<u8>,
+    /// Each call fails.
+    pub fails: bool,
+    /// Writes take nothing for now.
+    pub is_full: bool,
+    /// How many reads and writes were made.
+    pub reads: u64,
+    pub writes: u64,
+}
+
+impl Wire {
+    pub fn new(alloc: Global) -> RefCell<Wire> {
+        RefCell::new(Wire {
+            input: Vec::new(alloc),
+            at: 0,
+            output: Vec::new(alloc),
+            fails: false,
+            is_full: false,
+            reads: 0,
+            writes: 0,
+        })
+    }
+
+    pub fn feed(&mut self, bytes: &[u8]) -> Result<(), AllocError> {
+        self.input.extend_from_slice(bytes)
+    }
+
+    /// Feeds a text message of a client, in one frame whose mask is of zeros (RFC 6455, section 5.2).
+    pub fn say(&mut self, text: &str) -> Result<(), AllocError> {
+        let len = text.len().min(65_535) as u16;
+        self.feed(&[0x81])?;
+        if len < 126 {
+            self.feed(&[0x80 | (len as u8)])?;
+        } else {
+            self.feed(&[0xfe])?;
+            self.feed(&len.to_be_bytes())?;
+        }
+        self.feed(&[0; 4])?;
+        self.feed(text.as_bytes())
+    }
+
+    fn call(&self) -> io::Result<()> {
+        if self.fails {
+            return Err(io::Error::from(ErrorKind::ConnectionReset));
+        }
+        Ok(())
+    }
+
+    fn give(&mut self, buf: &mut [u8]) -> io::Result<usize>
+        ensures { IfOk result (λ len. len ≤ length buf.new) }
+    {
+        self.reads = self.reads.saturating_add(1);
+        self.call()?;
+        let rest = self.input.get(self.at..).unwrap_or(&[]);
+        if rest.is_empty() {
+            return Err(io::Error::from(ErrorKind::WouldBlock));
+        }
+        let len = rest.len().min(buf.len());
+        buf[..len].copy_from_slice(&rest[..len]);
+        self.at = self.at.saturating_add(len);
+        Ok(len)
+    }
+
+    fn take(&mut self, buf: &[u8]) -> io::Result<usize>
+        ensures { IfOk result (λ len. len ≤ length buf.now) }
+    {
+        self.writes = self.writes.saturating_add(1);
+        self.call()?;
+        if self.is_full {
+            return Err(io::Error::from(ErrorKind::WouldBlock));
+        }
+        self.output.extend_from_slice(buf)?;
+        Ok(buf.len())
+    }
+}
+
+/// The server's end of a wire.
+#[derive(Drop)]
+pub(crate) struct End<'a> {
+    wire: &'a RefCell<Wire>,
+}
+
+fn busy() -> io::Error {
+    io::Error::from(ErrorKind::Other)
+}
+
+impl Read for End<'_> {
+    fn read(&mut self, buf: &mut [u8]) -> io::Result<usize> {
+        match self.wire.try_borrow_mut() {
+            Ok(mut wire) => wire.give(buf),
+            Err(_) => Err(busy()),
+        }
+    }
+}
+
+impl Write for End<'_> {
+    fn write(&mut self, buf: &[u8]) -> io::Result<usize> {
+        match self.wire.try_borrow_mut() {
+            Ok(mut wire) => wire.take(buf),
+            Err(_) => Err(busy()),
+        }
+    }
+
+    fn flush(&mut self) -> io::Result<()> {
+        Ok(())
+    }
+}
+
+impl OpenStream for End<'_> {
+    fn set_nonblocking(&self, _nonblocking: bool) -> io::Result<()> {
+        Ok(())
+    }
+}
+
+/// Connections that wait, and how often it was asked for one.
+#[derive(Drop)]
+pub(crate) struct Door<'a> {
+    waiting: RefCell<Vec<&'a RefCell<Wire>>>,
+}
+
+impl<'a> OpenListener for Door<'a> {
+    type Stream = End<'a>;
+
+    fn accept(&self) -> io::Result<(End<'a>, SocketAddr)> {
+        let Ok(mut waiting) = self.waiting.try_borrow_mut() else {
+            return Err(busy());
+        };
+        match waiting.pop() {
+            Some(wire) => Ok((End { wire }, SocketAddr::from((Ipv4Addr::LOCALHOST, 1)))),
+            None => Err(io::Error::from(ErrorKind::WouldBlock)),
+        }
+    }
+}
+
+/// What a test tells of its streams.
+#[derive(Drop)]
+pub(crate) struct Sayings {
+    /// The news of the next round.
+    next: Vec<News>,
+    /// The next wait fails.
+    fails: bool,
+    /// How long the last wait could have been, in milliseconds.
+    waited: u64,
+}
+
+/// Says what a test says.
+#[derive(Drop)]
+pub(crate) struct Told<'a> {
+    sayings: &'a RefCell<Sayings>,
+}
+
+impl Sayings {
+    pub fn new(alloc: Global) -> RefCell<Sayings> {
+        RefCell::new(Sayings {
+            next: Vec::new(alloc),
+            fails: false,
+            waited: 0,
+        })
+    }
+
+    fn tell(&mut self, most: Duration, news: &mut Vec<News>) -> io::Result<()> {
+        self.waited = most
+            .as_secs()
+            .saturating_mul(1_000)
+            .saturating_add(u64::from(most.subsec_millis()));
+        if self.fails {
+            self.fails = false;
+            return Err(busy());
+        }
+        for piece in self.next.iter() {
+            if news.push(*piece).is_err() {
+                return Err(busy());
+            }
+        }
+        self.next.clear();
+        Ok(())
+    }
+}
+
+impl<'a> Readiness<End<'a>> for Told<'_> {
+    fn watch(&mut self, _key: usize, _stream: &End<'a>) -> io::Result<()> {
+        Ok(())
+    }
+
+    fn wait(&mut self, most: Duration, news: &mut Vec<News>) -> io::Result<()> {
+        match self.sayings.try_borrow_mut() {
+            Ok(mut sayings) => sayings.tell(most, news),
+            Err(_) => Err(busy()),
+        }
+    }
+}
+
+/// A server, its door, and the wires of its clients.
+#[derive(Drop)]
+pub(crate) struct Desk<'a> {
+    alloc: Global,
+    door: Door<'a>,
+    sayings: &'a RefCell<Sayings>,
+    pub serving: Serving<End<'a>, Told<'a>>,
+    /// What it told of its links.
+    pub log: Vec<u8>,
+}
+
+impl<'a> Desk<'a> {
+    /// A server with no connection, of a hub with so many waiting patches a session.
+    pub fn new(
+        alloc: Global,
+        sayings: &'a RefCell<Sayings>,
+        outbox: u64,
+    ) -> Result<Desk<'a>, Fail> {
+        let hub = Hub::new(alloc, 1, 1, 64, outbox)?;
+        Ok(Desk {
+            alloc,
+            door: Door {
+                waiting: RefCell::new(Vec::new(alloc)),
+            },
+            sayings,
+            serving: Serving::new(alloc, hub, outbox, Told { sayings }),
+            log: Vec::new(alloc),
+        })
+    }
+
+    /// A connection waits at the door, and the next round hears of it.
+    pub fn knock(&mut self, wire: &'a RefCell<Wire>) -> Result<(), Fail> {
+        self.door.waiting.try_borrow_mut()?.push(wire)?;
+        self.news(News::Knock)
+    }
+
+    /// The next round hears this.
+    pub fn news(&mut self, news: News) -> Result<(), Fail> {
+        Ok(self.sayings.try_borrow_mut()?.next.push(news)?)
+    }
+
+    /// The next round cannot be told what is ready.
+    pub fn fail(&mut self) -> Result<(), Fail> {
+        self.sayings.try_borrow_mut()?.fails = true;
+        Ok(())
+    }
+
+    /// Makes a round. How long it could have waited, in milliseconds.
+    pub fn round(&mut self) -> Result<u64, Fail> {
+        self.serving
+            .round(self.alloc, &self.door, &mut Lines::to(&mut self.log));
+        Ok(self.sayings.try_borrow()?.waited)
+    }
+}
