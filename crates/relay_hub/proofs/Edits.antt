@@ -7,8 +7,8 @@ use Rattle.relay_patch.specs.declared.change.Change.{Change}
 use Rattle.relay_patch.specs.declared.op.Op.{Op}
 use Rattle.relay_view.specs.View.{View}
 use Rattle.relay_proto.specs.Request.{request_of_text}
-use Rattle.relay_proto.specs.Written.{IsCount}
-use Rattle.relay_proto.specs.declared.refusal.Refusal.{Refusal}
+use Rattle.relay_proto.specs.Written.{IsCount, HasCounts}
+use Rattle.relay_proto.specs.declared.reply.Reply.{Reply}
 use Rattle.relay_proto.specs.declared.reply.Reply.TheVariants.{Done}
 use Rattle.relay_proto.specs.declared.request.Request.TheVariants.{Edit}
 use Rattle.relay_room.specs.Edit.{edited_at, edited}
@@ -26,7 +26,6 @@ use Rattle.relay_hub.specs.declared.event.Answer.TheVariants.{Heard}
 use Rattle.relay_hub.specs.declared.event.Event.TheVariants.{Receive}
 use Rattle.relay_hub.specs.declared.event.Heard.TheVariants.{Answered}
 use Rattle.relay_hub.specs.declared.session.Session.{Session}
-use Rattle.relay_hub.proofs.Counts.{HasCountsOrNull}
 use Rattle.relay_hub.proofs.Documents.{goes_on_stands}
 use Rattle.relay_hub.proofs.Follow.{folded_follows, told_follows}
 use Rattle.relay_hub.proofs.Frames.{room_changes, session_stands, here}
@@ -37,10 +36,10 @@ use Rattle.relay_hub.proofs.Told.{IsTold, each_told}
 use Rattle.relay_hub.proofs.Waiting.{line_replied, line_folded, line_told}
 
 -- the log and the room know the same of a patch
-same_edit : (most : ℕ) (ds : List Document) (room : Room) (patch : List Op) → RoomStands most ds room → next_document ds patch ≡ result_ok (edited room patch)
-same_edit most ds room patch h =
+same_edit : (most : ℕ) (ds : List Document) (room : Room) (base : Option ℕ) (patch : List Op) → RoomStands most ds room → next_document ds base patch ≡ result_ok (edited room base patch)
+same_edit most ds room base patch h =
     let last : length ds - 1 ≡ revision room = omega (arith, h.made) in
-    ap (λ n. result_ok (edited_at n (present_of ds) patch)) last ∙ ap (λ now. result_ok (edited_at (revision room) now patch)) (sym h.document)
+    ap (λ n. result_ok (edited_at n (present_of ds) base patch)) last ∙ ap (λ now. result_ok (edited_at (revision room) now base patch)) (sym h.document)
 
 -- Telling.
 
@@ -72,7 +71,7 @@ module _ (most k : ℕ) (ds : List Document) (d : Document) (room next : Room) (
 -- An edit of session s, which is at home.
 
 module _ (b : Beginning) (E : Log) (old : State) (s : ℕ) (mine : Home old s) (h : Group) (short : ℕ) (text : List ℕ) (stands : StandsFor b E old)
-    (id : ℕ) (patch : List Op) (read : request_of_text text ≡ Ok (Edit id patch)) (i : IsCount id) where
+    (id : ℕ) (base : Option ℕ) (patch : List Op) (read : request_of_text text ≡ Ok (Edit id base patch)) (i : IsCount id) where
   abbrev g : Group
   g = mine.room.group
 
@@ -96,12 +95,12 @@ module _ (b : Beginning) (E : Log) (old : State) (s : ℕ) (mine : Home old s) (
       asked_at : ℕ → Option Watching
       asked_at t = asked_at_home b.epoch (documents E) (watching b.epoch E t) (home E t) text
 
-  edit_stands : (d : Document) → edited g.room patch ≡ Ok d → EditServed s x id patch (Ok d) short g h → StandsFor b (entry (Receive s text) (Heard (Answered short)) ∷ E) next
+  edit_stands : (d : Document) → edited g.room base patch ≡ Ok d → EditServed s x id patch (Ok d) short g h → StandsFor b (entry (Receive s text) (Heard (Answered short)) ∷ E) next
   edit_stands d makes step =
       let e = entry (Receive s text) (Heard (Answered short)) in
       let at_home = here b E old s mine stands in
       let was = stands.rooms mine.room.place mine.room.name g mine.room.there in
-      let newer : documents (e ∷ E) mine.room.name ≡ ds ++ d ∷ [] = one_added E s short text mine.room.name d at_home.0 (rw read (same_edit b.history ds g.room patch was ∙ ap result_ok makes)) in
+      let newer : documents (e ∷ E) mine.room.name ≡ ds ++ d ∷ [] = one_added E s short text mine.room.name d at_home.0 (rw read (same_edit b.history ds g.room base patch was ∙ ap result_ok makes)) in
       let room : RoomStands b.history (ds ++ d ∷ []) h.room = goes_on_stands b.history ds g.room h.room patch d was step.0 in
       let answer = Done id (revision h.room) in
       let changes = all_changes g.room.document patch in
@@ -118,9 +117,9 @@ module _ (b : Beginning) (E : Log) (old : State) (s : ℕ) (mine : Home old s) (
       (told_session b.history b.waiting ds d g.room h.room changes was room (documents E) (documents (e ∷ E)) mine.room.name (session_in step.1 t) (session_in h.sessions t) (home E t) (watching b.epoch E t)
       refl newer (each_told g.room.document changes h.room step.1 h.sessions short step.3 t) answered))
 
-  pub served_edit : (o : Result Document EditFault) → edited g.room patch ≡ o → ((fault : EditFault) (r : Refusal) → o ≡ Err fault → edit_refusal id fault ≡ Some r → HasCountsOrNull r) → EditServed s x id patch o short g h
+  pub served_edit : (o : Result Document EditFault) → edited g.room base patch ≡ o → ((fault : EditFault) (r : Reply) → o ≡ Err fault → edit_refusal id fault ≡ Some r → HasCounts r) → EditServed s x id patch o short g h
       → StandsFor b (entry (Receive s text) (Heard (Answered short)) ∷ E) next
   served_edit (Ok d) makes counts step = edit_stands d makes step
   served_edit (Err fault) makes counts step =
-      served_reply b E old s mine h short text stands (Ok (Edit id patch)) step.1 read
-      (same_edit b.history ds g.room patch (stands.rooms mine.room.place mine.room.name g mine.room.there) ∙ ap result_ok makes) refl step.3 (counts fault step.1 refl step.2)
+      served_reply b E old s mine h short text stands (Ok (Edit id base patch)) step.1 read
+      (same_edit b.history ds g.room base patch (stands.rooms mine.room.place mine.room.name g mine.room.there) ∙ ap result_ok makes) refl step.3 (counts fault step.1 refl step.2)

@@ -137,7 +137,7 @@ keeps_only s x y old new e only = record {
 
 edit_keeps : (s short id : ℕ) (x : Session) (patch : List Op) (o : Result Document EditFault) (old new : Group) → session_in old.sessions s ≡ Some x
     → EditServed s x id patch o short old new → Keeps old new
-edit_keeps s short id x patch (Err fault) old new e h = keeps_only s x (replied (refused h.1) x) old new e h.3.1
+edit_keeps s short id x patch (Err fault) old new e h = keeps_only s x (replied h.1 x) old new e h.3.1
 edit_keeps s short id x patch (Ok d) old new e h =
     let before = old.room.document in
     let changes = all_changes before patch in
@@ -164,7 +164,7 @@ serve_keeps epoch s short x (Err r) old new e h = keeps_only s x (replied (refus
 serve_keeps epoch s short x (Ok (Watch id pointers)) old new e h = keeps_only s x (watches id pointers x) old new e h.1.1
 serve_keeps epoch s short x (Ok (Unwatch id)) old new e h = keeps_only s x (unwatches id x) old new e h.1.1
 serve_keeps epoch s short x (Ok (Resume id n rev pointers)) old new e h = resume_keeps (n == epoch) (nat_le rev (revision old.room)) id rev s pointers x old new e h.1
-serve_keeps epoch s short x (Ok (Edit id patch)) old new e h = edit_keeps s short id x patch (edited old.room patch) old new e h
+serve_keeps epoch s short x (Ok (Edit id base patch)) old new e h = edit_keeps s short id x patch (edited old.room base patch) old new e h
 
 receive_keeps : (epoch s : ℕ) (o : Option Session) (text : List ℕ) (answer : Answer) (old new : Group) → session_in old.sessions s ≡ o
     → Receives epoch s o text answer old new → Keeps old new

@@ -24,7 +24,7 @@ refuses_edits old new s text result step short is =
     let answered : Step old (Receive s text) (HeardAnswer (Answered short)) new = rw is at step in
     record {
       unread = λ name g x r there found read. unread_no_trace old new s short text name g x there found answered r read;
-      unmade = λ name g x id patch fault there found read refused. unmade_no_trace old new s short text name g x there found answered id patch fault read refused;
+      unmade = λ name g x id base patch fault there found read refused. unmade_no_trace old new s short text name g x there found answered id base patch fault read refused;
     }
 
 -- after a run the hub stands for the log that goes on by it

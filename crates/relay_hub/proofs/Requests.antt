@@ -8,7 +8,7 @@ use Rattle.relay_history.specs.History.{Reaches, oldest}
 use Rattle.relay_outbox.specs.Outbox.{with_reply, cleared}
 use Rattle.relay_proto.specs.Client.{nothing, holds}
 use Rattle.relay_proto.specs.Request.{request_of_text}
-use Rattle.relay_proto.specs.Written.{IsCount}
+use Rattle.relay_proto.specs.Written.{IsCount, HasCounts}
 use Rattle.relay_proto.specs.declared.refusal.Refusal.{Refusal}
 use Rattle.relay_proto.specs.declared.reply.How.TheVariants as how
 use Rattle.relay_proto.specs.declared.reply.Reply.{Reply}
@@ -33,7 +33,6 @@ use Rattle.relay_hub.specs.declared.event.Answer.TheVariants.{Heard}
 use Rattle.relay_hub.specs.declared.event.Event.TheVariants.{Receive}
 use Rattle.relay_hub.specs.declared.event.Heard.TheVariants.{Answered}
 use Rattle.relay_hub.specs.declared.session.Session.{Session}
-use Rattle.relay_hub.proofs.Counts.{HasCountsOrNull}
 use Rattle.relay_hub.proofs.Follow.{Follows-snapshot, level_follows, resumed_follows}
 use Rattle.relay_hub.proofs.Frames.{session_changes, here}
 use Rattle.relay_hub.proofs.Rooms.{none_added, others_stay}
@@ -117,12 +116,12 @@ module _ (b : Beginning) (E : Log) (old : State) (s : ℕ) (mine : Home old s) (
       line
       (rw (same, at_home.0, read) watch)
 
-  pub served_reply : (r : Result Request Refusal) (why : Refusal) → request_of_text text ≡ r → requested ds r ≡ None
-      → asked b.epoch ds (watching b.epoch E s) r ≡ watching b.epoch E s → ChangesOnly s (Some (replied (refused why) x)) g h → HasCountsOrNull why
+  pub served_reply : (r : Result Request Refusal) (why : Reply) → request_of_text text ≡ r → requested ds r ≡ None
+      → asked b.epoch ds (watching b.epoch E s) r ≡ watching b.epoch E s → ChangesOnly s (Some (replied why x)) g h → HasCounts why
       → StandsFor b (entry (Receive s text) (Heard (Answered short)) ∷ E) next
   served_reply r why read none same changes counts =
-      served r (replied (refused why) x) read none changes (line_replied b.waiting x (refused why) counts at_home.1)
-      (rw same (watch_replied ds g.room x (refused why) (watching b.epoch E s) at_home.2))
+      served r (replied why x) read none changes (line_replied b.waiting x why counts at_home.1)
+      (rw same (watch_replied ds g.room x why (watching b.epoch E s) at_home.2))
 
   pub served_watch : (id : ℕ) (v : View) → request_of_text text ≡ Ok (Watch id v) → ChangesOnly s (Some (watches id v x)) g h → IsCount id
       → StandsFor b (entry (Receive s text) (Heard (Answered short)) ∷ E) next
@@ -147,7 +146,7 @@ module _ (b : Beginning) (E : Log) (old : State) (s : ℕ) (mine : Home old s) (
   served_resume id e rev v true false read p q step i =
       let room = was in
       let beyond : length ds ≤ rev = grind (arith, nat_tests, q, room.made) in
-      served_reply (Ok (Resume id e rev v)) (future_refusal id) read refl (rw (p, slice_get_past ds rev beyond) refl) step (i, tt)
+      served_reply (Ok (Resume id e rev v)) (refused (future_refusal id)) read refl (rw (p, slice_get_past ds rev beyond) refl) step (i, tt, tt)
   served_resume id e rev v true true read p q step i =
       let room = was in
       let past : rev ≤ revision g.room = grind (arith, nat_tests, q) in

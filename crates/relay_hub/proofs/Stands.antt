@@ -10,6 +10,7 @@ use Rattle.relay_room.specs.Edit.{edited}
 use Rattle.relay_room.specs.Room.{revision}
 use Rattle.relay_hub.specs.Call.{StepIf, logged, Runs, stops, steps, followed}
 use Rattle.relay_hub.specs.Log.{Log, entry}
+use Rattle.relay_hub.specs.Refusal.{refused}
 use Rattle.relay_hub.specs.Stands.{StandsFor}
 use Rattle.relay_hub.specs.State.{Group, State, RoomOf, Home, place_of, session_in}
 use Rattle.relay_hub.specs.Step.{Serves, Receives, Draws, with_group, InGroup, AtPlace, ClosesIn, ClosesGroup, ClosesAt, Step}
@@ -43,7 +44,7 @@ serve_stands : (b : Beginning) (E : Log) (old : State) (s : ℕ) (mine : Home ol
     → request_of_text text ≡ request → Serves b.epoch s mine.session request short mine.room.group h
     → StandsFor b (entry (Receive s text) (Heard (Answered short)) ∷ E) (with_group mine.room.place mine.room.name h old)
 serve_stands b E old s mine h short text (Err r) stands read step =
-    served_reply b E old s mine h short text stands (Err r) r read refl refl step.1 (refusal_counts text r read)
+    served_reply b E old s mine h short text stands (Err r) (refused r) read refl refl step.1 (refusal_counts text r read)
 serve_stands b E old s mine h short text (Ok (Watch id v)) stands read step =
     served_watch b E old s mine h short text stands id v read step.1 (request_counts text (Watch id v) read)
 serve_stands b E old s mine h short text (Ok (Unwatch id)) stands read step =
@@ -51,11 +52,12 @@ serve_stands b E old s mine h short text (Ok (Unwatch id)) stands read step =
 serve_stands b E old s mine h short text (Ok (Resume id e rev v)) stands read step =
     served_resume b E old s mine h short text stands id e rev v (e == b.epoch) (nat_le rev (revision mine.room.group.room)) read refl refl step.1
     (request_counts text (Resume id e rev v) read).0
-serve_stands b E old s mine h short text (Ok (Edit id patch)) stands read step =
-    let counts = request_counts text (Edit id patch) read in
+serve_stands b E old s mine h short text (Ok (Edit id base patch)) stands read step =
+    let counts = request_counts text (Edit id base patch) read in
     let room = mine.room.group.room in
-    served_edit b E old s mine h short text stands id patch read counts.0 (edited room patch) refl
-    (λ fault r refused is. edit_refusal_counts room id patch fault r counts.0 counts.1 refused is) step
+    let last = (stands.rooms mine.room.place mine.room.name mine.room.group mine.room.there).is.history.last in
+    served_edit b E old s mine h short text stands id base patch read counts.0 (edited room base patch) refl
+    (λ fault r unmade is. edit_refusal_counts room id base patch fault r counts.0 last counts.2 unmade is) step
 
 receive_stands : (b : Beginning) (E : Log) (old : State) (s : ℕ) (r : RoomOf old) (h : Group) (o : Option Session) (text : List ℕ) (answer : Answer) → StandsFor b E old
     → place_of old s ≡ Some r.place → session_in r.group.sessions s ≡ o → Receives old.made.epoch s o text answer r.group h

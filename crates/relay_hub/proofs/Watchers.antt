@@ -8,6 +8,7 @@ use Rattle.relay_proto.specs.Client.{Client, client, client_after}
 use Rattle.relay_proto.specs.Request.{request_of_text}
 use Rattle.relay_proto.specs.declared.message.Message.{Message}
 use Rattle.relay_proto.specs.declared.refusal.Refusal.{Refusal}
+use Rattle.relay_proto.specs.declared.reply.Reply.{Reply}
 use Rattle.relay_proto.specs.declared.request.Request.TheVariants.{Edit}
 use Rattle.relay_room.specs.Edit.{edited}
 use Rattle.relay_room.specs.declared.fault.EditFault.{EditFault}
@@ -123,8 +124,8 @@ module _ (old new : State) (s short : ℕ) (text : List ℕ) (name : List ℕ) (
       done.2 (replied (refused r) x) served.1
 
   -- and where the room refuses it
-  pub unmade_no_trace : (id : ℕ) (patch : List Op) (fault : EditFault) → request_of_text text ≡ Ok (Edit id patch) → edited g.room patch ≡ Err fault
-      → (r : Refusal) × (edit_refusal id fault ≡ Some r) × LeavesNoTrace s (replied (refused r) x) old new
-  unmade_no_trace id patch fault read unmade =
+  pub unmade_no_trace : (id : ℕ) (base : Option ℕ) (patch : List Op) (fault : EditFault) → request_of_text text ≡ Ok (Edit id base patch) → edited g.room base patch ≡ Err fault
+      → (r : Reply) × (edit_refusal id fault ≡ Some r) × LeavesNoTrace s (replied r x) old new
+  unmade_no_trace id base patch fault read unmade =
       let served : EditServed s x id patch (Err fault) short g done.0 = rw (read, unmade) at done.1 in
-      (served.1, served.2, done.2 (replied (refused served.1) x) served.3)
+      (served.1, served.2, done.2 (replied served.1 x) served.3)

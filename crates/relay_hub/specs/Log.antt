@@ -60,12 +60,12 @@ abbrev pub present_of : List Document → Document
 present_of documents = unwrap_or (slice_get documents (length documents - 1)) null
 
 -- the document that an edit adds, where it is accepted
-abbrev pub next_document : List Document → List Op → Option Document
-next_document documents patch = result_ok (edited_at (length documents - 1) (present_of documents) patch)
+abbrev pub next_document : List Document → Option ℕ → List Op → Option Document
+next_document documents base patch = result_ok (edited_at (length documents - 1) (present_of documents) base patch)
 
 -- the document that a request adds
 abbrev pub requested : List Document → Result Request Refusal → Option Document
-requested documents (Ok (Edit id patch)) = next_document documents patch
+requested documents (Ok (Edit id base patch)) = next_document documents base patch
 requested documents _ = None
 
 -- the document that a text adds to the room of that name, where its sender is at home there

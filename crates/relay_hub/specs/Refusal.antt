@@ -8,11 +8,11 @@ use Rattle.relay_proto.specs.declared.reply.Reply.TheVariants.{Refused}
 use Rattle.relay_proto.specs.declared.word.Word.{Word}
 use Rattle.relay_proto.specs.declared.word.Word.TheVariants as word
 use Rattle.relay_room.specs.declared.fault.EditFault.{EditFault}
-use Rattle.relay_room.specs.declared.fault.EditFault.TheVariants.{Exhausted, Apply}
+use Rattle.relay_room.specs.declared.fault.EditFault.TheVariants.{Exhausted, Stale, Apply}
 
 -- the reply to what is refused
 abbrev pub refused : Refusal → Reply
-refused r = Refused r.id r.fault r.at
+refused r = Refused r.id r.fault r.at None
 
 -- the refusal of the request of that id, for that reason, at that place
 abbrev pub refusal : ℕ → Word → Option ℕ → Refusal
@@ -31,10 +31,12 @@ cause_word cause.TooDeep = Some word.TooDeep
 cause_word cause.TooHeavy = Some word.TooHeavy
 cause_word cause.NoMemory = None
 
--- an edit that its room refuses: at which operation, where it is one's fault
-abbrev pub edit_refusal : ℕ → EditFault → Option Refusal
-edit_refusal id Exhausted = Some (refusal id word.Exhausted None)
-edit_refusal id (Apply fault) = option_map (λ w. refusal id w (Some fault.at)) (cause_word fault.cause)
+-- the reply to an edit that its room refuses: at which operation, where it is one's fault; and the present revision, where the
+-- edit is for another one
+abbrev pub edit_refusal : ℕ → EditFault → Option Reply
+edit_refusal id Exhausted = Some (refused (refusal id word.Exhausted None))
+edit_refusal id (Stale present) = Some (Refused (Some id) word.Stale None (Some present))
+edit_refusal id (Apply fault) = option_map (λ w. refused (refusal id w (Some fault.at))) (cause_word fault.cause)
 
 -- a resume from a revision that is still to come
 abbrev pub future_refusal : ℕ → Refusal

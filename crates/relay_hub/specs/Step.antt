@@ -10,6 +10,7 @@ use Rattle.relay_view.specs.View.{View}
 use Rattle.relay_proto.specs.Request.{request_of_text}
 use Rattle.relay_proto.specs.RoomName.{is_room_name}
 use Rattle.relay_proto.specs.declared.refusal.Refusal.{Refusal}
+use Rattle.relay_proto.specs.declared.reply.Reply.{Reply}
 use Rattle.relay_proto.specs.declared.reply.Reply.TheVariants.{Done}
 use Rattle.relay_proto.specs.declared.request.Request.{Request}
 use Rattle.relay_proto.specs.declared.request.Request.TheVariants.{Edit, Watch, Resume, Unwatch}
@@ -89,7 +90,7 @@ EditServed s x id patch (Ok d) short old new = GoesOn old.room patch d new.room
     × (mid : List Session) × OnlyAt s (Some (replied (Done id (revision new.room)) x)) old.sessions mid
     × AllTold old.room.document (all_changes old.room.document patch) new.room mid new.sessions short
 EditServed s x id patch (Err fault) short old new = (short ≡ 0)
-    × (r : Refusal) × (edit_refusal id fault ≡ Some r) × ChangesOnly s (Some (replied (refused r) x)) old new
+    × (r : Reply) × (edit_refusal id fault ≡ Some r) × ChangesOnly s (Some (replied r x)) old new
 
 -- Other requests.
 
@@ -108,7 +109,7 @@ Serves epoch s x (Ok (Watch id pointers)) short old new = (short ≡ 0) × Chang
 Serves epoch s x (Ok (Unwatch id)) short old new = (short ≡ 0) × ChangesOnly s (Some (unwatches id x)) old new
 Serves epoch s x (Ok (Resume id e rev pointers)) short old new =
     (short ≡ 0) × ResumeServed (e == epoch) (nat_le rev (revision old.room)) id rev pointers s x old new
-Serves epoch s x (Ok (Edit id patch)) short old new = EditServed s x id patch (edited old.room patch) short old new
+Serves epoch s x (Ok (Edit id base patch)) short old new = EditServed s x id patch (edited old.room base patch) short old new
 
 -- The calls, within a room.
 

@@ -5,6 +5,7 @@ use Rattle.relay_outbox.specs.declared.outbox.TheConstants.{REPLIES, MOST_PATCHE
 use Rattle.relay_patch.specs.declared.op.Op.{Op}
 use Rattle.relay_proto.specs.Request.{request_of_text}
 use Rattle.relay_proto.specs.declared.refusal.Refusal.{Refusal}
+use Rattle.relay_proto.specs.declared.reply.Reply.{Reply}
 use Rattle.relay_proto.specs.declared.request.Request.TheVariants.{Edit}
 use Rattle.relay_room.specs.Edit.{edited}
 use Rattle.relay_room.specs.Room.{State as Room, revision}
@@ -55,7 +56,7 @@ pub record RefusesEdits (s : ℕ) (text : List ℕ) (old new : State) : Type 0 w
       → home_of old s ≡ Some (name, g) → session_in g.sessions s ≡ Some x → request_of_text text ≡ Err r
       → LeavesNoTrace s (replied (refused r) x) old new
   -- one that its room refuses
-  pub unmade : (name : List ℕ) (g : Group) (x : Session) (id : ℕ) (patch : List Op) (fault : EditFault)
+  pub unmade : (name : List ℕ) (g : Group) (x : Session) (id : ℕ) (base : Option ℕ) (patch : List Op) (fault : EditFault)
       → home_of old s ≡ Some (name, g) → session_in g.sessions s ≡ Some x
-      → request_of_text text ≡ Ok (Edit id patch) → edited g.room patch ≡ Err fault
-      → (r : Refusal) × (edit_refusal id fault ≡ Some r) × LeavesNoTrace s (replied (refused r) x) old new
+      → request_of_text text ≡ Ok (Edit id base patch) → edited g.room base patch ≡ Err fault
+      → (r : Reply) × (edit_refusal id fault ≡ Some r) × LeavesNoTrace s (replied r x) old new

@@ -89,7 +89,9 @@ fn perform(
     ensures err { OnErr result (group room.new sessions.new ≡ group room.old sessions.old) }
 {
     match request {
-        Request::Edit { id, patch } => edit(alloc, room, sessions, number, place, id, &patch),
+        Request::Edit { id, base, patch } => {
+            edit(alloc, room, sessions, number, place, id, base, &patch)
+        }
         Request::Watch { id, view } => {
             watch_at(sessions, number, place, id, view);
             Ok(0)
@@ -129,41 +131,44 @@ fn edit(
     number: u64,
     place: usize,
     id: u64,
+    base: Option<u64>,
     patch: &Patch,
 ) -> Result<u64, AllocError>
     requires place { position (is_number number) sessions.old ≡ Some place }
     requires space { HasRoom sessions.old number }
     ensures ok { IfOk result (λ short. (x : Session) → session_in sessions.old number ≡ Some x →
-        EditServed number x id patch.now (edited room.old patch.now) short (group room.old sessions.old) (group room.new sessions.new)) }
+        EditServed number x id patch.now (edited room.old base patch.now) short (group room.old sessions.old) (group room.new sessions.new)) }
     ensures err { OnErr result (group room.new sessions.new ≡ group room.old sessions.old) }
 {
-    match room.edit(alloc, patch) {
+    match room.edit(alloc, base, patch) {
         Ok(rev) => {
             reply_at(sessions, number, place, Reply::Done { id, rev });
             Ok(tell_all(alloc, room, sessions))
         }
         Err(fault) => {
-            let Some(refusal) = edit_refusal(id, fault) else {
+            let Some(reply) = edit_refusal(id, fault) else {
                 return Err(AllocError);
             };
-            reply_at(sessions, number, place, refusal.reply());
+            reply_at(sessions, number, place, reply);
             Ok(0)
         }
     }
 }
 
-/// Why an edit is refused; None of want of memory, which is no refusal.
-fn edit_refusal(id: u64, fault: EditFault) -> Option<Refusal>
+/// The reply to an edit that is refused; None of want of memory, which is no refusal.
+fn edit_refusal(id: u64, fault: EditFault) -> Option<Reply>
     ensures { result ≡ edit_refusal id fault }
 {
-    let (word, at) = match fault {
-        EditFault::Exhausted => (Word::Exhausted, None),
-        EditFault::Apply(fault) => (word_of(fault.cause)?, Some(fault.at)),
+    let (word, at, rev) = match fault {
+        EditFault::Exhausted => (Word::Exhausted, None, None),
+        EditFault::Stale { present } => (Word::Stale, None, Some(present)),
+        EditFault::Apply(fault) => (word_of(fault.cause)?, Some(fault.at), None),
     };
-    Some(Refusal {
-        fault: word,
+    Some(Reply::Refused {
         id: Some(id),
+        fault: word,
         at,
+        rev,
     })
 }
 

@@ -12,8 +12,8 @@ use relay_view::SLOTS_MOST;
 fn the_limits_are_those_of_the_protocol(rt: HostRuntime) {
     for (limit, wanted, what) in [
         (DEPTH_MOST, 64, "depth of a document"),
-        (WEIGHT_MOST, 65_536, "weight of a document"),
-        (REQUEST_MOST, 262_144, "bytes of a request"),
+        (WEIGHT_MOST, 262_144, "weight of a document"),
+        (REQUEST_MOST, 1_048_576, "bytes of a request"),
         (OPS_MOST, 64, "operations in an edit"),
         (SLOTS_MOST, 16, "slots in a view"),
         (TOKENS_MOST, 64, "tokens in a pointer of a request"),

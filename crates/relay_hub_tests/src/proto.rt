@@ -61,6 +61,7 @@ fn writes_each_reply(rt: HostRuntime) -> Result<(), Fail> {
                 id: Some(7),
                 fault: Word::TestFailed,
                 at: Some(2),
+                rev: None,
             },
             r#"{"at":2,"fault":"test-failed","id":7,"kind":"refused"}"#,
         ),
@@ -69,8 +70,18 @@ fn writes_each_reply(rt: HostRuntime) -> Result<(), Fail> {
                 id: None,
                 fault: Word::NotJson,
                 at: None,
+                rev: None,
             },
             r#"{"at":null,"fault":"not-json","id":null,"kind":"refused"}"#,
+        ),
+        (
+            Reply::Refused {
+                id: Some(9),
+                fault: Word::Stale,
+                at: None,
+                rev: Some(2),
+            },
+            r#"{"at":null,"fault":"stale","id":9,"kind":"refused","rev":2}"#,
         ),
         (Reply::Watching { id: 1 }, r#"{"id":1,"kind":"watching"}"#),
         (

@@ -1,6 +1,6 @@
 //! Rooms: how they start, what an edit makes of them, and what somebody missed.
 use relay_history::{LAST_REVISION, MOST_REVISIONS};
-use relay_patch::{DEPTH_MOST, Patch, PatchLimits};
+use relay_patch::{DEPTH_MOST, Patch, PatchLimits, WEIGHT_MOST};
 use relay_room::{CatchUp, Room, RoomFault};
 use relay_tree::{Node, Tree, read};
 use relay_view::View;
@@ -38,9 +38,9 @@ fn state(alloc: Global, room: &Room) -> Result<String, AllocError> {
 }
 
 /// What an edit answers, and what the room is then.
-fn edit(alloc: Global, room: &mut Room, text: &str) -> Result<String, Fail> {
+fn edit(alloc: Global, room: &mut Room, base: Option<u64>, text: &str) -> Result<String, Fail> {
     let patch = patch_of(alloc, text)?;
-    let answer = room.edit(alloc, &patch);
+    let answer = room.edit(alloc, base, &patch);
     let state = state(alloc, room)?;
     Ok(format!(in alloc; "{answer:?}: {state}")?)
 }
@@ -52,7 +52,7 @@ fn edits(
     rows: &[(&str, &str)],
 ) -> Result<(), Fail> {
     for (patch, expected) in rows {
-        let found = edit(rt.alloc(), room, *patch)?;
+        let found = edit(rt.alloc(), room, None, *patch)?;
         assert_eq!(rt; found.as_str(), *expected, "of {patch}");
     }
     Ok(())
@@ -97,6 +97,9 @@ fn nested(alloc: Global, levels: usize) -> Result<Tree, AllocError> {
 /// As many levels as a document may have.
 const DEEPEST: usize = DEPTH_MOST as usize;
 
+/// As many bytes as a document may have that is one text: each value weighs 8.
+const LONGEST: usize = WEIGHT_MOST as usize - 8;
+
 #[test]
 fn starts_with_a_document_that_is_not_too_deep(rt: HostRuntime) -> Result<(), Fail> {
     for (levels, rev, h, expected) in [
@@ -126,9 +129,9 @@ fn starts_with_a_document_that_is_not_too_deep(rt: HostRuntime) -> Result<(), Fa
 #[test]
 fn starts_with_a_document_that_is_not_too_heavy(rt: HostRuntime) -> Result<(), Fail> {
     for (bytes, rev, h, expected) in [
-        (65_529, 0, 64, Err(RoomFault::TooHeavy)),
-        (65_529, LAST_REVISION + 1, 0, Err(RoomFault::TooHeavy)),
-        (65_528, 0, 64, Ok(0)),
+        (LONGEST + 1, 0, 64, Err(RoomFault::TooHeavy)),
+        (LONGEST + 1, LAST_REVISION + 1, 0, Err(RoomFault::TooHeavy)),
+        (LONGEST, 0, 64, Ok(0)),
     ] {
         let tree = Tree::from(Node::Text("a".repeat(rt.alloc(), bytes)?));
         assert_eq!(rt; start(rt.alloc(), tree, rev, h), expected, "{bytes} bytes");
@@ -254,4 +257,38 @@ fn makes_no_revision_after_the_last(rt: HostRuntime) -> Result<(), Fail> {
             ),
         ],
     )
+}
+
+/// An edit for another revision than the present one is refused before its patch is looked at.
+#[test]
+fn an_edit_may_be_for_one_revision(rt: HostRuntime) -> Result<(), Fail> {
+    let mut room = room_of(rt.alloc(), "[1]", 2, 64)?;
+    let add = r#"[{"op":"add","path":"/-","value":2}]"#;
+    let missing = r#"[{"op":"remove","path":"/9"}]"#;
+    for (base, patch, expected) in [
+        (Some(1), "[]", "Err(Stale { present: 2 }): 2 [1]"),
+        (Some(3), "[]", "Err(Stale { present: 2 }): 2 [1]"),
+        (Some(1), missing, "Err(Stale { present: 2 }): 2 [1]"),
+        (Some(2), add, "Ok(3): 3 [1,2]"),
+        (Some(2), add, "Err(Stale { present: 3 }): 3 [1,2]"),
+        (None, "[]", "Ok(4): 4 [1,2]"),
+        (
+            Some(4),
+            missing,
+            "Err(Apply(ApplyFault { at: 0, cause: Missing })): 4 [1,2]",
+        ),
+    ] {
+        let found = edit(rt.alloc(), &mut room, base, patch)?;
+        assert_eq!(rt; found.as_str(), expected, "{base:?} {patch}");
+    }
+    Ok(())
+}
+
+/// Where no revision is left that is said first, whatever the edit is for.
+#[test]
+fn exhausted_comes_before_stale(rt: HostRuntime) -> Result<(), Fail> {
+    let mut room = room_of(rt.alloc(), "[]", LAST_REVISION, 1)?;
+    let found = edit(rt.alloc(), &mut room, Some(0), "[]")?;
+    assert_eq!(rt; found.as_str(), "Err(Exhausted): 9007199254740991 []");
+    Ok(())
 }

@@ -4,7 +4,7 @@
 pub const DEPTH_MOST: u64 = 64;
 
 /// The most that a shared document weighs.
-pub const WEIGHT_MOST: u64 = 65_536;
+pub const WEIGHT_MOST: u64 = 262_144;
 
 /// How deep and how heavy a document may be after each operation. `u64::MAX` bounds nothing.
 #[derive(Clone, Copy, Debug, PartialEq, Eq)]

@@ -1,5 +1,5 @@
 -- The numbers of a request that was read, and of a refusal, are counts.
-use Rattle.std.proofs.Common.{◌≡◌, ℕ, ◌≤◌, pos, List, length, Bool, true, false, Option, Some, None, Result, Ok, Err, nat_lt, nat_le, bytes_eq, option_and_then, if◌then◌else◌, refl, subst, arith}
+use Rattle.std.proofs.Common.{◌≡◌, ℕ, ◌≤◌, pos, List, length, Bool, true, false, Option, Some, None, Result, Ok, Err, nat_lt, nat_le, bytes_eq, option_map, option_and_then, if◌then◌else◌, refl, subst, arith}
 use Rattle.std.specs.Prelude.{IfOk, IfErr, IfSome, MatchResult, codes}
 use Rattle.std.proofs.lemmas.Bool.Decides.{nat_tests}
 use Rattle.serde_json.specs.Data.{Data}
@@ -27,7 +27,8 @@ use Rattle.relay_view.specs.declared.fault.ViewFault.TheVariants as view
 use Rattle.relay_view.specs.declared.view.TheConstants.{SLOTS_MOST}
 use Rattle.relay_pointer.specs.declared.reading.TheConstants.{TOKENS_MOST}
 use Rattle.relay_proto.specs.declared.reading.TheConstants.{REQUEST_MOST}
-use Rattle.relay_proto.specs.Request.{with_part, and_then, patch_refusal, patch_read, patch_in, view_refusal, view_read, view_in, resume_of, asked, request_of, request_of_tree, request_of_json, request_of_text}
+use Rattle.relay_proto.specs.Optional.{optional_count, optional_count_in}
+use Rattle.relay_proto.specs.Request.{with_part, and_then, patch_refusal, patch_read, patch_in, view_refusal, view_read, view_in, edit_of, resume_of, asked, request_of, request_of_tree, request_of_json, request_of_text}
 use Rattle.relay_proto.specs.Written.{IsCount, IsCountOrNull, HasCounts}
 use Rattle.relay_proto.specs.declared.refusal.Refusal.{Refusal}
 use Rattle.relay_proto.specs.declared.reply.Reply.TheVariants.{Refused}
@@ -37,14 +38,14 @@ use Rattle.relay_tree.proofs.Each.{IsBelow, few-place}
 
 -- a request's numbers are counts, and it has no more operations than it may
 abbrev pub IsRequest : Request → Type 0
-IsRequest (Edit id ops) = IsCount id × (length ops ≤ REQUEST.ops)
+IsRequest (Edit id base ops) = IsCount id × IsCountOrNull base × (length ops ≤ REQUEST.ops)
 IsRequest (Watch id pointers) = IsCount id
 IsRequest (Resume id epoch rev pointers) = IsCount id × IsCount epoch × IsCount rev
 IsRequest (Unwatch id) = IsCount id
 
 -- the numbers of the reply that says so are counts
 abbrev pub IsRefusal : Refusal → Type 0
-IsRefusal r = HasCounts (Refused r.id r.fault r.at)
+IsRefusal r = HasCounts (Refused r.id r.fault r.at None)
 
 -- What is read part by part.
 
@@ -54,7 +55,7 @@ Reads P r = MatchResult r P IsRefusal
 part_reads : {A B : Type 0} (P : A → Type 0) (Q : B → Type 0) (id : Option ℕ) (o : Option A) (f : A → Result B Refusal)
     → IsCountOrNull id → IfSome o P → ((x : A) → P x → Reads Q (f x)) → Reads Q (with_part id o f)
 part_reads P Q id (Some x) f counts h k = k x h
-part_reads P Q id None f counts h k = (counts, tt)
+part_reads P Q id None f counts h k = (counts, tt, tt)
 
 then_reads : {A B : Type 0} (P : A → Type 0) (Q : B → Type 0) (r : Result A Refusal) (f : A → Result B Refusal)
     → Reads P r → ((x : A) → P x → Reads Q (f x)) → Reads Q (and_then r f)
@@ -89,6 +90,17 @@ count_in_is d name = go (object_member d name)
     go None = tt
     go (Some v) = count_of_is v
 
+optional_count_in_is : (d : Document) (name : List ℕ) → IfSome (optional_count_in d name) IsCountOrNull
+optional_count_in_is d name = go (object_member d name)
+  where
+    found : (n : Option ℕ) → IfSome n IsCount → IfSome (option_map Some n) IsCountOrNull
+    found None h = tt
+    found (Some n) h = h
+
+    go : (o : Option Document) → IfSome (optional_count o) IsCountOrNull
+    go None = tt
+    go (Some v) = found (count_of v) (count_of_is v)
+
 below_is : (most : ℕ) (o : Option ℕ) → most ≤ count_most → IsBelow most o → IsCountOrNull o
 below_is most None few h = tt
 below_is most (Some n) few h = omega (arith, few, h)
@@ -96,11 +108,11 @@ below_is most (Some n) few h = omega (arith, few, h)
 -- Patches.
 
 patch_refused : (id : ℕ) (fault : PatchFault) → IsCount id → IsBelow REQUEST.ops (place fault) → IsRefusal (patch_refusal id fault)
-patch_refused id patch.TooManyOps counts h = (counts, tt)
-patch_refused id (patch.Shape at) counts h = (counts, below_is REQUEST.ops at (omega arith) h)
-patch_refused id (patch.UnknownOp at) counts h = (counts, below_is REQUEST.ops (Some at) (omega arith) h)
-patch_refused id (patch.Pointer at) counts h = (counts, below_is REQUEST.ops (Some at) (omega arith) h)
-patch_refused id patch.NoMemory counts h = (counts, tt)
+patch_refused id patch.TooManyOps counts h = (counts, tt, tt)
+patch_refused id (patch.Shape at) counts h = (counts, below_is REQUEST.ops at (omega arith) h, tt)
+patch_refused id (patch.UnknownOp at) counts h = (counts, below_is REQUEST.ops (Some at) (omega arith) h, tt)
+patch_refused id (patch.Pointer at) counts h = (counts, below_is REQUEST.ops (Some at) (omega arith) h, tt)
+patch_refused id patch.NoMemory counts h = (counts, tt, tt)
 
 patch_reads : (id : ℕ) (d : Document) → IsCount id → Reads (λ ops. length ops ≤ REQUEST.ops) (patch_in id d)
 patch_reads id d counts =
@@ -145,10 +157,10 @@ view_of_place (list ds) = few-place slot_at pointer_place slot_at_names SLOTS_MO
 view_of_place _ = tt
 
 view_refused : (id : ℕ) (fault : ViewFault) → IsCount id → IsBelow SLOTS_MOST (pointer_place fault) → IsRefusal (view_refusal id fault)
-view_refused id view.TooMany counts h = (counts, tt)
-view_refused id (view.Shape at) counts h = (counts, below_is SLOTS_MOST at (omega arith) h)
-view_refused id (view.Pointer at) counts h = (counts, below_is SLOTS_MOST (Some at) (omega arith) h)
-view_refused id view.NoMemory counts h = (counts, tt)
+view_refused id view.TooMany counts h = (counts, tt, tt)
+view_refused id (view.Shape at) counts h = (counts, below_is SLOTS_MOST at (omega arith) h, tt)
+view_refused id (view.Pointer at) counts h = (counts, below_is SLOTS_MOST (Some at) (omega arith) h, tt)
+view_refused id view.NoMemory counts h = (counts, tt, tt)
 
 view_reads : (id : ℕ) (d : Document) → IsCount id → Reads Anything (view_in id d)
 view_reads id d counts =
@@ -160,6 +172,11 @@ view_reads id d counts =
 
 -- Requests.
 
+edit_reads : (id : ℕ) (d : Document) → IsCount id → Reads IsRequest (edit_of id d)
+edit_reads id d counts =
+    part_reads IsCountOrNull IsRequest (Some id) (optional_count_in d (codes "base")) _ counts (optional_count_in_is d (codes "base")) (λ base is_base.
+    then_reads (λ ops. length ops ≤ REQUEST.ops) IsRequest (patch_in id d) _ (patch_reads id d counts) (λ ops short. (counts, is_base, short)))
+
 resume_reads : (id : ℕ) (d : Document) → IsCount id → Reads IsRequest (resume_of id d)
 resume_reads id d counts =
     part_reads IsCount IsRequest (Some id) (count_in d (codes "epoch")) _ counts (count_in_is d (codes "epoch")) (λ epoch is_epoch.
@@ -168,10 +185,10 @@ resume_reads id d counts =
 
 asked_reads : (name : List ℕ) (id : ℕ) (d : Document) → IsCount id → Reads IsRequest (asked name id d)
 asked_reads name id d counts =
-    either_reads IsRequest (bytes_eq name (codes "edit")) _ _ (then_reads (λ ops. length ops ≤ REQUEST.ops) IsRequest (patch_in id d) _ (patch_reads id d counts) (λ ops short. (counts, short)))
+    either_reads IsRequest (bytes_eq name (codes "edit")) _ _ (edit_reads id d counts)
     (either_reads IsRequest (bytes_eq name (codes "watch")) _ _ (then_reads Anything IsRequest (view_in id d) _ (view_reads id d counts) (λ v _. counts))
     (either_reads IsRequest (bytes_eq name (codes "resume")) _ _ (resume_reads id d counts)
-    (either_reads IsRequest (bytes_eq name (codes "unwatch")) _ _ counts (counts, tt))))
+    (either_reads IsRequest (bytes_eq name (codes "unwatch")) _ _ counts (counts, tt, tt))))
 
 request_reads : (d : Document) → Reads IsRequest (request_of d)
 request_reads d =
@@ -179,14 +196,14 @@ request_reads d =
     part_reads Anything IsRequest (Some id) (text_in d (codes "do")) _ counts (some_anything _) (λ name _. asked_reads name id d counts))
 
 text_reads : (s : List ℕ) → Reads IsRequest (request_of_text s)
-text_reads s = either_reads IsRequest (nat_lt REQUEST_MOST (length s)) _ _ (tt, tt) (data_reads (json.read s))
+text_reads s = either_reads IsRequest (nat_lt REQUEST_MOST (length s)) _ _ (tt, tt, tt) (data_reads (json.read s))
   where
     tree_reads : (d : Option Document) → Reads IsRequest (request_of_tree d)
-    tree_reads None = (tt, tt)
+    tree_reads None = (tt, tt, tt)
     tree_reads (Some d) = request_reads d
 
     data_reads : (value : Option Data) → Reads IsRequest (request_of_json value)
-    data_reads None = (tt, tt)
+    data_reads None = (tt, tt, tt)
     data_reads (Some value) = tree_reads (tree_of value)
 
 pub request_counts : (s : List ℕ) (request : Request) → request_of_text s ≡ Ok request → IsRequest request

@@ -9,3 +9,4 @@ pub mod Messages
 pub mod Written
 pub mod Writable
 pub mod Counts
+pub mod Rows

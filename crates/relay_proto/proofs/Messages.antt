@@ -35,6 +35,7 @@ word_back word.TestFailed = refl
 word_back word.TooDeep = refl
 word_back word.TooHeavy = refl
 word_back word.Exhausted = refl
+word_back word.Stale = refl
 word_back word.Future = refl
 
 pub how_back : (h : How) → how_of_text (how_text h) ≡ Some h
@@ -52,7 +53,8 @@ nullable_back (Some n) h = rw (count_back n h) refl
 pub reply_back : (r : Reply) → HasCounts r → message_of (reply_document r) ≡ Some (message.Reply r)
 reply_back (reply.Welcome epoch rev session) h = rw (count_back epoch h.0, count_back rev h.1, count_back session h.2) refl
 reply_back (reply.Done id rev) h = rw (count_back id h.0, count_back rev h.1) refl
-reply_back (reply.Refused id fault at) h = rw (nullable_back id h.0, word_back fault, nullable_back at h.1) refl
+reply_back (reply.Refused id fault at None) h = rw (nullable_back id h.0, word_back fault, nullable_back at h.1) refl
+reply_back (reply.Refused id fault at (Some rev)) h = rw (nullable_back id h.0, word_back fault, nullable_back at h.1, count_back rev h.2) refl
 reply_back (reply.Watching id) h = rw (count_back id h) refl
 reply_back (reply.Resumed id how) h = rw (count_back id h, how_back how) refl
 reply_back (reply.Unwatched id) h = rw (count_back id h) refl

@@ -1,5 +1,5 @@
 -- The words that messages spell, in quotes: none has a character to escape.
-use Rattle.std.proofs.Common.{◌≡◌, ℕ, List, ◌∷◌, ◌++◌, Option, refl, ap}
+use Rattle.std.proofs.Common.{◌≡◌, ℕ, List, ◌∷◌, ◌++◌, Option, Some, None, refl, ap}
 use Rattle.std.specs.Prelude.{codes, decimal}
 use Rattle.json.specs.Print.{escape_byte}
 use Rattle.relay_tree.specs.Document.{text}
@@ -31,6 +31,7 @@ text_of-word_text word.TestFailed rest = refl
 text_of-word_text word.TooDeep rest = refl
 text_of-word_text word.TooHeavy rest = refl
 text_of-word_text word.Exhausted rest = refl
+text_of-word_text word.Stale rest = refl
 text_of-word_text word.Future rest = refl
 
 text_of-how_text : (h : How) (rest : List ℕ) → 34 ∷ (how_text h ++ (34 ∷ rest)) ≡ text_of (text (how_text h)) ++ rest
@@ -42,10 +43,16 @@ text_of-how_text how.Snapshot rest = refl
 -- The texts of the replies that spell a word.
 
 pub refused : {a i f : List ℕ} (id at : Option ℕ) (w : Word) → f ≡ word_text w → a ≡ text_of (count_or_null at) → i ≡ text_of (count_or_null id)
-    → codes "{\"at\":" ++ (a ++ (codes ",\"fault\":\"" ++ (f ++ (codes "\",\"id\":" ++ (i ++ codes ",\"kind\":\"refused\"}"))))) ≡ text_of (reply_document (reply.Refused id w at))
+    → codes "{\"at\":" ++ (a ++ (codes ",\"fault\":\"" ++ (f ++ (codes "\",\"id\":" ++ (i ++ codes ",\"kind\":\"refused\"}"))))) ≡ text_of (reply_document (reply.Refused id w at None))
 unfolding escape_byte
 refused id at w f a i =
     rw (f, a, i) (ap (λ rest. codes "{\"at\":" ++ (text_of (count_or_null at) ++ (codes ",\"fault\":" ++ rest))) (text_of-word_text w (codes ",\"id\":" ++ (text_of (count_or_null id) ++ codes ",\"kind\":\"refused\"}"))))
+
+pub refused_naming : {a i f : List ℕ} (id at : Option ℕ) (w : Word) (rev : ℕ) → f ≡ word_text w → a ≡ text_of (count_or_null at) → i ≡ text_of (count_or_null id)
+    → codes "{\"at\":" ++ (a ++ (codes ",\"fault\":\"" ++ (f ++ (codes "\",\"id\":" ++ (i ++ (codes ",\"kind\":\"refused\",\"rev\":" ++ (decimal rev ++ codes "}"))))))) ≡ text_of (reply_document (reply.Refused id w at (Some rev)))
+unfolding escape_byte
+refused_naming id at w rev f a i =
+    rw (f, a, i) (ap (λ rest. codes "{\"at\":" ++ (text_of (count_or_null at) ++ (codes ",\"fault\":" ++ rest))) (text_of-word_text w (codes ",\"id\":" ++ (text_of (count_or_null id) ++ (codes ",\"kind\":\"refused\",\"rev\":" ++ (decimal rev ++ codes "}"))))))
 
 pub resumed : {f : List ℕ} (id : ℕ) (h : How) → f ≡ how_text h
     → codes "{\"how\":\"" ++ (f ++ (codes "\",\"id\":" ++ (decimal id ++ codes ",\"kind\":\"resumed\"}"))) ≡ text_of (reply_document (reply.Resumed id h))

@@ -44,10 +44,15 @@ reply_reads (reply.Done id rev) h =
     let i = count_reads id h.0 in
     let r = count_reads rev h.1 in
     record { written = (i.written, (tt, (r.written, tt))); found = seen.object (seen.member (codes "id") i.found (seen.member (codes "kind") (seen.string (codes "done")) (seen.member (codes "rev") r.found seen.no_members))); outlined = rw (i.outlined, r.outlined) refl; is = rw (i.is, r.is) refl }
-reply_reads (reply.Refused id fault at) h =
+reply_reads (reply.Refused id fault at None) h =
     let i = nullable_reads id h.0 in
     let a = nullable_reads at h.1 in
     record { written = (a.written, (tt, (i.written, (tt, tt)))); found = seen.object (seen.member (codes "at") a.found (seen.member (codes "fault") (seen.string (word_text fault)) (seen.member (codes "id") i.found (seen.member (codes "kind") (seen.string (codes "refused")) seen.no_members)))); outlined = rw (i.outlined, a.outlined) refl; is = rw (i.is, a.is) refl }
+reply_reads (reply.Refused id fault at (Some rev)) h =
+    let i = nullable_reads id h.0 in
+    let a = nullable_reads at h.1 in
+    let r = count_reads rev h.2 in
+    record { written = (a.written, (tt, (i.written, (tt, (r.written, tt))))); found = seen.object (seen.member (codes "at") a.found (seen.member (codes "fault") (seen.string (word_text fault)) (seen.member (codes "id") i.found (seen.member (codes "kind") (seen.string (codes "refused")) (seen.member (codes "rev") r.found seen.no_members))))); outlined = rw (i.outlined, a.outlined, r.outlined) refl; is = rw (i.is, a.is, r.is) refl }
 reply_reads (reply.Watching id) h =
     let i = count_reads id h in
     record { written = (i.written, (tt, tt)); found = seen.object (seen.member (codes "id") i.found (seen.member (codes "kind") (seen.string (codes "watching")) seen.no_members)); outlined = rw i.outlined refl; is = rw i.is refl }
@@ -77,7 +82,8 @@ nullable_flat None = refl
 reply_flat : (r : Reply) → depth (data_of (reply_document r)) ≤ max_depth
 reply_flat (reply.Welcome epoch rev session) = lit≤ tt
 reply_flat (reply.Done id rev) = lit≤ tt
-reply_flat (reply.Refused id fault at) = rw (nullable_flat id, nullable_flat at) (lit≤ tt)
+reply_flat (reply.Refused id fault at None) = rw (nullable_flat id, nullable_flat at) (lit≤ tt)
+reply_flat (reply.Refused id fault at (Some rev)) = rw (nullable_flat id, nullable_flat at) (lit≤ tt)
 reply_flat (reply.Watching id) = lit≤ tt
 reply_flat (reply.Resumed id how) = lit≤ tt
 reply_flat (reply.Unwatched id) = lit≤ tt

@@ -1,6 +1,7 @@
 pub mod Words
 pub mod RoomName
 pub mod Message
+pub mod Optional
 pub mod Request
 pub mod MessageRead
 pub mod Written

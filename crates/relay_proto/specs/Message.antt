@@ -16,12 +16,17 @@ abbrev pub count_or_null : Option ℕ → Document
 count_or_null (Some n) = count n
 count_or_null None = null
 
+-- the member that names a revision, where one is named
+abbrev pub revision_members : Option ℕ → Members
+revision_members (Some rev) = member (codes "rev") (count rev) no_members
+revision_members None = no_members
+
 abbrev pub reply_members : Reply → Members
 reply_members (reply.Welcome epoch rev session) =
     member (codes "epoch") (count epoch) (member (codes "kind") (text (codes "welcome")) (member (codes "rev") (count rev) (member (codes "session") (count session) no_members)))
 reply_members (reply.Done id rev) = member (codes "id") (count id) (member (codes "kind") (text (codes "done")) (member (codes "rev") (count rev) no_members))
-reply_members (reply.Refused id fault at) =
-    member (codes "at") (count_or_null at) (member (codes "fault") (text (word_text fault)) (member (codes "id") (count_or_null id) (member (codes "kind") (text (codes "refused")) no_members)))
+reply_members (reply.Refused id fault at rev) =
+    member (codes "at") (count_or_null at) (member (codes "fault") (text (word_text fault)) (member (codes "id") (count_or_null id) (member (codes "kind") (text (codes "refused")) (revision_members rev))))
 reply_members (reply.Watching id) = member (codes "id") (count id) (member (codes "kind") (text (codes "watching")) no_members)
 reply_members (reply.Resumed id how) = member (codes "how") (text (how_text how)) (member (codes "id") (count id) (member (codes "kind") (text (codes "resumed")) no_members))
 reply_members (reply.Unwatched id) = member (codes "id") (count id) (member (codes "kind") (text (codes "unwatched")) no_members)

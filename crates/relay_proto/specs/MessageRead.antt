@@ -14,6 +14,7 @@ use Rattle.relay_proto.specs.declared.reply.How.{How}
 use Rattle.relay_proto.specs.declared.reply.Reply.{Reply}
 use Rattle.relay_proto.specs.declared.reply.Reply.TheVariants.{Welcome, Done, Refused, Watching, Resumed, Unwatched}
 use Rattle.relay_proto.specs.declared.word.Word.{Word}
+use Rattle.relay_proto.specs.Optional.{optional_count_in}
 use Rattle.relay_proto.specs.Words.{word_of_text, how_of_text}
 
 -- what follows where a part is there; else the text is no message
@@ -51,7 +52,8 @@ abbrev pub refused_in : Document → Option Reply
 refused_in d =
     with_form (nullable_in d (codes "id")) (λ id.
     with_form (word_in d) (λ fault.
-    with_form (nullable_in d (codes "at")) (λ at. Some (Refused id fault at))))
+    with_form (nullable_in d (codes "at")) (λ at.
+    with_form (optional_count_in d (codes "rev")) (λ rev. Some (Refused id fault at rev)))))
 
 abbrev pub watching_in : Document → Option Reply
 watching_in d = with_form (count_in d (codes "id")) (λ id. Some (Watching id))

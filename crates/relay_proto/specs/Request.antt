@@ -1,5 +1,5 @@
 -- How a text reads as a request, or its first fault: the checks come in the order of these definitions.
-use Rattle.std.specs.Prelude.{◌≡◌, ℕ, List, length, codes, bytes_eq, nat_lt, Option, Some, None, option_and_then, Result, Ok, Err, if◌then◌else◌}
+use Rattle.std.specs.Prelude.{◌≡◌, ℕ, List, length, codes, bytes_eq, nat_lt, Option, Some, None, Result, Ok, Err, if◌then◌else◌}
 use Rattle.serde_json.specs.Data.{Data}
 use Rattle.serde_json.specs.Read as json
 use Rattle.relay_tree.specs.Document.{Document}
@@ -15,6 +15,7 @@ use Rattle.relay_patch.specs.declared.op.Op.{Op}
 use Rattle.relay_view.specs.Form.{view_of}
 use Rattle.relay_view.specs.declared.fault.ViewFault.{ViewFault}
 use Rattle.relay_view.specs.declared.fault.ViewFault.TheVariants as view
+use Rattle.relay_proto.specs.Optional.{optional_count_in}
 use Rattle.relay_proto.specs.declared.reading.TheConstants.{REQUEST_MOST}
 use Rattle.relay_proto.specs.declared.refusal.Refusal.{Refusal}
 use Rattle.relay_proto.specs.declared.refusal.RequestFault.{RequestFault}
@@ -64,6 +65,12 @@ view_read id (Err fault) = Err (view_refusal id fault)
 abbrev pub view_in : ℕ → Document → Result View Refusal
 view_in id d = with_part (Some id) (object_member d (codes "view")) (λ v. view_read id (view_of v))
 
+-- `base` is a count, or is left out; it is looked at before the patch
+abbrev pub edit_of : ℕ → Document → Result Request Refusal
+edit_of id d =
+    with_part (Some id) (optional_count_in d (codes "base")) (λ base.
+    and_then (patch_in id d) (λ p. Ok (Edit id base p)))
+
 abbrev pub resume_of : ℕ → Document → Result Request Refusal
 resume_of id d =
     with_part (Some id) (count_in d (codes "epoch")) (λ epoch.
@@ -73,7 +80,7 @@ resume_of id d =
 -- the request that `do` names
 abbrev pub asked : List ℕ → ℕ → Document → Result Request Refusal
 asked name id d =
-    if bytes_eq name (codes "edit") then and_then (patch_in id d) (λ p. Ok (Edit id p)) else
+    if bytes_eq name (codes "edit") then edit_of id d else
     if bytes_eq name (codes "watch") then and_then (view_in id d) (λ v. Ok (Watch id v)) else
     if bytes_eq name (codes "resume") then resume_of id d else
     if bytes_eq name (codes "unwatch") then Ok (Unwatch id) else Err (refusal Shape (Some id) None)

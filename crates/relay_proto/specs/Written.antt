@@ -19,6 +19,7 @@ use Rattle.relay_proto.specs.declared.reply.Reply.TheVariants as reply
 abbrev pub IsCount : ℕ → Type 0
 IsCount n = n ≤ count_most
 
+-- a count, or none
 abbrev pub IsCountOrNull : Option ℕ → Type 0
 IsCountOrNull (Some n) = IsCount n
 IsCountOrNull None = Unit {0}
@@ -26,7 +27,7 @@ IsCountOrNull None = Unit {0}
 abbrev pub HasCounts : Reply → Type 0
 HasCounts (reply.Welcome epoch rev session) = IsCount epoch × IsCount rev × IsCount session
 HasCounts (reply.Done id rev) = IsCount id × IsCount rev
-HasCounts (reply.Refused id fault at) = IsCountOrNull id × IsCountOrNull at
+HasCounts (reply.Refused id fault at rev) = IsCountOrNull id × IsCountOrNull at × IsCountOrNull rev
 HasCounts (reply.Watching id) = IsCount id
 HasCounts (reply.Resumed id how) = IsCount id
 HasCounts (reply.Unwatched id) = IsCount id

@@ -6,6 +6,7 @@
 
 mod message;
 mod message_reading;
+mod optional;
 mod reading;
 mod refusal;
 mod reply;

@@ -1,11 +1,12 @@
 //! Messages of texts, as a client reads them. Members that a message does not need are ignored; an unknown word, or a
-//! member that is missing, makes the text no message.
+//! member that is missing and may not be, makes the text no message.
 ghost use Rattle.std.specs.Prelude.{◌≡◌, Some, None, IfOk, IfErr};
 ghost use Rattle.std.specs.List.{list_all};
 ghost use Rattle.relay_proto.specs.MessageRead.{message_of_text, message_of, patch_message_in, snapshot_in, reply_in, refused_in, resumed_in, nullable_in, word_in, how_in, is_view, is_slot};
 ghost use Rattle.relay_proto.specs.declared.message_reading.MessageFault.TheVariants.{NotMessage};
 
 use crate::message::Message;
+use crate::optional::optional_count_at;
 use crate::reply::{How, Reply};
 use crate::word::Word;
 use relay_patch::{Patch, PatchFault, PatchLimits};
@@ -147,6 +148,7 @@ fn refused_of(tree: &Tree) -> Option<Reply>
         id: nullable_at(tree, "id")?,
         fault: Word::read(tree.text_at("fault")?)?,
         at: nullable_at(tree, "at")?,
+        rev: optional_count_at(tree, "rev")?,
     })
 }
 

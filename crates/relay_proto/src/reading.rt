@@ -1,9 +1,10 @@
 //! Requests of texts. The checks come in one order, and the first that fails is the answer: the text's length, JSON, its
-//! numbers, an object with `id`, `do`, the counts that the request needs, and then its patch or its view.
+//! numbers, an object with `id`, `do`, the counts that the request needs or may have, and then its patch or its view.
 ghost use Rattle.std.specs.Prelude.{◌≡◌, ◌≤◌, Ok, Err, IfOk, IfErr, IsErrOf, length};
 ghost use Rattle.relay_proto.specs.declared.reading.TheConstants.{REQUEST_MOST};
-ghost use Rattle.relay_proto.specs.Request.{request_of_text, request_of, resume_of, patch_in, view_in, refusal, IsRefusedAs};
+ghost use Rattle.relay_proto.specs.Request.{request_of_text, request_of, edit_of, resume_of, patch_in, view_in, refusal, IsRefusedAs};
 
+use crate::optional::optional_count_at;
 use crate::refusal::{Refusal, RequestFault};
 use crate::request::Request;
 use crate::word::Word;
@@ -13,7 +14,7 @@ use relay_view::{View, ViewFault};
 use std::alloc::Global;
 
 /// How many bytes the text of a request has at most.
-pub const REQUEST_MOST: u64 = 262_144;
+pub const REQUEST_MOST: u64 = 1_048_576;
 
 impl Request {
     /// The request that a text is, or its first fault. Members that a request does not need are ignored. NoMemory comes only for a
@@ -44,10 +45,7 @@ fn of_tree(alloc: Global, tree: Tree) -> Result<Request, RequestFault>
         return refuse(Word::Shape, None, None);
     };
     match tree.text_at("do") {
-        Some("edit") => Ok(Request::Edit {
-            id,
-            patch: patch_of(alloc, id, tree)?,
-        }),
+        Some("edit") => edit_of(alloc, id, tree),
         Some("watch") => Ok(Request::Watch {
             id,
             view: view_of(alloc, id, &tree)?,
@@ -56,6 +54,20 @@ fn of_tree(alloc: Global, tree: Tree) -> Result<Request, RequestFault>
         Some("unwatch") => Ok(Request::Unwatch { id }),
         _ => refuse(Word::Shape, Some(id), None),
     }
+}
+
+fn edit_of(alloc: Global, id: u64, tree: Tree) -> Result<Request, RequestFault>
+    ensures ok { IfOk result (λ request. edit_of id tree ≡ Ok request) }
+    ensures refused { IfErr result (λ fault. IsRefusedAs fault (edit_of id tree)) }
+{
+    let Some(base) = optional_count_at(&tree, "base") else {
+        return refuse(Word::Shape, Some(id), None);
+    };
+    Ok(Request::Edit {
+        id,
+        base,
+        patch: patch_of(alloc, id, tree)?,
+    })
 }
 
 fn resume_of(alloc: Global, id: u64, tree: &Tree) -> Result<Request, RequestFault>

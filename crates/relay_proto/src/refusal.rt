@@ -12,17 +12,18 @@ pub struct Refusal {
 }
 
 impl Refusal {
-    ghost use Rattle.std.specs.Prelude.{◌≡◌};
+    ghost use Rattle.std.specs.Prelude.{◌≡◌, None};
     ghost use Rattle.relay_proto.specs.declared.reply.Reply.TheVariants.{Refused};
 
-    /// The reply that says so.
+    /// The reply that says so. It names no revision.
     pub fn reply(self) -> Reply
-        ensures { result ≡ Refused self.id self.fault self.at }
+        ensures { result ≡ Refused self.id self.fault self.at None }
     {
         Reply::Refused {
             id: self.id,
             fault: self.fault,
             at: self.at,
+            rev: None,
         }
     }
 }

@@ -54,12 +54,13 @@ pub enum Reply {
         id: u64,
         rev: u64,
     },
-    /// A request was refused. `id` is None where the text has none, and `at` is the place of the operation or of the
-    /// pointer that is at fault, counted from 0.
+    /// A request was refused. `id` is None where the text has none, `at` is the place of the operation or of the pointer
+    /// that is at fault, counted from 0, and `rev` is the revision that the room is at, where the reply names it.
     Refused {
         id: Option<u64>,
         fault: Word,
         at: Option<u64>,
+        rev: Option<u64>,
     },
     /// The view is held; a snapshot is due.
     Watching {

@@ -5,9 +5,10 @@ use relay_view::View;
 /// One request. Ids, epochs and revisions are counts, from 0 to `2^53 - 1`.
 #[derive(Drop)]
 pub enum Request {
-    /// Apply the patch to the room's document.
+    /// Apply the patch to the room's document; where `base` is given, only at that revision.
     Edit {
         id: u64,
+        base: Option<u64>,
         patch: Patch,
     },
     /// Show these parts from now on.

@@ -5,9 +5,11 @@ ghost use Rattle.relay_proto.specs.Message.{reply_document, count_or_null, patch
 ghost use Rattle.relay_proto.specs.MessageRead.{message_of_text};
 ghost use Rattle.relay_proto.specs.Written.{HasCounts, IsWritable};
 ghost use Rattle.relay_proto.specs.declared.message.Message.TheVariants as message;
+ghost use Rattle.relay_proto.specs.declared.reply.Reply.TheVariants as reply;
 
 use crate::message::Message;
 use crate::reply::Reply;
+use crate::word::Word;
 use relay_patch::Patch;
 use relay_tree::Tree;
 use std::alloc::{AllocError, Global};
@@ -29,14 +31,7 @@ impl Reply {
             Reply::Done { id, rev } => format!(in alloc;
                 "{{\"id\":{id},\"kind\":\"done\",\"rev\":{rev}}}"
             ),
-            Reply::Refused { id, fault, at } => {
-                let fault = fault.text();
-                let id = count_text(alloc, id)?;
-                let at = count_text(alloc, at)?;
-                format!(in alloc;
-                    "{{\"at\":{at},\"fault\":\"{fault}\",\"id\":{id},\"kind\":\"refused\"}}"
-                )
-            }
+            Reply::Refused { id, fault, at, rev } => refused_text(alloc, id, fault, at, rev),
             Reply::Watching { id } => format!(in alloc; "{{\"id\":{id},\"kind\":\"watching\"}}"),
             Reply::Resumed { id, how } => {
                 let how = how.text();
@@ -44,6 +39,29 @@ impl Reply {
             }
             Reply::Unwatched { id } => format!(in alloc; "{{\"id\":{id},\"kind\":\"unwatched\"}}"),
         }
+    }
+}
+
+/// The text of a refusal, which has the member `rev` where a revision is named.
+fn refused_text(
+    alloc: Global,
+    id: Option<u64>,
+    fault: Word,
+    at: Option<u64>,
+    rev: Option<u64>,
+) -> Result<String, AllocError>
+    ensures { IfOk result (λ text. string_bytes text ≡ text_of (reply_document (reply.Refused id fault at rev))) }
+{
+    let fault = fault.text();
+    let id = count_text(alloc, id)?;
+    let at = count_text(alloc, at)?;
+    match rev {
+        Some(rev) => format!(in alloc;
+            "{{\"at\":{at},\"fault\":\"{fault}\",\"id\":{id},\"kind\":\"refused\",\"rev\":{rev}}}"
+        ),
+        None => format!(in alloc;
+            "{{\"at\":{at},\"fault\":\"{fault}\",\"id\":{id},\"kind\":\"refused\"}}"
+        ),
     }
 }
 

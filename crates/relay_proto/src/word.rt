@@ -22,6 +22,7 @@ pub enum Word {
     TooDeep,
     TooHeavy,
     Exhausted,
+    Stale,
     Future,
 }
 
@@ -48,6 +49,7 @@ impl Word {
             "too-deep" => Some(Word::TooDeep),
             "too-heavy" => Some(Word::TooHeavy),
             "exhausted" => Some(Word::Exhausted),
+            "stale" => Some(Word::Stale),
             "future" => Some(Word::Future),
             _ => None,
         }
@@ -75,6 +77,7 @@ impl Word {
             Word::TooDeep => "too-deep",
             Word::TooHeavy => "too-heavy",
             Word::Exhausted => "exhausted",
+            Word::Stale => "stale",
             Word::Future => "future",
         }
     }

@@ -1,5 +1,5 @@
 -- What an edit comes to, as its patch is taken or refused.
-use Rattle.std.proofs.Common.{◌≡◌, ◌<◌, Bool, true, false, List, Result, Ok, Err, refl, arith}
+use Rattle.std.proofs.Common.{◌≡◌, ◌<◌, ℕ, Bool, true, false, List, Option, Result, Ok, Err, refl, arith}
 use Rattle.std.specs.Prelude.{nat_lt, if◌then◌else◌}
 use Rattle.std.proofs.lemmas.Bool.Decides.{nat_tests}
 use Rattle.relay_tree.specs.Document.{Document}
@@ -8,21 +8,35 @@ use Rattle.relay_patch.specs.declared.fault.ApplyFault.{ApplyFault}
 use Rattle.relay_patch.specs.declared.op.Op.{Op}
 use Rattle.relay_patch.specs.Patch.{after}
 use Rattle.relay_history.specs.declared.history.TheConstants.{LAST_REVISION}
-use Rattle.relay_room.specs.Edit.{applied, edited}
+use Rattle.relay_room.specs.Edit.{applied, edited, is_for}
 use Rattle.relay_room.specs.Room.{State, revision}
-use Rattle.relay_room.specs.declared.fault.EditFault.TheVariants.{Exhausted, Apply}
+use Rattle.relay_room.specs.declared.fault.EditFault.TheVariants.{Exhausted, Stale, Apply}
 
--- below the last revision it is what its patch comes to
-pub edited_below : (room : State) (patch : List Op) → revision room < LAST_REVISION → edited room patch ≡ applied (after room.document patch DOCUMENT)
-edited_below room patch below =
+-- below the last revision, and for the present one, it is what its patch comes to
+pub edited_below : (room : State) (base : Option ℕ) (patch : List Op) → revision room < LAST_REVISION → is_for base (revision room) ≡ true
+    → edited room base patch ≡ applied (after room.document patch DOCUMENT)
+edited_below room base patch below for =
     let more : nat_lt (revision room) LAST_REVISION ≡ true = grind (arith, nat_tests, below) in
-    rw more refl
+    rw more (rw for refl)
+
+-- a stale edit is told the present revision
+pub stale_present : (room : State) (base : Option ℕ) (patch : List Op) (present : ℕ) → edited room base patch ≡ Err (Stale present) → present ≡ revision room
+stale_present room base patch present h = go (nat_lt (revision room) LAST_REVISION) (is_for base (revision room)) (after room.document patch DOCUMENT) h
+  where
+    go : (more for : Bool) (r : Result Document ApplyFault)
+        → (if more then (if for then applied r else Err (Stale (revision room))) else Err Exhausted) ≡ Err (Stale present) → present ≡ revision room
+    go true true (Ok d) same = absurd (cc same)
+    go true true (Err found) same = absurd (cc same)
+    go true false r same = cc
+    go false for r same = absurd (cc same)
 
 -- an edit whose patch is refused
-pub edited_refused : (room : State) (patch : List Op) (fault : ApplyFault) → edited room patch ≡ Err (Apply fault) → after room.document patch DOCUMENT ≡ Err fault
-edited_refused room patch fault h = go (nat_lt (revision room) LAST_REVISION) (after room.document patch DOCUMENT) h
+pub edited_refused : (room : State) (base : Option ℕ) (patch : List Op) (fault : ApplyFault) → edited room base patch ≡ Err (Apply fault) → after room.document patch DOCUMENT ≡ Err fault
+edited_refused room base patch fault h = go (nat_lt (revision room) LAST_REVISION) (is_for base (revision room)) (after room.document patch DOCUMENT) h
   where
-    go : (more : Bool) (r : Result Document ApplyFault) → (if more then applied r else Err Exhausted) ≡ Err (Apply fault) → r ≡ Err fault
-    go true (Ok d) same = absurd (cc same)
-    go true (Err found) same = cc
-    go false r same = absurd (cc same)
+    go : (more for : Bool) (r : Result Document ApplyFault)
+        → (if more then (if for then applied r else Err (Stale (revision room))) else Err Exhausted) ≡ Err (Apply fault) → r ≡ Err fault
+    go true true (Ok d) same = absurd (cc same)
+    go true true (Err found) same = cc
+    go true false r same = absurd (cc same)
+    go false for r same = absurd (cc same)

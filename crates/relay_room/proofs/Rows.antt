@@ -1,11 +1,12 @@
--- What the definitions give for a room that holds the last two of five revisions, and for limits that are not kept.
-use Rattle.std.specs.Prelude.{◌≡◌, ◌+◌, List, [], ◌∷◌, Some, None, true, false, refl, codes}
+-- What the definitions give for a room that holds the last two of five revisions, for limits that are not kept, and for edits on a
+-- named revision.
+use Rattle.std.specs.Prelude.{◌≡◌, ◌+◌, List, [], ◌∷◌, Some, None, Ok, Err, true, false, refl, codes}
 use Rattle.relay_tree.specs.Document.{null, truth, list, object, no_items, item, no_members, member}
 use Rattle.relay_pointer.specs.Index.{index_text}
 use Rattle.relay_pointer.specs.Path.{Path}
 use Rattle.relay_view.specs.View.{View}
 use Rattle.relay_view.specs.declared.slot.SlotKind.TheVariants.{Value}
-use Rattle.relay_patch.specs.declared.op.Op.TheVariants.{Replace}
+use Rattle.relay_patch.specs.declared.op.Op.TheVariants.{Remove, Replace}
 use Rattle.relay_patch.specs.declared.change.Change.{Change}
 use Rattle.relay_patch.specs.declared.change.Change.TheVariants.{Set}
 use Rattle.relay_history.specs.History as history
@@ -14,6 +15,8 @@ use Rattle.relay_history.specs.History.{with_revision}
 use Rattle.relay_room.specs.Room.{State}
 use Rattle.relay_room.specs.Fault.{room_fault}
 use Rattle.relay_room.specs.CatchUp.{caught_up}
+use Rattle.relay_room.specs.Edit.{edited_at}
+use Rattle.relay_room.specs.declared.fault.EditFault.TheVariants.{Exhausted, Stale}
 use Rattle.relay_room.specs.declared.fault.RoomFault.TheVariants.{BadRevision, BadLimit}
 use Rattle.relay_room.specs.declared.catch_up.CatchUp.TheVariants.{Nothing, Patch, Snapshot}
 
@@ -61,3 +64,21 @@ module _ (a b c : List Change) where
   from_2 : caught_up five 2 (seen m) ≡ Snapshot
   unfolding five
   from_2 = refl
+
+-- an edit for another revision than the present one is stale, whatever its patch is; one for the present revision, or for none,
+-- is made; and one that has no revision left is refused before
+
+stale_below : edited_at 2 null (Some 1) (Remove [] ∷ []) ≡ Err (Stale 2)
+stale_below = refl
+
+stale_above : edited_at 2 null (Some 3) [] ≡ Err (Stale 2)
+stale_above = refl
+
+for_the_present : edited_at 2 null (Some 2) [] ≡ Ok null
+for_the_present = refl
+
+for_none : edited_at 2 null None [] ≡ Ok null
+for_none = refl
+
+exhausted_first : edited_at LAST_REVISION null (Some 0) [] ≡ Err Exhausted
+exhausted_first = refl

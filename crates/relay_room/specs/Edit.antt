@@ -1,5 +1,5 @@
 -- What an edit makes of a room. The rule stands here once: the room keeps it, and a hub's steps and its log speak of it.
-use Rattle.std.specs.Prelude.{◌≡◌, ◌≢◌, ℕ, List, Result, Ok, Err, nat_lt, if◌then◌else◌}
+use Rattle.std.specs.Prelude.{◌≡◌, ◌≢◌, ◌==◌, ℕ, Bool, true, List, Option, Some, None, Result, Ok, Err, nat_lt, if◌then◌else◌}
 use Rattle.relay_tree.specs.Document.{Document}
 use Rattle.relay_patch.specs.declared.bounds.TheConstants.Bounds.{DOCUMENT}
 use Rattle.relay_patch.specs.declared.fault.ApplyFault.{ApplyFault}
@@ -10,25 +10,33 @@ use Rattle.relay_patch.specs.Steps.{Reaches}
 use Rattle.relay_history.specs.declared.history.TheConstants.{LAST_REVISION}
 use Rattle.relay_room.specs.Room.{State, revision}
 use Rattle.relay_room.specs.declared.fault.EditFault.{EditFault}
-use Rattle.relay_room.specs.declared.fault.EditFault.TheVariants.{Exhausted, Apply}
+use Rattle.relay_room.specs.declared.fault.EditFault.TheVariants.{Exhausted, Stale, Apply}
 
 -- what a patch makes of a document, as an edit
 abbrev pub applied : Result Document ApplyFault → Result Document EditFault
 applied (Ok d) = Ok d
 applied (Err fault) = Err (Apply fault)
 
+-- an edit may name the revision that it was made for, its base: it is then for that revision alone
+abbrev pub is_for : Option ℕ → ℕ → Bool
+is_for (Some base) rev = base == rev
+is_for None rev = true
+
 -- the document that an edit makes at a revision, whose document is d, or why it is refused: there is no further revision, or
--- the patch is refused (RFC 6902, section 5)
-abbrev pub edited_at : ℕ → Document → List Op → Result Document EditFault
-edited_at rev d patch = if nat_lt rev LAST_REVISION then applied (after d patch DOCUMENT) else Err Exhausted
+-- it is for another one, or the patch is refused (RFC 6902, section 5)
+abbrev pub edited_at : ℕ → Document → Option ℕ → List Op → Result Document EditFault
+edited_at rev d base patch =
+    if nat_lt rev LAST_REVISION then (if is_for base rev then applied (after d patch DOCUMENT) else Err (Stale rev)) else Err Exhausted
 
 -- the document that an edit makes in a room
-abbrev pub edited : State → List Op → Result Document EditFault
-edited room patch = edited_at (revision room) room.document patch
+abbrev pub edited : State → Option ℕ → List Op → Result Document EditFault
+edited room base patch = edited_at (revision room) room.document base patch
 
--- why an edit is not made: it is refused; or memory was refused where its operations had passed so far
-abbrev pub Refuses : State → List Op → EditFault → Type 0
-Refuses room patch Exhausted = edited room patch ≡ Err Exhausted
-Refuses room patch (Apply fault) =
-    (fault.cause ≢ NoMemory → edited room patch ≡ Err (Apply fault))
-    × (fault.cause ≡ NoMemory → Reaches room.document patch DOCUMENT fault.at)
+-- why an edit is not made: it is refused; or memory was refused, where it is for the present revision and its operations had
+-- passed so far
+abbrev pub Refuses : State → Option ℕ → List Op → EditFault → Type 0
+Refuses room base patch Exhausted = edited room base patch ≡ Err Exhausted
+Refuses room base patch (Stale present) = edited room base patch ≡ Err (Stale present)
+Refuses room base patch (Apply fault) =
+    (fault.cause ≢ NoMemory → edited room base patch ≡ Err (Apply fault))
+    × (fault.cause ≡ NoMemory → (is_for base (revision room) ≡ true) × Reaches room.document patch DOCUMENT fault.at)

@@ -4,7 +4,7 @@ ghost use Rattle.relay_history.specs.declared.history.TheConstants.{LAST_REVISIO
 ghost use Rattle.relay_history.specs.History.{with_revision};
 ghost use Rattle.relay_patch.specs.Change.{Leads, all_changes};
 ghost use Rattle.relay_room.specs.Room.{IsRoom, revision};
-ghost use Rattle.relay_room.specs.Edit.{edited, Refuses};
+ghost use Rattle.relay_room.specs.Edit.{edited, is_for, Refuses};
 ghost use Rattle.relay_room.specs.declared.fault.EditFault.TheVariants.{Exhausted};
 
 use crate::fault::EditFault;
@@ -15,24 +15,34 @@ use std::alloc::Global;
 
 impl Room {
     /// Applies a patch to the document (RFC 6902, section 5), which has to stay within `Bounds::DOCUMENT` after each
-    /// operation. Gives the new revision: one higher, also where the patch changes nothing.
-    /// Exhausted: the revision is the last that there can be, whatever the patch is. Apply: an operation is refused, or
-    /// memory is. The room is as it was then.
+    /// operation. Gives the new revision: one higher, also where the patch changes nothing. An edit with a `base` is for that
+    /// revision alone: it is made only if nobody has edited the document since.
+    /// Exhausted: the revision is the last that there can be, whatever the edit is. Stale: `base` is not the present revision,
+    /// whatever the patch is. Apply: an operation is refused, or memory is. The room is as it was then.
     ///
     /// It costs what the patch touches: the document is not measured. Where the most revisions are held, the oldest one's
     /// changes go.
-    pub fn edit(&mut self, alloc: Global, patch: &Patch) -> Result<u64, EditFault>
-        ensures document { OnOk result (edited self.old patch.now ≡ Ok self.new.document) }
+    pub fn edit(
+        &mut self,
+        alloc: Global,
+        base: Option<u64>,
+        patch: &Patch,
+    ) -> Result<u64, EditFault>
+        ensures document { OnOk result (edited self.old base patch.now ≡ Ok self.new.document) }
         ensures revision { IfOk result (λ rev. (rev ≡ revision self.old + 1) × (rev ≡ revision self.new)) }
         ensures history { OnOk result (self.new.history ≡ with_revision (all_changes self.old.document patch.now) self.old.history) }
         ensures led { OnOk result (Leads self.old.document (all_changes self.old.document patch.now) self.new.document) }
         ensures exhausted { IsErrOf result Exhausted ↔ (revision self.old ≡ LAST_REVISION) }
-        ensures refused { IfErr result (λ fault. Refuses self.old patch.now fault) }
+        ensures refused { IfErr result (λ fault. Refuses self.old base patch.now fault) }
         ensures unchanged { OnErr result (self.new ≡ self.old) }
         ensures kept { IsRoom self.new }
     {
-        if self.history.newest() >= LAST_REVISION {
+        let present = self.history.newest();
+        if present >= LAST_REVISION {
             return Err(EditFault::Exhausted);
+        }
+        if !is_for(base, present) {
+            return Err(EditFault::Stale { present });
         }
         let Applied { changes, weight } = apply_within(
             alloc,
@@ -44,5 +54,15 @@ impl Room {
         self.weight = weight;
         self.history.push(changes);
         Ok(self.history.newest())
+    }
+}
+
+/// Whether an edit is for a revision: it names that one, or none.
+fn is_for(base: Option<u64>, rev: u64) -> bool
+    ensures { result ≡ is_for base rev }
+{
+    match base {
+        Some(base) => base == rev,
+        None => true,
     }
 }

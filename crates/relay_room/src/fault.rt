@@ -42,12 +42,15 @@ impl From<HistoryFault> for RoomFault {
     }
 }
 
-/// Why a patch makes no revision, in the order of the checks. The room is as it was.
+/// Why an edit makes no revision, in the order of the checks. The room is as it was.
 #[derive(Clone, Copy, Debug, PartialEq, Eq, Error)]
 pub enum EditFault {
     /// The revision is `2^53 - 1`, the last that there can be.
     #[error("no revision is left")]
     Exhausted,
+    /// The edit is for another revision than the present one.
+    #[error("the present revision is {present}")]
+    Stale { present: u64 },
     /// The patch is refused, or memory is.
     #[error("{0}")]
     Apply(ApplyFault),

@@ -16,7 +16,7 @@ pub enum ScriptFault {
     /// The writer failed, took no byte, or was interrupted 1,000 times in a row.
     #[error("output")]
     Output,
-    /// A line of more than 270,336 bytes, among as many as there may be. The lines before it were answered.
+    /// A line of more than 1,056,768 bytes, among as many as there may be. The lines before it were answered.
     #[error("line too long")]
     LineTooLong,
     /// More than 65,536 lines, however long the next one is. So many were answered.

@@ -9,7 +9,7 @@ use std::io::{ErrorKind, Read};
 use std::marker::Model;
 
 /// How many bytes a line has at most, its line feed aside.
-pub const LINE_MOST: usize = 270_336;
+pub const LINE_MOST: usize = 1_056_768;
 
 /// How many bytes one read asks for.
 const READ_MOST: usize = 4_096;

@@ -74,7 +74,7 @@ fn repeated(alloc: Global, byte: u8, count: usize) -> Result<String, Fail> {
 
 #[test]
 fn the_limits_are_those_of_the_protocol(rt: HostRuntime) {
-    assert_eq!(rt; LINE_MOST, 270_336, "bytes of a line");
+    assert_eq!(rt; LINE_MOST, 1_056_768, "bytes of a line");
     assert_eq!(rt; LINES_MOST, 65_536, "lines of a script");
     assert_eq!(rt; LINKS_MOST, 320, "connections");
     assert_eq!(rt; HISTORY_MOST, 1_024, "revisions of a history");

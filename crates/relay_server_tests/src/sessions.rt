@@ -356,3 +356,61 @@ fn opens_no_more_than_it_may(rt: HostRuntime) -> Result<(), Fail> {
     story.push_str(FULL)?;
     plays(&rt, 1, 1, story.as_str())
 }
+
+/// An edit for another revision than the present one is stale, whatever its patch is; `base` is a count where it is there.
+pub const BASES: &str = r#"a open r
+> a opened 1
+a draw
+> a {"epoch":1,"kind":"welcome","rev":0,"session":1}
+a say {"do":"edit","id":7,"patch":[]}
+> a answered
+a say {"base":1,"do":"edit","id":8,"patch":[{"op":"add","path":"","value":[1]}]}
+> a answered
+a draw
+> a {"id":7,"kind":"done","rev":1}
+a draw
+> a {"id":8,"kind":"done","rev":2}
+a say {"base":1,"do":"edit","id":9,"patch":[]}
+> a answered
+a say {"base":3,"do":"edit","id":9,"patch":[]}
+> a answered
+a say {"base":1,"do":"edit","id":9,"patch":[{"op":"remove","path":"/a"}]}
+> a answered
+a say {"base":null,"do":"edit","id":9,"patch":[]}
+> a answered
+a say {"base":-1,"do":"edit","id":9,"patch":[]}
+> a answered
+a say {"base":"2","do":"edit","id":9,"patch":{}}
+> a answered
+a draw
+> a {"at":null,"fault":"stale","id":9,"kind":"refused","rev":2}
+a draw
+> a {"at":null,"fault":"stale","id":9,"kind":"refused","rev":2}
+a draw
+> a {"at":null,"fault":"stale","id":9,"kind":"refused","rev":2}
+a draw
+> a {"at":null,"fault":"shape","id":9,"kind":"refused"}
+a draw
+> a {"at":null,"fault":"shape","id":9,"kind":"refused"}
+a draw
+> a {"at":null,"fault":"shape","id":9,"kind":"refused"}
+a say {"base":2,"do":"edit","id":9,"patch":[]}
+> a answered
+a say {"do":"edit","id":9,"patch":[]}
+> a answered
+a say {"base":null,"do":"watch","id":10,"view":[""]}
+> a answered
+a draw
+> a {"id":9,"kind":"done","rev":3}
+a draw
+> a {"id":9,"kind":"done","rev":4}
+a draw
+> a {"id":10,"kind":"watching"}
+a draw
+> a {"kind":"snapshot","rev":4,"view":[[[1]]]}
+"#;
+
+#[test]
+fn an_edit_may_be_for_one_revision(rt: HostRuntime) -> Result<(), Fail> {
+    plays(&rt, 64, 32, BASES)
+}

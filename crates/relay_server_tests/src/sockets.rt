@@ -37,6 +37,8 @@ fn the_loop_prints_what_the_script_prints(rt: HostRuntime) -> Result<(), Fail> {
         ("relay loop", sessions::WATCHES),
         ("relay script", sessions::EMPTY_ROOM),
         ("relay loop", sessions::EMPTY_ROOM),
+        ("relay script", sessions::BASES),
+        ("relay loop", sessions::BASES),
     ] {
         prints(&rt, line, story)?;
     }

@@ -22,7 +22,7 @@ fn fault_of_copies(rt: &(impl Abort + AllocGlobal), document: &str, path: &str) 
 #[test]
 fn bounds_hold_after_each_operation(rt: HostRuntime) {
     let heavy = ApplyFault {
-        at: 13,
+        at: 15,
         cause: Cause::TooHeavy,
     };
     is(

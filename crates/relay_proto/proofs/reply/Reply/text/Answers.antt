@@ -4,7 +4,7 @@ use Rattle.relay_tree.specs.Text.{text_of}
 use Rattle.relay_tree.proofs.Texts.{if_ok}
 use Rattle.relay_proto.specs.Message.{reply_document}
 use Rattle.relay_proto.specs.MessageRead.{message_of_text}
-use Rattle.relay_proto.proofs.Quoted.{refused, resumed}
+use Rattle.relay_proto.proofs.Quoted.{resumed}
 use Rattle.relay_proto.proofs.Written.{reply_text_back}
 use Rattle.relay_proto.proofs.reply.Reply.text.Goals as goal
 
@@ -24,13 +24,11 @@ pub returns-in-Done-clause-reads_back : goal.returns-in-Done-clause-reads_back
 unfolding escape_byte
 returns-in-Done-clause-reads_back c = if_ok c.format-in-Done.result c.format-in-Done.ensures.ok (λ s h counts. ap message_of_text (h ∙ ap (λ r. text_of (reply_document r)) (sym c.in-Done.is)) ∙ reply_text_back c.args.self.now counts)
 
-pub returns-in_ok-at-in-Refused-clause-text : goal.returns-in_ok-at-in-Refused-clause-text
-unfolding escape_byte
-returns-in_ok-at-in-Refused-clause-text c = if_ok c.format-in-Refused.result c.format-in-Refused.ensures.ok (λ s h. h ∙ refused c.in-Refused.id c.in-Refused.at c.in-Refused.fault c.text-fault.ensures c.in_ok-at-in-Refused.ensures c.in_ok-id-in-Refused.ensures ∙ ap (λ r. text_of (reply_document r)) (sym c.in-Refused.is))
+pub returns-in-Refused-clause-text : goal.returns-in-Refused-clause-text
+returns-in-Refused-clause-text c = if_ok c.refused_text.result c.refused_text.ensures (λ s h. h ∙ ap (λ r. text_of (reply_document r)) (sym c.in-Refused.is))
 
-pub returns-in_ok-at-in-Refused-clause-reads_back : goal.returns-in_ok-at-in-Refused-clause-reads_back
-unfolding escape_byte
-returns-in_ok-at-in-Refused-clause-reads_back c = if_ok c.format-in-Refused.result c.format-in-Refused.ensures.ok (λ s h counts. ap message_of_text (h ∙ refused c.in-Refused.id c.in-Refused.at c.in-Refused.fault c.text-fault.ensures c.in_ok-at-in-Refused.ensures c.in_ok-id-in-Refused.ensures ∙ ap (λ r. text_of (reply_document r)) (sym c.in-Refused.is)) ∙ reply_text_back c.args.self.now counts)
+pub returns-in-Refused-clause-reads_back : goal.returns-in-Refused-clause-reads_back
+returns-in-Refused-clause-reads_back c = if_ok c.refused_text.result c.refused_text.ensures (λ s h counts. ap message_of_text (h ∙ ap (λ r. text_of (reply_document r)) (sym c.in-Refused.is)) ∙ reply_text_back c.args.self.now counts)
 
 pub returns-in-Watching-clause-text : goal.returns-in-Watching-clause-text
 unfolding escape_byte
