@@ -54,6 +54,14 @@ export interface Options {
   patience?: number;
 }
 
+/** What an edit was made for. */
+export interface Seen {
+  /** The revision at which alone it is to be done, as `rev` of the slots from which it was made. */
+  base?: number;
+  /** The run of the relay of which the base is a revision. If nothing is said, that of the slots. To be kept beside a base that is used later. */
+  epoch?: number | null;
+}
+
 export interface Board {
   /** What is shown. */
   readonly view: Shown[];
@@ -73,8 +81,16 @@ export interface Board {
    *
    * Fails with `Refused`, where nothing changed; with `Unknown`, where the connection was lost before the answer; with `Closed`. At most
    * 31 requests are on their way at once; the others wait here, also for a connection, and are sent in order.
+   *
+   * With a `base` it is done only where the room is at that revision, and gives the next one. Else it is refused, as `stale`: what was seen
+   * may have changed, or anything else in the document. Then `watch(view)` gives slots of the room's revision; `rev` by itself stays
+   * behind it where an edit touches none of the slots.
+   *
+   * Where the answer of an edit with a `base` was lost, it is sent again once the client is back, and is never done twice. It fails with
+   * `Unknown` only where the relay was restarted in between, where the board is closed, and after five lost connections. One that was
+   * not sent yet when the relay was restarted is refused, as `stale`, without being sent.
    */
-  edit(patch: Operation[]): Promise<number>;
+  edit(patch: Operation[], seen?: Seen): Promise<number>;
   /** Leaves the room, and does not come back. */
   close(): void;
 }
@@ -82,12 +98,19 @@ export interface Board {
 /** Connects to a room, as `ws://127.0.0.1:8080/rooms/NAME`, and comes back to it whenever the connection is lost. */
 export function connect(url: string, options: Options): Board;
 
-/** The relay refused a request, and nothing changed. */
+/** The relay refused a request, and nothing changed by it; but see `resent`. */
 export class Refused extends Error {
   /** The word of the fault (docs/PROTOCOL.md, "Messages"). */
   readonly fault: string;
   /** The place of the operation or pointer that is at fault, counted from 0; null where no single one is. */
   readonly at: number | null;
+  /** The revision at which the room is, where the fault is `stale`; else null. */
+  readonly rev: number | null;
+  /**
+   * Whether it is an edit that was sent before, on a connection that was lost. Then `stale` says that it was done that time, or that
+   * another edit was faster and it never will be. The document tells which, if the edit left a mark there.
+   */
+  readonly resent: boolean;
 }
 
 /** The connection was lost before the answer: the edit may have been done, may not, and may still be done. */

@@ -9,11 +9,14 @@
   // With one more on the way 32 replies could wait, and the relay would read nothing from this client until it drew one.
   const ON_THE_WAY = 31;
 
-  /** The relay refused a request, and nothing changed. */
+  // How often an edit with a base is sent at most: one that ends its connection each time has to come to an end.
+  const SENDINGS = 5;
+
+  /** The relay refused a request, and nothing changed; of `stale` in a second sending, relay.d.ts says more. */
   class Refused extends Error {
-    constructor({ fault, at }) {
-      super(at === null ? fault : `${fault} at ${at}`);
-      Object.assign(this, { name: "Refused", fault, at });
+    constructor({ fault, at, rev = null }, resent = false) {
+      super(fault + (at === null ? "" : ` at ${at}`) + (rev === null ? "" : `, the room is at revision ${rev}`));
+      Object.assign(this, { name: "Refused", fault, at, rev, resent });
     }
   }
 
@@ -47,6 +50,51 @@
     return JSON.parse(JSON.stringify(value));
   }
 
+  // An edit that was asked for. One with a base belongs to one run, and is sent to it again where its answer was lost: revisions only
+  // rise, so of all edits with one base at most one is done.
+  class Edit {
+    #epoch; // the run of which the base is a revision; null where the first connection on which it is sent decides
+    #sendings = 0;
+    #resolve;
+    #reject;
+
+    constructor(request, epoch, resolve, reject) {
+      this.request = request;
+      this.#epoch = epoch;
+      this.#resolve = resolve;
+      this.#reject = reject;
+    }
+
+    get #hasBase() {
+      return "base" in this.request;
+    }
+
+    // Before each sending: whether it goes to that run. Else it has ended.
+    goesTo({ epoch, rev }) {
+      this.#epoch ??= epoch;
+      const goes = !this.#hasBase || this.#epoch === epoch;
+      if (goes) this.#sendings += 1;
+      else this.#reject(this.#sendings > 0 ? new Unknown() : new Refused({ fault: "stale", at: null, rev }));
+      return goes;
+    }
+
+    answered(reply) {
+      if (reply.kind === "done") this.#resolve(reply.rev);
+      else this.#reject(new Refused(reply, this.#sendings > 1));
+    }
+
+    // Its connection was lost: whether it is to be sent again. Else it has ended.
+    lost() {
+      const again = this.#hasBase && this.#sendings < SENDINGS;
+      if (!again) this.#reject(new Unknown());
+      return again;
+    }
+
+    dropped() {
+      this.#reject(this.#sendings > 0 ? new Unknown() : new Closed());
+    }
+  }
+
   class Board {
     #url;
     #options;
@@ -58,7 +106,7 @@
     #sent = []; // requests without an answer, oldest first
     #ids = 0;
     #socket = null;
-    #epoch = null; // of this connection; null before its welcome
+    #welcome = null; // of this connection
     #failures = 0;
     #timer = null;
     #state = "connecting";
@@ -96,19 +144,13 @@
     watch(view) {
       this.#wanted = { number: this.#wanted.number + 1, view: asJson(view) };
       const shown = this.#shown();
-      if (this.#epoch !== null) this.#ask(this.#watching());
+      if (this.#welcome !== null) this.#ask(this.#watching());
       return shown;
     }
 
-    edit(patch) {
+    edit(patch, { base, epoch = this.#held.epoch } = {}) {
       return new Promise((resolve, reject) => {
-        const request = { do: "edit", patch: asJson(patch) };
-        this.#ask({
-          request,
-          answered: (reply) => (reply.kind === "done" ? resolve(reply.rev) : reject(new Refused(reply))),
-          lost: () => reject(new Unknown()),
-          dropped: () => reject(new Closed()),
-        });
+        this.#ask(new Edit(asJson({ do: "edit", base, patch }), epoch, resolve, reject));
       });
     }
 
@@ -131,18 +173,19 @@
       const here = (act) => (event) => this.#socket === socket && act(event);
       socket.onmessage = here(({ data }) => this.#hear(JSON.parse(data)));
       socket.onclose = here(() => this.#lose());
-      socket.onerror = () => {};
+      // Where a connection cannot be had, Node's sockets say so and no more.
+      socket.onerror = here(() => this.#abandon());
       this.#listen();
     }
 
-    // Leaves the connection: what was sent has no answer any more.
+    // Leaves the connection: what was sent has no answer any more, and only edits wait for the next one.
     #detach() {
       clearTimeout(this.#timer);
       this.#socket = null;
-      this.#epoch = null;
+      this.#welcome = null;
       this.#taken = null;
-      for (const asked of this.#sent.splice(0)) asked.lost?.();
-      this.#unsent = this.#unsent.filter((asked) => asked.dropped);
+      const again = this.#sent.splice(0).filter((asked) => asked.lost?.());
+      this.#unsent = [...again, ...this.#unsent.filter((asked) => asked.dropped)];
     }
 
     #lose() {
@@ -159,7 +202,7 @@
     #listen() {
       const { quiet, patience } = this.#options;
       clearTimeout(this.#timer);
-      if (this.#epoch === null || this.#sent.length > 0) {
+      if (this.#welcome === null || this.#sent.length > 0) {
         this.#timer = setTimeout(() => this.#abandon(), patience);
       } else {
         this.#timer = setTimeout(() => this.#ask({ request: {}, answered: () => {} }), quiet);
@@ -181,8 +224,9 @@
     }
 
     #send() {
-      while (this.#epoch !== null && this.#sent.length < ON_THE_WAY && this.#unsent.length > 0) {
+      while (this.#welcome !== null && this.#sent.length < ON_THE_WAY && this.#unsent.length > 0) {
         const asked = this.#unsent.shift();
+        if (asked.goesTo?.(this.#welcome) === false) continue;
         this.#ids += 1;
         this.#sent.push(asked);
         this.#socket.send(JSON.stringify({ id: this.#ids, ...asked.request }));
@@ -245,8 +289,8 @@
     }
 
     // The first request of a connection goes on where the slots are, if they are those of the view that is wanted.
-    #enterRoom({ epoch }) {
-      this.#epoch = epoch;
+    #enterRoom(welcome) {
+      this.#welcome = welcome;
       this.#failures = 0;
       this.#unsent.unshift(this.#held.number === this.#wanted.number ? this.#resuming() : this.#watching());
     }
@@ -269,7 +313,7 @@
     }
 
     #take(rev, slots, patch) {
-      const epoch = this.#epoch;
+      const { epoch } = this.#welcome;
       this.#held = patch === null ? { ...this.#taken, slots, rev, epoch } : { ...this.#held, slots, rev };
       const { number } = this.#held;
       for (const waiter of this.#waiters.filter((waiter) => waiter.number <= number)) waiter.resolve(slots);

@@ -31,16 +31,31 @@ State = Literal["connecting", "open", "waiting", "closed"]
 ON_THE_WAY = 31
 """With one request more on the way 32 replies could wait, and the relay would read nothing from this client until it drew one."""
 
+SENDINGS = 5
+"""How often an edit with a base is sent at most: one that ends its connection each time has to come to an end."""
+
+_NO_BASE: Any = object()
+
 
 class Refused(Exception):
-    """The relay refused a request, and nothing changed."""
+    """The relay refused a request, and nothing changed by it; but see `resent`."""
 
-    def __init__(self, fault: str, at: Optional[int]):
-        super().__init__(fault if at is None else f"{fault} at {at}")
+    def __init__(self, fault: str, at: Optional[int], rev: Optional[int] = None, resent: bool = False):
+        place = "" if at is None else f" at {at}"
+        super().__init__(fault + place + ("" if rev is None else f", the room is at revision {rev}"))
         self.fault = fault
         """The word of the fault (docs/PROTOCOL.md, "Messages")."""
         self.at = at
         """The place of the operation or pointer that is at fault, counted from 0; None where no single one is."""
+        self.rev = rev
+        """The revision at which the room is, where the fault is `stale`; else None."""
+        self.resent = resent
+        """Whether it is an edit that was sent before, on a connection that was lost. Then `stale` says that it was done that time, or
+        that another edit was faster and it never will be. The document tells which, if the edit left a mark there."""
+
+    @classmethod
+    def by(cls, reply: Message, resent: bool = False) -> "Refused":
+        return cls(reply["fault"], reply["at"], reply.get("rev"), resent)
 
 
 class Unknown(Exception):
@@ -89,7 +104,44 @@ class _Held:
 class _Asked:
     request: Message
     answered: Callable[[Message], None]
-    edit: Optional["asyncio.Future[int]"] = None
+
+
+class _Edit:
+    """An edit that was asked for. One with a base belongs to one run, and is sent to it again where its answer was lost: revisions only
+    rise, so of all edits with one base at most one is done."""
+
+    def __init__(self, request: Message, epoch: Optional[int]):
+        self.request = request
+        self.done: "asyncio.Future[int]" = asyncio.get_running_loop().create_future()
+        self._has_base = "base" in request
+        self._epoch = epoch  # the run of which the base is a revision; None where the first connection on which it is sent decides
+        self._sendings = 0
+
+    def goes_to(self, welcome: Message) -> bool:
+        """Before each sending: whether it goes to that run. Else it has ended."""
+        if self._epoch is None:
+            self._epoch = welcome["epoch"]
+        if self._has_base and self._epoch != welcome["epoch"]:
+            _fail(self.done, Unknown() if self._sendings else Refused("stale", None, welcome["rev"]))
+            return False
+        self._sendings += 1
+        return True
+
+    def answered(self, reply: Message) -> None:
+        if reply["kind"] != "done":
+            _fail(self.done, Refused.by(reply, resent=self._sendings > 1))
+        elif not self.done.done():
+            self.done.set_result(reply["rev"])
+
+    def lost(self) -> bool:
+        """Its connection was lost: whether it is to be sent again. Else it has ended."""
+        again = self._has_base and self._sendings < SENDINGS and not self.done.done()
+        if not again:
+            _fail(self.done, Unknown())
+        return again
+
+    def dropped(self) -> None:
+        _fail(self.done, Unknown() if self._sendings else Closed())
 
 
 @dataclass
@@ -128,10 +180,10 @@ class Board:
         self._taken: Optional[_Wanted] = None  # that which the newest `watching` or `resumed` of this connection is about
         self._held: Optional[_Held] = None
         self._waiters: List[_Waiter] = []
-        self._unsent: Deque[_Asked] = deque()
-        self._sent: Deque[_Asked] = deque()  # requests without an answer, oldest first
+        self._unsent: Deque[Union[_Asked, _Edit]] = deque()
+        self._sent: Deque[Union[_Asked, _Edit]] = deque()  # requests without an answer, oldest first
         self._ids = 0
-        self._epoch: Optional[int] = None  # of this connection; None before its welcome
+        self._welcome: Optional[Message] = None  # of this connection
         self._state: State = "connecting"
         self._to_send = asyncio.Event()
         self.ready: "asyncio.Future[Slots]" = self._shown()
@@ -173,30 +225,31 @@ class Board:
         with `Refused`, and the view before stays; and with `Closed`."""
         self._wanted = _Wanted(self._wanted.number + 1, _as_json(view))
         shown = self._shown()
-        if self._epoch is not None:
+        if self._welcome is not None:
             self._ask(self._watching())
         return await shown
 
-    async def edit(self, patch: Patch) -> int:
+    async def edit(self, patch: Patch, *, base: Optional[int] = _NO_BASE, epoch: Optional[int] = None) -> int:
         """Edits the document, all of it or nothing. Gives the new revision, which the slots may still be on their way to.
 
         Fails with `Refused`, where nothing changed; with `Unknown`, where the connection was lost before the answer; with `Closed`.
-        At most 31 requests are on their way at once; the others wait here, also for a connection, and are sent in order."""
-        request = {"do": "edit", "patch": _as_json(patch)}
-        done: "asyncio.Future[int]" = asyncio.get_running_loop().create_future()
+        At most 31 requests are on their way at once; the others wait here, also for a connection, and are sent in order.
+
+        With a `base`, as `rev` of the slots from which it was made, it is done only where the room is at that revision, and gives the
+        next one. Else it is refused, as `stale`: what was seen may have changed, or anything else in the document. Then `watch(view)`
+        gives slots of the room's revision; `rev` by itself stays behind it where an edit touches none of the slots. The base is a
+        revision of the run `epoch`; if nothing is said, of that of the slots. It is to be kept beside a base that is used later. A
+        base that is None, as `rev` is before the first slots, is refused.
+
+        Where the answer of an edit with a `base` was lost, it is sent again once the client is back, and is never done twice. It fails
+        with `Unknown` only where the relay was restarted in between, where the board is closed, and after five lost connections. One
+        that was not sent yet when the relay was restarted is refused, as `stale`, without being sent."""
         if self._state == "closed":
             raise Closed()
-
-        def answered(reply: Message) -> None:
-            if done.done():
-                return
-            if reply["kind"] == "done":
-                done.set_result(reply["rev"])
-            else:
-                done.set_exception(Refused(reply["fault"], reply["at"]))
-
-        self._ask(_Asked(request, answered, done))
-        return await done
+        named = {} if base is _NO_BASE else {"base": base}
+        edit = _Edit(_as_json({"do": "edit", **named, "patch": patch}), self.epoch if epoch is None else epoch)
+        self._ask(edit)
+        return await edit.done
 
     async def close(self) -> None:
         """Leaves the room, and does not come back."""
@@ -229,12 +282,19 @@ class Board:
             self._lose()
 
     def _lose(self) -> None:
-        self._epoch, self._taken = None, None
+        """What was sent has no answer any more, and only edits wait for the next connection, if there is to be one."""
+        self._welcome, self._taken = None, None
         sent, self._sent = self._sent, deque()
-        for asked in sent:
-            if asked.edit and not asked.edit.done():
-                asked.edit.set_exception(Unknown())
-        self._unsent = deque(asked for asked in self._unsent if asked.edit)
+        again = [asked for asked in sent if isinstance(asked, _Edit) and asked.lost()]
+        self._unsent = deque([*again, *(asked for asked in self._unsent if isinstance(asked, _Edit))])
+        if self._state == "closed":
+            self._drop()
+
+    def _drop(self) -> None:
+        unsent, self._unsent = self._unsent, deque()
+        for asked in unsent:
+            if isinstance(asked, _Edit):
+                asked.dropped()
 
     async def _wait(self) -> None:
         self._enter("waiting", None)
@@ -244,10 +304,7 @@ class Board:
         self._enter("connecting", None)
 
     def _finish(self, cause: Optional[Exception]) -> None:
-        unsent, self._unsent = self._unsent, deque()
-        for asked in unsent:
-            if asked.edit and not asked.edit.done():
-                asked.edit.set_exception(Closed())
+        self._drop()
         waiters, self._waiters = self._waiters, []
         for waiter in waiters:
             _fail(waiter.shown, cause or Closed())
@@ -255,7 +312,7 @@ class Board:
 
     # Requests.
 
-    def _ask(self, asked: _Asked) -> None:
+    def _ask(self, asked: Union[_Asked, _Edit]) -> None:
         self._unsent.append(asked)
         self._to_send.set()
 
@@ -263,8 +320,10 @@ class Board:
         while True:
             await self._to_send.wait()
             self._to_send.clear()
-            while self._epoch is not None and len(self._sent) < ON_THE_WAY and self._unsent:
+            while self._welcome is not None and len(self._sent) < ON_THE_WAY and self._unsent:
                 asked = self._unsent.popleft()
+                if isinstance(asked, _Edit) and not asked.goes_to(self._welcome):
+                    continue
                 self._ids += 1
                 self._sent.append(asked)
                 try:
@@ -279,7 +338,7 @@ class Board:
             if reply["kind"] == "watching":
                 self._taken = wanted
             else:
-                self._refuse_view(wanted, Refused(reply["fault"], reply["at"]))
+                self._refuse_view(wanted, Refused.by(reply))
 
         return _Asked({"do": "watch", "view": wanted.view}, answered)
 
@@ -327,7 +386,7 @@ class Board:
     def _hear(self, message: Message) -> None:
         kind = message["kind"]
         if kind == "welcome":
-            self._enter_room(message["epoch"])
+            self._enter_room(message)
         elif kind == "snapshot":
             self._take(message["rev"], message["view"])
         elif kind == "patch":
@@ -336,16 +395,16 @@ class Board:
             self._sent.popleft().answered(message)
         self._to_send.set()
 
-    def _enter_room(self, epoch: int) -> None:
+    def _enter_room(self, welcome: Message) -> None:
         """The first request of a connection goes on where the slots are, if they are those of the view that is wanted."""
-        self._epoch, self._failures = epoch, 0
+        self._welcome, self._failures = welcome, 0
         held = self._held
         self._unsent.appendleft(self._resuming(held) if held and held.of is self._wanted else self._watching())
 
     def _take(self, rev: int, slots: Slots) -> None:
-        if self._taken is None or self._epoch is None:
+        if self._taken is None or self._welcome is None:
             raise _Astray()
-        self._show(_Held(self._taken, slots, rev, self._epoch), None)
+        self._show(_Held(self._taken, slots, rev, self._welcome["epoch"]), None)
 
     def _follow(self, rev: int, patch: Patch) -> None:
         held = self._held

@@ -63,10 +63,11 @@ async def both_relays_have_rooms(front):
     assert [0, 1] in places and [1, 0] in places
 
 
-async def a_text_of_a_megabyte_passes(front):
-    async with front.board("large", [""] * 16) as board:
-        await board.edit([{"op": "add", "path": "", "value": "x" * 65_500}])
-        await until(lambda: board.slots == [["x" * 65_500]] * 16)
+async def texts_of_a_megabyte_pass(front):
+    large = "x" * 260_000
+    async with front.board("large", [""] * 4) as board:
+        await board.edit([{"op": "add", "path": "", "value": large}] * 4)
+        await until(lambda: board.slots == [[large]] * 4)
 
 
 async def strangers_are_refused(front):
@@ -78,7 +79,7 @@ async def strangers_are_refused(front):
 
 async def main(port, first, second, certificate):
     front = Front(port, [first, second], certificate)
-    for shows in (two_clients_meet, both_relays_have_rooms, a_text_of_a_megabyte_passes, strangers_are_refused):
+    for shows in (two_clients_meet, both_relays_have_rooms, texts_of_a_megabyte_pass, strangers_are_refused):
         await shows(front)
         print(shows.__name__.replace("_", " "), flush=True)
 

@@ -4,7 +4,8 @@
     tests/clients/run [SEEDS] [FIRST]
 
 At each quiet moment every client's slots are those that a fresh watcher is shown, no edit that was answered is lost or done twice, and
-no slots that were handed out have changed.
+no slots that were handed out have changed. Edits with a base are done on that revision of that run alone, and are sent again where the
+answer was lost; a count that all clients raise by them, each from what it sees, is the number of the edits that raised it.
 """
 import asyncio, itertools, os, random, sys, time
 from browser import Browser
@@ -12,10 +13,12 @@ from players import ROOT, InBrowser, InNode, InPython
 from server import Proxy, Relay
 
 ROOM = "play"
-BEGUN = {"log": [], "n": 0, "lists": {"a": [1, 2, 3], "b": [], "c": [{"k": [0]}]}}
+BEGUN = {"log": [], "count": 0, "n": 0, "lists": {"a": [1, 2, 3], "b": [], "c": [{"k": [0]}]}}
 VIEWS = [[""], ["/log"], ["/lists/a", "/lists/b"], ["/lists/a/0", "/n"], ["/lists", "/none"], ["/lists/a/1", "/lists/c/0/k", "/lists/a"]]
 CHECKS = 6
 """How many quiet moments a seed has."""
+COUNTS = "c"
+"""With what the tag of an edit begins that raises the count."""
 
 
 class Wrong(Exception):
@@ -28,10 +31,11 @@ class Play:
         self.numbers = itertools.count()
         self.run = 0  # which run of the relay this is
         self.edits = {}  # by its tag: the run that it began in, the one that it was answered in, and the answer
-        self.counts = {"done": 0, "Refused": 0, "Unknown": 0, "cuts": 0, "restarts": 0}
+        self.counted = 0  # the revision of the newest count
+        self.counts = {"done": 0, "Refused": 0, "Unknown": 0, "resent and stale": 0, "cuts": 0, "restarts": 0}
 
     async def play(self):
-        self.proxy = Proxy()
+        self.proxy = Proxy(late=lambda: self.chance.choice([0, 0, 0.003, 0.02]))
         url = f"ws://127.0.0.1:{await self.proxy.begin()}/rooms/{ROOM}"
         await self.start(0)
         views = [self.chance.choice(VIEWS) for _ in range(4)]
@@ -55,19 +59,24 @@ class Play:
         """Begins another run, whose room has a board at revision 1, or one as high as `rev`."""
         self.run += 1
         history, outbox = self.chance.choice([1, 2, 4, 64, 64]), self.chance.choice([1, 2, 32])
-        self.relay = await Relay.begin(self.program, 1000 + self.run, history, outbox)
+        self.relay = await Relay.begin(self.program, self.epoch(), history, outbox)
         begin = [{"op": "test", "path": "", "value": None}, {"op": "add", "path": "", "value": BEGUN}]
         await self.relay.request(ROOM, {"do": "edit", "patch": begin}, "done")
         await self.relay.raise_to(ROOM, rev)
         self.proxy.port = self.relay.port
 
+    def epoch(self):
+        return 1000 + self.run
+
     async def restart(self):
-        """Another run, which may be at the revision of the one before: only the epoch tells that nothing of it is left."""
+        """Another run, which may be at the revision of the one before, or at that from which all count on: only the epoch tells that nothing
+        of it is left."""
         self.counts["restarts"] += 1
         rev, _ = await self.relay.shows(ROOM, [])
         self.proxy.port = None
         await self.relay.end()
-        await self.start(self.chance.choice([0, rev, rev + 1]))
+        counting = [self.count(player) for player in self.players]
+        await asyncio.gather(self.start(self.chance.choice([0, rev, rev + 1, self.counted])), *counting)
 
     # What happens.
 
@@ -78,7 +87,7 @@ class Play:
             what = self.chance.random()
             if what < 0.06:
                 self.counts["cuts"] += 1
-                self.proxy.cut(lambda: self.chance.random() < 0.5)
+                self.proxy.cut(lambda: self.chance.random() < 0.5, near=lambda: self.chance.random() < 0.5)
             elif what < 0.1:
                 view = self.chance.choice(VIEWS)
                 editing.append(asyncio.ensure_future(self.chance.choice(self.players).watch(view)))
@@ -86,16 +95,32 @@ class Play:
                 await self.restart()
             elif what < 0.25:
                 await asyncio.sleep(self.chance.random() * 0.03)
+            elif what < 0.5:
+                editing.append(asyncio.ensure_future(self.count(self.chance.choice(self.players))))
             else:
                 editing.append(asyncio.ensure_future(self.edit(self.chance.choice(self.players))))
         await asyncio.wait_for(asyncio.gather(*editing), 60)
 
     async def edit(self, player):
-        tag, began = f"e{next(self.numbers)}", self.run
-        logged = {"op": "add", "path": "/log/-", "value": tag}
-        answer = await player.edit([logged, *self.operations()])
+        more, based = self.operations(), self.chance.random() < 0.4
+        await self.log("e", lambda logged: player.edit([logged, *more], based))
+
+    async def count(self, player):
+        answer = await self.log(COUNTS, player.count)
+        self.counted = answer.get("rev", self.counted)
+
+    async def log(self, kind, edit):
+        """Has an edit done with an operation that leaves its tag in the log, and keeps and gives what it came to."""
+        tag, began = f"{kind}{next(self.numbers)}", self.run
+        answer = await edit({"op": "add", "path": "/log/-", "value": tag})
         self.edits[tag] = (began, self.run, answer)
         self.counts[answer.get("fails", "done")] += 1
+        self.counts["resent and stale"] += may_be_done(answer)
+        if "rev" in answer and "base" in answer and answer["rev"] != answer["base"] + 1:
+            raise Wrong(f"{tag} was done on another revision than its base: {answer}")
+        if answer.get("fails") == "Unknown" and answer.get("of") == self.epoch():
+            raise Wrong(f"{tag} was not sent again: {answer}")
+        return answer
 
     def operations(self):
         return [self.operation() for _ in range(self.chance.randint(0, 3))]
@@ -120,8 +145,11 @@ class Play:
             if time.monotonic() > until:
                 raise Wrong(wrong)
             await asyncio.sleep(0.02)
-        rev, [[log]] = await self.relay.shows(ROOM, ["/log"])
+        rev, [[log], [count]] = await self.relay.shows(ROOM, ["/log", "/count"])
         self.compare_log(log)
+        counts = [tag for tag in log if tag.startswith(COUNTS)]
+        if count != len(counts):
+            raise Wrong(f"the count is {count}, and was raised by {counts}")
 
     async def first_difference(self):
         for player in self.players:
@@ -141,8 +169,10 @@ class Play:
             times = log.count(tag)
             if times > 1:
                 raise Wrong(f"{tag} was done {times} times: {answer}")
-            if answer.get("fails") == "Refused" and times > 0:
-                raise Wrong(f"{tag} was refused, and done")
+            if answer.get("fails") == "Refused" and not may_be_done(answer) and times > 0:
+                raise Wrong(f"{tag} was refused, and done: {answer}")
+            if answer.get("of", self.epoch()) != self.epoch() and times > 0:
+                raise Wrong(f"{tag} was done in another run than that of its base: {answer}")
             if "rev" in answer and began == answered == self.run:
                 order[answer["rev"]] = tag
                 if times == 0:
@@ -150,6 +180,11 @@ class Play:
         answered = [order[rev] for rev in sorted(order)]
         if answered != [tag for tag in log if tag in set(answered)]:
             raise Wrong("edits were not done in the order of their revisions")
+
+
+def may_be_done(answer):
+    """Whether an edit is refused that was sent before, on a connection that was lost: it was done that time, or never will be."""
+    return answer.get("fault") == "stale" and answer["resent"]
 
 
 async def play(seeds, first, browser):

@@ -10,18 +10,37 @@ import relay_client
 class InPython:
     def __init__(self, url, view):
         self.handed = []  # slots that were handed out, and what they were then
-        self.board = relay_client.connect(url, view=view, on_change=self.keep, first_wait=0.01, longest_wait=0.1)
+        waits = {"first_wait": 0.01, "longest_wait": 0.1}
+        self.board = relay_client.connect(url, view=view, on_change=self.keep, **waits)
+        self.counter = relay_client.connect(url, view=["/count"], **waits)
 
     def keep(self, change):
         self.handed = self.handed[-20:] + [(change.slots, json.dumps(change.slots))]
 
-    async def edit(self, patch):
+    async def edit(self, patch, based):
+        return await self.answer(self.board, patch, based)
+
+    async def answer(self, board, patch, based):
+        """What an edit comes to; on the revision of the board's slots, if it is to have a base."""
+        base, epoch = board.rev, board.epoch
+        seen = {"base": base, "of": epoch} if based else {}
         try:
-            return {"rev": await self.board.edit(patch)}
+            return {**seen, "rev": await (board.edit(patch, base=base) if based else board.edit(patch))}
         except relay_client.Refused as refused:
-            return {"fails": "Refused", "fault": refused.fault}
+            return {**seen, "fails": "Refused", "fault": refused.fault, "resent": refused.resent}
         except relay_client.Unknown:
-            return {"fails": "Unknown"}
+            return {**seen, "fails": "Unknown"}
+
+    async def count(self, logged):
+        """Reads the count and writes the next one, until nobody was faster."""
+        await self.counter.ready
+        while True:
+            [[count]] = self.counter.slots
+            patch = [{"op": "replace", "path": "/count", "value": count + 1}, logged]
+            answer = await self.answer(self.counter, patch, True)
+            if answer.get("fault") != "stale" or answer["resent"]:
+                return answer
+            await self.counter.watch(["/count"])
 
     async def watch(self, view):
         await self.board.watch(view)
@@ -33,11 +52,15 @@ class InPython:
 
     async def leave(self):
         await self.board.close()
+        await self.counter.close()
 
 
 class InJavaScript:
-    async def edit(self, patch):
-        return await self.ask(do="edit", patch=patch)
+    async def edit(self, patch, based):
+        return await self.ask(do="edit", patch=patch, based=based)
+
+    async def count(self, logged):
+        return await self.ask(do="count", logged=logged)
 
     async def watch(self, view):
         await self.ask(do="watch", view=view)

@@ -44,10 +44,13 @@ class Relay:
 
 
 class Proxy:
-    """Passes bytes on to `port`, if there is one, until it is told to cut."""
+    """Passes bytes on to `port`, if there is one, until it is told to cut. `late` says of each link how many seconds each piece takes to
+    the relay."""
+
+    def __init__(self, late=lambda: 0):
+        self.port, self.links, self.late = None, set(), late
 
     async def begin(self):
-        self.port, self.links = None, set()
         self.listener = await asyncio.start_server(self.link, "127.0.0.1", 0)
         return self.listener.sockets[0].getsockname()[1]
 
@@ -59,25 +62,32 @@ class Proxy:
             return
         ends = (writer.transport, far_writer.transport)
         self.links.add(ends)
-        await asyncio.gather(self.pass_on(reader, far_writer), self.pass_on(far_reader, writer))
-        self.links.discard(ends)
+        try:
+            await asyncio.gather(self.pass_on(reader, far_writer, self.late()), self.pass_on(far_reader, writer, 0))
+        finally:
+            self.links.discard(ends)
 
-    async def pass_on(self, reader, writer):
+    async def pass_on(self, reader, writer, late):
         try:
             while some := await reader.read(4096):
+                await asyncio.sleep(late)
                 writer.write(some)
                 await writer.drain()
         except OSError:
             pass
-        writer.transport.abort()
+        # What was passed on still arrives.
+        writer.close()
 
-    def cut(self, chance):
-        """Cuts links, each if the chance has it. What is on the way is lost."""
+    def cut(self, chance, near=lambda: False):
+        """Cuts links, each if the chance has it. What is on the way is lost; but where only the near end is cut, what the relay was sent
+        gets there, perhaps when the client is back."""
         for ends in list(self.links):
             if chance():
-                for end in ends:
+                for end in ends[:1] if near() else ends:
                     end.abort()
 
     async def end(self):
         self.listener.close()
         self.cut(lambda: True)
+        while self.links:
+            await asyncio.sleep(0.01)
