@@ -1,9 +1,9 @@
 #!/usr/bin/env python3
 """What an edit costs the server's processor, by the size of the document.
 
-    python3 benches/edits.py [EDITS]        (2,000 of each kind)
+    python3 benches/edits.py [EDITS] [KIB..]        (2,000 of each kind, on 1, 8, 64 and 256 KiB)
 
-Starts `./relay serve` (or the program that RELAY names), fills rooms with documents that weigh 1, 8 and 64 KiB, and has one client make
+Starts `./relay serve` (or the program that RELAY names), fills rooms with documents that weigh so many KiB, and has one client make
 edits of each kind, of which it keeps some on the way, so that the server is never idle. Frames are made beforehand and replies are
 counted and not read, so the client is not what is measured. It wants nothing but Python.
 """
@@ -17,7 +17,7 @@ import sys
 import threading
 
 ROOT = os.path.dirname(os.path.dirname(os.path.abspath(__file__)))
-KIBIBYTES = (1, 8, 64)
+KIBIBYTES = (1, 8, 64, 256)
 
 # How many edits are on the way at most; the relay lets 32 replies wait.
 ON_THE_WAY = 16
@@ -129,16 +129,17 @@ def measure(serve, port, kibibytes, watched, edits):
     client.stream.close()
 
 
-def main(edits=2000):
+def main(edits=2000, *sizes):
+    sizes = [int(size) for size in sizes] or KIBIBYTES
     words = [os.environ.get("RELAY", f"{ROOT}/relay"), "serve", "--port", "0", "--turns", "1000000000000"]
     serve = subprocess.Popen(words, stdout=subprocess.PIPE, stderr=subprocess.DEVNULL, text=True)
     try:
         port = int(serve.stdout.readline().split()[1])
         for watched in (0, 1):
-            columns = [dict(measure(serve, port, size, watched, int(edits))) for size in KIBIBYTES]
+            columns = [dict(measure(serve, port, size, watched, int(edits))) for size in sizes]
             print(f"\nMicroseconds of the server's processor an edit, {'one watcher' if watched else 'no watcher'}\n")
-            print("| Edit | " + " | ".join(f"{size} KiB" for size in KIBIBYTES) + " |")
-            print("|---|" + "---|" * len(KIBIBYTES))
+            print("| Edit | " + " | ".join(f"{size} KiB" for size in sizes) + " |")
+            print("|---|" + "---|" * len(sizes))
             for kind in KINDS:
                 print(f"| {kind} | " + " | ".join(f"{column[kind]:.0f}" for column in columns) + " |")
     finally:
