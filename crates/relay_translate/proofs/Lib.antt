@@ -10,4 +10,10 @@ pub mod Sizes
 pub mod Local
 pub mod Table
 pub mod Lent
+pub mod Paths
+pub mod Ordered
+pub mod Near
+pub mod Gained
+pub mod Watched
+pub mod Untold
 pub mod Rows

@@ -1,5 +1,6 @@
 -- What worked edits come to in a view, by computation.
-use Rattle.std.proofs.Common.{◌≡◌, ℕ, List, [], ◌∷◌, map, pos, Result, Ok, Err, refl, codes}
+use Rattle.std.proofs.Common.{◌≡◌, ℕ, List, [], ◌∷◌, map, pos, Result, Ok, Err, refl, codes, Bool, true, false}
+use Rattle.std.specs.List.{list_any}
 use Rattle.relay_tree.specs.Document.{Document, null, whole, text, list, object, items_of, no_items, Members, no_members, member}
 use Rattle.relay_tree.specs.Part.{put_member}
 use Rattle.relay_pointer.specs.Index.{index_of, index_text}
@@ -10,10 +11,12 @@ use Rattle.relay_view.specs.declared.slot.SlotKind.TheVariants.{Value, Size}
 use Rattle.relay_patch.specs.declared.fault.Cause.{Cause}
 use Rattle.relay_patch.specs.declared.op.Op.{Op}
 use Rattle.relay_patch.specs.declared.op.Op.TheVariants.{Add, Remove, Replace, Move, Copy}
+use Rattle.relay_patch.specs.declared.change.Change.{Change}
 use Rattle.relay_patch.specs.declared.change.Change.TheVariants as change
 use Rattle.relay_patch.specs.Patch.{effect}
 use Rattle.relay_patch.specs.Change.{changes_of}
 use Rattle.relay_translate.specs.Translate.{local}
+use Rattle.relay_translate.specs.Watches.{is_touched}
 
 abbrev members : List (List ℕ × Document) → Members
 members [] = no_members
@@ -139,3 +142,31 @@ below_its_parts_is_nothing = refl
 a_move_across_the_edge_is_counted : relayed_in nested_1 (Move (codes "a" ∷ codes "x" ∷ []) (codes "x" ∷ [])) (size_slot [] ∷ []) ≡ Ok (Replace (codes "0" ∷ []) (list (items_of (num 2 ∷ []))) ∷ [])
 unfolding nested_1 index_of index_text
 a_move_across_the_edge_is_counted = refl
+
+-- which of three sessions a change tells
+
+three_views : List View
+three_views = map (map value_slot) (((codes "a" ∷ []) ∷ []) ∷ ((codes "b" ∷ codes "0" ∷ []) ∷ []) ∷ ([] ∷ (codes "a" ∷ []) ∷ []) ∷ [])
+
+abbrev told : List Change → List Bool
+told changes = map (λ view. list_any (is_touched changes) view) three_views
+
+an_insertion_tells_its_index_and_the_whole : told (change.AddItem (codes "b" ∷ codes "0" ∷ []) null ∷ []) ≡ false ∷ true ∷ true ∷ []
+unfolding three_views index_of
+an_insertion_tells_its_index_and_the_whole = refl
+
+an_insertion_behind_tells_the_whole : told (change.AddItem (codes "b" ∷ codes "1" ∷ []) null ∷ []) ≡ false ∷ false ∷ true ∷ []
+unfolding three_views index_of
+an_insertion_behind_tells_the_whole = refl
+
+an_exchange_tells_its_path : told (change.Set (codes "a" ∷ []) null ∷ []) ≡ true ∷ false ∷ true ∷ []
+unfolding three_views index_of
+an_exchange_tells_its_path = refl
+
+a_copy_tells_where_it_comes : told (change.Copy (codes "a" ∷ []) (record { path = codes "c" ∷ []; item = false }) null ∷ []) ≡ false ∷ false ∷ true ∷ []
+unfolding three_views index_of
+a_copy_tells_where_it_comes = refl
+
+no_change_tells_none : told [] ≡ false ∷ false ∷ false ∷ []
+unfolding three_views
+no_change_tells_none = refl

@@ -1,8 +1,11 @@
 -- The tokens of a path that is made token by token.
-use Rattle.std.proofs.Common.{◌≡◌, ℕ, zero, suc, ◌≤◌, List, [], ◌∷◌, ◌++◌, length, drop, String, Global, append-nil, refl, sym, ap, ◌∙◌, arith}
+use Rattle.std.proofs.Common.{◌≡◌, ℕ, zero, suc, ◌≤◌, List, [], ◌∷◌, ◌++◌, length, take, drop, String, Global, string_bytes, append-nil, refl, sym, ap, ◌∙◌, arith}
 use Rattle.std.specs.List.{slice_range}
 use Rattle.std.proofs.lemmas.List.Folds.{drop_split}
-use Rattle.relay_pointer.specs.Path.{path_of}
+use Rattle.relay_pointer.specs.Index.{Token}
+use Rattle.relay_pointer.specs.Path.{Path, path_of}
+use Rattle.relay_patch.proofs.Tokens.{parent_end}
+use Rattle.relay_translate.specs.Entries.{container}
 
 pub path_of-drop : (n : ℕ) (ts : List (String Global)) → path_of (drop n ts) ≡ drop n (path_of ts)
 path_of-drop zero ts = refl
@@ -25,3 +28,16 @@ pub path_of-range : (n : ℕ) (ts : List (String Global)) → n ≤ length ts �
 path_of-range n ts h =
     ap path_of (sym (append-nil (slice_range ts n (length ts))) ∙ (ap (λ rest. slice_range ts n (length ts) ++ rest) (sym (none_behind ts)) ∙ sym (drop_split ts n (length ts) h)))
     ∙ path_of-drop n ts
+
+pub path_of-take : (n : ℕ) (ts : List (String Global)) → path_of (take n ts) ≡ take n (path_of ts)
+path_of-take zero ts = refl
+path_of-take (suc n) [] = refl
+path_of-take (suc n) (t ∷ ts) = ap (λ path. string_bytes t ∷ path) (path_of-take n ts)
+
+pub container_end : (before : Path) (t : Token) → container (before ++ t ∷ []) ≡ before
+container_end [] t = refl
+container_end (u ∷ before) t = parent_end u before t
+
+pub path_of-length : (ts : List (String Global)) → length ts ≡ length (path_of ts)
+path_of-length [] = refl
+path_of-length (t ∷ ts) = ap suc (path_of-length ts)

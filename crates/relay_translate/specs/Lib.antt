@@ -3,3 +3,5 @@ pub mod Table
 pub mod Translate
 pub mod Sizes
 pub mod Local
+pub mod Watches
+pub mod Entries

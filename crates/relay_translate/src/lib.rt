@@ -7,12 +7,18 @@
 //! lead to another value now, or a size counts another number.
 #![tactic(auto)]
 
+mod entries;
+mod entry;
 mod kind;
+mod nearby;
 mod operation;
+mod order;
 mod site;
 mod touching;
 mod translating;
+mod watch_index;
 
 pub use kind::Touch;
 pub use touching::touch;
 pub use translating::translate;
+pub use watch_index::WatchIndex;
