@@ -4,4 +4,5 @@ pub mod LineLemmas
 pub mod Players
 pub mod RunLemmas
 pub mod ScriptLemmas
+pub mod SettingsFit
 pub mod WordLemmas

@@ -3,12 +3,11 @@ use Rattle.std.proofs.Common.{◌≤◌, ℕ, List, [], ◌∷◌, ◌++◌, len
 use Rattle.std.proofs.lemmas.List.Elements.{All-nil, All-push}
 use Rattle.std.proofs.lemmas.Result.{err_from_is_err_and}
 use Rattle.std.proofs.KnownBytes.{Appends-trans, Appends-nil}
-use Rattle.relay_server.specs.declared.fault.ScriptFault.TheVariants.{TooManyLines}
 use Rattle.relay_server.specs.declared.input.TheConstants.{LINE_MOST}
 use Rattle.relay_server.specs.declared.run.TheConstants.{LINES_MOST}
 use Rattle.relay_server.specs.Lines.{TakesLine}
 use Rattle.relay_server.specs.Respond.{start, AreWithin}
-use Rattle.relay_server.proofs.RunLemmas.{step_at, TakesLines-start, TakesLines-more, TakesLines-kept, AnswersSome-whole, AnswersSome-cut, Stops, Stops-reading, Stops-input, Stops-no_memory, Stops-too_many, Stops-more}
+use Rattle.relay_server.proofs.RunLemmas.{step_at, TakesLines-start, TakesLines-more, TakesLines-kept, AnswersSome-whole, AnswersSome-cut, Stops-reading, Stops-input, Stops-no_memory, Stops-too_many, Stops-more}
 use Rattle.relay_server.proofs.run.run_lines.Goals as goal
 
 pub loop-before-init : goal.loop-before-init
