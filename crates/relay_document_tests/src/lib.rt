@@ -18,3 +18,5 @@ mod translate;
 mod tree;
 #[cfg(test)]
 mod view;
+#[cfg(test)]
+mod watch_index;
