@@ -2,3 +2,4 @@ pub mod Room
 pub mod Edit
 pub mod Fault
 pub mod CatchUp
+pub mod Watched

@@ -51,7 +51,7 @@ impl Room {
 }
 
 // The changes after a revision, if all of them are held.
-fn held_since<'a>(
+pub(crate) fn held_since<'a>(
     alloc: Global,
     history: &'a History,
     rev: u64,

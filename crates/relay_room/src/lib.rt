@@ -10,6 +10,7 @@ mod catch_up;
 mod editing;
 mod fault;
 mod room;
+mod watched;
 
 pub use catch_up::CatchUp;
 pub use fault::{CatchFault, EditFault, RoomFault};

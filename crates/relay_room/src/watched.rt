@@ -1,0 +1,41 @@
+//! Whom the newest revision concerns.
+ghost use Rattle.std.specs.Prelude.{◌≡◌, ℕ, map, nat_eq, IfOk};
+ghost use Rattle.std.specs.List.{list_any};
+ghost use Rattle.std.specs.List.Sorted.{IsStrictlyIncreasing};
+ghost use Rattle.relay_translate.specs.Watches.{sees};
+ghost use Rattle.relay_room.specs.Watched.{OthersMissNothing, newest_changes};
+
+use crate::catch_up::held_since;
+use crate::room::Room;
+use relay_history::History;
+use relay_patch::Change;
+use relay_translate::WatchIndex;
+use std::alloc::{AllocError, Global};
+
+impl Room {
+    /// The sessions whose views the newest revision touched, rising and each once: whoever else watches, and saw the revision
+    /// before it, missed nothing. The list is empty where the history does not hold what the revision changed.
+    ///
+    /// It costs a copy of the list of its changes, and the look-up of each of them ([`WatchIndex::touched`]).
+    pub fn touched(&self, alloc: Global, watched: &WatchIndex) -> Result<Vec<u64>, AllocError>
+        ensures rising { IfOk result (λ sessions. IsStrictlyIncreasing sessions.items) }
+        ensures exact { IfOk result (λ sessions. (s : ℕ) → list_any (nat_eq s) sessions.items ≡ sees (newest_changes self.now.history) watched.now s) }
+        ensures others { IfOk result (λ sessions. OthersMissNothing self.now watched.now sessions.items) }
+    {
+        let changes = newest_changes(alloc, &self.history)?;
+        watched.touched(alloc, changes.as_slice())
+    }
+}
+
+/// What the newest revision changed, in order; nothing where that is not held.
+fn newest_changes(alloc: Global, history: &History) -> Result<Vec<&Change>, AllocError>
+    ensures { IfOk result (λ changes. map (λ c. c.now) changes.items ≡ newest_changes history.now) }
+{
+    let Some(before) = history.newest().checked_sub(1) else {
+        return Ok(Vec::new(alloc));
+    };
+    match held_since(alloc, history, before)? {
+        Some(changes) => Ok(changes),
+        None => Ok(Vec::new(alloc)),
+    }
+}
