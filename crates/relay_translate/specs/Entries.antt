@@ -52,7 +52,7 @@ pub record IsIndex (es : List Entry) (watches : Watches) : Type 0 where
   pub ordered : IsOrdered es
   pub slots : (session : ℕ) (test : Slot → Bool) → has es session test ≡ list_any test (slots_of (map.get watches session))
 
--- the first tokens of the pointer are the path
+-- the first tokens of the pointer, as many as the depth says, are the path
 abbrev pub leads : ℕ → Path → Path → Bool
 leads depth path q = same_path path (take depth q)
 
@@ -61,12 +61,12 @@ abbrev pub container : Path → Path
 container [] = []
 container (t ∷ path) = parent t path
 
--- what a change at a place touches is above this path, or begins with it: an item moves those behind it in its list
+-- whatever a change at a place touches is above this path, or begins with it: an item moves those behind it in its list
 abbrev pub scope : Bool → Path → Path
 scope true path = container path
 scope false path = path
 
--- the pointer is the path without its last tokens, and has fewer than n of its own
+-- the pointer is one of the first n paths with which the path begins, of which the first has no token
 abbrev pub is_above : ℕ → Path → Path → Bool
 is_above zero path q = false
 is_above (suc n) path q = is_above n path q || leads (suc n) (take n path) q

@@ -16,7 +16,7 @@ use Rattle.relay_translate.specs.Local.{is_apart}
 abbrev pub Watches : Type 0
 Watches = map.FinMap nat_cmp View
 
--- the slots of a view, if there is one
+-- the slots of a view; none where there is no view
 abbrev pub slots_of : Option View → List Slot
 slots_of None = []
 slots_of (Some view) = view

@@ -4,7 +4,7 @@
 //! The promise: whatever document the changes led from, its view, patched with what [`translate`] gives, is the view of the
 //! document that they led to. A slot that no change touches costs no operation, and a change inside a slot's value costs one
 //! operation; a slot is sent anew only where a change reset it, since its pointer may
-//! lead to another value now, or a size counts another number. Whose views changes touch, a [`WatchIndex`] finds without asking each.
+//! lead to another value now, or a size counts another number. A [`WatchIndex`] finds whose views changes touch without asking each.
 #![tactic(auto)]
 
 mod entries;

@@ -58,8 +58,8 @@ impl WatchIndex {
         }
     }
 
-    /// The session has this view, in the place of the one that it may have had. Want of memory leaves all as it was. It costs a
-    /// copy of the view's pointers, and a move of the slots that stand behind each.
+    /// The session has this view, in the place of the one that it may have had. Want of memory leaves all as it was. It costs two
+    /// copies of the view's pointers, a walk over the slots of all views, and a move of those that stand behind each of its own.
     pub fn put(&mut self, alloc: Global, session: u64, view: &View) -> Result<(), AllocError>
         ensures ok { OnOk result (self.new ≡ map.insert self.old session view.now) }
         ensures err { OnErr result (self.new ≡ self.old) }
@@ -85,9 +85,9 @@ impl WatchIndex {
     /// The sessions of which some slot is touched by some change, rising and each once: to every other session the changes tell
     /// nothing.
     ///
-    /// Of each place at which a change comes or goes it asks those slots alone whose pointers begin the place or begin with the
-    /// container of the place, and at the root all: it costs two binary searches for each token of a place, and a comparison for
-    /// each slot asked.
+    /// Of each place at which a change comes or goes it asks those slots alone whose pointers begin the place or begin with it, and
+    /// at an item those that begin with the list that holds it; at the root, all. It costs two binary searches for each token of a
+    /// place, and a comparison for each slot asked.
     pub fn touched(&self, alloc: Global, changes: &[&Change]) -> Result<Vec<u64>, AllocError>
         ensures rising { IfOk result (λ sessions. IsStrictlyIncreasing sessions.items) }
         ensures exact { IfOk result (λ sessions. (s : ℕ) → list_any (nat_eq s) sessions.items ≡ sees (each (λ c. c.now) changes.now) self.now s) }
