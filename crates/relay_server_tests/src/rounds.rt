@@ -405,6 +405,14 @@ impl<'a> Crowd<'a> {
         Ok(())
     }
 
+    /// So many connections wait at once.
+    fn knock(&mut self, count: u64) -> Result<(), Fail> {
+        for _ in 0..count {
+            self.desk.knock(self.silent)?;
+        }
+        Ok(())
+    }
+
     fn told(&self, words: &str) -> Result<bool, Fail> {
         Ok(str::from_utf8(self.desk.log.as_slice())?.contains(words))
     }
@@ -430,6 +438,22 @@ fn silent_connections_make_room(rt: HostRuntime) -> Result<(), Fail> {
         ("refused", false),
     ] {
         assert_eq!(rt; crowd.told(words)?, is_told, "{words}");
+    }
+    Ok(())
+}
+
+/// Of twelve connections that wait a round accepts eight, and the next one the others.
+#[test]
+fn accepts_8_connections_a_round(rt: HostRuntime) -> Result<(), Fail> {
+    let sayings = Sayings::new(rt.alloc());
+    let open = Wire::new(rt.alloc());
+    let silent = Wire::new(rt.alloc());
+    let desk = Desk::new(rt.alloc(), &sayings, 32)?;
+    let mut crowd = Crowd::at(desk, &open, &silent);
+    crowd.knock(12)?;
+    for held in [8, 12, 12] {
+        crowd.desk.round()?;
+        assert_eq!(rt; crowd.desk.serving.links(), held);
     }
     Ok(())
 }
