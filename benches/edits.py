@@ -60,15 +60,18 @@ class Client:
             self.until(word, len(part))
 
 
-def watch(port, room):
+def watch(port, room, pointer):
     """A watcher that reads what comes and lets it go."""
     client = Client(port, room)
-    client.stream.sendall(frame({"do": "watch", "id": 1, "view": [""]}))
+    client.stream.sendall(frame({"do": "watch", "id": 1, "view": [pointer]}))
     client.until(b'"kind":"snapshot"', 1)
 
     def drain():
-        while client.stream.recv(1 << 16):
-            pass
+        try:
+            while client.stream.recv(1 << 16):
+                pass
+        except ConnectionError:
+            pass  # the server was ended
 
     threading.Thread(target=drain, daemon=True).start()
 
@@ -113,12 +116,19 @@ def processor_seconds(pid):
     return int(open(f"/proc/{pid}/schedstat").read().split()[0]) / 1e9
 
 
-def measure(serve, port, kibibytes, watched, edits):
-    room = f"r{kibibytes}-{watched}"
-    client = Client(port, room)
+# Who watches, as pointers: each edit touches the whole document, and none of them touches the others' members.
+WATCHERS = {
+    "no watcher": [],
+    "one watcher": [""],
+    "255 watchers of a member each that no edit touches": [f"/other/{number}" for number in range(255)],
+}
+
+
+def measure(serve, port, kibibytes, pointers, edits):
+    client = Client(port, "bench")
     client.edit([edit({"op": "add", "path": "", "value": document(kibibytes)})], b'"kind":"done"')
-    if watched:
-        watch(port, room)
+    for pointer in pointers:
+        watch(port, "bench", pointer)
     for kind, frames in KINDS.items():
         word = b'"kind":"refused"' if kind.startswith("refused") else b'"kind":"done"'
         many = (frames * edits)[:edits]
@@ -126,24 +136,28 @@ def measure(serve, port, kibibytes, watched, edits):
         before = processor_seconds(serve.pid)
         client.edit(many, word)
         yield kind, (processor_seconds(serve.pid) - before) / edits * 1e6
-    client.stream.close()
 
 
-def main(edits=2000, *sizes):
-    sizes = [int(size) for size in sizes] or KIBIBYTES
+def measured(kibibytes, pointers, edits):
+    """A server of its own for each column."""
     words = [os.environ.get("RELAY", f"{ROOT}/relay"), "serve", "--port", "0", "--turns", "1000000000000"]
     serve = subprocess.Popen(words, stdout=subprocess.PIPE, stderr=subprocess.DEVNULL, text=True)
     try:
         port = int(serve.stdout.readline().split()[1])
-        for watched in (0, 1):
-            columns = [dict(measure(serve, port, size, watched, int(edits))) for size in sizes]
-            print(f"\nMicroseconds of the server's processor an edit, {'one watcher' if watched else 'no watcher'}\n")
-            print("| Edit | " + " | ".join(f"{size} KiB" for size in sizes) + " |")
-            print("|---|" + "---|" * len(sizes))
-            for kind in KINDS:
-                print(f"| {kind} | " + " | ".join(f"{column[kind]:.0f}" for column in columns) + " |")
+        return dict(measure(serve, port, kibibytes, pointers, edits))
     finally:
         serve.kill()
+
+
+def main(edits=2000, *sizes):
+    sizes = [int(size) for size in sizes] or KIBIBYTES
+    for who, pointers in WATCHERS.items():
+        columns = [measured(size, pointers, int(edits)) for size in sizes]
+        print(f"\nMicroseconds of the server's processor an edit, {who}\n")
+        print("| Edit | " + " | ".join(f"{size} KiB" for size in sizes) + " |")
+        print("|---|" + "---|" * len(sizes))
+        for kind in KINDS:
+            print(f"| {kind} | " + " | ".join(f"{column[kind]:.0f}" for column in columns) + " |")
 
 
 if __name__ == "__main__":
