@@ -2,6 +2,7 @@
 use relay_history::{LAST_REVISION, MOST_REVISIONS};
 use relay_patch::{DEPTH_MOST, Patch, PatchLimits, WEIGHT_MOST};
 use relay_room::{CatchUp, Room, RoomFault};
+use relay_translate::WatchIndex;
 use relay_tree::{Node, Tree, read};
 use relay_view::View;
 use std::alloc::{AllocError, AllocGlobal, Global};
@@ -217,6 +218,45 @@ fn tells_what_was_missed(rt: HostRuntime) -> Result<(), Fail> {
             ),
         ],
     )
+}
+
+/// The views of three sessions.
+fn three_views(alloc: Global) -> Result<WatchIndex, Fail> {
+    let mut watched = WatchIndex::new(alloc);
+    watched.put(alloc, 1, &view_of(alloc, r#"["/a"]"#)?)?;
+    watched.put(alloc, 2, &view_of(alloc, r#"["/b/0"]"#)?)?;
+    watched.put(alloc, 3, &view_of(alloc, r#"["","/a"]"#)?)?;
+    Ok(watched)
+}
+
+/// The newest revision concerns these sessions of the three.
+fn concerns(
+    rt: &(impl Abort + AllocGlobal),
+    room: &Room,
+    sessions: &[u64],
+    of: &str,
+) -> Result<(), Fail> {
+    let watched = three_views(rt.alloc())?;
+    let found = room.touched(rt.alloc(), &watched)?;
+    assert_eq!(rt; found.as_slice(), sessions, "of {of}");
+    Ok(())
+}
+
+#[test]
+fn tells_whom_the_newest_revision_concerns(rt: HostRuntime) -> Result<(), Fail> {
+    let mut room = room_of(rt.alloc(), r#"{"a":1,"b":[2]}"#, 5, 1)?;
+    concerns(&rt, &room, &[], "a room without an edit")?;
+    edits(
+        &rt,
+        &mut room,
+        &[(
+            r#"[{"op":"add","path":"/b/0","value":3}]"#,
+            r#"Ok(6): 6 {"a":1,"b":[3,2]}"#,
+        )],
+    )?;
+    concerns(&rt, &room, &[2, 3], "an insertion")?;
+    edits(&rt, &mut room, &[("[]", r#"Ok(7): 7 {"a":1,"b":[3,2]}"#)])?;
+    concerns(&rt, &room, &[], "a patch of no operation")
 }
 
 #[test]
