@@ -8,16 +8,14 @@ use Rattle.std.proofs.lemmas.Option.{slice_get-map}
 use Rattle.indexmap.specs.IndexMap.{set_value_at, with_value_at, values}
 use Rattle.relay_outbox.specs.declared.outbox.TheConstants.{REPLIES}
 use Rattle.relay_hub.specs.Call.{StepIf, ReceivesIf, DrawsIf, HasRoom}
-use Rattle.relay_hub.specs.Kept.{group_of, named, hub_of}
-use Rattle.relay_hub.specs.State as plain
-use Rattle.relay_hub.specs.State.{State, IsHub, place_of, place_named, home_of, session_in, session_of}
+use Rattle.relay_hub.specs.Kept.{named, hub_of}
+use Rattle.relay_hub.specs.State.{Group, State, IsHub, place_of, place_named, session_in, session_of}
 use Rattle.relay_hub.specs.Step.{ChangesOnly, with_group, Step}
 use Rattle.relay_hub.specs.Telling.{room_and_session, may_hear}
 use Rattle.relay_hub.specs.declared.event.Answer.{Answer}
 use Rattle.relay_hub.specs.declared.event.Answer.TheVariants as answer
 use Rattle.relay_hub.specs.declared.event.Event.{Event}
 use Rattle.relay_hub.specs.declared.event.Event.TheVariants.{Receive, Draw, Close}
-use Rattle.relay_hub.specs.declared.group.Group.{Group}
 use Rattle.relay_hub.specs.declared.hub.Hub.TheInside.{Inside}
 use Rattle.relay_hub.specs.declared.session.Session.{Session}
 use Rattle.relay_hub.proofs.Members.{step_is_hub}
@@ -26,11 +24,11 @@ use Rattle.relay_hub.proofs.Rooms.{some_named}
 
 -- the room at a place
 pub room_at : {A : Type 0} (es : List (String A × Group)) (i : ℕ) (key : String A) (g : Group) → slice_get es i ≡ Some (key, g)
-    → slice_get (map named es) i ≡ Some (string_bytes key, group_of g)
+    → slice_get (map named es) i ≡ Some (string_bytes key, g)
 room_at es i key g h = slice_get-map named es i ∙ ap (option_map named) h
 
 -- the room and the session of a number, once its place is known
-pub found_home : (hub : State) (s place : ℕ) (home : List ℕ × plain.Group) → place_of hub s ≡ Some place → slice_get hub.rooms place ≡ Some home
+pub found_home : (hub : State) (s place : ℕ) (home : List ℕ × Group) → place_of hub s ≡ Some place → slice_get hub.rooms place ≡ Some home
     → room_and_session hub s ≡ option_map (λ x. (home.1.room, x)) (session_in home.1.sessions s)
 found_home hub s place home h k = rw (h, k) refl
 
@@ -39,12 +37,12 @@ found_home hub s place home h k = rw (h, k) refl
 -- where a group was written, its name stays
 pub record Written {A : Type 0} (es : List (String A × Group)) (i : ℕ) (old new : Group) : Type 0 where
   pub name : List ℕ
-  pub was : slice_get (map named es) i ≡ Some (name, group_of old)
-  pub is : map named (set_value_at es i new) ≡ slice_set (map named es) i (name, group_of new)
+  pub was : slice_get (map named es) i ≡ Some (name, old)
+  pub is : map named (set_value_at es i new) ≡ slice_set (map named es) i (name, new)
 
 pub written : {A : Type 0} (es : List (String A × Group)) (i : ℕ) (old new : Group) → slice_get (values_of es) i ≡ Some old → Written es i old new
 written [] i old new h = absurd cc
-written (e ∷ es) zero old new h = let same : e.1 ≡ old = cc in record { name = string_bytes e.0; was = ap (λ g. Some (string_bytes e.0, group_of g)) same; is = refl }
+written (e ∷ es) zero old new h = let same : e.1 ≡ old = cc in record { name = string_bytes e.0; was = ap (λ g. Some (string_bytes e.0, g)) same; is = refl }
 written (e ∷ es) (suc i) old new h =
     let rest = written es i old new h in
     record { name = rest.name; was = rest.was; is = ap (λ rooms. named e ∷ rooms) rest.is }
@@ -61,7 +59,7 @@ never_unnamed es name i found none =
     absurd (cc (gone es i none, room.1))
 
 module _ (h : Inside) (s i : ℕ) (is : IsHub (hub_of h)) (at : place_of (hub_of h) s ≡ Some i) where
-  home : (name : List ℕ) × (g : plain.Group) × (x : Session) × (slice_get (hub_of h).rooms i ≡ Some (name, g)) × (session_in g.sessions s ≡ Some x)
+  home : (name : List ℕ) × (g : Group) × (x : Session) × (slice_get (hub_of h).rooms i ≡ Some (name, g)) × (session_in g.sessions s ≡ Some x)
   home =
       let found = is.homes s i at in
       let r = found.room in
@@ -76,27 +74,27 @@ module _ (h : Inside) (s i : ℕ) (is : IsHub (hub_of h)) (at : place_of (hub_of
   pub never_no_entry : slice_get h.rooms.entries i ≡ None → ⊥
   never_no_entry none = let no = slice_get-map named h.rooms.entries i ∙ ap (option_map named) none in absurd (cc (no, home.3))
 
-  same_group : (name : List ℕ) (g : Group) → slice_get (hub_of h).rooms i ≡ Some (name, group_of g) → home.1 ≡ group_of g
+  same_group : (name : List ℕ) (g : Group) → slice_get (hub_of h).rooms i ≡ Some (name, g) → home.1 ≡ g
   same_group name g there =
-      let both : ◌≡◌ {A = Option (List ℕ × plain.Group)} (Some (home.0, home.1)) (Some (name, group_of g)) = sym home.3 ∙ there in
-      let one : ◌≡◌ {A = List ℕ × plain.Group} (home.0, home.1) (name, group_of g) = cc in
-      ap (λ (r : List ℕ × plain.Group). r.1) one
+      let both : ◌≡◌ {A = Option (List ℕ × Group)} (Some (home.0, home.1)) (Some (name, g)) = sym home.3 ∙ there in
+      let one : ◌≡◌ {A = List ℕ × Group} (home.0, home.1) (name, g) = cc in
+      ap (λ (r : List ℕ × Group). r.1) one
 
   -- and the session is in it
-  pub entry_session : (name : List ℕ) (g : Group) → slice_get (hub_of h).rooms i ≡ Some (name, group_of g) → (x : Session) × (session_in g.sessions.items s ≡ Some x)
-  entry_session name g there = (home.2, subst (λ (k : plain.Group). session_in k.sessions s ≡ Some home.2) (same_group name g there) home.4)
+  pub entry_session : (name : List ℕ) (g : Group) → slice_get (hub_of h).rooms i ≡ Some (name, g) → (x : Session) × (session_in g.sessions s ≡ Some x)
+  entry_session name g there = (home.2, subst (λ (k : Group). session_in k.sessions s ≡ Some home.2) (same_group name g there) home.4)
 
   module _ (g : Group) (there : slice_get (values h.rooms) i ≡ Some g) where
     here : Written h.rooms.entries i g g
     here = written h.rooms.entries i g g there
 
-    pub session_there : (x : Session) × (session_in g.sessions.items s ≡ Some x)
+    pub session_there : (x : Session) × (session_in g.sessions s ≡ Some x)
     session_there = entry_session here.name g here.was
 
-    pub session_is : session_of (hub_of h) s ≡ session_in g.sessions.items s
+    pub session_is : session_of (hub_of h) s ≡ session_in g.sessions s
     session_is = rw (at, here.was) refl
 
-    pub hears : HasRoom g.sessions.items s → may_hear (session_of (hub_of h) s) ≡ true
+    pub hears : HasRoom g.sessions s → may_hear (session_of (hub_of h) s) ≡ true
     hears space =
         let x = session_there in
         let fits : nat_lt (length x.0.outbox.replies) REPLIES ≡ true = grind (arith, nat_tests, space x.0 x.1) in
@@ -112,36 +110,36 @@ hub_with h i g = hub_of (record { made = h.made; next = h.next; rooms = with_val
 abbrev pub hub_closed : Inside → ℕ → Group → List (ℕ × ℕ) → State
 hub_closed h i g homes = record { made = h.made; next = h.next; rooms = map named (set_value_at h.rooms.entries i g); homes = homes }
 
-hub_with-is : (h : Inside) (i : ℕ) (old new : Group) (w : Written h.rooms.entries i old new) → hub_with h i new ≡ with_group i w.name (group_of new) (hub_of h)
+hub_with-is : (h : Inside) (i : ℕ) (old new : Group) (w : Written h.rooms.entries i old new) → hub_with h i new ≡ with_group i w.name new (hub_of h)
 hub_with-is h i old new w =
     ap (λ rooms. record { made = h.made; next = h.next; rooms = rooms; homes = h.homes.entries }) w.is
 
-with_group_same : (hub : State) (i : ℕ) (name : List ℕ) (g : plain.Group) → slice_get hub.rooms i ≡ Some (name, g) → with_group i name g hub ≡ hub
+with_group_same : (hub : State) (i : ℕ) (name : List ℕ) (g : Group) → slice_get hub.rooms i ≡ Some (name, g) → with_group i name g hub ≡ hub
 with_group_same hub i name g h =
     ap (λ rooms. record { made = hub.made; next = hub.next; rooms = rooms; homes = hub.homes }) (slice_set_same hub.rooms i (name, g) h)
 
 -- what is done in a session's room, or nothing, is a step where it is one in the room
 module _ (h : Inside) (s i : ℕ) (old new : Group) (home : place_of (hub_of h) s ≡ Some i) (there : slice_get (values h.rooms) i ≡ Some old) where
-  unchanged : group_of new ≡ group_of old → hub_with h i new ≡ hub_of h
+  unchanged : new ≡ old → hub_with h i new ≡ hub_of h
   unchanged same =
       let w = written h.rooms.entries i old new there in
-      hub_with-is h i old new w ∙ (ap (λ g. with_group i w.name g (hub_of h)) same ∙ with_group_same (hub_of h) i w.name (group_of old) w.was)
+      hub_with-is h i old new w ∙ (ap (λ g. with_group i w.name g (hub_of h)) same ∙ with_group_same (hub_of h) i w.name old w.was)
 
-  pub receives : (text : List ℕ) (answer : Option Answer) → ReceivesIf h.made.epoch s text answer (group_of old) (group_of new)
+  pub receives : (text : List ℕ) (answer : Option Answer) → ReceivesIf h.made.epoch s text answer old new
       → StepIf (hub_of h) (Receive s text) answer (hub_with h i new)
   receives text (Some answer) does =
       let w = written h.rooms.entries i old new there in
-      rw (home, w.was) (group_of new, does, hub_with-is h i old new w)
+      rw (home, w.was) (new, does, hub_with-is h i old new w)
   receives text None same = unchanged same
 
-  pub draws : (answer : Option Answer) → DrawsIf s answer (group_of old) (group_of new) → StepIf (hub_of h) (Draw s) answer (hub_with h i new)
+  pub draws : (answer : Option Answer) → DrawsIf s answer old new → StepIf (hub_of h) (Draw s) answer (hub_with h i new)
   draws (Some answer) does =
       let w = written h.rooms.entries i old new there in
-      rw (home, w.was) (group_of new, does, hub_with-is h i old new w)
+      rw (home, w.was) (new, does, hub_with-is h i old new w)
   draws None same = unchanged same
 
   -- a session that closes goes from the room, and from the list of homes
-  pub closes : (homes : List (ℕ × ℕ)) (x : Session) → session_in old.sessions.items s ≡ Some x → ChangesOnly s None (group_of old) (group_of new)
+  pub closes : (homes : List (ℕ × ℕ)) (x : Session) → session_in old.sessions s ≡ Some x → ChangesOnly s None old new
       → ((t : ℕ) → lookup (nat_eq t) homes ≡ (if s == t then None else place_of (hub_of h) t)) → length homes + 1 ≡ length h.homes.entries
       → Step (hub_of h) (Close s) answer.Closed (hub_closed h i new homes)
   closes homes x is leaves home_after count =
@@ -149,7 +147,7 @@ module _ (h : Inside) (s i : ℕ) (old new : Group) (home : place_of (hub_of h) 
       rw (home, w.was, is) (record {
         next = refl;
         made = refl;
-        left = group_of new;
+        left = new;
         leaves = leaves;
         rooms = w.is;
         home = home_after;

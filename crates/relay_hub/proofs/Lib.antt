@@ -3,6 +3,9 @@ pub mod Sessions
 pub mod Serving
 pub mod Telling
 pub mod Told
+pub mod Indexed
+pub mod Among
+pub mod Untouched
 pub mod Documents
 pub mod Waiting
 pub mod Follow

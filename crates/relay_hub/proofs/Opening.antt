@@ -12,10 +12,9 @@ use Rattle.indexmap.proofs.MapLemmas.{Missing-position}
 use Rattle.relay_proto.specs.RoomName.{is_room_name}
 use Rattle.relay_tree.specs.declared.count.TheConstants.{COUNT_MOST}
 use Rattle.relay_hub.specs.Kept.{named, rooms_of}
-use Rattle.relay_hub.specs.State.{State, place_named}
+use Rattle.relay_hub.specs.State.{Group, State, place_named}
 use Rattle.relay_hub.specs.Step.{open_fault}
 use Rattle.relay_hub.specs.declared.fault.OpenFault.TheVariants.{RoomsFull, SessionsFull, Exhausted}
-use Rattle.relay_hub.specs.declared.group.Group.{Group}
 use Rattle.relay_hub.specs.declared.hub.TheConstants.{ROOMS_MOST, SESSIONS_MOST}
 
 -- Names.

@@ -33,6 +33,12 @@ resumes-number rev id pointers Nothing x = refl
 resumes-number rev id pointers (Patch ops) x = refl
 resumes-number rev id pointers Snapshot x = refl
 
+-- and watches the view that it names
+pub resumes-view : (rev id : ℕ) (pointers : View) (how : CatchUp) (x : Session) → (resumes rev id pointers how x).view ≡ Some pointers
+resumes-view rev id pointers Nothing x = refl
+resumes-view rev id pointers (Patch ops) x = refl
+resumes-view rev id pointers Snapshot x = refl
+
 -- a session resumes from a revision that there is
 pub resume_served : (room : Room) (s id rev : ℕ) (pointers : View) (how : CatchUp) (x : Session) (xs ys : List Session) →
     (revision room < rev → ⊥) → how ≡ caught_up room rev pointers → LeadsOn room rev pointers how → Fits how →

@@ -23,7 +23,7 @@ not_found xs s h =
     let past : length xs ≤ n = grind (arith, nat_tests, untested (nat_lt n (length xs)) n h) in
     rw (find_at (is_number s) xs) (slice_get_past xs n past)
 
-place_within : (xs : List Session) (s i : ℕ) → position (is_number s) xs ≡ Some i → (i < length xs) × (i ≡ position_or_len (is_number s) xs)
+pub place_within : (xs : List Session) (s i : ℕ) → position (is_number s) xs ≡ Some i → (i < length xs) × (i ≡ position_or_len (is_number s) xs)
 place_within xs s i h =
     let n = position_or_len (is_number s) xs in
     let t : (nat_lt n (length xs) ≡ true) × (i ≡ n) = tested (nat_lt n (length xs)) n i h in
@@ -74,7 +74,7 @@ abbrev IsOnly : ℕ → Option Session → List Session → List Session → Typ
 IsOnly s x old new = (t : ℕ) → session_in new t ≡ (if s == t then x else session_in old t)
 
 -- a number that none has, the first has not
-none_there : (x : Session) (xs : List Session) (t : ℕ) → session_in (x ∷ xs) t ≡ None → ((x.number == t) ≡ false) × (session_in xs t ≡ None)
+pub none_there : (x : Session) (xs : List Session) (t : ℕ) → session_in (x ∷ xs) t ≡ None → ((x.number == t) ≡ false) × (session_in xs t ≡ None)
 none_there x xs t h = go (x.number == t) h
   where
     go : (b : Bool) → (if b then Some x else session_in xs t) ≡ None → (b ≡ false) × (session_in xs t ≡ None)
@@ -89,7 +89,7 @@ none_set [] i y d t e h = h
 none_set (x ∷ xs) zero y d t e h = let n = none_there x xs t h in rw (e, n.0) n.1
 none_set (x ∷ xs) (suc i) y d t e h = let n = none_there x xs t h in rw n.0 (none_set xs i y d t e n.1)
 
-once_set : (xs : List Session) (i : ℕ) (y d : Session) → y.number ≡ (get_or xs i d).number → EachOnce xs → EachOnce (slice_set xs i y)
+pub once_set : (xs : List Session) (i : ℕ) (y d : Session) → y.number ≡ (get_or xs i d).number → EachOnce xs → EachOnce (slice_set xs i y)
 once_set [] i y d e h = tt
 once_set (x ∷ xs) zero y d e h = (rw e h.0, h.1)
 once_set (x ∷ xs) (suc i) y d e h = (none_set xs i y d x.number e h.0, once_set xs i y d e h.1)
@@ -201,7 +201,7 @@ once_push (x ∷ xs) y none h =
     let other : (y.number == x.number) ≡ false = grind (arith, nat_tests, rest.0) in
     (rw (session_in-push xs y rest.1 x.number, other) h.0, once_push xs y rest.1 h.1)
 
-push_last : (xs : List Session) (y : Session) → session_in xs y.number ≡ None → OnlyAt y.number (Some y) xs (xs ++ y ∷ [])
+pub push_last : (xs : List Session) (y : Session) → session_in xs y.number ≡ None → OnlyAt y.number (Some y) xs (xs ++ y ∷ [])
 push_last xs y none = record { found = session_in-push xs y none; once = once_push xs y none }
 
 -- a session of a new number comes last, and no other differs

@@ -16,7 +16,7 @@ IsTold d changes room None None = ⊤
 IsTold d changes room (Some x) None = ⊥
 IsTold d changes room None (Some y) = ⊥
 
-told_number : (d : Document) (changes : List Change) (room : Room) (v : Option View) (short : Bool) (x y : Session) → ToldAs d changes room v short x y → y.number ≡ x.number
+pub told_number : (d : Document) (changes : List Change) (room : Room) (v : Option View) (short : Bool) (x y : Session) → ToldAs d changes room v short x y → y.number ≡ x.number
 told_number d changes room None short x y h = ap (λ (z : Session). z.number) h.0
 told_number d changes room (Some v) true x y h = ap (λ (z : Session). z.number) h
 told_number d changes room (Some v) false x y h = ap (λ (z : Session). z.number) h.0

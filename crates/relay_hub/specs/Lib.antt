@@ -4,6 +4,7 @@ pub mod Session
 pub mod Log
 pub mod Refusal
 pub mod Step
+pub mod Watched
 pub mod Telling
 pub mod Call
 pub mod Stands

@@ -3,7 +3,7 @@ ghost use Rattle.std.specs.Prelude.{◌≡◌, Some, None, [], ◌∷◌, ◌++�
 ghost use Rattle.relay_room.specs.Room.{begun, revision};
 ghost use Rattle.relay_tree.specs.Document.{null};
 ghost use Rattle.relay_hub.specs.Call.{IsFresh};
-ghost use Rattle.relay_hub.specs.Kept.{group_of, rooms_of};
+ghost use Rattle.relay_hub.specs.Kept.{rooms_of};
 ghost use Rattle.relay_hub.specs.Session.{newcomer};
 ghost use Rattle.relay_hub.specs.State.{IsBeginning, group, place_named, session_in};
 ghost use Rattle.relay_hub.specs.Step.{ChangesOnly, EntersRooms};
@@ -59,14 +59,14 @@ pub fn let_in(
 
 /// Lets a guest into a room that is there.
 fn join_room(alloc: Global, group: &mut Group, guest: Guest) -> Result<(), AllocError>
-    requires fresh { session_in group.old.sessions.items guest.number ≡ None }
+    requires fresh { session_in group.old.sessions guest.number ≡ None }
     requires made { IsBeginning guest.made }
     ensures ok { OnOk result (ChangesOnly guest.number (Some (newcomer guest.made.epoch (revision group.old.room) guest.number guest.made.waiting))
-        (group_of group.old) (group_of group.new)) }
-    ensures err { OnErr result (group_of group.new ≡ group_of group.old) }
+        group.old group.new) }
+    ensures err { OnErr result (group.new ≡ group.old) }
 {
-    let session = guest.session(alloc, group.room.revision())?;
-    group.sessions.push(session)?;
+    let session = guest.session(alloc, group.room().revision())?;
+    group.join(session)?;
     Ok(())
 }
 
@@ -89,9 +89,8 @@ fn begin_room(
         Err(RoomFault::NoMemory) => return Err(AllocError),
         Err(_) => unreachable!(),
     };
-    let mut sessions = Vec::new(alloc);
-    sessions.push(guest.session(alloc, 0)?)?;
+    let group = Group::begin(alloc, room, guest.session(alloc, 0)?)?;
     let place = rooms.len();
-    rooms.insert(String::from_str(alloc, name)?, Group { room, sessions })?;
+    rooms.insert(String::from_str(alloc, name)?, group)?;
     Ok(place)
 }

@@ -22,7 +22,6 @@ use crate::entering::{Guest, let_in};
 use crate::event::{Answer, Event, Heard};
 use crate::fault::{HubFault, HubNewFault, NoSession, OpenFault, RunFault};
 use crate::group::Group;
-use crate::serve;
 use crate::session::Session;
 use crate::text::Text;
 use indexmap::IndexMap;
@@ -171,14 +170,7 @@ impl Hub {
         let Some(group) = self.rooms.get_index_mut(*place) else {
             unreachable!()
         };
-        serve::receive(
-            alloc,
-            self.made.epoch,
-            &mut group.room,
-            group.sessions.as_mut_slice(),
-            session,
-            text,
-        )
+        group.receive(alloc, self.made.epoch, session, text)
     }
 
     /// The text at the front of a session's line, which leaves the line: replies first, then patches, then the due
@@ -196,7 +188,7 @@ impl Hub {
         let Some(group) = self.rooms.get_index_mut(*place) else {
             unreachable!()
         };
-        serve::draw(alloc, &group.room, group.sessions.as_mut_slice(), session)
+        group.draw(alloc, session)
     }
 
     /// Ends a session. Its room stays. No memory is taken.
@@ -211,7 +203,7 @@ impl Hub {
         let Some(group) = self.rooms.get_index_mut(*place) else {
             unreachable!()
         };
-        serve::remove(&mut group.sessions, session);
+        group.leave(session);
         let _ = self.homes.swap_remove(&session);
         Ok(())
     }
@@ -224,9 +216,7 @@ impl Hub {
         let Some((_, group)) = self.rooms.get_index(*place) else {
             unreachable!()
         };
-        let sessions = group.sessions.as_slice();
-        let place = serve::place_in(sessions, session);
-        Some((&group.room, &sessions[place]))
+        Some((group.room(), group.session(session)))
     }
 
     /// Whether a text of the session would be answered: it is open, and fewer than 32 replies wait. No memory is taken.

@@ -12,6 +12,7 @@ mod group;
 mod hub;
 mod serve;
 mod session;
+mod tell;
 mod text;
 
 pub use event::{Answer, Event, Heard};

@@ -1,26 +1,25 @@
-//! The work of the hub's calls, over a room and the sessions that are open in it.
+//! The work of the hub's calls, over a room, the sessions that are open in it, and the index of what they watch.
 ghost use Rattle.std.specs.Prelude.{◌≡◌, ◌<◌, ◌-◌, ◌==◌, List, Some, None, Ok, Err, IfOk, OnOk, OnErr, IsErrOf, IsSome, IsSomeAnd, length, option_map, nat_le, position, filter, not};
 ghost use Rattle.std.specs.Bool.{MatchBool};
-ghost use Rattle.relay_history.specs.History.{Reaches, changes_since};
 ghost use Rattle.relay_outbox.specs.declared.outbox.TheConstants.{REPLIES};
-ghost use Rattle.relay_patch.specs.Change.{Leads};
-ghost use Rattle.relay_patch.specs.declared.change.Change.{Change};
 ghost use Rattle.relay_room.specs.Edit.{edited};
 ghost use Rattle.relay_room.specs.Room.{revision};
-ghost use Rattle.relay_tree.specs.Document.{Document};
 ghost use Rattle.relay_hub.specs.Call.{receiving, drawing, ReceivesIf, DrawsIf, ChangesBy, HasRoom, IsFull};
 ghost use Rattle.relay_hub.specs.Refusal.{cause_word, edit_refusal};
-ghost use Rattle.relay_hub.specs.Session.{replied, watches, unwatches, resumes, waiting};
+ghost use Rattle.relay_hub.specs.Session.{replied, watches as watching, unwatches, resumes, waiting};
 ghost use Rattle.relay_hub.specs.State.{group, is_number, session_in};
-ghost use Rattle.relay_hub.specs.Step.{AllTold, EditServed, ResumeServed, Serves, OnlyAt};
+ghost use Rattle.relay_hub.specs.Step.{EditServed, ResumeServed, Serves, OnlyAt};
+ghost use Rattle.relay_hub.specs.Watched.{IsIndexed};
 ghost use Rattle.relay_hub.specs.declared.session.Session.{Session};
 
 use crate::event::Heard;
 use crate::fault::HubFault;
 use crate::session::Session;
+use crate::tell::tell_touched;
 use relay_patch::{Cause, Patch};
 use relay_proto::{Refusal, Reply, Request, RequestFault, Word};
 use relay_room::{CatchFault, CatchUp, EditFault, Room};
+use relay_translate::WatchIndex;
 use relay_view::View;
 use std::alloc::{AllocError, Global};
 
@@ -35,7 +34,16 @@ pub fn place_in(sessions: &[Session], number: u64) -> usize
     place
 }
 
-fn position_of(sessions: &[Session], number: u64) -> Option<usize>
+/// The session with that number, which is there.
+pub fn session_at(sessions: &[Session], number: u64) -> &Session
+    requires { IsSome (session_in sessions.now number) }
+    ensures { session_in sessions.now number ≡ Some result.now }
+{
+    &sessions[place_in(sessions, number)]
+}
+
+/// The place of the session with that number. It costs a walk over the numbers.
+pub fn position_of(sessions: &[Session], number: u64) -> Option<usize>
     ensures { result ≡ position (is_number number) sessions.now }
 {
     sessions.iter().position(|session| session.number == number)
@@ -46,12 +54,15 @@ pub fn receive(
     alloc: Global,
     epoch: u64,
     room: &mut Room,
+    watches: &mut WatchIndex,
     sessions: &mut [Session],
     number: u64,
     text: &str,
 ) -> Result<Heard, HubFault>
-    requires { IsSome (session_in sessions.old number) }
+    requires there { IsSome (session_in sessions.old number) }
+    requires indexed { IsIndexed watches.old sessions.old }
     ensures step { ReceivesIf epoch number text.now (receiving result) (group room.old sessions.old) (group room.new sessions.new) }
+    ensures indexed { IsIndexed watches.new sessions.new }
     ensures no_memory { IsErrOf result HubFault.NoMemory → HasRoom sessions.old number }
 {
     let place = place_in(sessions, number);
@@ -59,7 +70,9 @@ pub fn receive(
         return Ok(Heard::Busy);
     }
     let served = match Request::read(alloc, text) {
-        Ok(request) => perform(alloc, epoch, room, sessions, number, place, request),
+        Ok(request) => perform(
+            alloc, epoch, room, watches, sessions, number, place, request,
+        ),
         Err(RequestFault::Refused(refusal)) => {
             reply_at(sessions, number, place, refusal.reply());
             Ok(0)
@@ -77,6 +90,7 @@ fn perform(
     alloc: Global,
     epoch: u64,
     room: &mut Room,
+    watches: &mut WatchIndex,
     sessions: &mut [Session],
     number: u64,
     place: usize,
@@ -84,20 +98,24 @@ fn perform(
 ) -> Result<u64, AllocError>
     requires place { position (is_number number) sessions.old ≡ Some place }
     requires space { HasRoom sessions.old number }
+    requires indexed { IsIndexed watches.old sessions.old }
     ensures ok { IfOk result (λ short. (x : Session) → session_in sessions.old number ≡ Some x →
         Serves epoch number x (Ok request) short (group room.old sessions.old) (group room.new sessions.new)) }
     ensures err { OnErr result (group room.new sessions.new ≡ group room.old sessions.old) }
+    ensures indexed { IsIndexed watches.new sessions.new }
 {
     match request {
         Request::Edit { id, base, patch } => {
-            edit(alloc, room, sessions, number, place, id, base, &patch)
+            edit(
+                alloc, room, watches, sessions, number, place, id, base, &patch,
+            )
         }
         Request::Watch { id, view } => {
-            watch_at(sessions, number, place, id, view);
+            watch(alloc, watches, sessions, number, place, id, view)?;
             Ok(0)
         }
         Request::Unwatch { id } => {
-            unwatch_at(sessions, number, place, id);
+            unwatch(watches, sessions, number, place, id);
             Ok(0)
         }
         Request::Resume {
@@ -109,6 +127,7 @@ fn perform(
             resume(
                 alloc,
                 room,
+                watches,
                 sessions,
                 number,
                 place,
@@ -122,11 +141,12 @@ fn perform(
     }
 }
 
-/// Makes the room's next document, answers the sender and tells every watcher, the sender included. How many lines folded
-/// because memory was refused.
+/// Makes the room's next document, answers the sender and tells the watchers whom the edit touches, the sender among them. How many
+/// lines folded because memory was refused.
 fn edit(
     alloc: Global,
     room: &mut Room,
+    watches: &WatchIndex,
     sessions: &mut [Session],
     number: u64,
     place: usize,
@@ -136,14 +156,16 @@ fn edit(
 ) -> Result<u64, AllocError>
     requires place { position (is_number number) sessions.old ≡ Some place }
     requires space { HasRoom sessions.old number }
+    requires indexed { IsIndexed watches.now sessions.old }
     ensures ok { IfOk result (λ short. (x : Session) → session_in sessions.old number ≡ Some x →
         EditServed number x id patch.now (edited room.old base patch.now) short (group room.old sessions.old) (group room.new sessions.new)) }
     ensures err { OnErr result (group room.new sessions.new ≡ group room.old sessions.old) }
+    ensures indexed { IsIndexed watches.now sessions.new }
 {
     match room.edit(alloc, base, patch) {
         Ok(rev) => {
             reply_at(sessions, number, place, Reply::Done { id, rev });
-            Ok(tell_all(alloc, room, sessions))
+            Ok(tell_touched(alloc, room, watches, sessions))
         }
         Err(fault) => {
             let Some(reply) = edit_refusal(id, fault) else {
@@ -190,26 +212,45 @@ fn word_of(cause: Cause) -> Option<Word>
     }
 }
 
-/// Tells all watchers of the newest edit. How many lines folded because memory was refused.
-fn tell_all(alloc: Global, room: &Room, sessions: &mut [Session]) -> u64
-    requires edited { 0 < revision room.now }
-    requires reaches { Reaches room.now.history (revision room.now - 1) }
-    ensures { (d : Document) (changes : List Change) → changes ≡ changes_since (revision room.now - 1) room.now.history
-        → Leads d changes room.now.document → AllTold d changes room.now sessions.old sessions.new result }
+/// Holds the view from now on; a snapshot is due.
+fn watch(
+    alloc: Global,
+    watches: &mut WatchIndex,
+    sessions: &mut [Session],
+    number: u64,
+    place: usize,
+    id: u64,
+    view: View,
+) -> Result<(), AllocError>
+    requires place { position (is_number number) sessions.old ≡ Some place }
+    requires space { HasRoom sessions.old number }
+    requires indexed { IsIndexed watches.old sessions.old }
+    ensures ok { OnOk result (ChangesBy number (watching id view) sessions.old sessions.new) }
+    ensures err { OnErr result (sessions.new ≡ sessions.old) }
+    ensures indexed { IsIndexed watches.new sessions.new }
 {
-    let mut short: u64 = 0;
-    for session in sessions.iter_mut() {
-        if session.tell(alloc, room).is_err() {
-            short += 1;
-        }
-    }
-    short
+    watches.put(alloc, number, &view)?;
+    watch_at(sessions, number, place, id, view);
+    Ok(())
+}
+
+/// Holds no view any more.
+fn unwatch(watches: &mut WatchIndex, sessions: &mut [Session], number: u64, place: usize, id: u64)
+    requires place { position (is_number number) sessions.old ≡ Some place }
+    requires space { HasRoom sessions.old number }
+    requires indexed { IsIndexed watches.old sessions.old }
+    ensures unwatches { ChangesBy number (unwatches id) sessions.old sessions.new }
+    ensures indexed { IsIndexed watches.new sessions.new }
+{
+    watches.take_out(number);
+    unwatch_at(sessions, number, place, id);
 }
 
 /// Goes on with a view from revision `rev`, of this epoch or of another.
 fn resume(
     alloc: Global,
     room: &Room,
+    watches: &mut WatchIndex,
     sessions: &mut [Session],
     number: u64,
     place: usize,
@@ -220,9 +261,11 @@ fn resume(
 ) -> Result<(), AllocError>
     requires place { position (is_number number) sessions.old ≡ Some place }
     requires space { HasRoom sessions.old number }
+    requires indexed { IsIndexed watches.old sessions.old }
     ensures ok { OnOk result ((x : Session) → session_in sessions.old number ≡ Some x →
         ResumeServed present (nat_le rev (revision room.now)) id rev view number x (group room.now sessions.old) (group room.now sessions.new)) }
     ensures err { OnErr result (sessions.new ≡ sessions.old) }
+    ensures indexed { IsIndexed watches.new sessions.new }
 {
     let how = if present {
         match room.catch_up(alloc, rev, &view) {
@@ -241,6 +284,7 @@ fn resume(
     } else {
         CatchUp::Snapshot
     };
+    watches.put(alloc, number, &view)?;
     resume_at(sessions, number, place, id, room.revision(), view, how);
     Ok(())
 }
@@ -263,10 +307,13 @@ pub fn draw(
     }
 }
 
-/// Takes a session away.
-pub fn remove(sessions: &mut Vec<Session>, number: u64)
-    ensures { OnlyAt number None sessions.old.items sessions.new.items }
+/// Takes a session away, with its view.
+pub fn remove(sessions: &mut Vec<Session>, watches: &mut WatchIndex, number: u64)
+    requires { IsIndexed watches.old sessions.old.items }
+    ensures gone { OnlyAt number None sessions.old.items sessions.new.items }
+    ensures indexed { IsIndexed watches.new sessions.new.items }
 {
+    watches.take_out(number);
     sessions.retain(|session| session.number != number);
 }
 
@@ -291,7 +338,7 @@ fn reply_at(sessions: &mut [Session], number: u64, place: usize, reply: Reply)
 fn watch_at(sessions: &mut [Session], number: u64, place: usize, id: u64, view: View)
     requires place { position (is_number number) sessions.old ≡ Some place }
     requires space { HasRoom sessions.old number }
-    ensures { ChangesBy number (watches id view) sessions.old sessions.new }
+    ensures { ChangesBy number (watching id view) sessions.old sessions.new }
 {
     sessions[place].watch(id, view);
 }

@@ -135,7 +135,8 @@ impl Session {
     pub fn tell(&mut self, alloc: Global, room: &Room) -> Result<(), AllocError>
         requires edited { 0 < revision room.now }
         requires reaches { Reaches room.now.history (revision room.now - 1) }
-        ensures { (d : Document) (changes : List Change) → changes ≡ changes_since (revision room.now - 1) room.now.history
+        ensures number { self.new.number ≡ self.old.number }
+        ensures told { (d : Document) (changes : List Change) → changes ≡ changes_since (revision room.now - 1) room.now.history
             → Leads d changes room.now.document → Told d changes room.now (is_err result) self.old self.new }
     {
         let Some(view) = &self.view else {

@@ -1,7 +1,7 @@
 use Rattle.std.proofs.Common.{◌∙◌, refl, sym, ap, Result, Ok, Err}
 use Rattle.std.specs.Prelude.{OnErr, slice_set}
-use Rattle.relay_hub.specs.Kept.{group_of, rooms_of}
-use Rattle.relay_hub.specs.State as plain
+use Rattle.relay_hub.specs.Kept.{rooms_of}
+use Rattle.relay_hub.specs.State.{Group}
 use Rattle.relay_hub.proofs.Kept.{never_unnamed, written}
 use Rattle.relay_hub.proofs.Places.{slice_set_same}
 use Rattle.relay_hub.proofs.entering.let_in.Goals as goal
@@ -14,7 +14,7 @@ pub join_room-requires : goal.join_room-requires
 join_room-requires c =
     let g = c.in-Some-get_index_mut.group.now in
     let w = written c.args.rooms.now.entries c.in-Some.place g g (sym c.in-Some-get_index_mut.ensures.value) in
-    record { fresh = c.requires.fresh c.in-Some.place w.name (group_of g) w.was; made = c.requires.made }
+    record { fresh = c.requires.fresh c.in-Some.place w.name g w.was; made = c.requires.made }
 
 pub returns-in_err-join_room-clause-err : goal.returns-in_err-join_room-clause-err
 returns-in_err-join_room-clause-err c =
@@ -23,14 +23,14 @@ returns-in_err-join_room-clause-err c =
     let g = c.in-Some-get_index_mut.group.now in
     let w = written es i g c.join_room.new.group (sym c.in-Some-get_index_mut.ensures.value) in
     on_err c.from_residual.result
-    (w.is ∙ (ap (λ (h : plain.Group). slice_set (rooms_of es) i (w.name, h)) c.in_err-join_room.ensures.err ∙ slice_set_same (rooms_of es) i (w.name, group_of g) w.was))
+    (w.is ∙ (ap (λ (h : Group). slice_set (rooms_of es) i (w.name, h)) c.in_err-join_room.ensures.err ∙ slice_set_same (rooms_of es) i (w.name, g) w.was))
 
 pub returns-clause-ok : goal.returns-clause-ok
 returns-clause-ok c =
     let g = c.in-Some-get_index_mut.group.now in
     let new = c.join_room.new.group in
     let w = written c.args.rooms.now.entries c.in-Some.place g new (sym c.in-Some-get_index_mut.ensures.value) in
-    rw c.in-Some.is (refl, w.name, group_of g, group_of new, w.was, w.is, c.in_ok-join_room.ensures.ok)
+    rw c.in-Some.is (refl, w.name, g, new, w.was, w.is, c.in_ok-join_room.ensures.ok)
 
 pub unreachable-requires : goal.unreachable-requires
 unreachable-requires c = never_unnamed c.args.rooms.now.entries c.args.name.now c.in-Some.place (sym c.requires.place ∙ c.in-Some.is) (sym c.in_default-get_index_mut.ensures.value)

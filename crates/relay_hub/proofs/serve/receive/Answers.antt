@@ -1,7 +1,9 @@
 use Rattle.std.proofs.Common.{◌≡◌, refl, sym, ◌∙◌, Ok, Err}
 use Rattle.relay_hub.proofs.Sessions.{session_there}
 use Rattle.relay_hub.proofs.Serving.{answered}
+use Rattle.relay_hub.specs.Session.{replied}
 use Rattle.relay_hub.specs.State.{group}
+use Rattle.relay_hub.proofs.Indexed.{changed_same}
 use Rattle.relay_hub.proofs.serve.receive.Goals as goal
 use Rattle.relay_hub.proofs.serve.receive.Goals.{in-Ok, in-Err-Refused, in-Err-NoMemory}
 
@@ -27,4 +29,14 @@ returns-in-Ok-served-clause-step c =
           (rw w.in-Err-Refused.field-0-is at w.in-Err-Refused.ensures.refused)
           (rw (w.room-is, w.sessions-is) (λ x e. (none, (refl, rw said at (w.reply_at.ensures x e)))))
       | in-Err-NoMemory w ↦ absurd (cc (w.served-is, c.in-Ok-served.is))
+    ]
+
+pub returns-in-Ok-served-clause-indexed : goal.returns-in-Ok-served-clause-indexed
+returns-in-Ok-served-clause-indexed c =
+    elim c.match-read.branch [
+      | in-Ok w ↦ rw (w.watches-is, w.sessions-is) w.perform-served.ensures.indexed
+      | in-Err-Refused w ↦ rw (w.watches-is, w.sessions-is)
+          (changed_same c.args.sessions.now w.reply_at.new.sessions c.args.number c.place_in-place.result c.place_in-place.ensures (replied w.reply.result) w.reply_at.ensures
+          c.args.watches.now c.requires.indexed (λ x. refl))
+      | in-Err-NoMemory w ↦ rw (w.watches-is, w.sessions-is) c.requires.indexed
     ]

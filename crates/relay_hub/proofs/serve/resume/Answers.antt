@@ -1,5 +1,7 @@
 use Rattle.std.proofs.Common.{refl}
-use Rattle.relay_hub.proofs.Serving.{resume_served}
+use Rattle.relay_hub.specs.Session.{replied, resumes}
+use Rattle.relay_hub.proofs.Indexed.{changed_same, changed_put}
+use Rattle.relay_hub.proofs.Serving.{resume_served, resumes-view}
 use Rattle.relay_hub.proofs.serve.resume.Goals as goal
 use Rattle.relay_hub.proofs.serve.resume.Goals.{then-present+in-Ok, else-present}
 
@@ -13,3 +15,15 @@ returns-clause-ok c =
           (λ late. cc (how.future.1 late)) how.exact how.leads how.sizes (rw w.how-is at (changed x e)))
       | else-present w ↦ rw w.if-present.false (refl, rw w.how-is at (changed x e))
     ]
+
+pub returns-in-Err-Future-clause-indexed : goal.returns-in-Err-Future-clause-indexed
+returns-in-Err-Future-clause-indexed c =
+    changed_same c.args.sessions.now c.reply_at.new.sessions c.args.number c.args.place c.requires.place (replied c.reply.result) c.reply_at.ensures
+    c.args.watches.now c.requires.indexed (λ x. refl)
+
+pub returns-clause-indexed : goal.returns-clause-indexed
+returns-clause-indexed c =
+    let rev = c.revision.result in
+    let how = c.if-present.how in
+    rw c.in_ok-put.ensures.ok (changed_put c.args.sessions.now c.resume_at.new.sessions c.args.number c.args.place c.requires.place (resumes rev c.args.id c.args.view how) c.resume_at.ensures
+    c.args.watches.now c.requires.indexed c.args.view (resumes-view rev c.args.id c.args.view how))

@@ -1,9 +1,9 @@
-use Rattle.std.proofs.Common.{◌∙◌, refl, sym}
+use Rattle.std.proofs.Common.{◌∙◌, sym}
 use Rattle.relay_hub.specs.Kept.{hub_of}
+use Rattle.relay_hub.specs.State.{Group}
 use Rattle.relay_hub.specs.Step.{Step}
 use Rattle.relay_hub.specs.declared.event.Answer.TheVariants as answer
 use Rattle.relay_hub.specs.declared.event.Event.TheVariants.{Close}
-use Rattle.relay_hub.specs.declared.group.Group.{Group}
 use Rattle.relay_hub.proofs.Kept.{never_missing, session_there, hub_closed, closes}
 use Rattle.relay_hub.proofs.Members.{step_is_hub}
 use Rattle.relay_hub.proofs.Stands.{step_stands}
@@ -13,7 +13,7 @@ pub unreachable-requires : goal.unreachable-requires
 unreachable-requires c = never_missing c.self.inside c.args.session c.in-Some.place.now c.self.invariant (sym c.in-Some.ensures.value) (sym c.in_default-get_index_mut.ensures.value)
 
 abbrev left : goal.After-swap_remove → Group
-left c = record { room = c.in-Some-get_index_mut.group.now.room; sessions = c.remove.new.sessions }
+left c = c.leave.new.self
 
 goes : (c : goal.After-swap_remove) → Step (hub_of c.self.inside) (Close c.args.session) answer.Closed (hub_closed c.self.inside c.in-Some.place.now (left c) c.swap_remove.new.self.entries)
 goes c =
@@ -22,7 +22,7 @@ goes c =
     let there = session_there c.self.inside s c.in-Some.place.now c.self.invariant (sym c.in-Some.ensures.value) g (sym c.in-Some-get_index_mut.ensures.value) in
     let count = rw (c.swap_remove.ensures.value ∙ sym c.in-Some.ensures.value) at c.swap_remove.ensures.len in
     closes c.self.inside s c.in-Some.place.now g (left c) (sym c.in-Some.ensures.value) (sym c.in-Some-get_index_mut.ensures.value)
-    c.swap_remove.new.self.entries there.0 there.1 (refl, c.remove.ensures) c.swap_remove.ensures.updates.0 count
+    c.swap_remove.new.self.entries there.0 there.1 c.leave.ensures c.swap_remove.ensures.updates.0 count
 
 pub invariant_of-self : goal.invariant_of-self
 invariant_of-self c =

@@ -1,27 +1,20 @@
-use Rattle.std.proofs.Common.{◌≡◌, ◌∙◌, refl, sym, subst, List}
-use Rattle.std.specs.Vec.{with_items}
-use Rattle.std.proofs.lemmas.List.{with_items_is}
-use Rattle.relay_hub.specs.Call.{StepIf, ReceivesIf, receiving}
+use Rattle.std.proofs.Common.{refl, sym}
+use Rattle.relay_hub.specs.Call.{StepIf, receiving}
 use Rattle.relay_hub.specs.Kept.{hub_of}
-use Rattle.relay_hub.specs.State.{group}
+use Rattle.relay_hub.specs.State.{Group}
 use Rattle.relay_hub.specs.declared.event.Event.TheVariants.{Receive}
-use Rattle.relay_hub.specs.declared.group.Group.{Group}
-use Rattle.relay_hub.specs.declared.session.Session.{Session}
 use Rattle.relay_hub.proofs.Kept.{never_missing, session_there, hears, hub_with, receives, stays_hub}
 use Rattle.relay_hub.proofs.Promises.{refuses_edits}
 use Rattle.relay_hub.proofs.Stands.{call_stands}
 use Rattle.relay_hub.proofs.hub.Hub.receive.Goals as goal
 
 abbrev left : goal.After-self-2-1 → Group
-left c = record { room = c.receive.new.room; sessions = with_items c.in-Some-get_index_mut.group.now.sessions c.receive.new.sessions }
+left c = c.receive.new.self
 
 step : (c : goal.After-self-2-1) → StepIf (hub_of c.self.inside) (Receive c.args.session c.args.text.now) (receiving c.receive.result) (hub_with c.self.inside c.in-Some.place.now (left c))
 step c =
     let g = c.in-Some-get_index_mut.group.now in
-    let same : (left c).sessions.items ≡ c.receive.new.sessions = with_items_is g.sessions c.receive.new.sessions (c.receive.auto.sessions ∙ c.as_mut_slice.ensures.len) in
-    let done = rw c.as_mut_slice.ensures.value at c.receive.ensures.step in
-    receives c.self.inside c.args.session c.in-Some.place.now g (left c) (sym c.in-Some.ensures.value) (sym c.in-Some-get_index_mut.ensures.value) c.args.text.now (receiving c.receive.result)
-    (subst (λ (xs : List Session). ReceivesIf c.self.inside.made.epoch c.args.session c.args.text.now (receiving c.receive.result) (group g.room g.sessions.items) (group c.receive.new.room xs)) (sym same) done)
+    receives c.self.inside c.args.session c.in-Some.place.now g (left c) (sym c.in-Some.ensures.value) (sym c.in-Some-get_index_mut.ensures.value) c.args.text.now (receiving c.receive.result) c.receive.ensures.step
 
 pub unreachable-requires : goal.unreachable-requires
 unreachable-requires c = never_missing c.self.inside c.args.session c.in-Some.place.now c.self.invariant (sym c.in-Some.ensures.value) (sym c.in_default-get_index_mut.ensures.value)
@@ -29,7 +22,7 @@ unreachable-requires c = never_missing c.self.inside c.args.session c.in-Some.pl
 pub receive-requires : goal.receive-requires
 receive-requires c =
     let there = session_there c.self.inside c.args.session c.in-Some.place.now c.self.invariant (sym c.in-Some.ensures.value) c.in-Some-get_index_mut.group.now (sym c.in-Some-get_index_mut.ensures.value) in
-    rw (c.as_mut_slice.ensures.value, there.1) refl
+    rw there.1 refl
 
 pub invariant_of-self : goal.invariant_of-self
 invariant_of-self c = stays_hub (hub_of c.self.inside) (hub_with c.self.inside c.in-Some.place.now (left c)) (Receive c.args.session c.args.text.now) (receiving c.receive.result) c.self.invariant (step c)
@@ -44,5 +37,5 @@ returns c =
       stands = λ b E h. call_stands b E old new event (receiving c.receive.result) h (step c);
       refused = refuses_edits old new c.args.session c.args.text.now c.receive.result (step c);
       no_memory = λ e. hears c.self.inside c.args.session c.in-Some.place.now c.self.invariant (sym c.in-Some.ensures.value) c.in-Some-get_index_mut.group.now (sym c.in-Some-get_index_mut.ensures.value)
-          (rw c.as_mut_slice.ensures.value at (c.receive.ensures.no_memory e));
+          (c.receive.ensures.no_memory e);
     })

@@ -1,8 +1,8 @@
 use Rattle.std.proofs.Common.{◌≡◌, ◌+◌, true, false, rules, arith}
 use Rattle.std.specs.Prelude.{is_err, if◌then◌else◌}
 use Rattle.relay_hub.proofs.Telling.{tell_more, rest_more}
-use Rattle.relay_hub.proofs.serve.tell_all.Goals as goal
-use Rattle.relay_hub.proofs.serve.tell_all.Goals.{then-is_err, else-is_err}
+use Rattle.relay_hub.proofs.tell.tell_all.Goals as goal
+use Rattle.relay_hub.proofs.tell.tell_all.Goals.{then-is_err, else-is_err}
 
 pub loop-session-preserved : goal.loop-session-preserved
 loop-session-preserved c =
@@ -15,7 +15,7 @@ loop-session-preserved c =
     ] in
     record {
       told = λ d changes since led. rw short (tell_more d changes c.args.room.now xs l.sessions l.session-index l.short (is_err c.tell.result) c.session-item.result c.tell.new.self
-          (omega arith) l.auto.sessions l.invariant.rest (c.tell.ensures d changes since led) (l.invariant.told d changes since led));
+          (omega arith) l.auto.sessions l.invariant.rest (c.tell.ensures.told d changes since led) (l.invariant.told d changes since led));
       rest = rest_more xs l.sessions l.session-index c.tell.new.self l.invariant.rest;
       count = elim c.if-is_err.branch [ then-is_err w ↦ omega (arith, w.short-is, l.invariant.count) | else-is_err w ↦ omega (arith, w.short-is, l.invariant.count) ];
     }

@@ -5,7 +5,7 @@ use Rattle.relay_patch.specs.declared.change.Change.{Change}
 use Rattle.relay_room.specs.Room.{revision}
 use Rattle.relay_tree.specs.Document.{Document}
 use Rattle.relay_hub.specs.Step.{AllTold}
-use Rattle.relay_hub.proofs.serve.tell_all.Given as goal
+use Rattle.relay_hub.proofs.tell.tell_all.Given as goal
 
 abbrev pub invariant-loop-session : goal.invariant-loop-session
 invariant-loop-session l = record {

@@ -1,0 +1,84 @@
+-- Whom an edit does not touch is told nothing.
+use Rattle.std.proofs.Common.{◌≡◌, ℕ, ◌-◌, ◌<◌, ◌==◌, Bool, true, false, nat_eq, List, [], ◌∷◌, Option, Some, None, Ok, refl, ◌∙◌, subst, arith}
+use Rattle.std.specs.List.{list_any}
+use Rattle.std.specs.Prelude.{nat_lt, if◌then◌else◌}
+use Rattle.std.specs.FinMap as map
+use Rattle.std.proofs.lemmas.Bool.Decides.{nat_tests}
+use Rattle.relay_history.specs.History.{Reaches, oldest, changes_since}
+use Rattle.relay_patch.specs.Change.{Leads}
+use Rattle.relay_patch.specs.Patch.{after, free}
+use Rattle.relay_patch.specs.declared.change.Change.{Change}
+use Rattle.relay_patch.specs.declared.op.Op.{Op}
+use Rattle.relay_room.specs.CatchUp.{caught_up, patch_or_nothing}
+use Rattle.relay_room.specs.Room.{State as Room, revision}
+use Rattle.relay_room.specs.Watched.{OthersMissNothing}
+use Rattle.relay_room.specs.declared.catch_up.CatchUp.TheVariants.{Nothing}
+use Rattle.relay_translate.specs.Translate.{local}
+use Rattle.relay_translate.specs.Watches.{Watches}
+use Rattle.relay_translate.proofs.Slots.{translation}
+use Rattle.relay_tree.specs.Document.{Document}
+use Rattle.relay_view.specs.View.{View, view}
+use Rattle.relay_hub.specs.State.{EachOnce, session_in}
+use Rattle.relay_hub.specs.Step.{telling, ToldView, ToldAs, Told, AllTold}
+use Rattle.relay_hub.specs.Watched.{IsIndexed, ToldIf, ToldAmong}
+use Rattle.relay_hub.specs.declared.session.Session.{Session}
+use Rattle.relay_hub.proofs.Places.{by_number}
+
+no_operation : (ops : List Op) → patch_or_nothing ops ≡ Nothing → ops ≡ []
+no_operation [] h = refl
+no_operation (op ∷ ops) h = absurd (cc h)
+
+module _ (room : Room) (d : Document) (changes : List Change) (edited : 0 < revision room) (reaches : Reaches room.history (revision room - 1))
+    (since : changes ≡ changes_since (revision room - 1) room.history) (leads : Leads d changes room.document) where
+  -- who misses nothing is told nothing
+  nothing_told : (v : View) → caught_up room (revision room - 1) v ≡ Nothing → telling changes room v ≡ Nothing
+  nothing_told v missed =
+      let held : nat_lt (revision room - 1) (oldest room.history) ≡ false = grind (arith, nat_tests, reaches.back) in
+      rw since (rw held at missed)
+
+  same_view : (v : View) → telling changes room v ≡ Nothing → view v d ≡ view v room.document
+  same_view v nothing =
+      let none : local changes room.document v ≡ [] = no_operation (local changes room.document v) nothing in
+      let after_none : after (view v d) [] free ≡ Ok (view v room.document) =
+      subst (λ ops. after (view v d) ops free ≡ Ok (view v room.document)) none (translation changes room.document v d leads) in
+      cc after_none
+
+  quiet_view : (v : View) (x : Session) → caught_up room (revision room - 1) v ≡ Nothing → ToldView d changes room v false x x
+  quiet_view v x missed =
+      let nothing = nothing_told v missed in
+      rw nothing (refl, same_view v nothing, tt)
+
+  module _ (w : Watches) (numbers : List ℕ) (others : OthersMissNothing room w numbers) where
+    quiet_as : (o : Option View) (x : Session) → map.get w x.number ≡ o → list_any (nat_eq x.number) numbers ≡ false → ToldAs d changes room o false x x
+    quiet_as (Some v) x has absent = quiet_view v x (others x.number (revision room - 1) v has absent (omega (arith, edited)) reaches)
+    quiet_as None x has absent = (refl, refl)
+
+    told_either : (b : Bool) (short : Bool) (x y : Session) → list_any (nat_eq x.number) numbers ≡ b → map.get w x.number ≡ x.view
+        → ToldIf b d changes room short x y → Told d changes room short x y
+    told_either true short x y named has h = h
+    told_either false short x y named has h = rw (h.0, h.1) (quiet_as x.view x has named)
+
+    abbrev Has : List Session → Type 0
+    Has xs = (t : ℕ) (z : Session) → session_in xs t ≡ Some z → map.get w t ≡ z.view
+
+    first_has : (x : Session) (xs : List Session) → Has (x ∷ xs) → map.get w x.number ≡ x.view
+    first_has x xs has =
+        let same : (x.number == x.number) ≡ true = grind (arith, nat_tests) in
+        has x.number x (rw same refl)
+
+    rest_have : (x : Session) (xs : List Session) → session_in xs x.number ≡ None → Has (x ∷ xs) → Has xs
+    rest_have x xs once has t z is =
+        has t z (by_number (λ t b. session_in xs t ≡ Some z → (if b then Some x else session_in xs t) ≡ Some z) x.number t
+        (λ here. absurd (cc (once, here))) (λ other there. there) is)
+
+    all_of_them : (xs ys : List Session) (n : ℕ) → EachOnce xs → Has xs → ToldAmong numbers d changes room xs ys n → AllTold d changes room xs ys n
+    all_of_them [] [] n once has h = h
+    all_of_them (x ∷ xs) (y ∷ ys) n once has h =
+        (h.0, h.1, told_either (list_any (nat_eq x.number) numbers) h.0 x y refl (first_has x xs has) h.2, h.3, all_of_them xs ys h.1 once.1 (rest_have x xs once.0 has) h.4)
+    all_of_them [] (y ∷ ys) n once has h = absurd h
+    all_of_them (x ∷ xs) [] n once has h = absurd h
+
+    -- where those are told whom the index names, all are
+    pub among_all : (xs ys : List Session) (n : ℕ) → IsIndexed w xs → ToldAmong numbers d changes room xs ys n → AllTold d changes room xs ys n
+    among_all xs ys n indexed h =
+        all_of_them xs ys n indexed.once (λ t z is. indexed.agrees t ∙ rw is refl) h

@@ -1,0 +1,28 @@
+use Rattle.std.proofs.Common.{refl, ◌-◌, rules}
+use Rattle.relay_history.specs.History.{Reaches, changes_since}
+use Rattle.relay_proto.specs.declared.reply.Reply.TheVariants.{Done}
+use Rattle.relay_room.specs.Room.{State as Room, revision}
+use Rattle.relay_hub.specs.Session.{replied}
+use Rattle.relay_hub.proofs.Indexed.{changed_same, told_indexed}
+use Rattle.relay_hub.proofs.serve.edit.Goals as goal
+
+pub tell_touched-requires-clause-indexed : goal.tell_touched-requires-clause-indexed
+tell_touched-requires-clause-indexed c =
+    changed_same c.args.sessions.now c.reply_at.new.sessions c.args.number c.args.place c.requires.place (replied (Done c.args.id c.in-Ok.rev)) c.reply_at.ensures
+    c.args.watches.now c.requires.indexed (λ x. refl)
+
+pub returns-in-Ok-clause-indexed : goal.returns-in-Ok-clause-indexed
+returns-in-Ok-clause-indexed c =
+    let room : Room = c.edit.new.self in
+    let before = revision room - 1 in
+    let reaches : Reaches room.history before = search rules in
+    let led = c.in-Ok.ensures.kept.led before reaches in
+    told_indexed led.0 (changes_since before room.history) room c.reply_at.new.sessions c.tell_touched.new.sessions c.tell_touched.result
+    (c.tell_touched.ensures led.0 (changes_since before room.history) refl led.1) c.args.watches.now
+    (changed_same c.args.sessions.now c.reply_at.new.sessions c.args.number c.args.place c.requires.place (replied (Done c.args.id c.in-Ok.rev)) c.reply_at.ensures
+    c.args.watches.now c.requires.indexed (λ x. refl))
+
+pub returns-in-Some-clause-indexed : goal.returns-in-Some-clause-indexed
+returns-in-Some-clause-indexed c =
+    changed_same c.args.sessions.now c.reply_at-in-Err.new.sessions c.args.number c.args.place c.requires.place (replied c.in-Some.reply) c.reply_at-in-Err.ensures
+    c.args.watches.now c.requires.indexed (λ x. refl)

@@ -1,0 +1,39 @@
+-- What a room's watch index says of its sessions, and who is told where it names them.
+use Rattle.std.specs.Prelude.{ℕ, ◌≡◌, ◌+◌, Bool, true, false, List, [], ◌∷◌, Option, option_and_then, nat_eq, if◌then◌else◌}
+use Rattle.std.specs.List.{list_any}
+use Rattle.std.specs.FinMap as map
+use Rattle.relay_patch.specs.declared.change.Change.{Change}
+use Rattle.relay_room.specs.Room.{State as Room}
+use Rattle.relay_translate.specs.Watches.{Watches}
+use Rattle.relay_tree.specs.Document.{Document}
+use Rattle.relay_view.specs.View.{View}
+use Rattle.relay_hub.specs.State.{EachOnce, session_in}
+use Rattle.relay_hub.specs.Step.{Told}
+use Rattle.relay_hub.specs.declared.session.Session.{Session}
+
+-- the view of session t, where it is there and watches
+abbrev pub view_in : List Session → ℕ → Option View
+view_in sessions t = option_and_then (λ x. x.view) (session_in sessions t)
+
+-- the index has the view of each session that watches, and no other
+abbrev pub Agrees : Watches → List Session → Type 0
+Agrees watches sessions = (t : ℕ) → map.get watches t ≡ view_in sessions t
+
+-- What holds of each room's sessions and their index.
+pub record IsIndexed (watches : Watches) (sessions : List Session) : Type 0 where
+  pub once : EachOnce sessions
+  pub agrees : Agrees watches sessions
+
+-- one who is to be told is; another stays as it was
+abbrev pub ToldIf : Bool → Document → List Change → Room → Bool → Session → Session → Type 0
+ToldIf true d changes room short x y = Told d changes room short x y
+ToldIf false d changes room short x y = (y ≡ x) × (short ≡ false)
+
+-- the sessions of these numbers are told, and so many of their lines folded because memory was refused; no other differs
+abbrev pub ToldAmong : List ℕ → Document → List Change → Room → List Session → List Session → ℕ → Type 0
+ToldAmong numbers d changes room [] [] n = n ≡ 0
+ToldAmong numbers d changes room (x ∷ xs) (y ∷ ys) n =
+    (short : Bool) × (m : ℕ) × ToldIf (list_any (nat_eq x.number) numbers) d changes room short x y
+    × (n ≡ m + (if short then 1 else 0)) × ToldAmong numbers d changes room xs ys m
+ToldAmong numbers d changes room [] (y ∷ ys) n = ⊥
+ToldAmong numbers d changes room (x ∷ xs) [] n = ⊥
