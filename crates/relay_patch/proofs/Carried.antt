@@ -1,14 +1,16 @@
 -- What a change makes of a document, carried out.
-use Rattle.std.proofs.Common.{◌≡◌, [], ◌∷◌, Bool, true, false, Result, Ok, IsOk, refl, sym, ap, subst, ◌∙◌}
+use Rattle.std.proofs.Common.{◌≡◌, [], ◌∷◌, Bool, true, false, not, ◌&&◌, Option, Some, None, if◌then◌else◌, Result, Ok, IsOk, refl, sym, ap, subst, ◌∙◌}
+use Rattle.std.specs.Prelude.{option_and_then}
+use Rattle.std.specs.Result.{result_ok}
 use Rattle.relay_tree.specs.Document.{Document, null, truth, whole, text, list, object}
 use Rattle.relay_pointer.specs.Index.{Token, index_of}
-use Rattle.relay_pointer.specs.Path.{Path}
+use Rattle.relay_pointer.specs.Path.{Path, at}
 use Rattle.relay_patch.specs.Walk.{Cause, then_do}
-use Rattle.relay_patch.specs.Place.{Place}
+use Rattle.relay_patch.specs.Place.{Place, beside, in_one_list}
 use Rattle.relay_patch.specs.Patch.{Act, below, at_path, insert_child, drop_child, added, replaced}
 use Rattle.relay_patch.specs.Change.{Change, Makes, Moves, in_list, in_object, placed, dropped, inserted, inserted_at}
 use Rattle.relay_patch.specs.declared.change.Change.TheVariants as change
-use Rattle.relay_patch.specs.Measure.{displaced, gone, is_move}
+use Rattle.relay_patch.specs.Measure.{displaced, gone, carries}
 use Rattle.relay_tree.proofs.Outcomes.{is_ok_then, some_ok}
 use Rattle.relay_patch.proofs.Parts.{at_index}
 use Rattle.relay_patch.proofs.Inside.{was_inside}
@@ -90,9 +92,27 @@ makes_as c e d n is m h = makes_so c d m.0 n m.1 (rw is h)
 pub moves_as : (c : Change) (d : Document) (from to : Place) (v : Document) → c ≡ change.Move from to v → (m : CanMake d c) → Moves d from to v m.0
 moves_as c d from to v is m = subst (λ e. Makes d e m.0) is m.1
 
--- a change that stays is no move
-pub no_move : (c : Change) (from to : Place) (v : Document) → c ≡ change.Move from to v → is_move c ≡ false → ⊥
-no_move c from to v is stays = let moves : true ≡ false = rw is at stays in cc
+-- a move that carries nothing away is one within a list
+pub stays_in_list : (c : Change) (from to : Place) (v : Document) → c ≡ change.Move from to v → carries c ≡ false → in_one_list from to ≡ true
+stays_in_list c from to v is stays = go (in_one_list from to) (rw is at stays)
+  where
+    go : (x : Bool) → not x ≡ false → x ≡ true
+    go true h = refl
+    go false h = cc
+
+-- what such a move gives is what the change makes
+pub slid_makes : (c : Change) (d : Document) (from to : Place) (v n : Document) → c ≡ change.Move from to v → CanMake d c → ((w next : Document) → Moves d from to w next → n ≡ next) → Makes d c n
+slid_makes c d from to v n is m made = subst (λ e. Makes d c e) (sym (made v m.0 (moves_as c d from to v is m))) m.1
+
+-- it takes nothing away
+pub slid_gone : (c : Change) (d : Document) (from to : Place) (v : Document) → c ≡ change.Move from to v → carries c ≡ false → None ≡ gone d c
+slid_gone c d from to v is stays = rw is (go from.item to.item (beside from.path to.path) (stays_in_list c from to v is stays) (result_ok (at_path drop_child from.path d)))
+  where
+    go : (x y z : Bool) → (x && y && z) ≡ true → (r : Option Document) → None ≡ option_and_then (λ e. if y then None else at e to.path) r
+    go true true z h None = refl
+    go true true z h (Some e) = refl
+    go true false z h r = cc
+    go false y z h r = cc
 
 -- what goes where a value lands, in the document without it
 pub move_gone : (c : Change) (d : Document) (from to : Place) (v b : Document) → c ≡ change.Move from to v → dropped from d ≡ Ok b → displaced to b ≡ gone d c

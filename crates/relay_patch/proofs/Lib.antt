@@ -25,6 +25,7 @@ pub mod Measures
 pub mod Puts
 pub mod Undone
 pub mod Regained
+pub mod Slides
 pub mod Written
 pub mod Places
 pub mod Rows

@@ -20,7 +20,7 @@ use Rattle.relay_tree.proofs.Outcomes.{is_ok_then, some_ok}
 use Rattle.relay_patch.proofs.Drops.{shorter}
 
 -- an element that was dropped is inserted again
-insert_item-drop : (ds : Items) (i : ℕ) (e : Document) (es : Items) → item_at ds i ≡ Some e → drop_item ds i ≡ Some es → insert_item es i e ≡ Some ds
+pub insert_item-drop : (ds : Items) (i : ℕ) (e : Document) (es : Items) → item_at ds i ≡ Some e → drop_item ds i ≡ Some es → insert_item es i e ≡ Some ds
 insert_item-drop no_items i e es was h = cc
 insert_item-drop (item d ds) zero e es was h =
     let same : d ≡ e = cc in

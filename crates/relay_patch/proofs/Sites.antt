@@ -2,9 +2,9 @@
 use Rattle.std.proofs.Common.{◌≡◌, [], ◌∷◌, ◌++◌, Bool, true, false, Option, Some, None, Ok, refl, sym, ap, ◌∙◌}
 use Rattle.relay_tree.specs.Document.{Document, null, truth, whole, text, list, object}
 use Rattle.relay_pointer.specs.Index.{Token, index_of}
-use Rattle.relay_pointer.specs.Path.{Path, with_child, at}
+use Rattle.relay_pointer.specs.Path.{Path, with_child, at, same_path}
 use Rattle.relay_patch.specs.Walk.{step, walk}
-use Rattle.relay_patch.specs.Place.{parent, last, place_within, place_of}
+use Rattle.relay_patch.specs.Place.{parent, last, front, last_of, beside, place_within, place_of}
 use Rattle.relay_patch.specs.Patch.{Act, below, at_path}
 use Rattle.relay_patch.specs.Change.{placed}
 use Rattle.relay_patch.proofs.Parts.{at_index, no_dash}
@@ -14,6 +14,30 @@ use Rattle.relay_patch.proofs.Walks.{at_reached, child_reached}
 pub parent-last : (t : Token) (path : Path) → parent t path ++ last t path ∷ [] ≡ t ∷ path
 parent-last t [] = refl
 parent-last t (u ∷ path) = ap (λ p. t ∷ p) (parent-last u path)
+
+-- the tokens of a path in front of its last one, and that one
+
+parent-append : (u : Token) (before : Path) (t : Token) → parent u (before ++ t ∷ []) ≡ u ∷ before
+parent-append u [] t = refl
+parent-append u (w ∷ before) t = ap (λ p. u ∷ p) (parent-append w before t)
+
+last-append : (u : Token) (before : Path) (t : Token) → last u (before ++ t ∷ []) ≡ t
+last-append u [] t = refl
+last-append u (w ∷ before) t = last-append w before t
+
+pub front-append : (before : Path) (t : Token) → front (before ++ t ∷ []) ≡ before
+front-append [] t = refl
+front-append (u ∷ before) t = parent-append u before t
+
+pub last_of-append : (before : Path) (t : Token) → last_of (before ++ t ∷ []) ≡ t
+last_of-append [] t = refl
+last_of-append (u ∷ before) t = last-append u before t
+
+pub beside-append : (before parent : Path) (t u : Token) → beside (before ++ t ∷ []) (parent ++ u ∷ []) ≡ same_path before parent
+beside-append [] [] t u = refl
+beside-append [] (y ∷ parent) t u = rw (parent-append y parent u) refl
+beside-append (x ∷ before) [] t u = rw (parent-append x before t) refl
+beside-append (x ∷ before) (y ∷ parent) t u = rw (parent-append x before t, parent-append y parent u) refl
 
 -- where an act below some tokens was done: another act that does the same there does the same
 pub record Site (act : Act) (t : Token) (path : Path) (d d' : Document) : Type 0 where

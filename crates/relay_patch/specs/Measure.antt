@@ -1,11 +1,11 @@
 -- What a change adds to the depth and the weight of a document, and what it takes from them.
-use Rattle.std.specs.Prelude.{ℕ, ◌+◌, ◌-◌, ◌^◌, ◌<◌, ◌≡◌, [], ◌∷◌, Bool, true, false, Option, Some, None, option_and_then, Result, Ok, Err, length, if◌then◌else◌}
+use Rattle.std.specs.Prelude.{ℕ, ◌+◌, ◌-◌, ◌^◌, ◌<◌, ◌≡◌, [], ◌∷◌, Bool, false, not, Option, Some, None, option_and_then, Result, Ok, Err, length, if◌then◌else◌}
 use Rattle.std.specs.Bool.{⊤}
 use Rattle.std.specs.Result.{result_ok}
 use Rattle.relay_tree.specs.Document.{Document, depth, weight}
 use Rattle.relay_pointer.specs.Path.{Path, at}
 use Rattle.relay_patch.specs.Walk.{Cause, TooDeep, TooHeavy}
-use Rattle.relay_patch.specs.Place.{Place, last}
+use Rattle.relay_patch.specs.Place.{Place, last, in_one_list}
 use Rattle.relay_patch.specs.Patch.{Bounds, at_path, drop_child, exceeds, within}
 use Rattle.relay_patch.specs.Change.{Change, Makes}
 use Rattle.relay_patch.specs.declared.change.Change.TheVariants as change
@@ -34,9 +34,10 @@ gone d (change.DropItem path) = at d path
 gone d (change.Move from to v) = option_and_then (displaced to) (result_ok (at_path drop_child from.path d))
 gone d (change.Copy from to v) = displaced to d
 
-abbrev pub is_move : Change → Bool
-is_move (change.Move from to v) = true
-is_move _ = false
+-- a change that takes a value out and puts it in elsewhere: a move, but for one within a list
+abbrev pub carries : Change → Bool
+carries (change.Move from to v) = not (in_one_list from to)
+carries _ = false
 
 abbrev pub part_weight : Option Document → ℕ
 part_weight None = 0

@@ -1,9 +1,9 @@
 -- Where an operation inserts or removes.
-use Rattle.std.specs.Prelude.{[], ◌∷◌, ◌++◌, true, false, Option, Some, bytes_eq, if◌then◌else◌}
+use Rattle.std.specs.Prelude.{[], ◌∷◌, ◌++◌, Bool, true, false, ◌&&◌, Option, Some, bytes_eq, if◌then◌else◌}
 use Rattle.relay_tree.specs.Document.{Document, list, Items}
 use Rattle.relay_tree.specs.Part.{items_length}
 use Rattle.relay_pointer.specs.Index.{Token, index_text}
-use Rattle.relay_pointer.specs.Path.{Path, at}
+use Rattle.relay_pointer.specs.Path.{Path, at, same_path}
 use Rattle.relay_patch.specs.Walk.{dash}
 pub use Rattle.relay_patch.specs.declared.change.Place.{Place}
 
@@ -30,3 +30,22 @@ place_within _ before t = record { path = before ++ t ∷ []; item = false }
 abbrev pub place_of : Document → Path → Place
 place_of d [] = record { path = []; item = false }
 place_of d (t ∷ path) = place_within (at d (parent t path)) (parent t path) (last t path)
+
+-- a path but for its last token
+abbrev pub front : Path → Path
+front [] = []
+front (t ∷ path) = parent t path
+
+-- its last token
+abbrev pub last_of : Path → Token
+last_of [] = []
+last_of (t ∷ path) = last t path
+
+-- both paths lead to parts of one container
+abbrev pub beside : Path → Path → Bool
+beside (t ∷ path) (u ∷ other) = same_path (parent t path) (parent u other)
+beside _ _ = false
+
+-- both places are items of one list
+abbrev pub in_one_list : Place → Place → Bool
+in_one_list from to = from.item && to.item && beside from.path to.path

@@ -1,7 +1,8 @@
--- How changes are taken back: what was exchanged is put back, what came is dropped, and what was taken out of a list stands there again.
-use Rattle.std.specs.Prelude.{ℕ, List, [], ◌∷◌, Option, Some, None, Result, Ok, Err, nat_lt, if◌then◌else◌, vec_capacity}
+-- How changes are taken back: what was exchanged is put back, what came is dropped, what was taken out of a list stands there again, and
+-- what slid within its list slides back.
+use Rattle.std.specs.Prelude.{ℕ, List, [], ◌∷◌, Option, Some, None, option_and_then, Result, Ok, Err, nat_lt, if◌then◌else◌, vec_capacity}
 use Rattle.relay_tree.specs.Document.{Document, list, Items}
-use Rattle.relay_tree.specs.Part.{items_length, insert_item}
+use Rattle.relay_tree.specs.Part.{items_length, item_at, insert_item, drop_item}
 use Rattle.relay_pointer.specs.Path.{Path, at, put}
 use Rattle.relay_patch.specs.Walk.{Cause}
 use Rattle.relay_patch.specs.Patch.{at_path, drop_child}
@@ -41,6 +42,14 @@ abbrev pub refilled : ℕ → ℕ → Document → Document → Document
 refilled room i e (list ds) = list (refilled_items room i e ds)
 refilled room i e d = d
 
+-- the elements with the one at the index i inserted at the index j of the others, if both are there
+abbrev pub slid_items : ℕ → ℕ → Items → Items
+slid_items i j ds = or_items (option_and_then (λ e. option_and_then (λ es. insert_item es j e) (drop_item ds i)) (item_at ds i)) ds
+
+abbrev pub slid : ℕ → ℕ → Document → Document
+slid i j (list ds) = list (slid_items i j ds)
+slid i j d = d
+
 -- the document with its part at the path changed, if it has one
 abbrev pub with_part : (Document → Document) → Path → Option Document → Document → Document
 with_part change path (Some c) d = put d path (change c)
@@ -51,6 +60,7 @@ abbrev pub undone : Kept → Document → Document
 undone (kept.Part path part) d = put d path part
 undone (kept.Inserted path) d = or_same (at_path drop_child path d) d
 undone (kept.Element path i e room) d = with_part (refilled (vec_capacity room) i e) path (at d path) d
+undone (kept.Slid path i j) d = with_part (slid i j) path (at d path) d
 
 -- the document before changes of which this is kept: the last one is taken back first
 abbrev pub taken_back : Document → List Kept → Document

@@ -217,6 +217,42 @@ fn a_move_lands_where_its_value_is_gone(rt: HostRuntime) {
     );
 }
 
+const FIVE_ITEMS: &str = "[0,1,[2],3,4]";
+
+#[test]
+fn a_move_within_a_list_passes_the_elements_between(rt: HostRuntime) {
+    moves(
+        &rt,
+        &[
+            (FIVE_ITEMS, "/0", "/1", "[1,0,[2],3,4]"),
+            (FIVE_ITEMS, "/1", "/3", "[0,[2],3,1,4]"),
+            (FIVE_ITEMS, "/2", "/-", "[0,1,3,4,[2]]"),
+            (FIVE_ITEMS, "/0", "/4", "[1,[2],3,4,0]"),
+            (FIVE_ITEMS, "/1", "/0", "[1,0,[2],3,4]"),
+            (FIVE_ITEMS, "/3", "/1", "[0,3,1,[2],4]"),
+            (FIVE_ITEMS, "/4", "/0", "[4,0,1,[2],3]"),
+            (FIVE_ITEMS, "/2", "/2", FIVE_ITEMS),
+            (FIVE_ITEMS, "/4", "/-", FIVE_ITEMS),
+            (FIVE_ITEMS, "/2/0", "/2", "[0,1,2,[],3,4]"),
+            (FIVE_ITEMS, "/0", "/1/-", "[1,[2,0],3,4]"),
+            (
+                r#"{"a":{"b":[1,2,3]}}"#,
+                "/a/b/2",
+                "/a/b/0",
+                r#"{"a":{"b":[3,1,2]}}"#,
+            ),
+        ],
+    );
+    refuses_moves(
+        &rt,
+        &[
+            (FIVE_ITEMS, "/0", "/5", Cause::PastEnd),
+            (FIVE_ITEMS, "/5", "/0", Cause::Missing),
+            (FIVE_ITEMS, "/0", "/00", Cause::NotIndex),
+        ],
+    );
+}
+
 #[test]
 fn a_move_needs_a_value_and_a_place(rt: HostRuntime) {
     refuses_moves(

@@ -133,10 +133,33 @@ fn takes_back_what_was_moved(rt: HostRuntime) {
 }
 
 #[test]
+fn takes_back_what_slid_within_its_list(rt: HostRuntime) {
+    refuses_after(
+        &rt,
+        &[
+            r#"{"op":"move","from":"/a/0","path":"/a/1"}"#,
+            r#"{"op":"move","from":"/a/0","path":"/a/-"}"#,
+            r#"{"op":"move","from":"/a/1","path":"/a/2"}"#,
+            r#"{"op":"move","from":"/a/1","path":"/a/0"}"#,
+            r#"{"op":"move","from":"/a/2","path":"/a/1"}"#,
+            r#"{"op":"move","from":"/a/1","path":"/a/1"}"#,
+            r#"{"op":"move","from":"/a/2","path":"/a/-"}"#,
+            r#"{"op":"move","from":"/a/1/0","path":"/a/1/1"}"#,
+            r#"{"op":"move","from":"/a/1/1","path":"/a/1/0"}"#,
+        ],
+    );
+}
+
+#[test]
 fn takes_back_the_last_change_first(rt: HostRuntime) {
     refuses_behind(
         &rt,
         r#"{"op":"remove","path":"/a/0"},{"op":"move","from":"/a/0/0","path":"/o/m"},{"op":"remove","path":"/a/0/0"},{"op":"add","path":"/a/0/0","value":8},{"op":"move","from":"/o/p","path":"/a/1/y"},{"op":"remove","path":"/a/0"},{"op":"copy","from":"/a","path":"/o/p"},{"op":"remove","path":"/a"}"#,
+        8,
+    );
+    refuses_behind(
+        &rt,
+        r#"{"op":"move","from":"/a/0","path":"/a/2"},{"op":"move","from":"/a/0/1","path":"/a/0/0"},{"op":"move","from":"/a/2","path":"/a/1"},{"op":"add","path":"/a/1","value":8},{"op":"move","from":"/a/1","path":"/a/3"},{"op":"move","from":"/a/0","path":"/a/-"},{"op":"move","from":"/a/3/0","path":"/a/0"},{"op":"move","from":"/a/4","path":"/a/0"}"#,
         8,
     );
 }
@@ -174,9 +197,19 @@ fn takes_back_what_was_done_to_a_document_that_was_too_heavy(rt: HostRuntime) {
                 Cause::TooHeavy,
             ),
             (
+                r#"[{"op":"move","from":"/a/2","path":"/a/0"},{"op":"test","path":"/k/t","value":1}]"#,
+                0,
+                Cause::TooHeavy,
+            ),
+            (
                 r#"[{"op":"move","from":"/w","path":""},{"op":"test","path":"/k/t","value":2}]"#,
                 1,
                 Cause::TestFailed,
+            ),
+            (
+                r#"[{"op":"move","from":"/w","path":""},{"op":"move","from":"/k/l/0","path":"/k/l/-"},{"op":"move","from":"/k/l/1","path":"/k/l/0"}]"#,
+                2,
+                Cause::Missing,
             ),
         ],
     );

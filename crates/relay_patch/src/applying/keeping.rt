@@ -1,18 +1,20 @@
 //! Changes carried out so that they can be taken back: all memory is taken, and what takes a change back is kept, before the
 //! tree is changed.
-ghost use Rattle.std.specs.Prelude.{◌≡◌, ◌<◌, ◌^◌, ℕ, Ok, Some, OnOk, IfOk, IsOk};
+ghost use Rattle.std.specs.Prelude.{◌≡◌, ◌<◌, ◌^◌, ℕ, true, Ok, Some, OnOk, IfOk, IsOk};
 ghost use Rattle.relay_tree.specs.Document.{Document, list, Items};
 ghost use Rattle.relay_tree.specs.Part.{items_length};
 ghost use Rattle.relay_pointer.specs.Index.{index_of};
 ghost use Rattle.relay_pointer.specs.Path.{path_of};
 ghost use Rattle.relay_patch.specs.Walk.{then_do, walk};
 ghost use Rattle.relay_patch.specs.Patch.{at_path, drop_child};
-ghost use Rattle.relay_patch.specs.Change.{Makes, in_list, dropped, inserted};
+ghost use Rattle.relay_patch.specs.Place.{in_one_list};
+ghost use Rattle.relay_patch.specs.Change.{Makes, Moves, in_list, dropped, inserted};
 ghost use Rattle.relay_patch.specs.Undo.{target, taken_back};
 
 use super::container::drop_child;
 use super::exchange::exchange;
 use super::making::{make, put, remove_at};
+use super::sliding::{in_one_list, slide};
 use super::undo::{Kept, brought};
 use super::walk::walk;
 use crate::change::{Change, Place};
@@ -37,6 +39,9 @@ pub(crate) fn make_keeping(
         Change::AddItem { path, .. } => bring(alloc, tree, kept, path, change),
         Change::DropMember { path } => take_member(alloc, tree, kept, path.tokens()),
         Change::DropItem { path } => take_item(alloc, tree, kept, path.tokens()),
+        Change::Move { from, to, .. } if in_one_list(from, to) => {
+            slide_kept(alloc, tree, kept, from, to)
+        }
         Change::Move { from, to, value } => {
             take_out(alloc, tree, kept, from)?;
             put_in(alloc, tree, kept, to, value)
@@ -62,6 +67,25 @@ fn bring(
     kept.reserve(1)?;
     let part = make(alloc, tree, change)?;
     kept.push_reserved(brought(path, part));
+    Ok(())
+}
+
+// Makes a move within one list.
+fn slide_kept(
+    alloc: Global,
+    tree: &mut Tree,
+    kept: &mut Vec<Kept>,
+    from: &Place,
+    to: &Place,
+) -> Result<(), AllocError>
+    requires list { in_one_list from.now to.now ≡ true }
+    requires moves { (v next : Document) × Moves tree.old from.now to.now v next }
+    ensures made { OnOk result ((v next : Document) → Moves tree.old from.now to.now v next → tree.new ≡ next) }
+    ensures back { taken_back tree.new kept.new.items ≡ taken_back tree.old kept.old.items }
+{
+    kept.reserve(1)?;
+    let back = slide(alloc, tree, from, to)?;
+    kept.push_reserved(back);
     Ok(())
 }
 
@@ -141,8 +165,8 @@ fn length_at(tree: &Tree, path: &[String]) -> usize
     }
 }
 
-// The index that a token is.
-fn position(token: &str) -> usize
+/// The index that a token is.
+pub(crate) fn position(token: &str) -> usize
     ensures { (i : ℕ) → index_of token.now ≡ Some i → i < 2 ^ 64 → result ≡ i }
 {
     match index_of(token) {

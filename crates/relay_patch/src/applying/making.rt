@@ -5,23 +5,24 @@ ghost use Rattle.relay_pointer.specs.Path.{path_of};
 ghost use Rattle.relay_patch.specs.Walk.{walk};
 ghost use Rattle.relay_patch.specs.Patch.{added, at_path, drop_child};
 ghost use Rattle.relay_patch.specs.Change.{Makes, inserted};
-ghost use Rattle.relay_patch.specs.Measure.{displaced, gone, is_move};
+ghost use Rattle.relay_patch.specs.Measure.{displaced, gone, carries};
 
 use super::container::{drop_child, insert_child};
 use super::exchange::exchange;
+use super::sliding::slide;
 use crate::change::{Change, Place};
 use relay_pointer::{child_mut, resolve};
 use relay_tree::{Node, Tree};
 use std::alloc::{AllocError, Global};
 
-/// Makes a change, which is no move, and gives what went with it. Want of memory leaves the tree as it was.
+/// Makes a change that carries nothing, and gives what went with it. Want of memory leaves the tree as it was.
 pub(crate) fn make(
     alloc: Global,
     tree: &mut Tree,
     change: &Change,
 ) -> Result<Option<Tree>, AllocError>
     requires makes { (next : Document) × Makes tree.old change.now next }
-    requires stays { is_move change.now ≡ false }
+    requires stays { carries change.now ≡ false }
     ensures made { OnOk result (Makes tree.old change.now tree.new) }
     ensures went { IfOk result (λ went. went ≡ gone tree.old change.now) }
     ensures err { OnErr result (tree.new ≡ tree.old) }
@@ -35,7 +36,10 @@ pub(crate) fn make(
         Change::AddItem { path, value } => insert_copy(alloc, tree, path.tokens(), value),
         Change::DropMember { path } => Ok(Some(remove_at(tree, path.tokens()))),
         Change::DropItem { path } => Ok(Some(remove_at(tree, path.tokens()))),
-        Change::Move { .. } => Ok(None),
+        Change::Move { from, to, .. } => {
+            drop(slide(alloc, tree, from, to)?);
+            Ok(None)
+        }
         Change::Copy { to, value, .. } => {
             let value = value.copy(alloc)?;
             put(alloc, tree, to, value)

@@ -4,7 +4,7 @@ ghost use Rattle.relay_tree.specs.Document.{Document, depth, weight, saturated};
 ghost use Rattle.relay_pointer.specs.Path.{path_of};
 ghost use Rattle.relay_patch.specs.Patch.{within, exceeds};
 ghost use Rattle.relay_patch.specs.Change.{Makes};
-ghost use Rattle.relay_patch.specs.Measure.{reach, displaced, gone, is_move, Known, lost, gained, part_weight, name_weight, place_weight, new_name, judged, Became};
+ghost use Rattle.relay_patch.specs.Measure.{reach, displaced, gone, carries, Known, lost, gained, part_weight, name_weight, place_weight, new_name, judged, Became};
 ghost use Rattle.relay_patch.specs.declared.fault.Cause.TheVariants.{NoMemory};
 
 use crate::bounds::Bounds;
@@ -55,9 +55,9 @@ pub(crate) fn foresee(
     judge(known, change, went, bounds)
 }
 
-/// What is no longer there after a change, which is no move.
+/// What is no longer there after a change that carries nothing.
 pub(crate) fn gone<'t>(tree: &'t Tree, change: &Change) -> Option<&'t Tree>
-    ensures { is_move change.now ≡ false → option_copied result ≡ gone tree.now change.now }
+    ensures { carries change.now ≡ false → option_copied result ≡ gone tree.now change.now }
 {
     match change {
         Change::Set { path, .. } => resolve(tree, path),

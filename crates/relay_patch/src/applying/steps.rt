@@ -1,21 +1,23 @@
 //! One operation of a patch: its checks, the change that it comes to, and the bounds on what that makes.
-ghost use Rattle.std.specs.Prelude.{◌≡◌, ◌≢◌, ◌<◌, ◌++◌, Ok, Err, Some, false, IsOk, IsSome, OnOk, OnErr, IfOk, IfErr};
+ghost use Rattle.std.specs.Prelude.{◌≡◌, ◌≢◌, ◌<◌, ◌++◌, Ok, Err, Some, false, is_some, IsOk, IsSome, OnOk, OnErr, IfOk, IfErr, IfSome};
 ghost use Rattle.relay_tree.specs.Document.{Document};
 ghost use Rattle.relay_patch.specs.Walk.{then_do};
 ghost use Rattle.relay_patch.specs.Patch.{effect, within};
 ghost use Rattle.relay_patch.specs.Change.{Makes, Leads, changes_of};
-ghost use Rattle.relay_patch.specs.Measure.{is_move, Known};
+ghost use Rattle.relay_patch.specs.Measure.{carries, Known};
 ghost use Rattle.relay_patch.specs.Steps.{listed};
 ghost use Rattle.relay_patch.specs.Undo.{taken_back};
+ghost use Rattle.relay_patch.specs.declared.change.Change.TheVariants.{Move};
 ghost use Rattle.relay_patch.specs.declared.fault.Cause.TheVariants.{NoMemory};
 
 use super::keeping::{make_keeping, put_in, take_out};
 use super::making::make;
 use super::measuring::{displaced, foresee, gone, measure};
 use super::recording::record;
+use super::sliding::in_one_list;
 use super::undo::Kept;
 use crate::bounds::Bounds;
-use crate::change::Change;
+use crate::change::{Change, Place};
 use crate::fault::Cause;
 use crate::op::Op;
 use relay_tree::Tree;
@@ -129,7 +131,7 @@ fn alter(
     ensures refused_back { OnErr result (taken_back tree.new kept.new.items ≡ taken_back tree.old kept.old.items) }
 {
     match weigh(tree, known, bounds) {
-        Ok(weight) if left == 0 && !is_move(change) => {
+        Ok(weight) if left == 0 && !carries(change) => {
             alter_last(alloc, tree, weight, change, bounds)
         }
         Ok(weight) => alter_keeping(alloc, tree, kept, weight, change, bounds),
@@ -137,11 +139,22 @@ fn alter(
     }
 }
 
-// A move takes its value away before it puts it elsewhere, which may want memory.
-fn is_move(change: &Change) -> bool
-    ensures { result ≡ is_move change.now }
+// Whether a change takes a value out before it puts it in elsewhere, which may want memory.
+fn carries(change: &Change) -> bool
+    ensures { result ≡ carries change.now }
 {
-    matches!(change, Change::Move { .. })
+    carried(change).is_some()
+}
+
+// What a change carries, from which place to which. A move within one list carries nothing: the element slides.
+fn carried(change: &Change) -> Option<(&Place, &Place, &Tree)>
+    ensures what { IfSome result (λ m. change.now ≡ Move m.0.now m.1.now m.2.now) }
+    ensures carries { is_some result ≡ carries change.now }
+{
+    match change {
+        Change::Move { from, to, value } if !in_one_list(from, to) => Some((from, to, value)),
+        _ => None,
+    }
 }
 
 // Makes a change once nothing can refuse it any more, of a document of this weight.
@@ -153,7 +166,7 @@ fn alter_last(
     bounds: Bounds,
 ) -> Result<u64, Cause>
     requires makes { (next : Document) × Makes tree.old change.now next }
-    requires stays { is_move change.now ≡ false }
+    requires stays { carries change.now ≡ false }
     requires known { Known bounds tree.old (Some weight) }
     ensures known { IfOk result (λ n. Known bounds tree.new (Some n)) }
     ensures made { OnOk result (Makes tree.old change.now tree.new) }
@@ -165,7 +178,7 @@ fn alter_last(
     Ok(weight)
 }
 
-// Makes a change that is kept, of a document of this weight. A move is judged once its value is taken out.
+// Makes a change that is kept, of a document of this weight. What is carried is taken out before it is judged.
 fn alter_keeping(
     alloc: Global,
     tree: &mut Tree,
@@ -181,7 +194,7 @@ fn alter_keeping(
     ensures refused { IfErr result (λ cause. cause ≢ NoMemory → (next : Document) × Makes tree.old change.now next × (within bounds next ≡ Err cause)) }
     ensures back { taken_back tree.new kept.new.items ≡ taken_back tree.old kept.old.items }
 {
-    let Change::Move { from, to, value } = change else {
+    let Some((from, to, value)) = carried(change) else {
         let next = foresee(weight, change, gone(tree, change), bounds)?;
         make_keeping(alloc, tree, kept, change)?;
         return Ok(next);

@@ -7,6 +7,7 @@ ghost use Rattle.relay_patch.specs.Patch.{at_path, drop_child};
 ghost use Rattle.relay_patch.specs.Undo.{brought, or_same, refilled_items, refilled, with_part, undone, taken_back};
 
 use super::making::remove_at;
+use super::sliding::slide_at;
 use super::spot::stand;
 use relay_pointer::{Pointer, exchange, resolve_mut};
 use relay_tree::{Node, Tree};
@@ -30,6 +31,12 @@ pub enum Kept {
         index: usize,
         element: Tree,
         room: Vec<Tree>,
+    },
+    /// An element slid within its list: it goes from this index back to the other.
+    Slid {
+        list: Pointer,
+        from: usize,
+        to: usize,
     },
 }
 
@@ -65,6 +72,7 @@ fn undo(tree: &mut Tree, kept: Kept)
             element,
             room,
         } => refill_at(tree, &list, index, element, room),
+        Kept::Slid { list, from, to } => slide_at(tree, &list, from, to),
     }
 }
 

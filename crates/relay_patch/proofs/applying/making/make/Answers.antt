@@ -1,5 +1,5 @@
 use Rattle.std.proofs.Common.{sym}
-use Rattle.relay_patch.proofs.Carried.{passes_as, makes_as, no_move}
+use Rattle.relay_patch.proofs.Carried.{passes_as, makes_as, moves_as, stays_in_list, slid_makes, slid_gone}
 use Rattle.relay_patch.proofs.Exchanges.{replaced_needs}
 use Rattle.relay_patch.proofs.Walks.{at_reached}
 use Rattle.relay_patch.proofs.applying.making.make.Goals as goal
@@ -32,11 +32,17 @@ returns-in-DropMember-clause-made c = makes_as c.args.change.now _ c.args.tree.n
 pub returns-in-DropItem-clause-made : goal.returns-in-DropItem-clause-made
 returns-in-DropItem-clause-made c = makes_as c.args.change.now _ c.args.tree.now c.remove_at-in-DropItem.new.tree c.in-DropItem.is c.requires.makes (rw c.tokens-in-DropItem.ensures at c.remove_at-in-DropItem.ensures.rest)
 
-pub returns-in-Move-clause-made : goal.returns-in-Move-clause-made
-returns-in-Move-clause-made c = absurd (no_move c.args.change.now _ _ _ c.in-Move.is c.requires.stays)
+pub slide-requires-clause-list : goal.slide-requires-clause-list
+slide-requires-clause-list c = stays_in_list c.args.change.now _ _ _ c.in-Move.is c.requires.stays
 
-pub returns-in-Move-clause-went : goal.returns-in-Move-clause-went
-returns-in-Move-clause-went c = absurd (no_move c.args.change.now _ _ _ c.in-Move.is c.requires.stays)
+pub slide-requires-clause-moves : goal.slide-requires-clause-moves
+slide-requires-clause-moves c = let m = c.requires.makes in (c.in-Move.value, m.0, moves_as c.args.change.now c.args.tree.now c.in-Move.from c.in-Move.to c.in-Move.value c.in-Move.is m)
+
+pub returns-in_ok-slide-in-Move-clause-made : goal.returns-in_ok-slide-in-Move-clause-made
+returns-in_ok-slide-in-Move-clause-made c = slid_makes c.args.change.now c.args.tree.now c.in-Move.from c.in-Move.to c.in-Move.value c.slide.new.tree c.in-Move.is c.requires.makes c.in_ok-slide-in-Move.ensures.made
+
+pub returns-in_ok-slide-in-Move-clause-went : goal.returns-in_ok-slide-in-Move-clause-went
+returns-in_ok-slide-in-Move-clause-went c = slid_gone c.args.change.now c.args.tree.now c.in-Move.from c.in-Move.to c.in-Move.value c.in-Move.is c.requires.stays
 
 pub returns-in_ok-value-in-Copy-clause-made : goal.returns-in_ok-value-in-Copy-clause-made
 returns-in_ok-value-in-Copy-clause-made c =
