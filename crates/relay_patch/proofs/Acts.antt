@@ -5,16 +5,12 @@ use Rattle.relay_tree.specs.Part.{item_at, member_at}
 use Rattle.relay_pointer.specs.Index.{Token, index_of}
 use Rattle.relay_pointer.specs.Path.{put, Path, with_child}
 use Rattle.relay_patch.specs.Walk.{Cause, Missing, then_do, element, step, walk}
-use Rattle.relay_patch.specs.Patch.{Act, at_path, added, insert_child, drop_child, drop_element, replaced}
+use Rattle.relay_patch.specs.Patch.{Act, at_path, drop_child, drop_element, replaced}
 use Rattle.relay_patch.proofs.Refusals.{then_ok}
-use Rattle.relay_patch.proofs.Exchanges.{at_end, replaced-put, walk-replaced, replaced-twice}
+use Rattle.relay_patch.proofs.Exchanges.{at_end, replaced-put}
 use Rattle.relay_tree.proofs.Outcomes.{is_ok_then, some_ok}
 use Rattle.relay_tree.proofs.Elements.{drop_item-there, drop_item-none}
 use Rattle.relay_tree.proofs.Members.{drop_member-none, drop_member-there}
-
-pub added-at : (before : Path) (t : Token) (v d : Document) → added (before ++ t ∷ []) v d ≡ at_path (insert_child v) (before ++ t ∷ []) d
-added-at [] t v d = refl
-added-at (u ∷ before) t v d = refl
 
 pub at_ok : (act : Act) (before : Path) (t : Token) (d c c' d' : Document) → walk d before ≡ Ok c → act t c ≡ Ok c' → replaced before c' d ≡ Ok d' → at_path act (before ++ t ∷ []) d ≡ Ok d'
 at_ok act before t d c c' d' there acted put = rw (at_end act before t d, there, acted) put
@@ -95,18 +91,6 @@ droppable d t h = go (step d t) refl
     go (Err c) e = let k = rw (drop_refused d t c e) at h in cc
 
 -- the container is taken out, changed and put back
-
-pub container_there : (act : Act) (before : Path) (t : Token) (d : Document) → Passed act before t d → IsOk (walk d before)
-container_there act before t d p = is_ok_then _ p.container p.there
-
-pub container_passes : (act : Act) (before : Path) (t u : Token) (d c : Document) → Passed act before t d → walk d before ≡ Ok c → u ≡ t → IsOk (act u c)
-container_passes act before t u d c p there same = let is : p.container ≡ c = let k : Ok p.container ≡ Ok c = sym p.there ∙ there in cc in rw (same, ← is) p.passes
-
-pub container_back : (before : Path) (v d e : Document) → replaced before v d ≡ Ok e → IsOk (walk e before)
-container_back before v d e h = is_ok_then _ v (walk-replaced before v d e h)
-
-pub acted_at : (act : Act) (before : Path) (t u : Token) (d c c' v e d' : Document) → walk d before ≡ Ok c → u ≡ t → act u c ≡ Ok c' → replaced before v d ≡ Ok e → replaced before c' e ≡ Ok d' → at_path act (before ++ t ∷ []) d ≡ Ok d'
-acted_at act before t u d c c' v e d' there same acted out back = at_ok act before t d c c' d' there (rw (← same) acted) (replaced-twice before v c' d e d' out back)
 
 -- an act below a part
 pub acts_below : (act : Act) (d c n later : Document) (t u : Token) (p : Path) → step d t ≡ Ok c → n ≡ with_child d t later → at_path act (u ∷ p) c ≡ Ok later → at_path act (t ∷ u ∷ p) d ≡ Ok n

@@ -118,16 +118,6 @@ slid_gone c d from to v is stays = rw is (go from.item to.item (beside from.path
 pub move_gone : (c : Change) (d : Document) (from to : Place) (v b : Document) → c ≡ change.Move from to v → dropped from d ≡ Ok b → displaced to b ≡ gone d c
 move_gone c d from to v b is went = rw (is, plainly from.item drop_child from.path d b went) refl
 
-pub move_goes : (c : Change) (d : Document) (from to : Place) (v : Document) → c ≡ change.Move from to v → CanMake d c → IsOk (dropped from d)
-move_goes c d from to v is m = is_ok_then _ _ (moves_as c d from to v is m).went
-
-pub move_lands : (c : Change) (d : Document) (from to : Place) (v b : Document) → c ≡ change.Move from to v → CanMake d c → dropped from d ≡ Ok b → IsOk (inserted to v b)
-move_lands c d from to v b is m went =
-    let k = moves_as c d from to v is m in
-    let rest : Ok k.between ≡ Ok b = sym k.went ∙ went in
-    let between : k.between ≡ b = cc in
-    rw (← between, k.came) refl
-
 pub move_made : (c : Change) (d : Document) (from to : Place) (v b n : Document) → c ≡ change.Move from to v → CanMake d c → dropped from d ≡ Ok b → inserted to v b ≡ Ok n → Makes d c n
 move_made c d from to v b n is m went came =
     makes_as c (change.Move from to v) d n is m (rw (plainly from.item drop_child from.path d b went) (inserts_plainly to.item to.path v b n came))

@@ -33,9 +33,6 @@ landing-step d u w ws = go (step d u)
 
 -- The cases of both paths.
 
-pub both_end : (from path : Path) (g u : Token) (d : Document) (r : Result Spot Cause) → from ≡ g ∷ [] → path ≡ u ∷ [] → ((rest : Document) → drop_child g d ≡ Ok rest → r ≡ landing_in rest u) → (rest : Document) → at_path drop_child from d ≡ Ok rest → r ≡ landing rest path
-both_end from path g u d r is goes lands rest h = rw goes (lands rest (rw is at h))
-
 pub path_ends : (from path : Path) (g h u : Token) (hs : Path) (d : Document) (r : Result Spot Cause) → from ≡ g ∷ h ∷ hs → path ≡ u ∷ [] → r ≡ landing_in d u → (rest : Document) → at_path drop_child from d ≡ Ok rest → r ≡ landing rest path
 path_ends from path g h u hs d r is goes lands rest dropped =
     let w = was_inside (below drop_child h hs) g d rest (rw is at dropped) in

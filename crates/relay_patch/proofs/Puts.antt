@@ -64,9 +64,5 @@ taken_is place d w is there = go place.item is
     go true k = cc
     go false k = sym (at_reached place.path d w there)
 
-pub not_taken : (o : Option Document) → is_some o ≡ false → None ≡ o
-not_taken (Some w) h = cc
-not_taken None h = refl
-
 pub put_plainly : (place : Place) (v d : Document) → IsOk (inserted place v d) → IsOk (added place.path v d)
 put_plainly place v d h = let e = some_ok _ h in is_ok_then _ e.0 (inserts_plainly place.item place.path v d e.0 e.1)

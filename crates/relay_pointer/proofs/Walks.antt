@@ -65,14 +65,6 @@ with_child-number (whole z) t n m c h few is = cc
 with_child-number (text s) t n m c h few is = cc
 with_child-number (object ms) t n m c h few is = cc
 
-pub child-no_number : (d : Document) (t : Token) (m : ℕ) → list_len d ≡ Some m → None ≡ number_of t → child d t ≡ None
-child-no_number (list ds) t m h is = rw (no_index (index_of t) is) refl
-child-no_number null t m h is = refl
-child-no_number (truth b) t m h is = refl
-child-no_number (whole z) t m h is = refl
-child-no_number (text s) t m h is = refl
-child-no_number (object ms) t m h is = cc
-
 -- where the document is no list
 pub child-member : (d : Document) (t : Token) → list_len d ≡ None → object_member d t ≡ child d t
 child-member null t h = refl

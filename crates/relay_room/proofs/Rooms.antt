@@ -66,8 +66,3 @@ edited_reaches changes past is =
     let limited = is.limited.0 in
     let made = is.made in
     record { back = omega (arith, held, limited, made); made = omega arith }
-
--- and the changes since then are those of the edit
-pub edited_since : (changes : List Change) (past : Past) → IsHistory past → changes_since past.newest (with_revision changes past) ≡ changes
-edited_since changes past is =
-    rw (changes_since-with_revision past.newest changes past (omega arith) (edited_reaches changes past is), changes_since-newest past) refl

@@ -2,7 +2,6 @@
 use Rattle.std.proofs.Common.{◌≡◌, ◌≢◌, ℕ, suc, zero, ◌+◌, ◌<◌, List, [], ◌∷◌, ◌++◌, map, flat_map, Bool, true, false, ◌&&◌, ◌||◌, Some, refl, sym, ap, ◌∙◌, arith, bytes_eq, slice_get, if◌then◌else◌}
 use Rattle.std.proofs.lemmas.List.{append-nil}
 use Rattle.std.proofs.lemmas.List.Elements.{filter-append}
-use Rattle.std.specs.List.{filter, list_any}
 use Rattle.relay_tree.specs.Document.{Document}
 use Rattle.relay_tree.proofs.Names.{equal_bytes, bytes_same}
 use Rattle.relay_pointer.specs.Index.{index_text, index_of}
@@ -11,11 +10,11 @@ use Rattle.relay_pointer.proofs.Indexes.{index_of-index_text}
 use Rattle.relay_patch.specs.declared.op.Op.{Op}
 use Rattle.relay_patch.specs.declared.op.Op.TheVariants.{Add, Remove, Replace, Move, Copy, Test}
 use Rattle.relay_patch.specs.declared.change.Change.{Change}
-use Rattle.relay_view.specs.View.{View, slot}
+use Rattle.relay_view.specs.View.{View}
 use Rattle.relay_view.specs.declared.slot.Slot.{Slot}
 use Rattle.relay_translate.specs.Touch.{Touch, Apart, Inside, Reset, touch_slot}
-use Rattle.relay_translate.specs.Translate.{is_reset, op_of, in_slot, in_view, when_inside, slot_op, slot_ops, local_from, local}
-use Rattle.relay_translate.specs.Local.{is_apart, is_inside, all_apart, some_reset, changes_inside, goes_through, names, on_slot, LeavesApart, FollowsInside, ReplacesReset}
+use Rattle.relay_translate.specs.Translate.{is_reset, op_of, in_view, when_inside, slot_op, slot_ops, local_from, local}
+use Rattle.relay_translate.specs.Local.{is_apart, is_inside, all_apart, some_reset, changes_inside, names, on_slot, LeavesApart, FollowsInside, ReplacesReset}
 
 -- An operation on one slot names that slot, and no other.
 

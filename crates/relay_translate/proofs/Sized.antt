@@ -13,12 +13,12 @@ use Rattle.relay_patch.specs.Change.{Makes, placed, inserted_at}
 use Rattle.relay_patch.specs.declared.change.Change.{Change}
 use Rattle.relay_patch.specs.declared.change.Change.TheVariants as change
 use Rattle.relay_patch.proofs.Walks.{at-walk, at_reached}
-use Rattle.relay_patch.proofs.Inside.{WasInside, was_inside}
+use Rattle.relay_patch.proofs.Inside.{was_inside}
 use Rattle.relay_view.specs.View.{members_length, size, counted, shown}
 use Rattle.relay_view.specs.declared.slot.SlotKind.TheVariants.{Size}
 use Rattle.relay_translate.specs.Touch.{Touch, Apart, Inside, Reset, touch_below, touch_path, touch_either, part_touch, size_touch, exchange_touch, touch_place_size, touch_size}
 use Rattle.relay_translate.proofs.Leaves.{Leaves, set_child_leaves, insert_in_object_leaves, insert_in_list_leaves, drop_in_object_leaves, drop_in_list_leaves}
-use Rattle.relay_translate.proofs.Below.{IsInside, below_apart, below_inside}
+use Rattle.relay_translate.proofs.Below.{below_apart, below_inside}
 use Rattle.relay_translate.proofs.Changes.{both_apart}
 
 -- An exchange of a part, or what is done within one, leaves the number of parts.

@@ -21,10 +21,6 @@ pub if_ok : {A E : Type 0} {P Q : A → Type 0} (r : Result A E) → IfOk r P �
 if_ok (Ok x) p f = f x p
 if_ok (Err e) p f = tt
 
-pub if_both : {A E : Type 0} {P Q R : A → Type 0} (r : Result A E) → IfOk r P → IfOk r Q → ((x : A) → P x → Q x → R x) → IfOk r R
-if_both (Ok x) p q f = f x p q
-if_both (Err e) p q f = tt
-
 pub if_err : {A E : Type 0} {P Q : E → Type 0} (r : Result A E) → IfErr r P → ((e : E) → P e → Q e) → IfErr r Q
 if_err (Ok x) p f = tt
 if_err (Err e) p f = f e p
@@ -36,7 +32,3 @@ err_and (Err e) p f = f e p
 pub on_err : {A E : Type 0} {P Q : Type 0} (r : Result A E) → OnErr r P → (P → Q) → OnErr r Q
 on_err (Ok x) p f = tt
 on_err (Err e) p f = f p
-
-pub on_err_of : {A E : Type 0} {P : Type 0} (r : Result A E) → P → OnErr r P
-on_err_of (Ok x) p = tt
-on_err_of (Err e) p = p

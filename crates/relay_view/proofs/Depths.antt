@@ -1,5 +1,5 @@
 -- What a slot shows of a value is no deeper than the value.
-use Rattle.std.proofs.Common.{◌≡◌, ◌≤◌, ℕ, Option, Some, None, option_map, refl, ap, arith}
+use Rattle.std.proofs.Common.{◌≡◌, ◌≤◌, ℕ, Option, Some, None, option_map, ap, arith}
 use Rattle.relay_tree.specs.Document.{Document, null, truth, whole, text, list, object, depth}
 use Rattle.relay_view.specs.View.{size, counted, shown}
 use Rattle.relay_view.specs.declared.slot.SlotKind.{SlotKind}

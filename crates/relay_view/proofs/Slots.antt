@@ -1,5 +1,5 @@
 -- The slots of a view, one by one.
-use Rattle.std.proofs.Common.{◌≡◌, List, [], ◌∷◌, map, refl, ap}
+use Rattle.std.proofs.Common.{◌≡◌, [], ◌∷◌, map, refl, ap}
 use Rattle.relay_tree.specs.Document.{Document, item, items_of}
 use Rattle.relay_view.specs.View.{View, slot, slots}
 

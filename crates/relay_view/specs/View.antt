@@ -2,7 +2,7 @@
 use Rattle.std.specs.Prelude.{ℕ, suc, ◌-◌, ◌^◌, min, pos, List, [], ◌∷◌, Option, Some, None, option_map, option_and_then}
 use Rattle.relay_tree.specs.Document.{Document, whole, list, object, Items, no_items, item, Members, no_members, member}
 use Rattle.relay_tree.specs.Part.{items_length}
-use Rattle.relay_pointer.specs.Path.{Path, at}
+use Rattle.relay_pointer.specs.Path.{at}
 pub use Rattle.relay_view.specs.declared.slot.Slot.{Slot}
 pub use Rattle.relay_view.specs.declared.slot.SlotKind.{SlotKind}
 pub use Rattle.relay_view.specs.declared.slot.SlotKind.TheVariants.{Value, Size}

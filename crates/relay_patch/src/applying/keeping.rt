@@ -1,5 +1,5 @@
-//! Changes carried out so that they can be taken back: all memory is taken, and what takes a change back is kept, before the
-//! tree is changed.
+//! Changes carried out so that they can be taken back. Memory is taken, and what takes a step back is kept, before the step changes
+//! the tree; a move that carries its value elsewhere is two steps, and where the second finds no memory the first is kept.
 ghost use Rattle.std.specs.Prelude.{◌≡◌, ◌<◌, ◌^◌, ℕ, true, Ok, Some, OnOk, IfOk, IsOk};
 ghost use Rattle.relay_tree.specs.Document.{Document, list, Items};
 ghost use Rattle.relay_tree.specs.Part.{items_length};

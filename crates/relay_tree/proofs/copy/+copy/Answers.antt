@@ -1,8 +1,8 @@
-use Rattle.std.proofs.Common.{◌≡◌, ℕ, ◌+◌, ◌<◌, ◌≤◌, [], ◌∷◌, ◌++◌, String, Global, string_bytes, string_cmp, sym, ap, ◌∙◌, subst, append_assoc, arith, rules}
+use Rattle.std.proofs.Common.{◌≡◌, [], ◌∷◌, ◌++◌, string_bytes, string_cmp, sym, ap, ◌∙◌, subst, append_assoc, arith}
 use Rattle.std.specs.List.Sorted.{IsStrictlySortedBy}
 use Rattle.std.specs.Map.{keys_of}
-use Rattle.relay_tree.specs.Document.{Document, weight, items_of, items_weight, members_weight}
-use Rattle.relay_tree.specs.Seen.{document_of, members_of}
+use Rattle.relay_tree.specs.Document.{members_weight}
+use Rattle.relay_tree.specs.Seen.{members_of}
 use Rattle.relay_tree.proofs.Weights.{item_weighs, member_weighs}
 use Rattle.relay_tree.proofs.Members.{Entry, members_of-insert_entry, add_member-last}
 use Rattle.relay_tree.proofs.copy.+copy.Goals as goal

@@ -1,4 +1,4 @@
-use Rattle.std.proofs.Common.{◌≡◌, ◌∙◌, ◌+◌, ◌<◌, ◌≤◌, length, sym, ap, arith}
+use Rattle.std.proofs.Common.{◌∙◌, ◌+◌, ◌<◌, ◌≤◌, length, sym, ap, arith}
 use Rattle.relay_tree.proofs.Each.{behind, rest_from, behind_none, one_more, refused_here, all_read}
 use Rattle.relay_view.specs.Form.{slot_at}
 use Rattle.relay_view.proofs.read.slots_of.Goals as goal

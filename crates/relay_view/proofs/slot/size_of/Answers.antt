@@ -1,4 +1,4 @@
-use Rattle.std.proofs.Common.{◌≡◌, Some, sym, ap, ◌∙◌, arith}
+use Rattle.std.proofs.Common.{Some, ap, arith}
 use Rattle.relay_tree.proofs.Elements.{items_length-items_of}
 use Rattle.relay_view.proofs.Sizes.{members_length-members_of}
 use Rattle.relay_view.proofs.slot.size_of.Goals as goal

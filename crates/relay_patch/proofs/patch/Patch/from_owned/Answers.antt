@@ -1,4 +1,4 @@
-use Rattle.std.proofs.Common.{◌<◌, ◌≤◌, ◌≡◌, Ok, length, sym, ap, ◌∙◌, arith}
+use Rattle.std.proofs.Common.{◌<◌, ◌≤◌, Ok, length, sym, ap, ◌∙◌, arith}
 use Rattle.relay_tree.specs.Document.{items_of}
 use Rattle.relay_tree.specs.Each.{each_from}
 use Rattle.relay_tree.proofs.Elements.{items_length-items_of}

@@ -1,4 +1,4 @@
-use Rattle.std.proofs.Common.{◌≡◌, Some, sym, ap, ◌∙◌, arith}
+use Rattle.std.proofs.Common.{Some, ap, arith}
 use Rattle.relay_tree.proofs.Elements.{items_length-items_of}
 use Rattle.relay_tree.proofs.tree.Node.list_len.Goals as goal
 

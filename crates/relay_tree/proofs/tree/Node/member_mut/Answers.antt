@@ -1,4 +1,4 @@
-use Rattle.std.proofs.Common.{◌≡◌, Some, None, refl, sym, ap, ◌∙◌, arith}
+use Rattle.std.proofs.Common.{refl, ap, ◌∙◌}
 use Rattle.relay_tree.specs.Document.{object}
 use Rattle.relay_tree.specs.Seen.{members_of}
 use Rattle.relay_tree.proofs.Parts.{on_some, is_object, no_member}

@@ -1,4 +1,3 @@
-use Rattle.std.proofs.Common.{◌≡◌, ◌∙◌}
 use Rattle.relay_tree.proofs.Elements.{slice_get-items_of}
 use Rattle.relay_tree.proofs.Parts.{got}
 use Rattle.relay_tree.proofs.tree.Tree.item.Goals as goal

@@ -1,4 +1,4 @@
-use Rattle.std.proofs.Common.{◌≡◌, refl, sym, ap, ◌∙◌, arith}
+use Rattle.std.proofs.Common.{◌∙◌}
 use Rattle.relay_tree.proofs.Members.{members_of-lookup}
 use Rattle.relay_tree.proofs.tree.Tree.member.Goals as goal
 

@@ -1,4 +1,4 @@
-use Rattle.std.proofs.Common.{◌≡◌, Some, None, sym, ap, ◌∙◌, rules}
+use Rattle.std.proofs.Common.{ap, ◌∙◌, rules}
 use Rattle.relay_tree.specs.Document.{object}
 use Rattle.relay_tree.specs.Part.{object_member}
 use Rattle.relay_tree.specs.Seen.{members_of}

@@ -1,5 +1,5 @@
-use Rattle.std.proofs.Common.{◌≡◌, ◌<◌, ◌≤◌, Ok, length, sym, ap, ◌∙◌, arith}
-use Rattle.relay_tree.specs.Document.{list, items_of}
+use Rattle.std.proofs.Common.{◌<◌, ◌≤◌, Ok, length, sym, ap, ◌∙◌, arith}
+use Rattle.relay_tree.specs.Document.{items_of}
 use Rattle.relay_tree.specs.Each.{each_from}
 use Rattle.relay_view.specs.Form.{slot_at}
 use Rattle.relay_view.specs.declared.view.TheConstants.{SLOTS_MOST}
