@@ -1,6 +1,6 @@
 //! Runs of events, whole and stopped: what was done is what the answers say.
 use crate::hub::{EDIT, REFUSED, WATCH, seen};
-use relay_hub::{Answer, Event, Hub, Text};
+use relay_hub::{Answer, Event, Hub, HubFault, Text};
 use std::alloc::{AllocError, AllocGlobal, Global};
 use std::process::Abort;
 use std::test::Fail;
@@ -56,11 +56,13 @@ fn are_the_first(rt: &(impl Abort + AllocGlobal), answers: &[Answer]) -> Result<
     Ok(())
 }
 
-/// How many messages wait for session 1, and what it should hold.
+/// How many messages wait for session 1, and what it should hold, if it is open.
 fn state(alloc: Global, hub: &Hub) -> Result<String, Fail> {
     let waiting = hub.waiting(1);
-    let truth = hub.truth(alloc, 1)?;
-    let truth = seen(alloc, Ok(truth))?;
+    let truth = match hub.truth(alloc, 1) {
+        Err(HubFault::NoMemory) => return Err(Fail::from("no memory")),
+        truth => seen(alloc, truth)?,
+    };
     Ok(format!(in alloc; "{waiting:?} {truth}")?)
 }
 
