@@ -1,13 +1,24 @@
 use crate::shared::{gives, is, owned, repeated, text_of, tree_of, view_of};
 use relay_pointer::TOKENS_MOST;
+use relay_tree::{Tree, begin_text, end_text};
 use relay_view::{SlotKind, View, ViewFault};
 use std::alloc::AllocGlobal;
 use std::process::Abort;
 
 fn shown(rt: &(impl Abort + AllocGlobal), document: &str, pointers: &str) -> String {
     let document = tree_of(rt, document);
-    let slots = view_of(rt, pointers).of(rt.alloc(), &document);
-    text_of(rt, &slots.expect(rt, "memory"))
+    let view = view_of(rt, pointers);
+    let slots = view.of(rt.alloc(), &document).expect(rt, "memory");
+    let text = text_of(rt, &slots);
+    gives(rt, written(rt, &view, &document), text.as_str(), pointers);
+    text
+}
+
+// The text of the slots, written from the document itself.
+fn written(rt: &(impl Abort + AllocGlobal), view: &View, document: &Tree) -> String {
+    let mut out = begin_text(rt.alloc()).expect(rt, "memory");
+    view.write(document, &mut out).expect(rt, "memory");
+    end_text(out)
 }
 
 #[test]
@@ -29,6 +40,25 @@ fn shows_sizes(rt: HostRuntime) {
         "[[1],[3],[2],[],[]]",
         "an object, lists, a scalar and nothing",
     );
+}
+
+#[test]
+fn tells_equal_views(rt: HostRuntime) {
+    for (view, other, same) in [
+        ("[]", "[]", true),
+        (
+            r#"["/a/b",{"size":"/c"}]"#,
+            r#"["/a/b",{"size":"/c"}]"#,
+            true,
+        ),
+        (r#"["/a","/b"]"#, r#"["/b","/a"]"#, false),
+        (r#"["/a"]"#, r#"["/a","/b"]"#, false),
+        (r#"["/a"]"#, r#"[{"size":"/a"}]"#, false),
+        (r#"["/a/b"]"#, r#"["/a~1b"]"#, false),
+    ] {
+        let found = view_of(&rt, view).same(&view_of(&rt, other));
+        is(&rt, found, same, view);
+    }
 }
 
 fn fault_of(rt: &(impl Abort + AllocGlobal), text: &str) -> Option<ViewFault> {

@@ -123,7 +123,7 @@ module _ (most : ℕ) (ds : List Document) (d : Document) (w : Watching) (room n
     exactly = stays_present (client_after w.start (w.heard ++ before)) follows.exactly same;
   }
 
-  line_due : (o : Line AnyReply) → o.due ≡ true → Follows ds w (later room w.view o) → Follows (ds ++ d ∷ []) w (later next w.view o)
+  line_due : (o : Line AnyReply (ℕ × List Op)) → o.due ≡ true → Follows ds w (later room w.view o) → Follows (ds ++ d ∷ []) w (later next w.view o)
   line_due o due follows =
       let before = map patch_message o.patches in
       let each = EachLeads-left ds w.view w.start (w.heard ++ before) (snapshot_of room w.view ∷ [])
@@ -131,11 +131,11 @@ module _ (most : ℕ) (ds : List Document) (d : Document) (w : Watching) (room n
       rw due (Follows-due most (ds ++ d ∷ []) w next k before (EachLeads-newer ds d w.view w.start (w.heard ++ before) each))
 
   -- what was drawn so far still leads where it says, and a snapshot is due
-  pub folded_follows : (o : Line AnyReply) → Follows ds w (later room w.view o) → Follows (ds ++ d ∷ []) w (later next w.view (folded o))
+  pub folded_follows : (o : Line AnyReply (ℕ × List Op)) → Follows ds w (later room w.view o) → Follows (ds ++ d ∷ []) w (later next w.view (folded o))
   folded_follows o follows =
       Follows-snapshot most (ds ++ d ∷ []) w next k (EachLeads-newer ds d w.view w.start w.heard (EachLeads-left ds w.view w.start w.heard (later room w.view o) follows.each))
 
-  stays_follows : (o : Line AnyReply) (due : Bool) → o.due ≡ due → view w.view room.document ≡ view w.view next.document
+  stays_follows : (o : Line AnyReply (ℕ × List Op)) (due : Bool) → o.due ≡ due → view w.view room.document ≡ view w.view next.document
       → Follows ds w (later room w.view o) → Follows (ds ++ d ∷ []) w (later next w.view o)
   stays_follows o true e same follows = line_due o e follows
   stays_follows o false e same follows =
@@ -143,12 +143,12 @@ module _ (most : ℕ) (ds : List Document) (d : Document) (w : Watching) (room n
       let plain : Follows ds w before = rw e at follows in
       rw e (Follows-stays before plain same)
 
-  later_plain : (r : Room) (o : Line AnyReply) → o.due ≡ false → later r w.view o ≡ map patch_message o.patches
+  later_plain : (r : Room) (o : Line AnyReply (ℕ × List Op)) → o.due ≡ false → later r w.view o ≡ map patch_message o.patches
   later_plain r o e =
       ap (λ (b : Bool). map patch_message o.patches ++ (if b then snapshot_of r w.view ∷ [] else [])) e ∙ append-nil (map patch_message o.patches)
 
-  patched_follows : (o : Line AnyReply) (ops : List Op) → after (view w.view room.document) ops free ≡ Ok (view w.view next.document)
-      → Follows ds w (later room w.view o) → Follows (ds ++ d ∷ []) w (later next w.view (with_patch (revision next) ops o))
+  patched_follows : (o : Line AnyReply (ℕ × List Op)) (ops : List Op) → after (view w.view room.document) ops free ≡ Ok (view w.view next.document)
+      → Follows ds w (later room w.view o) → Follows (ds ++ d ∷ []) w (later next w.view (with_patch (revision next, ops) o))
   patched_follows o ops leads follows =
       by_waiting (λ o. Follows (ds ++ d ∷ []) w (later next w.view o)) (revision next) ops o
       (λ due. line_due o due follows)
@@ -164,7 +164,7 @@ module _ (most : ℕ) (ds : List Document) (d : Document) (w : Watching) (room n
           subst (λ ms. Follows (ds ++ d ∷ []) w ms) (sym lists) (Follows-patch before ops plain leads)
 
   -- a line that is told of the document still leads its client to the present view
-  pub told_follows : (o : Line AnyReply) (told : CatchUp) → MakesPresent next w.view room.document told
+  pub told_follows : (o : Line AnyReply (ℕ × List Op)) (told : CatchUp) → MakesPresent next w.view room.document told
       → Follows ds w (later room w.view o) → Follows (ds ++ d ∷ []) w (later next w.view (told_line (revision next) told o))
   told_follows o how.Nothing makes follows = stays_follows o o.due refl makes follows
   told_follows o (how.Patch ops) makes follows = patched_follows o ops makes follows
@@ -184,9 +184,9 @@ patch_follows most ds v room rev d ops h earlier leads =
     record { each = (rw is (snapshot_leads most ds v room h), tt); exactly = rw is (snapshot_present most ds v room h) }
 
 -- a line in which no patch waits, and to which one comes that makes the present view
-pub resumed_follows : (most : ℕ) (ds : List Document) (v : View) (room : Room) (rev : ℕ) (d : Document) (ops : List Op) (o : Line AnyReply) → RoomStands most ds room → rev < revision room
+pub resumed_follows : (most : ℕ) (ds : List Document) (v : View) (room : Room) (rev : ℕ) (d : Document) (ops : List Op) (o : Line AnyReply (ℕ × List Op)) → RoomStands most ds room → rev < revision room
     → after (view v d) ops free ≡ Ok (view v room.document) → o.patches ≡ [] → o.due ≡ false
-    → Follows ds (begun v (holds rev (view v d))) (later room v (with_patch (revision room) ops o))
+    → Follows ds (begun v (holds rev (view v d))) (later room v (with_patch (revision room, ops) o))
 resumed_follows most ds v room rev d ops o h earlier leads none not_due =
     let w = begun v (holds rev (view v d)) in
     by_waiting (λ o. Follows ds w (later room v o)) (revision room) ops o

@@ -1,5 +1,5 @@
 -- The index of what a room's sessions watch, as they change.
-use Rattle.std.proofs.Common.{◌≡◌, ℕ, ◌==◌, Bool, true, false, cond, List, [], ◌∷◌, ◌++◌, Option, Some, None, refl, sym, ◌∙◌, ap, nat_cmp}
+use Rattle.std.proofs.Common.{◌≡◌, ℕ, ◌==◌, Bool, true, false, cond, List, [], ◌∷◌, ◌++◌, Option, Some, None, refl, sym, ◌∙◌, ap, nat_cmp, arith}
 use Rattle.std.specs.Prelude.{option_and_then, position, if◌then◌else◌}
 use Rattle.std.specs.Cmp.{nat_cmp_total, nat_eq_equiv, unsigned_ties}
 use Rattle.std.specs.FinMap as map
@@ -10,14 +10,15 @@ use Rattle.relay_room.specs.Room.{State as Room}
 use Rattle.relay_translate.specs.Watches.{Watches}
 use Rattle.relay_tree.specs.Document.{Document}
 use Rattle.relay_view.specs.View.{View}
-use Rattle.relay_hub.specs.Call.{ChangesBy}
-use Rattle.relay_hub.specs.State.{is_number, session_in}
+use Rattle.relay_hub.specs.Call.{ChangesBy, IsAbove}
+use Rattle.relay_hub.specs.State.{IsRising, numbers, is_number, session_in}
 use Rattle.relay_hub.specs.Step.{OnlyAt, ToldAs, AllTold}
 use Rattle.relay_hub.specs.Watched.{IsIndexed}
 use Rattle.relay_hub.specs.declared.session.Session.{Session}
 use Rattle.relay_hub.proofs.Places.{by_number}
 use Rattle.relay_hub.proofs.Sessions.{push_last, session_there}
-use Rattle.relay_hub.proofs.Told.{IsTold, each_told, once_told}
+use Rattle.relay_hub.proofs.Told.{IsTold, each_told}
+use Rattle.relay_hub.proofs.Rising.{same_rises, numbers_told, joined_rises, one_rises}
 
 -- the view of a session, where it is there and watches
 abbrev shown : Option Session → Option View
@@ -30,10 +31,10 @@ of_either true o p = refl
 of_either false o p = refl
 
 -- and the index has its view, and all others as before
-pub only_indexed : (old new : Watches) (xs ys : List Session) (s : ℕ) (o : Option Session) → OnlyAt s o xs ys
+only_indexed : (old new : Watches) (xs ys : List Session) (s : ℕ) (o : Option Session) → OnlyAt s o xs ys → IsRising ys
     → ((t : ℕ) → map.get new t ≡ (if s == t then shown o else map.get old t)) → IsIndexed old xs → IsIndexed new ys
-only_indexed old new xs ys s o only has h = record {
-  once = only.once h.once;
+only_indexed old new xs ys s o only rising has h = record {
+  rising = rising;
   agrees = λ t. has t ∙ (ap (λ v. if s == t then shown o else v) (h.agrees t) ∙ (of_either (s == t) o (session_in xs t) ∙ ap shown (sym (only.found t))));
 }
 
@@ -41,49 +42,55 @@ same_number : (s t : ℕ) → eq_by_cmp nat_cmp t s ≡ (s == t)
 same_number s t = sym (unsigned_ties t s) ∙ nat_eq_equiv.symm t s
 
 -- it watches from now on
-pub put_indexed : (w : Watches) (xs ys : List Session) (s : ℕ) (y : Session) (v : View) → OnlyAt s (Some y) xs ys → y.view ≡ Some v → IsIndexed w xs → IsIndexed (map.insert w s v) ys
-put_indexed w xs ys s y v only view h =
-    only_indexed w (map.insert w s v) xs ys s (Some y) only
+put_indexed : (w : Watches) (xs ys : List Session) (s : ℕ) (y : Session) (v : View) → OnlyAt s (Some y) xs ys → IsRising ys → y.view ≡ Some v → IsIndexed w xs → IsIndexed (map.insert w s v) ys
+put_indexed w xs ys s y v only rising view h =
+    only_indexed w (map.insert w s v) xs ys s (Some y) only rising
     (λ t. get-insert nat_cmp_total w s v t ∙ (ap (λ b. cond b (Some v) (map.get w t)) (same_number s t) ∙ ap (λ o. cond (s == t) o (map.get w t)) (sym view))) h
 
 -- it watches nothing any more, or is gone
-pub out_indexed : (w : Watches) (xs ys : List Session) (s : ℕ) (o : Option Session) → OnlyAt s o xs ys → shown o ≡ None → IsIndexed w xs → IsIndexed (map.remove w s) ys
-out_indexed w xs ys s o only view h =
-    only_indexed w (map.remove w s) xs ys s o only
+pub out_indexed : (w : Watches) (xs ys : List Session) (s : ℕ) (o : Option Session) → OnlyAt s o xs ys → IsRising ys → shown o ≡ None → IsIndexed w xs → IsIndexed (map.remove w s) ys
+out_indexed w xs ys s o only rising view h =
+    only_indexed w (map.remove w s) xs ys s o only rising
     (λ t. get-remove nat_cmp_total w s t ∙ (ap (λ b. cond b None (map.get w t)) (same_number s t) ∙ ap (λ o. cond (s == t) o (map.get w t)) (sym view))) h
 
 -- it watches as before
-pub same_indexed : (w : Watches) (xs ys : List Session) (s : ℕ) (o : Option Session) → OnlyAt s o xs ys → shown o ≡ shown (session_in xs s) → IsIndexed w xs → IsIndexed w ys
-same_indexed w xs ys s o only view h =
-    only_indexed w w xs ys s o only
+pub same_indexed : (w : Watches) (xs ys : List Session) (s : ℕ) (o : Option Session) → OnlyAt s o xs ys → IsRising ys → shown o ≡ shown (session_in xs s) → IsIndexed w xs → IsIndexed w ys
+same_indexed w xs ys s o only rising view h =
+    only_indexed w w xs ys s o only rising
     (λ t. by_number (λ t b. map.get w t ≡ (if b then shown o else map.get w t)) s t (h.agrees s ∙ sym view) (λ other. refl)) h
 
 -- the same of a session that is there, and of which a function makes the new one
 
-module _ (xs ys : List Session) (s i : ℕ) (at : position (is_number s) xs ≡ Some i) (f : Session → Session) (changes : ChangesBy s f xs ys) (w : Watches) (h : IsIndexed w xs) where
+module _ (xs ys : List Session) (s i : ℕ) (at : position (is_number s) xs ≡ Some i) (f : Session → Session) (changes : ChangesBy s f xs ys)
+    (same : numbers ys ≡ numbers xs) (w : Watches) (h : IsIndexed w xs) where
+  rising : IsRising ys
+  rising = same_rises xs ys same h.rising
+
   pub changed_same : ((x : Session) → (f x).view ≡ x.view) → IsIndexed w ys
   changed_same keeps =
       let x = session_there xs s i at in
-      same_indexed w xs ys s (Some (f x.0)) (changes x.0 x.1) (keeps x.0 ∙ ap shown (sym x.1)) h
+      same_indexed w xs ys s (Some (f x.0)) (changes x.0 x.1) rising (keeps x.0 ∙ ap shown (sym x.1)) h
 
   pub changed_put : (v : View) → ((x : Session) → (f x).view ≡ Some v) → IsIndexed (map.insert w s v) ys
   changed_put v has =
       let x = session_there xs s i at in
-      put_indexed w xs ys s (f x.0) v (changes x.0 x.1) (has x.0) h
+      put_indexed w xs ys s (f x.0) v (changes x.0 x.1) rising (has x.0) h
 
   pub changed_out : ((x : Session) → (f x).view ≡ None) → IsIndexed (map.remove w s) ys
   changed_out none =
       let x = session_there xs s i at in
-      out_indexed w xs ys s (Some (f x.0)) (changes x.0 x.1) (none x.0) h
+      out_indexed w xs ys s (Some (f x.0)) (changes x.0 x.1) rising (none x.0) h
 
 -- A session comes that watches nothing.
 
-pub joined_indexed : (w : Watches) (xs : List Session) (y : Session) → session_in xs y.number ≡ None → y.view ≡ None → IsIndexed w xs → IsIndexed w (xs ++ y ∷ [])
-joined_indexed w xs y fresh none h = same_indexed w xs (xs ++ y ∷ []) y.number (Some y) (push_last xs y fresh) (none ∙ ap shown (sym fresh)) h
+pub joined_indexed : (w : Watches) (xs : List Session) (y : Session) → IsAbove y.number xs → y.view ≡ None → IsIndexed w xs → IsIndexed w (xs ++ y ∷ [])
+joined_indexed w xs y above none h =
+    let fresh = above y.number (omega arith) in
+    same_indexed w xs (xs ++ y ∷ []) y.number (Some y) (push_last xs y fresh) (joined_rises xs y above h.rising) (none ∙ ap shown (sym fresh)) h
 
 pub first_indexed : (x : Session) → x.view ≡ None → IsIndexed map.empty (x ∷ [])
 first_indexed x none = record {
-  once = (refl, tt);
+  rising = one_rises x;
   agrees = λ t. get-empty nat_cmp t ∙ none_of (x.number == t);
 }
   where
@@ -106,6 +113,6 @@ told_shown d changes room None (Some y) h = absurd h
 
 pub told_indexed : (d : Document) (changes : List Change) (room : Room) (xs ys : List Session) (n : ℕ) → AllTold d changes room xs ys n → (w : Watches) → IsIndexed w xs → IsIndexed w ys
 told_indexed d changes room xs ys n told w h = record {
-  once = once_told d changes room xs ys n told h.once;
+  rising = same_rises xs ys (numbers_told d changes room xs ys n told) h.rising;
   agrees = λ t. h.agrees t ∙ told_shown d changes room (session_in xs t) (session_in ys t) (each_told d changes room xs ys n told t);
 }

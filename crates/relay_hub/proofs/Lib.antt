@@ -3,6 +3,7 @@ pub mod Sessions
 pub mod Serving
 pub mod Telling
 pub mod Told
+pub mod Rising
 pub mod Indexed
 pub mod Among
 pub mod Untouched

@@ -18,7 +18,7 @@ use Rattle.relay_room.specs.declared.fault.EditFault.{EditFault}
 use Rattle.relay_tree.specs.Document.{Document, null}
 use Rattle.relay_hub.specs.Refusal.{refused, future_refusal}
 use Rattle.relay_hub.specs.Session.{replied, newcomer, watches, unwatches, resumes, drawn}
-use Rattle.relay_hub.specs.State.{Group, group, State, EachOnce, Home, IsHub, place_of, place_named, session_in}
+use Rattle.relay_hub.specs.State.{Group, group, State, EachOnce, Home, RoomOf, IsHub, place_of, place_named, session_in}
 use Rattle.relay_hub.specs.Step.{OnlyAt, EditServed, ResumeServed, Serves, Receives, Draws, with_group, InGroup, AtPlace, Enters, Opens, Closes, ClosesIn, ClosesGroup, ClosesAt, Step}
 use Rattle.relay_hub.specs.declared.event.Answer.{Answer}
 use Rattle.relay_hub.specs.declared.event.Answer.TheVariants.{Opened, NotOpened, Heard, Drawn, Closed, NoSession}
@@ -307,9 +307,8 @@ otherwise : {X : Type 0} (b : Bool) (u v w : X) → b ≡ false → w ≡ (if b 
 otherwise true u v w other is = absurd (cc other)
 otherwise false u v w other is = is
 
-closes_is_hub : (old new : State) (s place : ℕ) (name : List ℕ) (g : Group) → IsHub old → place_of old s ≡ Some place → slice_get old.rooms place ≡ Some (name, g)
-    → Closes s place name g old new → IsHub new
-closes_is_hub old new s place name g h home at step = record {
+closes_is_hub : (old new : State) (s : ℕ) (r : RoomOf old) → IsHub old → place_of old s ≡ Some r.place → Closes s r.place r.name r.group old new → IsHub new
+closes_is_hub old new s r h home step = record {
   made = rw step.made h.made;
   homes = λ t p t_at.
       let found : (if s == t then None else place_of old t) ≡ Some p = sym (step.home t) ∙ t_at in
@@ -319,30 +318,31 @@ closes_is_hub old new s place name g h home at step = record {
             let before : place_of old t ≡ Some p = rw other.0 at found in
             let was = h.homes t p before in
             let still : place_of new t ≡ Some was.room.place = otherwise (s == t) None (place_of old t) (place_of new t) other.0 (step.home t) ∙ was.at in
-            set_homes old new place name g step.left at step.rooms t was still
-            (λ same. (was.session, otherwise (s == t) None (session_in g.sessions t) (session_in step.left.sessions t) other.0 (step.leaves.1.found t) ∙ same_home old t place name g was at same))
+            set_homes old new r.place r.name r.group step.left r.there step.rooms t was still
+            (λ same. (was.session, otherwise (s == t) None (session_in r.group.sessions t) (session_in step.left.sessions t) other.0 (step.leaves.1.found t) ∙ same_home old t r.place r.name r.group was r.there same))
       ];
-  once = set_once old new place name step.left h step.rooms (step.leaves.1.once (h.once place name g at));
+  once = set_once old new r.place r.name step.left h step.rooms (step.leaves.1.once (h.once r.place r.name r.group r.there));
   below = λ t late. rw (step.home t) (by_number (λ t b. place_of old t ≡ None → (if b then None else place_of old t) ≡ None) s t (λ e. refl) (λ other e. e)
       (h.below t (omega (arith, late, step.next))));
-  members = set_alone old new place name step.left h step.rooms
+  members = set_alone old new r.place r.name step.left h step.rooms
       (λ t p is other. rw (step.home t) (by_number (λ t b. place_of old t ≡ Some p → (if b then None else place_of old t) ≡ Some p) s t
-      (λ e. let same : Some p ≡ Some place = sym e ∙ home in absurd (other cc)) (λ apart e. e) is))
-      (λ t x is. rw (step.home t) (by_number (λ t b. (if b then None else session_in g.sessions t) ≡ Some x → (if b then None else place_of old t) ≡ Some place) s t
-      (λ e. absurd (cc e)) (λ apart e. h.members place name g at t x e) (sym (step.leaves.1.found t) ∙ is)));
+      (λ e. let same : Some p ≡ Some r.place = sym e ∙ home in absurd (other cc)) (λ apart e. e) is))
+      (λ t x is. rw (step.home t) (by_number (λ t b. (if b then None else session_in r.group.sessions t) ≡ Some x → (if b then None else place_of old t) ≡ Some r.place) s t
+      (λ e. absurd (cc e)) (λ apart e. h.members r.place r.name r.group r.there t x e) (sym (step.leaves.1.found t) ∙ is)));
 }
 
-close_in_is_hub : (old new : State) (s place : ℕ) (name : List ℕ) (g : Group) (o : Option Session) (answer : Answer) → IsHub old → place_of old s ≡ Some place
-    → slice_get old.rooms place ≡ Some (name, g) → ClosesIn s place name g o old answer new → IsHub new
-close_in_is_hub old new s place name g None NoSession h home at step = rw step h
-close_in_is_hub old new s place name g (Some x) Closed h home at step = closes_is_hub old new s place name g h home at step
-close_in_is_hub old new s place name g o answer h home at step = absurd step
+close_in_is_hub : (old new : State) (s : ℕ) (r : RoomOf old) (o : Option Session) (answer : Answer) → IsHub old → place_of old s ≡ Some r.place
+    → ClosesIn s r.place r.name r.group o old answer new → IsHub new
+close_in_is_hub old new s r None NoSession h home step = rw step h
+close_in_is_hub old new s r (Some x) Closed h home step = closes_is_hub old new s r h home step
+close_in_is_hub old new s r o answer h home step = absurd step
 
 close_group_is_hub : (old new : State) (s place : ℕ) (o : Option (List ℕ × Group)) (answer : Answer) → IsHub old → place_of old s ≡ Some place
     → slice_get old.rooms place ≡ o → ClosesGroup s place o old answer new → IsHub new
 close_group_is_hub old new s place None answer h home at step = rw step.1 h
 close_group_is_hub old new s place (Some there) answer h home at step =
-    close_in_is_hub old new s place there.0 there.1 (session_in there.1.sessions s) answer h home at step
+    let r : RoomOf old = record { place = place; name = there.0; group = there.1; there = at } in
+    close_in_is_hub old new s r (session_in there.1.sessions s) answer h home step
 
 close_is_hub : (old new : State) (s : ℕ) (o : Option ℕ) (answer : Answer) → IsHub old → place_of old s ≡ o → ClosesAt s o old answer new → IsHub new
 close_is_hub old new s None answer h home step = rw step.1 h

@@ -23,6 +23,7 @@ use Rattle.relay_hub.specs.Step.{telling, ToldView, ToldAs, Told, AllTold}
 use Rattle.relay_hub.specs.Watched.{IsIndexed, ToldIf, ToldAmong}
 use Rattle.relay_hub.specs.declared.session.Session.{Session}
 use Rattle.relay_hub.proofs.Places.{by_number}
+use Rattle.relay_hub.proofs.Rising.{once_rising}
 
 no_operation : (ops : List Op) → patch_or_nothing ops ≡ Nothing → ops ≡ []
 no_operation [] h = refl
@@ -81,4 +82,4 @@ module _ (room : Room) (d : Document) (changes : List Change) (edited : 0 < revi
     -- where those are told whom the index names, all are
     pub among_all : (xs ys : List Session) (n : ℕ) → IsIndexed w xs → ToldAmong numbers d changes room xs ys n → AllTold d changes room xs ys n
     among_all xs ys n indexed h =
-        all_of_them xs ys n indexed.once (λ t z is. indexed.agrees t ∙ rw is refl) h
+        all_of_them xs ys n (once_rising xs indexed.rising) (λ t z is. indexed.agrees t ∙ rw is refl) h

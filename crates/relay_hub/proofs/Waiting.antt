@@ -2,6 +2,7 @@
 use Rattle.std.proofs.Common.{◌≡◌, ℕ, Bool, true, false, List, [], ◌∷◌, ◌++◌, length, Option, refl}
 use Rattle.std.specs.List.{AllByRecursion}
 use Rattle.std.specs.Prelude.{nat_lt, if◌then◌else◌}
+use Rattle.relay_tree.proofs.Writing.{all_more}
 use Rattle.relay_outbox.specs.Outbox.{Line, line, folded, cleared, with_patch, rest_of}
 use Rattle.relay_patch.specs.declared.op.Op.{Op}
 use Rattle.relay_view.specs.View.{View}
@@ -15,18 +16,14 @@ use Rattle.relay_hub.specs.Stands.{LineStands, PatchFits}
 use Rattle.relay_hub.specs.declared.session.Session.{Session}
 
 -- a line that a patch comes to stays, has it last, or folds
-pub by_waiting : (P : Line Reply → Type 0) (rev : ℕ) (ops : List Op) (o : Line Reply) → (o.due ≡ true → P o)
-    → (o.due ≡ false → P (line o.replies (o.patches ++ (rev, ops) ∷ []) o.due o.limit)) → P (folded o) → P (with_patch rev ops o)
+pub by_waiting : (P : Line Reply (ℕ × List Op) → Type 0) (rev : ℕ) (ops : List Op) (o : Line Reply (ℕ × List Op)) → (o.due ≡ true → P o)
+    → (o.due ≡ false → P (line o.replies (o.patches ++ (rev, ops) ∷ []) o.due o.limit)) → P (folded o) → P (with_patch (rev, ops) o)
 by_waiting P rev ops o stays waits folds = go o.due (nat_lt (length o.patches) o.limit) refl
   where
     go : (due fits : Bool) → o.due ≡ due → P (if due then o else (if fits then line o.replies (o.patches ++ (rev, ops) ∷ []) o.due o.limit else folded o))
     go true fits e = stays e
     go false true e = waits e
     go false false e = folds
-
-all_more : {X : Type 0} (P : X → Type 0) (xs : List X) (x : X) → AllByRecursion P xs → P x → AllByRecursion P (xs ++ x ∷ [])
-all_more P [] x h k = (k, tt)
-all_more P (y ∷ ys) x h k = (h.0, all_more P ys x h.1 k)
 
 pub line_replied : (most : ℕ) (x : Session) (r : Reply) → HasCounts r → LineStands most x → LineStands most (replied r x)
 line_replied most x r counts h = record { limit = h.limit; replies = all_more HasCounts x.outbox.replies r h.replies counts; patches = h.patches }
@@ -41,7 +38,7 @@ line_viewed : (most : ℕ) (x : Session) (v : Option View) → LineStands most x
 line_viewed most x v h = record { limit = h.limit; replies = h.replies; patches = h.patches }
 
 pub line_patched : (most rev : ℕ) (ops : List Op) (x : Session) (v : Option View) → PatchFits (rev, ops) → LineStands most x
-    → LineStands most (session_with x.number v (with_patch rev ops x.outbox))
+    → LineStands most (session_with x.number v (with_patch (rev, ops) x.outbox))
 line_patched most rev ops x v fits h =
     by_waiting (λ o. LineStands most (session_with x.number v o)) rev ops x.outbox
     (λ due. line_viewed most x v h)

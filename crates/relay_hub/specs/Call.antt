@@ -1,5 +1,5 @@
 -- Calls as events: what each answers, when it is a step, and runs of steps.
-use Rattle.std.specs.Prelude.{◌≡◌, ℕ, ◌<◌, length, List, [], ◌∷◌, Option, Some, None, option_map, Result, Ok, Err, slice_get, string_bytes}
+use Rattle.std.specs.Prelude.{◌≡◌, ℕ, ◌<◌, ◌≤◌, length, List, [], ◌∷◌, Option, Some, None, option_map, Result, Ok, Err, slice_get, string_bytes}
 use Rattle.std.specs.Global.{Vec}
 use Rattle.std.specs.declared.string.String.{String}
 use Rattle.relay_outbox.specs.declared.outbox.TheConstants.{REPLIES}
@@ -80,9 +80,13 @@ abbrev pub DrawsIf : ℕ → Option Answer → Group → Group → Type 0
 DrawsIf s (Some answer) old new = Draws s (session_in old.sessions s) answer old new
 DrawsIf s None old new = new ≡ old
 
--- no room has a session of that number
+-- no session has that number or a later one
+abbrev pub IsAbove : ℕ → List Session → Type 0
+IsAbove s sessions = (t : ℕ) → s ≤ t → session_in sessions t ≡ None
+
+-- and none of any room
 abbrev pub IsFresh : ℕ → List (List ℕ × Group) → Type 0
-IsFresh s rooms = (place : ℕ) (name : List ℕ) (g : Group) → slice_get rooms place ≡ Some (name, g) → session_in g.sessions s ≡ None
+IsFresh s rooms = (place : ℕ) (name : List ℕ) (g : Group) → slice_get rooms place ≡ Some (name, g) → IsAbove s g.sessions
 
 -- session s becomes f of what it was, and no other differs
 abbrev pub ChangesBy : ℕ → (Session → Session) → List Session → List Session → Type 0

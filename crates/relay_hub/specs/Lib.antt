@@ -1,9 +1,12 @@
 pub mod State
 pub mod Kept
+pub mod Posted
+pub mod News
 pub mod Session
 pub mod Log
 pub mod Refusal
 pub mod Step
+pub mod Tale
 pub mod Watched
 pub mod Telling
 pub mod Call

@@ -1,10 +1,7 @@
 -- What becomes of one session: its view, and what waits for it.
-use Rattle.std.specs.Prelude.{ℕ, ◌≡◌, ⊤, ◌+◌, length, List, [], ◌∷◌, ◌++◌, map, Option, Some, None, option_map, if◌then◌else◌}
+use Rattle.std.specs.Prelude.{ℕ, ◌+◌, length, List, [], ◌∷◌, ◌++◌, map, Option, Some, None, option_map, if◌then◌else◌}
 use Rattle.relay_outbox.specs.Outbox.{Line, Foremost, reply, patch, snapshot, nothing, empty, with_reply, with_patch, folded, cleared, front_of, without_front}
 use Rattle.relay_patch.specs.declared.op.Op.{Op}
-use Rattle.relay_proto.specs.Message.{message_document}
-use Rattle.relay_proto.specs.MessageRead.{message_of_text}
-use Rattle.relay_proto.specs.Written.{IsWritable}
 use Rattle.relay_proto.specs.declared.message.Message.{Message}
 use Rattle.relay_proto.specs.declared.message.Message.TheVariants as message
 use Rattle.relay_proto.specs.declared.reply.How.TheVariants as how
@@ -13,15 +10,15 @@ use Rattle.relay_proto.specs.declared.reply.Reply.TheVariants.{Welcome, Watching
 use Rattle.relay_room.specs.Room.{State as Room, revision}
 use Rattle.relay_room.specs.declared.catch_up.CatchUp.{CatchUp}
 use Rattle.relay_room.specs.declared.catch_up.CatchUp.TheVariants.{Nothing, Patch, Snapshot}
-use Rattle.relay_tree.specs.Text.{text_of}
 use Rattle.relay_view.specs.View.{View, view}
+pub use Rattle.relay_hub.specs.Posted.{patch_message, message_text, ReadsBack}
 use Rattle.relay_hub.specs.declared.session.Session.{Session}
 
-abbrev pub session_with : ℕ → Option View → Line Reply → Session
+abbrev pub session_with : ℕ → Option View → Line Reply (ℕ × List Op) → Session
 session_with number pointers line = record { number = number; view = pointers; outbox = line }
 
 -- the session with another line
-abbrev pub with_line : Line Reply → Session → Session
+abbrev pub with_line : Line Reply (ℕ × List Op) → Session → Session
 with_line line x = session_with x.number x.view line
 
 -- the session with one more reply
@@ -42,13 +39,13 @@ unwatches id x = session_with x.number None (cleared (with_reply (Unwatched id) 
 -- the session as it resumes in a room of that revision: with nothing missed, with one patch, or with a snapshot
 abbrev pub resumes : ℕ → ℕ → View → CatchUp → Session → Session
 resumes rev id pointers Nothing x = session_with x.number (Some pointers) (cleared (with_reply (Resumed id how.Nothing) x.outbox))
-resumes rev id pointers (Patch ops) x = session_with x.number (Some pointers) (with_patch rev ops (cleared (with_reply (Resumed id how.Patch) x.outbox)))
+resumes rev id pointers (Patch ops) x = session_with x.number (Some pointers) (with_patch (rev, ops) (cleared (with_reply (Resumed id how.Patch) x.outbox)))
 resumes rev id pointers Snapshot x = session_with x.number (Some pointers) (folded (with_reply (Resumed id how.Snapshot) x.outbox))
 
 -- a watcher's line once it is told of revision rev: it stays, one patch more waits, or a snapshot is due
-abbrev pub told_line : ℕ → CatchUp → Line Reply → Line Reply
+abbrev pub told_line : ℕ → CatchUp → Line Reply (ℕ × List Op) → Line Reply (ℕ × List Op)
 told_line rev Nothing line = line
-told_line rev (Patch ops) line = with_patch rev ops line
+told_line rev (Patch ops) line = with_patch (rev, ops) line
 told_line rev Snapshot line = folded line
 
 -- What is drawn.
@@ -58,22 +55,14 @@ abbrev pub snapshot_of : Room → View → Message
 snapshot_of room pointers = message.Snapshot (revision room) (view pointers room.document)
 
 -- what stands at the front, as a message; a session without a view has no snapshot
-abbrev pub message_of : Room → Option View → Foremost Reply → Option Message
+abbrev pub message_of : Room → Option View → Foremost Reply (ℕ × List Op) → Option Message
 message_of room pointers (reply r) = Some (message.Reply r)
-message_of room pointers (patch rev ops) = Some (message.Patch rev ops)
+message_of room pointers (patch p) = Some (patch_message p)
 message_of room pointers snapshot = option_map (snapshot_of room) pointers
 message_of room pointers nothing = None
 
 abbrev pub front_message : Room → Session → Option Message
 front_message room x = message_of room x.view (front_of x.outbox)
-
-abbrev pub message_text : Message → List ℕ
-message_text m = text_of (message_document m)
-
--- its text reads back as the message, where the message is writable
-abbrev pub ReadsBack : Option Message → Type 0
-ReadsBack (Some m) = IsWritable m → message_of_text (message_text m) ≡ Some m
-ReadsBack None = ⊤
 
 -- how many draws would give a text
 abbrev pub waiting : Session → ℕ
@@ -84,8 +73,5 @@ abbrev pub drawn : Session → Session
 drawn x = with_line (without_front x.outbox) x
 
 -- the snapshots and patches that wait, for a view
-abbrev pub patch_message : ℕ × List Op → Message
-patch_message p = message.Patch p.0 p.1
-
-abbrev pub later : Room → View → Line Reply → List Message
+abbrev pub later : Room → View → Line Reply (ℕ × List Op) → List Message
 later room pointers line = map patch_message line.patches ++ (if line.due then snapshot_of room pointers ∷ [] else [])

@@ -1,6 +1,7 @@
 -- A hub as contracts see it: plain data, and how a session and a room are found in it.
-use Rattle.std.specs.Prelude.{◌≡◌, ⊤, ℕ, ◌≤◌, ◌==◌, nat_eq, Bool, List, [], ◌∷◌, Option, Some, None, option_and_then, find, position, slice_get, bytes_eq, refl}
+use Rattle.std.specs.Prelude.{◌≡◌, ⊤, ℕ, ◌≤◌, ◌==◌, nat_eq, Bool, List, [], ◌∷◌, Option, Some, None, option_and_then, map, find, position, slice_get, bytes_eq, refl}
 use Rattle.std.specs.Coded.{Coded, code_by, coded×, coded_list, coded_ℕ}
+use Rattle.std.specs.List.Sorted.{IsStrictlyIncreasing}
 use Rattle.std.specs.Map.{lookup}
 use Rattle.relay_history.specs.declared.history.TheConstants.{MOST_REVISIONS}
 use Rattle.relay_outbox.specs.declared.outbox.TheConstants.{MOST_PATCHES}
@@ -52,6 +53,14 @@ session_in sessions s = find (is_number s) sessions
 abbrev pub EachOnce : List Session → Type 0
 EachOnce [] = ⊤
 EachOnce (x ∷ xs) = (session_in xs x.number ≡ None) × EachOnce xs
+
+-- their numbers, in order
+abbrev pub numbers : List Session → List ℕ
+numbers sessions = map (λ x. x.number) sessions
+
+-- each session's number is below that of the next
+abbrev pub IsRising : List Session → Type 0
+IsRising sessions = IsStrictlyIncreasing (numbers sessions)
 
 -- the place of a session's room
 abbrev pub place_of : State → ℕ → Option ℕ

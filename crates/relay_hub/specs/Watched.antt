@@ -7,7 +7,7 @@ use Rattle.relay_room.specs.Room.{State as Room}
 use Rattle.relay_translate.specs.Watches.{Watches}
 use Rattle.relay_tree.specs.Document.{Document}
 use Rattle.relay_view.specs.View.{View}
-use Rattle.relay_hub.specs.State.{EachOnce, session_in}
+use Rattle.relay_hub.specs.State.{IsRising, session_in}
 use Rattle.relay_hub.specs.Step.{Told}
 use Rattle.relay_hub.specs.declared.session.Session.{Session}
 
@@ -19,9 +19,9 @@ view_in sessions t = option_and_then (λ x. x.view) (session_in sessions t)
 abbrev pub Agrees : Watches → List Session → Type 0
 Agrees watches sessions = (t : ℕ) → map.get watches t ≡ view_in sessions t
 
--- What holds of each room's sessions and their index.
+-- What holds of each room's sessions and their index: they stand in the order in which they came, so that their numbers rise.
 pub record IsIndexed (watches : Watches) (sessions : List Session) : Type 0 where
-  pub once : EachOnce sessions
+  pub rising : IsRising sessions
   pub agrees : Agrees watches sessions
 
 -- one who is to be told is; another stays as it was

@@ -2,10 +2,10 @@
 ghost use Rattle.std.specs.Prelude.{◌≡◌, Some, None, [], ◌∷◌, ◌++◌, IfOk, OnOk, OnErr, length};
 ghost use Rattle.relay_room.specs.Room.{begun, revision};
 ghost use Rattle.relay_tree.specs.Document.{null};
-ghost use Rattle.relay_hub.specs.Call.{IsFresh};
+ghost use Rattle.relay_hub.specs.Call.{IsAbove, IsFresh};
 ghost use Rattle.relay_hub.specs.Kept.{rooms_of};
 ghost use Rattle.relay_hub.specs.Session.{newcomer};
-ghost use Rattle.relay_hub.specs.State.{IsBeginning, group, place_named, session_in};
+ghost use Rattle.relay_hub.specs.State.{IsBeginning, group, place_named};
 ghost use Rattle.relay_hub.specs.Step.{ChangesOnly, EntersRooms};
 
 use crate::beginning::Beginning;
@@ -59,7 +59,7 @@ pub fn let_in(
 
 /// Lets a guest into a room that is there.
 fn join_room(alloc: Global, group: &mut Group, guest: Guest) -> Result<(), AllocError>
-    requires fresh { session_in group.old.sessions guest.number ≡ None }
+    requires fresh { IsAbove guest.number group.old.sessions }
     requires made { IsBeginning guest.made }
     ensures ok { OnOk result (ChangesOnly guest.number (Some (newcomer guest.made.epoch (revision group.old.room) guest.number guest.made.waiting))
         group.old group.new) }

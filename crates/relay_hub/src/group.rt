@@ -8,8 +8,8 @@ use relay_translate::WatchIndex;
 use std::alloc::{AllocError, Global};
 use std::marker::Model;
 
-/// A room with its sessions, in the order in which they came. Contracts see it as these two, without the index, which has the view
-/// of each session that watches.
+/// A room with its sessions, in the order in which they came, so that their numbers rise and one is found by a binary search.
+/// Contracts see it as these two, without the index, which has the view of each session that watches.
 #[derive(Drop)]
 pub struct Group {
     room: Room,
@@ -34,7 +34,7 @@ impl Model for Group {
 
 impl Group {
     ghost use Rattle.std.specs.Prelude.{◌≡◌, ◌<◌, [], ◌∷◌, Some, None, IfOk, OnOk, OnErr, IsErrOf, IsSome, IsSomeAnd, option_map};
-    ghost use Rattle.relay_hub.specs.Call.{receiving, drawing, ReceivesIf, DrawsIf, HasRoom};
+    ghost use Rattle.relay_hub.specs.Call.{receiving, drawing, ReceivesIf, DrawsIf, HasRoom, IsAbove};
     ghost use Rattle.relay_hub.specs.Session.{waiting};
     ghost use Rattle.relay_hub.specs.State.{group, session_in};
     ghost use Rattle.relay_hub.specs.Step.{ChangesOnly};
@@ -69,9 +69,9 @@ impl Group {
         serve::session_at(self.sessions.as_slice(), number)
     }
 
-    /// Lets a session in, which watches nothing.
+    /// Lets a session in, which watches nothing, behind the others: its number is above theirs.
     pub fn join(&mut self, session: Session) -> Result<(), AllocError>
-        requires fresh { session_in self.old.sessions session.number ≡ None }
+        requires fresh { IsAbove session.number self.old.sessions }
         requires idle { session.view ≡ None }
         ensures ok { OnOk result (ChangesOnly session.number (Some session) self.old self.new) }
         ensures err { OnErr result (self.new ≡ self.old) }

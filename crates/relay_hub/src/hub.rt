@@ -250,7 +250,7 @@ impl Hub {
         let Some(view) = &session.view else {
             return Ok(None);
         };
-        match view.of(alloc, room.document()) {
+        match view.get().of(alloc, room.document()) {
             Ok(shown) => Ok(Some((room.revision(), shown))),
             Err(_) => Err(HubFault::NoMemory),
         }

@@ -10,8 +10,12 @@ mod event;
 mod fault;
 mod group;
 mod hub;
+mod news;
+mod posted;
 mod serve;
 mod session;
+mod shared_view;
+mod tale;
 mod tell;
 mod text;
 

@@ -1,20 +1,25 @@
 //! The work of the hub's calls, over a room, the sessions that are open in it, and the index of what they watch.
-ghost use Rattle.std.specs.Prelude.{◌≡◌, ◌<◌, ◌-◌, ◌==◌, List, Some, None, Ok, Err, IfOk, OnOk, OnErr, IsErrOf, IsSome, IsSomeAnd, length, option_map, nat_le, position, filter, not};
+ghost use Rattle.std.specs.Prelude.{◌≡◌, ◌<◌, ◌≤◌, ◌-◌, ◌==◌, ℕ, List, Some, None, Ok, Err, IfOk, OnOk, OnErr, IsErrOf, IsSome, IsSomeAnd, length, option_map, nat_le, position, filter, not};
 ghost use Rattle.std.specs.Bool.{MatchBool};
+ghost use Rattle.std.specs.List.Sorted.{IsPartitionPoint};
 ghost use Rattle.relay_outbox.specs.declared.outbox.TheConstants.{REPLIES};
 ghost use Rattle.relay_room.specs.Edit.{edited};
 ghost use Rattle.relay_room.specs.Room.{revision};
 ghost use Rattle.relay_hub.specs.Call.{receiving, drawing, ReceivesIf, DrawsIf, ChangesBy, HasRoom, IsFull};
+ghost use Rattle.relay_room.specs.declared.catch_up.CatchUp.{CatchUp};
+ghost use Rattle.relay_hub.specs.News.{news_of};
 ghost use Rattle.relay_hub.specs.Refusal.{cause_word, edit_refusal};
 ghost use Rattle.relay_hub.specs.Session.{replied, watches as watching, unwatches, resumes, waiting};
-ghost use Rattle.relay_hub.specs.State.{group, is_number, session_in};
+ghost use Rattle.relay_hub.specs.State.{IsRising, group, is_number, numbers, session_in};
 ghost use Rattle.relay_hub.specs.Step.{EditServed, ResumeServed, Serves, OnlyAt};
 ghost use Rattle.relay_hub.specs.Watched.{IsIndexed};
 ghost use Rattle.relay_hub.specs.declared.session.Session.{Session};
 
 use crate::event::Heard;
 use crate::fault::HubFault;
+use crate::news::News;
 use crate::session::Session;
+use crate::shared_view::SharedView;
 use crate::tell::tell_touched;
 use relay_patch::{Cause, Patch};
 use relay_proto::{Refusal, Reply, Request, RequestFault, Word};
@@ -25,7 +30,8 @@ use std::alloc::{AllocError, Global};
 
 /// The place of the session with that number, which is there.
 pub fn place_in(sessions: &[Session], number: u64) -> usize
-    requires { IsSome (session_in sessions.now number) }
+    requires there { IsSome (session_in sessions.now number) }
+    requires rising { IsRising sessions.now }
     ensures { position (is_number number) sessions.now ≡ Some result }
 {
     let Some(place) = position_of(sessions, number) else {
@@ -36,17 +42,33 @@ pub fn place_in(sessions: &[Session], number: u64) -> usize
 
 /// The session with that number, which is there.
 pub fn session_at(sessions: &[Session], number: u64) -> &Session
-    requires { IsSome (session_in sessions.now number) }
+    requires there { IsSome (session_in sessions.now number) }
+    requires rising { IsRising sessions.now }
     ensures { session_in sessions.now number ≡ Some result.now }
 {
     &sessions[place_in(sessions, number)]
 }
 
-/// The place of the session with that number. It costs a walk over the numbers.
+/// The place of the session with that number, where there is one: a binary search, since the numbers rise.
 pub fn position_of(sessions: &[Session], number: u64) -> Option<usize>
+    requires { IsRising sessions.now }
     ensures { result ≡ position (is_number number) sessions.now }
 {
-    sessions.iter().position(|session| session.number == number)
+    let place = place_from(sessions, number);
+    let session = sessions.get(place)?;
+    if session.number == number {
+        Some(place)
+    } else {
+        None
+    }
+}
+
+/// How many sessions have lower numbers, which is where one of that number stands.
+fn place_from(sessions: &[Session], number: u64) -> usize
+    requires { IsRising sessions.now }
+    ensures { IsPartitionPoint (λ x. x.number < number) (λ x. number ≤ x.number) sessions.now result }
+{
+    sessions.partition_point(|session| session.number < number)
 }
 
 /// Takes a text from a session that is there: exactly one reply is put in its line, but where no further one may wait.
@@ -229,7 +251,8 @@ fn watch(
     ensures err { OnErr result (sessions.new ≡ sessions.old) }
     ensures indexed { IsIndexed watches.new sessions.new }
 {
-    watches.put(alloc, number, &view)?;
+    let view = SharedView::new(alloc, view)?;
+    watches.put(alloc, number, view.get())?;
     watch_at(sessions, number, place, id, view);
     Ok(())
 }
@@ -284,8 +307,10 @@ fn resume(
     } else {
         CatchUp::Snapshot
     };
-    watches.put(alloc, number, &view)?;
-    resume_at(sessions, number, place, id, room.revision(), view, how);
+    let news = News::of(alloc, room.revision(), how)?;
+    let view = SharedView::new(alloc, view)?;
+    watches.put(alloc, number, view.get())?;
+    resume_at(sessions, number, place, id, view, news);
     Ok(())
 }
 
@@ -296,8 +321,10 @@ pub fn draw(
     sessions: &mut [Session],
     number: u64,
 ) -> Result<Option<String>, HubFault>
-    requires { IsSome (session_in sessions.old number) }
+    requires there { IsSome (session_in sessions.old number) }
+    requires rising { IsRising sessions.old }
     ensures step { DrawsIf number (drawing result) (group room.now sessions.old) (group room.now sessions.new) }
+    ensures numbers { numbers sessions.new ≡ numbers sessions.old }
     ensures no_memory { IsErrOf result HubFault.NoMemory → IsSomeAnd (option_map waiting (session_in sessions.old number)) (λ n. 0 < n) }
 {
     let place = place_in(sessions, number);
@@ -330,15 +357,17 @@ fn is_full(sessions: &[Session], number: u64, place: usize) -> bool
 fn reply_at(sessions: &mut [Session], number: u64, place: usize, reply: Reply)
     requires place { position (is_number number) sessions.old ≡ Some place }
     requires space { HasRoom sessions.old number }
-    ensures { ChangesBy number (replied reply) sessions.old sessions.new }
+    ensures changes { ChangesBy number (replied reply) sessions.old sessions.new }
+    ensures numbers { numbers sessions.new ≡ numbers sessions.old }
 {
     sessions[place].reply(reply);
 }
 
-fn watch_at(sessions: &mut [Session], number: u64, place: usize, id: u64, view: View)
+fn watch_at(sessions: &mut [Session], number: u64, place: usize, id: u64, view: SharedView)
     requires place { position (is_number number) sessions.old ≡ Some place }
     requires space { HasRoom sessions.old number }
-    ensures { ChangesBy number (watching id view) sessions.old sessions.new }
+    ensures changes { ChangesBy number (watching id view) sessions.old sessions.new }
+    ensures numbers { numbers sessions.new ≡ numbers sessions.old }
 {
     sessions[place].watch(id, view);
 }
@@ -346,7 +375,8 @@ fn watch_at(sessions: &mut [Session], number: u64, place: usize, id: u64, view: 
 fn unwatch_at(sessions: &mut [Session], number: u64, place: usize, id: u64)
     requires place { position (is_number number) sessions.old ≡ Some place }
     requires space { HasRoom sessions.old number }
-    ensures { ChangesBy number (unwatches id) sessions.old sessions.new }
+    ensures changes { ChangesBy number (unwatches id) sessions.old sessions.new }
+    ensures numbers { numbers sessions.new ≡ numbers sessions.old }
 {
     sessions[place].unwatch(id);
 }
@@ -356,13 +386,13 @@ fn resume_at(
     number: u64,
     place: usize,
     id: u64,
-    rev: u64,
-    view: View,
-    how: CatchUp,
+    view: SharedView,
+    news: News,
 )
     requires place { position (is_number number) sessions.old ≡ Some place }
     requires space { HasRoom sessions.old number }
-    ensures { ChangesBy number (resumes rev id view how) sessions.old sessions.new }
+    ensures changes { (rev : ℕ) (how : CatchUp) → news ≡ news_of rev how → ChangesBy number (resumes rev id view how) sessions.old sessions.new }
+    ensures numbers { numbers sessions.new ≡ numbers sessions.old }
 {
-    sessions[place].resume(id, rev, view, how);
+    sessions[place].resume(id, view, news);
 }

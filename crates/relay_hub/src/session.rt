@@ -1,21 +1,16 @@
 //! One session: its view, and what waits for it.
-ghost use Rattle.std.specs.Prelude.{◌≡◌, ◌<◌, ◌≤◌, ◌-◌, ℕ, List, nat_le, length, option_map, is_err, IfOk, IfSome, OnOk, OnErr, string_bytes};
-ghost use Rattle.relay_outbox.specs.Outbox.{folded};
+ghost use Rattle.std.specs.Prelude.{◌≡◌, ◌<◌, ◌≤◌, ℕ, nat_le, length, option_map, IfOk, OnOk, OnErr, string_bytes};
 ghost use Rattle.relay_outbox.specs.declared.outbox.TheConstants.{REPLIES, MOST_PATCHES};
-ghost use Rattle.relay_patch.specs.Change.{Leads};
-ghost use Rattle.relay_patch.specs.declared.change.Change.{Change};
-ghost use Rattle.relay_history.specs.History.{Reaches, changes_since};
-ghost use Rattle.relay_room.specs.CatchUp.{caught_up, LeadsOn, Fits};
-ghost use Rattle.relay_room.specs.Room.{revision};
-ghost use Rattle.relay_room.specs.declared.catch_up.CatchUp.TheVariants.{Snapshot};
-ghost use Rattle.relay_tree.specs.Document.{Document};
-ghost use Rattle.relay_hub.specs.Session.{replied, newcomer, watches, unwatches, resumes, front_message, message_text, ReadsBack, waiting, drawn};
-ghost use Rattle.relay_hub.specs.Step.{Told};
+ghost use Rattle.relay_room.specs.declared.catch_up.CatchUp.{CatchUp};
+ghost use Rattle.relay_hub.specs.News.{news_of, heard};
+ghost use Rattle.relay_hub.specs.Session.{with_line, replied, newcomer, watches, unwatches, resumes, front_message, message_text, ReadsBack, waiting, drawn};
 
+use crate::news::News;
+use crate::posted::Posted;
+use crate::shared_view::SharedView;
 use relay_outbox::{Front, Outbox, OutboxFault};
-use relay_proto::{How, Reply, patch_text, snapshot_text};
-use relay_room::{CatchFault, CatchUp, Room};
-use relay_view::View;
+use relay_proto::{Reply, shown_text};
+use relay_room::Room;
 use std::alloc::{AllocError, Global};
 
 /// A session that is open.
@@ -23,8 +18,8 @@ use std::alloc::{AllocError, Global};
 pub struct Session {
     pub number: u64,
     /// What it watches, if it does.
-    pub view: Option<View>,
-    pub outbox: Outbox<Reply>,
+    pub view: Option<SharedView>,
+    pub outbox: Outbox<Reply, Posted>,
 }
 
 impl Session {
@@ -80,7 +75,7 @@ impl Session {
     }
 
     /// Holds the view from now on; a snapshot is due.
-    pub fn watch(&mut self, id: u64, view: View)
+    pub fn watch(&mut self, id: u64, view: SharedView)
         requires { length self.old.outbox.replies < REPLIES }
         ensures { self.new ≡ watches id view self.old }
     {
@@ -99,65 +94,35 @@ impl Session {
         self.view = None;
     }
 
-    /// Holds the view from now on, as one that goes on from an earlier revision: `how` leads it to revision `rev`.
-    pub fn resume(&mut self, id: u64, rev: u64, view: View, how: CatchUp)
+    /// Holds the view from now on, as one that goes on from an earlier revision: the news lead it to the present one.
+    pub fn resume(&mut self, id: u64, view: SharedView, news: News)
         requires { length self.old.outbox.replies < REPLIES }
-        ensures { self.new ≡ resumes rev id view how self.old }
-    {
-        self.view = Some(view);
-        match how {
-            CatchUp::Nothing => {
-                self.reply(Reply::Resumed {
-                    id,
-                    how: How::Nothing,
-                });
-                self.outbox.clear();
-            }
-            CatchUp::Patch(patch) => {
-                self.reply(Reply::Resumed {
-                    id,
-                    how: How::Patch,
-                });
-                self.outbox.clear();
-                self.outbox.patch(rev, patch);
-            }
-            CatchUp::Snapshot => {
-                self.reply(Reply::Resumed {
-                    id,
-                    how: How::Snapshot,
-                });
-                self.outbox.fold();
-            }
-        }
-    }
-
-    /// Tells a watcher of the newest edit. Where memory is refused its line folds.
-    pub fn tell(&mut self, alloc: Global, room: &Room) -> Result<(), AllocError>
-        requires edited { 0 < revision room.now }
-        requires reaches { Reaches room.now.history (revision room.now - 1) }
+        ensures resumed { (rev : ℕ) (how : CatchUp) → news ≡ news_of rev how → self.new ≡ resumes rev id view how self.old }
         ensures number { self.new.number ≡ self.old.number }
-        ensures told { (d : Document) (changes : List Change) → changes ≡ changes_since (revision room.now - 1) room.now.history
-            → Leads d changes room.now.document → Told d changes room.now (is_err result) self.old self.new }
     {
-        let Some(view) = &self.view else {
-            return Ok(());
-        };
-        match room.catch_up(alloc, room.revision() - 1, view) {
-            Ok(CatchUp::Nothing) => Ok(()),
-            Ok(CatchUp::Patch(patch)) => {
-                self.outbox.patch(room.revision(), patch);
-                Ok(())
-            }
-            Err(CatchFault::NoMemory) => {
-                self.outbox.fold();
-                Err(AllocError)
-            }
-            Ok(CatchUp::Snapshot) | Err(CatchFault::Future) => unreachable!(),
+        self.reply(Reply::Resumed {
+            id,
+            how: news.word(),
+        });
+        self.outbox.clear();
+        self.view = Some(view);
+        self.hear(news);
+    }
+
+    /// Takes in what leads its view on: nothing, a patch that may wait in other lines too, or a snapshot in place of all patches. No
+    /// memory is taken.
+    pub fn hear(&mut self, news: News)
+        ensures { self.new ≡ with_line (heard news self.old.outbox) self.old }
+    {
+        match news {
+            News::Nothing => {}
+            News::Patch(posted) => self.outbox.patch(posted),
+            News::Snapshot => self.outbox.fold(),
         }
     }
 
-    /// The text at the front of the line, which leaves the line. A due snapshot is made of the present document. After
-    /// want of memory the message is still in line.
+    /// The text at the front of the line, which leaves the line: a patch's is copied, a reply's is written, and a due snapshot is made
+    /// of the present document. After want of memory the message is still in line.
     pub fn draw(&mut self, alloc: Global, room: &Room) -> Result<Option<String>, AllocError>
         ensures text { IfOk result (λ text. option_map string_bytes text ≡ option_map message_text (front_message room.now self.old)) }
         ensures ok { OnOk result (self.new ≡ drawn self.old) }
@@ -178,12 +143,12 @@ impl Session {
         match self.outbox.front() {
             Front::Nothing => Ok(None),
             Front::Reply(reply) => Ok(Some(reply.text(alloc)?)),
-            Front::Patch(rev, patch) => Ok(Some(patch_text(alloc, rev, patch)?)),
+            Front::Patch(posted) => Ok(Some(posted.text(alloc)?)),
             Front::Snapshot => match &self.view {
                 None => Ok(None),
                 Some(view) => {
-                    let shown = view.of(alloc, room.document())?;
-                    Ok(Some(snapshot_text(alloc, room.revision(), &shown)?))
+                    let (rev, document) = (room.revision(), room.document());
+                    Ok(Some(shown_text(alloc, rev, view.get(), document)?))
                 }
             },
         }

@@ -24,6 +24,11 @@ pub(crate) const EDIT: &str =
 pub(crate) const REFUSED: &str =
     r#"{"do":"edit","id":3,"patch":[{"op":"replace","path":"/x","value":2},{"op":"remove","path":"/y"}]}"#;
 
+const WATCH_Y: &str = r#"{"do":"watch","id":1,"view":["/y"]}"#;
+
+const EDIT_BOTH: &str =
+    r#"{"do":"edit","id":2,"patch":[{"op":"add","path":"","value":{"x":1,"y":2}}]}"#;
+
 /// One call of a hub; all but the first name a session.
 #[derive(Clone, Copy, Debug)]
 enum Call {
@@ -167,6 +172,47 @@ fn knows_no_session_that_was_closed(rt: HostRuntime) -> Result<(), Fail> {
             (Waiting(1), "None"),
             (MayHear(1), "false"),
             (Draw(1), "NoSession"),
+        ],
+    )
+}
+
+/// A hub with sessions 1, 3, 4 and 5 in one room: 4 watches `/y` and the others `/x`, and each drew its welcome, its reply and its
+/// snapshot.
+fn with_watchers(rt: &(impl Abort + AllocGlobal)) -> Result<Hub, Fail> {
+    let mut hub = Hub::new(rt.alloc(), 1, 1, 64, 32)?;
+    for number in 1..6 {
+        assert_eq!(rt; hub.open(rt.alloc(), "r"), Ok(number));
+    }
+    assert_eq!(rt; hub.close(2), Ok(()));
+    for (session, watch) in [(1, WATCH), (3, WATCH), (4, WATCH_Y), (5, WATCH)] {
+        let heard = hub.receive(rt.alloc(), session, watch);
+        assert_eq!(rt; heard, Ok(Heard::Answered { short: 0 }));
+        for _ in 0..3 {
+            let text = drawn(rt.alloc(), hub.draw(rt.alloc(), session))?;
+            assert!(rt; text.as_str() != "nothing");
+        }
+    }
+    Ok(hub)
+}
+
+#[test]
+fn tells_each_watcher_of_equal_and_other_views(rt: HostRuntime) -> Result<(), Fail> {
+    let mut hub = with_watchers(&rt)?;
+    let x = r#"{"kind":"patch","patch":[{"op":"replace","path":"/0","value":[1]}],"rev":1}"#;
+    let y = r#"{"kind":"patch","patch":[{"op":"replace","path":"/0","value":[2]}],"rev":1}"#;
+    tells(
+        &rt,
+        &mut hub,
+        &[
+            (Say(4, EDIT_BOTH), "Ok(Answered { short: 0 })"),
+            (Draw(1), x),
+            (Close(1), "Ok(())"),
+            (Draw(3), x),
+            (Draw(3), "nothing"),
+            (Draw(4), r#"{"id":2,"kind":"done","rev":1}"#),
+            (Draw(4), y),
+            (Draw(5), x),
+            (Waiting(5), "Some(0)"),
         ],
     )
 }

@@ -1,9 +1,10 @@
 //! Texts of requests and messages, as `docs/PROTOCOL.md` shows them.
 use relay_proto::{
     How, Message, MessageFault, REQUEST_MOST, Refusal, Reply, Request, RequestFault, Word,
-    is_room_name,
+    is_room_name, shown_text,
 };
 use relay_tree::read;
+use relay_view::View;
 use std::alloc::{AllocError, AllocGlobal, Global};
 use std::process::Abort;
 use std::test::Fail;
@@ -56,33 +57,6 @@ fn writes_each_reply(rt: HostRuntime) -> Result<(), Fail> {
             Reply::Done { id: 2, rev: 1 },
             r#"{"id":2,"kind":"done","rev":1}"#,
         ),
-        (
-            Reply::Refused {
-                id: Some(7),
-                fault: Word::TestFailed,
-                at: Some(2),
-                rev: None,
-            },
-            r#"{"at":2,"fault":"test-failed","id":7,"kind":"refused"}"#,
-        ),
-        (
-            Reply::Refused {
-                id: None,
-                fault: Word::NotJson,
-                at: None,
-                rev: None,
-            },
-            r#"{"at":null,"fault":"not-json","id":null,"kind":"refused"}"#,
-        ),
-        (
-            Reply::Refused {
-                id: Some(9),
-                fault: Word::Stale,
-                at: None,
-                rev: Some(2),
-            },
-            r#"{"at":null,"fault":"stale","id":9,"kind":"refused","rev":2}"#,
-        ),
         (Reply::Watching { id: 1 }, r#"{"id":1,"kind":"watching"}"#),
         (
             Reply::Resumed {
@@ -94,6 +68,39 @@ fn writes_each_reply(rt: HostRuntime) -> Result<(), Fail> {
         (Reply::Unwatched { id: 5 }, r#"{"id":5,"kind":"unwatched"}"#),
     ] {
         let text = text_of(rt.alloc(), reply)?;
+        assert_eq!(rt; text.as_str(), expected);
+    }
+    Ok(())
+}
+
+/// The revision stands only in a refusal that names one.
+#[test]
+fn writes_each_refusal(rt: HostRuntime) -> Result<(), Fail> {
+    for (id, fault, at, rev, expected) in [
+        (
+            Some(7),
+            Word::TestFailed,
+            Some(2),
+            None,
+            r#"{"at":2,"fault":"test-failed","id":7,"kind":"refused"}"#,
+        ),
+        (
+            None,
+            Word::NotJson,
+            None,
+            None,
+            r#"{"at":null,"fault":"not-json","id":null,"kind":"refused"}"#,
+        ),
+        (
+            Some(9),
+            Word::Stale,
+            None,
+            Some(2),
+            r#"{"at":null,"fault":"stale","id":9,"kind":"refused","rev":2}"#,
+        ),
+    ] {
+        let refused = Reply::Refused { id, fault, at, rev };
+        let text = text_of(rt.alloc(), refused)?;
         assert_eq!(rt; text.as_str(), expected);
     }
     Ok(())
@@ -126,6 +133,13 @@ fn writes_snapshots(rt: HostRuntime) -> Result<(), Fail> {
     assert_eq!(rt;
         text.as_str(),
         r#"{"kind":"snapshot","rev":1,"view":[[1],[]]}"#
+    );
+    let view = View::read(rt.alloc(), &read(rt.alloc(), r#"["/a","/b",{"size":""}]"#)?)?;
+    let document = read(rt.alloc(), r#"{"a":{"c":"\u0007\"é","b":[-1]}}"#)?;
+    let text = shown_text(rt.alloc(), 2, &view, &document)?;
+    assert_eq!(rt;
+        text.as_str(),
+        r#"{"kind":"snapshot","rev":2,"view":[[{"b":[-1],"c":"\u0007\"é"}],[],[1]]}"#
     );
     Ok(())
 }

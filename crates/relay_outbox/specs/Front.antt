@@ -4,8 +4,8 @@ use Rattle.relay_outbox.specs.declared.front.Front.{Front}
 use Rattle.relay_outbox.specs.declared.front.Front.TheVariants.{Reply, Patch, Snapshot, Nothing}
 
 -- what is lent, as plain data
-abbrev pub shown : {R : Type 0} → Front R → Foremost R
+abbrev pub shown : {R P : Type 0} → Front R P → Foremost R P
 shown (Reply r) = reply r.now
-shown (Patch rev p) = patch rev p.now
+shown (Patch p) = patch p.now
 shown Snapshot = snapshot
 shown Nothing = nothing

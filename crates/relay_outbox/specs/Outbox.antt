@@ -1,82 +1,81 @@
 -- What waits for a session, as contracts see an outbox.
 use Rattle.std.specs.Prelude.{◌≡◌, ℕ, ◌≤◌, Bool, true, false, List, [], ◌∷◌, ◌++◌, length, nat_lt, if◌then◌else◌, refl}
 use Rattle.std.specs.Coded.{Coded, code_by, coded×, coded_list, coded_ℕ, coded_bool}
-use Rattle.relay_patch.specs.declared.op.Op.{Op}
 use Rattle.relay_outbox.specs.declared.outbox.TheConstants.{REPLIES, MOST_PATCHES}
 
--- the replies, the patches, each with the revision that it leads to, whether a snapshot is due, and how many patches may wait
-pub record Line (R : Type 0) : Type 0 where
+-- the replies, the patches, whether a snapshot is due, and how many patches may wait
+pub record Line (R P : Type 0) : Type 0 where
   pub replies : List R
-  pub patches : List (ℕ × List Op)
+  pub patches : List P
   pub due : Bool
   pub limit : ℕ
 
 -- what stands at the front of a line
-pub data Foremost (R : Type 0) : Type 0 where
-  reply : R → Foremost R
-  patch : ℕ → List Op → Foremost R
-  snapshot : Foremost R
-  nothing : Foremost R
+pub data Foremost (R P : Type 0) : Type 0 where
+  reply : R → Foremost R P
+  patch : P → Foremost R P
+  snapshot : Foremost R P
+  nothing : Foremost R P
 
-module _ {R : Type 0} where
+module _ {R P : Type 0} where
   -- a line of these parts
-  abbrev pub line : List R → List (ℕ × List Op) → Bool → ℕ → Line R
+  abbrev pub line : List R → List P → Bool → ℕ → Line R P
   line replies patches due limit = record { replies = replies; patches = patches; due = due; limit = limit }
 
   -- what holds of each outbox: no more wait than may, and patches and a due snapshot never wait together
-  pub record IsOutbox (o : Line R) : Type 0 where
+  pub record IsOutbox (o : Line R P) : Type 0 where
     pub replies : length o.replies ≤ REPLIES
     pub patches : length o.patches ≤ o.limit
     pub limited : (1 ≤ o.limit) × (o.limit ≤ MOST_PATCHES)
     pub either : o.due ≡ true → o.patches ≡ []
 
   -- nothing waits
-  abbrev pub empty : ℕ → Line R
+  abbrev pub empty : ℕ → Line R P
   empty limit = line [] [] false limit
 
   -- a reply waits behind the other replies
-  abbrev pub with_reply : R → Line R → Line R
+  abbrev pub with_reply : R → Line R P → Line R P
   with_reply r o = line (o.replies ++ r ∷ []) o.patches o.due o.limit
 
   -- the patches go, and a snapshot is due
-  abbrev pub folded : Line R → Line R
+  abbrev pub folded : Line R P → Line R P
   folded o = line o.replies [] true o.limit
 
   -- the patches go, and none is due
-  abbrev pub cleared : Line R → Line R
+  abbrev pub cleared : Line R P → Line R P
   cleared o = line o.replies [] false o.limit
 
   -- a due snapshot tells of the patch too; else the patch waits behind the others, or they fold where no more may wait
-  abbrev pub with_patch : ℕ → List Op → Line R → Line R
-  with_patch rev ops o =
+  abbrev pub with_patch : P → Line R P → Line R P
+  with_patch p o =
       if o.due then o else
-      (if nat_lt (length o.patches) o.limit then line o.replies (o.patches ++ (rev, ops) ∷ []) o.due o.limit else folded o)
+      (if nat_lt (length o.patches) o.limit then line o.replies (o.patches ++ p ∷ []) o.due o.limit else folded o)
 
   -- of replies, patches and whether a snapshot is due, what comes first
-  abbrev pub first_of : List R → List (ℕ × List Op) → Bool → Foremost R
+  abbrev pub first_of : List R → List P → Bool → Foremost R P
   first_of (r ∷ replies) patches due = reply r
-  first_of [] (p ∷ patches) due = patch p.0 p.1
+  first_of [] (p ∷ patches) due = patch p
   first_of [] [] true = snapshot
   first_of [] [] false = nothing
 
   -- what is drawn next: the first reply, else the first patch, else the due snapshot
-  abbrev pub front_of : Line R → Foremost R
+  abbrev pub front_of : Line R P → Foremost R P
   front_of o = first_of o.replies o.patches o.due
 
   -- the line of what comes behind
-  abbrev pub rest_of : List R → List (ℕ × List Op) → Bool → ℕ → Line R
+  abbrev pub rest_of : List R → List P → Bool → ℕ → Line R P
   rest_of (r ∷ replies) patches due limit = line replies patches due limit
   rest_of [] (p ∷ patches) due limit = line [] patches due limit
   rest_of [] [] due limit = line [] [] false limit
 
   -- the line once its front is drawn
-  abbrev pub without_front : Line R → Line R
+  abbrev pub without_front : Line R P → Line R P
   without_front o = rest_of o.replies o.patches o.due o.limit
 
   -- how the logic stores a line
-  abbrev pub line_code : Coded R → Coded Op → Coded (Line R)
-  line_code r op = code_by (List R × (List (ℕ × List Op) × (Bool × ℕ)))
-      (coded× (coded_list r) (coded× (coded_list (coded× coded_ℕ (coded_list op))) (coded× coded_bool coded_ℕ)))
+  abbrev pub line_code : Coded R → Coded P → Coded (Line R P)
+  line_code r p = code_by (List R × (List P × (Bool × ℕ)))
+      (coded× (coded_list r) (coded× (coded_list p) (coded× coded_bool coded_ℕ)))
       (λ o. (o.replies, (o.patches, (o.due, o.limit))))
       (λ p. line p.0 p.1.0 p.1.1.0 p.1.1.1)
       (λ _. refl)

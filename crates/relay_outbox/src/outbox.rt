@@ -4,7 +4,6 @@ use crate::busy::Busy;
 use crate::fault::OutboxFault;
 use crate::front::Front;
 use circular_buffer::HeapCircularBuffer;
-use relay_patch::Patch;
 use std::alloc::Global;
 use std::marker::Model;
 
@@ -14,24 +13,23 @@ pub const REPLIES: u64 = 32;
 /// The most patches that an outbox may be asked to hold.
 pub const MOST_PATCHES: u64 = 256;
 
-/// What waits for one session. Contracts see it as a `Line`: its replies, its patches with the revision that each leads to,
-/// whether a snapshot is due, and how many patches may wait.
+/// What waits for one session: replies `R` and patches `P`, each patch as its session's hub keeps it. Contracts see it as a `Line`:
+/// its replies, its patches, whether a snapshot is due, and how many patches may wait.
 #[derive(Drop)]
-pub struct Outbox<R> {
+pub struct Outbox<R, P> {
     replies: HeapCircularBuffer<R>,
-    patches: HeapCircularBuffer<(u64, Patch)>,
+    patches: HeapCircularBuffer<P>,
     due: bool,
 }
 
-impl<R> Model for Outbox<R> {
+impl<R, P> Model for Outbox<R, P> {
     ghost use Rattle.std.specs.Prelude.{◌≡◌};
-    ghost use Rattle.relay_patch.specs.contracts.op.Op as op;
     ghost use Rattle.relay_outbox.specs.Outbox.{Line, IsOutbox, line_code};
     ghost use Rattle.relay_outbox.specs.declared.outbox.TheConstants.{REPLIES};
 
-    ghost Value = { Line R };
+    ghost Value = { Line R P };
 
-    ghost coded = { line_code R.code op.the_row.coded };
+    ghost coded = { line_code R.code P.code };
 
     ghost use Rattle.relay_outbox.specs.Kept.{line_of};
 
@@ -40,14 +38,14 @@ impl<R> Model for Outbox<R> {
     ghost invariant = { λ o. (o.replies.capacity ≡ REPLIES) × IsOutbox (line_of o) };
 }
 
-impl<R: Drop> Outbox<R> {
+impl<R: Drop, P: Drop> Outbox<R, P> {
     ghost use Rattle.std.specs.Prelude.{◌≡◌, ◌<◌, ◌≤◌, ◌↔◌, ◌⊎◌, IfOk, IfErr, OnOk, OnErr, IsErr, IsErrOf, length};
     ghost use Rattle.relay_outbox.specs.Outbox.{IsOutbox, empty, with_reply, with_patch, folded, cleared, front_of, without_front};
     ghost use Rattle.relay_outbox.specs.Front.{shown};
 
     /// An empty outbox in which at most `limit` patches may wait.
     /// BadLimit: `limit` is not 1 to [`MOST_PATCHES`].
-    pub fn new(alloc: Global, limit: u64) -> Result<Outbox<R>, OutboxFault>
+    pub fn new(alloc: Global, limit: u64) -> Result<Outbox<R, P>, OutboxFault>
         ensures ok { IfOk result (λ outbox. outbox ≡ empty limit) }
         ensures bad_limit { IsErrOf result OutboxFault.BadLimit ↔ ((limit < 1) ⊎ (MOST_PATCHES < limit)) }
     {
@@ -73,12 +71,12 @@ impl<R: Drop> Outbox<R> {
         self.replies.try_push_back(reply).map_err(Busy)
     }
 
-    /// Puts a patch, with the revision that it leads to, behind the others. Where `limit` wait already they fold, and where a
-    /// snapshot is due nothing changes, since it will say what the patch says. No memory is taken.
-    pub fn patch(&mut self, rev: u64, patch: Patch)
-        ensures { self.new ≡ with_patch rev patch self.old }
+    /// Puts a patch behind the others. Where `limit` wait already they fold, and where a snapshot is due nothing changes, since it
+    /// will say what the patch says. No memory is taken.
+    pub fn patch(&mut self, patch: P)
+        ensures { self.new ≡ with_patch patch self.old }
     {
-        if !self.due && self.patches.try_push_back((rev, patch)).is_err() {
+        if !self.due && self.patches.try_push_back(patch).is_err() {
             self.fold();
         }
     }
@@ -100,14 +98,14 @@ impl<R: Drop> Outbox<R> {
     }
 
     /// What is drawn next: the first reply, else the first patch, else the due snapshot. No memory is taken.
-    pub fn front(&self) -> Front<'_, R>
+    pub fn front(&self) -> Front<'_, R, P>
         ensures { shown result ≡ front_of self.now }
     {
         if let Some(reply) = self.replies.front() {
             return Front::Reply(reply);
         }
-        if let Some((rev, patch)) = self.patches.front() {
-            return Front::Patch(*rev, patch);
+        if let Some(patch) = self.patches.front() {
+            return Front::Patch(patch);
         }
         if self.due {
             Front::Snapshot

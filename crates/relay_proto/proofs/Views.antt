@@ -1,19 +1,17 @@
--- The texts of the messages that bring a view up to date.
-use Rattle.std.proofs.Common.{◌≡◌, ℕ, List, ◌++◌, refl}
-use Rattle.std.specs.Prelude.{codes, decimal}
-use Rattle.json.specs.Print.{escape_byte}
+-- The tokens of the messages that bring a view up to date, as they are written one after the other.
+use Rattle.std.proofs.Common.{◌≡◌, ℕ, List, [], ◌∷◌, ◌++◌, codes, decimal, append_assoc}
+use Rattle.json.specs.Token.{Token, begin_object, end_object, key, string, number}
 use Rattle.relay_tree.specs.Document.{Document}
-use Rattle.relay_tree.specs.Text.{text_of}
+use Rattle.relay_tree.specs.Text.{tokens_of}
 use Rattle.relay_patch.specs.Form.{patch_document}
 use Rattle.relay_patch.specs.declared.op.Op.{Op}
 use Rattle.relay_proto.specs.Message.{patch_message, snapshot_message}
 
-pub patch_spelled : {p : List ℕ} (rev : ℕ) (ops : List Op) → p ≡ text_of (patch_document ops)
-    → codes "{\"kind\":\"patch\",\"patch\":" ++ (p ++ (codes ",\"rev\":" ++ (decimal rev ++ codes "}"))) ≡ text_of (patch_message rev ops)
-unfolding escape_byte
-patch_spelled rev ops p = rw p refl
+pub patch_written : {a b c d e : List Token} (rev : ℕ) (ops : List Op) → a ≡ begin_object ∷ key (codes "kind") ∷ string (codes "patch") ∷ [] → b ≡ a ++ key (codes "patch") ∷ []
+    → c ≡ b ++ tokens_of (patch_document ops) → d ≡ c ++ key (codes "rev") ∷ [] → e ≡ d ++ number (decimal rev) ∷ [] → e ++ end_object ∷ [] ≡ tokens_of (patch_message rev ops)
+patch_written rev ops a b c d e = rw (e, d, c, b, a) (simp append_assoc)
 
-pub snapshot_spelled : {v : List ℕ} (rev : ℕ) (view : Document) → v ≡ text_of view
-    → codes "{\"kind\":\"snapshot\",\"rev\":" ++ (decimal rev ++ (codes ",\"view\":" ++ (v ++ codes "}"))) ≡ text_of (snapshot_message rev view)
-unfolding escape_byte
-snapshot_spelled rev view v = rw v refl
+pub snapshot_written : {a b : List Token} (rev : ℕ) (view : Document)
+    → a ≡ begin_object ∷ key (codes "kind") ∷ string (codes "snapshot") ∷ key (codes "rev") ∷ number (decimal rev) ∷ key (codes "view") ∷ [] → b ≡ a ++ tokens_of view
+    → b ++ end_object ∷ [] ≡ tokens_of (snapshot_message rev view)
+snapshot_written rev view a b = rw (b, a) (simp append_assoc)

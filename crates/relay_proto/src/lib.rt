@@ -13,6 +13,7 @@ mod reply;
 mod request;
 mod room_name;
 mod text;
+mod updates;
 mod word;
 
 pub use message::Message;
@@ -22,5 +23,5 @@ pub use refusal::{Refusal, RequestFault};
 pub use reply::{How, Reply};
 pub use request::Request;
 pub use room_name::{NAME_MOST, is_room_name};
-pub use text::{patch_text, snapshot_text};
+pub use updates::{patch_text, shown_text, snapshot_text};
 pub use word::Word;

@@ -1,7 +1,7 @@
 //! Messages as texts: compact JSON, member names in byte order.
 ghost use Rattle.std.specs.Prelude.{◌≡◌, Some, IfOk, string_bytes};
 ghost use Rattle.relay_tree.specs.Text.{text_of};
-ghost use Rattle.relay_proto.specs.Message.{reply_document, count_or_null, patch_message, snapshot_message, message_document};
+ghost use Rattle.relay_proto.specs.Message.{reply_document, count_or_null, message_document};
 ghost use Rattle.relay_proto.specs.MessageRead.{message_of_text};
 ghost use Rattle.relay_proto.specs.Written.{HasCounts, IsWritable};
 ghost use Rattle.relay_proto.specs.declared.message.Message.TheVariants as message;
@@ -9,9 +9,8 @@ ghost use Rattle.relay_proto.specs.declared.reply.Reply.TheVariants as reply;
 
 use crate::message::Message;
 use crate::reply::Reply;
+use crate::updates::{patch_text, snapshot_text};
 use crate::word::Word;
-use relay_patch::Patch;
-use relay_tree::Tree;
 use std::alloc::{AllocError, Global};
 
 impl Reply {
@@ -73,27 +72,6 @@ fn count_text(alloc: Global, count: Option<u64>) -> Result<String, AllocError>
         Some(count) => count.to_string(alloc),
         None => String::from_str(alloc, "null"),
     }
-}
-
-/// The text of a patch message: the operations that lead a view to that of the revision. It costs a copy of the patch.
-/// It reads back as the message, where the revision is a count, paths have at most 66 tokens and the text nests at most 127
-/// containers.
-pub fn patch_text(alloc: Global, rev: u64, patch: &Patch) -> Result<String, AllocError>
-    ensures text { IfOk result (λ text. string_bytes text ≡ text_of (patch_message rev patch.now)) }
-    ensures reads_back { IfOk result (λ text. IsWritable (message.Patch rev patch.now) → message_of_text (string_bytes text) ≡ Some (message.Patch rev patch.now)) }
-{
-    let patch = patch.to_tree(alloc)?.text(alloc)?;
-    format!(in alloc; "{{\"kind\":\"patch\",\"patch\":{patch},\"rev\":{rev}}}")
-}
-
-/// The text of a snapshot: the whole view of the revision. It reads back as the message, where the revision is a count, the
-/// view is a list of slots and the text nests at most 127 containers.
-pub fn snapshot_text(alloc: Global, rev: u64, view: &Tree) -> Result<String, AllocError>
-    ensures text { IfOk result (λ text. string_bytes text ≡ text_of (snapshot_message rev view.now)) }
-    ensures reads_back { IfOk result (λ text. IsWritable (message.Snapshot rev view.now) → message_of_text (string_bytes text) ≡ Some (message.Snapshot rev view.now)) }
-{
-    let view = view.text(alloc)?;
-    format!(in alloc; "{{\"kind\":\"snapshot\",\"rev\":{rev},\"view\":{view}}}")
 }
 
 impl Message {

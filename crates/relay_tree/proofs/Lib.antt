@@ -7,5 +7,6 @@ pub mod Sizes
 pub mod Equal
 pub mod Parts
 pub mod Texts
+pub mod Writing
 pub mod ReadLemmas
 pub mod Each

@@ -1,9 +1,11 @@
--- A document as the data that `serde_json` reads and writes.
-use Rattle.std.specs.Prelude.{◌≡◌, ◌≢◌, ℕ, List, [], ◌∷◌, Option, Some, None, option_map, option_and_then}
+-- A document as the data that `serde_json` reads, and as the tokens that are written of it.
+use Rattle.std.specs.Prelude.{◌≡◌, ◌≢◌, ℕ, List, Option, Some, None, option_map, option_and_then}
+use Rattle.json.specs.Token.{Token}
+use Rattle.json.specs.Tree.{json_tokens}
 use Rattle.serde_json.specs.Data as json_data
 use Rattle.serde_json.specs.Find.{of_integer, as_i64}
 use Rattle.serde_json.specs.Read as json
-use Rattle.serde_json.specs.Written.{compact_text}
+use Rattle.serde_json.specs.Written.{outline, compact_text}
 use Rattle.relay_tree.specs.Document.{Document, null, truth, whole, text, list, object, Items, no_items, item, Members, no_members, member}
 
 abbrev mutual
@@ -53,10 +55,11 @@ IsNumberFault s = (json.read s ≢ None) × (tree_of_text s ≡ None)
 abbrev pub text_of : Document → List ℕ
 text_of d = compact_text (data_of d)
 
--- the data of the document is read as the document
-abbrev pub ReadsBack : Document → Type 0
-ReadsBack d = tree_of (data_of d) ≡ Some d
+-- the tokens of that text
+abbrev pub tokens_of : Document → List Token
+tokens_of d = json_tokens (outline (data_of d))
 
-abbrev pub EachReadsBack : List Document → Type 0
-EachReadsBack [] = Unit {0}
-EachReadsBack (d ∷ ds) = ReadsBack d × EachReadsBack ds
+-- these tokens are read as the document
+pub record ReadsBack (d : Document) : Type 0 where
+  pub written : json.of_json (outline (data_of d)) ≡ Some (data_of d)
+  pub read : tree_of (data_of d) ≡ Some d

@@ -15,8 +15,10 @@ mod reading;
 mod same;
 mod text;
 mod tree;
+mod write;
 
 pub use count::COUNT_MOST;
 pub use member::insert_member;
 pub use reading::{TreeFault, read};
+pub use text::{begin_text, end_text};
 pub use tree::{Node, Tree};

@@ -1,67 +1,47 @@
-//! JSON texts of trees (RFC 8259), through `serde_json`.
-ghost use Rattle.std.specs.Prelude.{◌≡◌, ◌≤◌, Some, IfOk, OnOk, string_bytes};
-ghost use Rattle.std.specs.Map.{values_of};
+//! JSON texts of trees (RFC 8259).
+ghost use Rattle.std.specs.Prelude.{◌≡◌, ◌≤◌, Some, [], IfOk, string_bytes};
+ghost use Rattle.json.specs.Lex.{tokens};
+ghost use Rattle.json.specs.Print.{print};
 ghost use Rattle.serde_json.specs.Data.{depth as json_depth};
 ghost use Rattle.serde_json.specs.Read.{max_depth};
-ghost use Rattle.serde_json.specs.View.{view, items_view, members_view};
-ghost use Rattle.relay_tree.specs.Document.{items_of};
-ghost use Rattle.relay_tree.specs.Seen.{members_of};
-ghost use Rattle.relay_tree.specs.Text.{data_of, items_data, members_data, text_of, tree_of_text, ReadsBack, EachReadsBack};
+ghost use Rattle.relay_tree.specs.Text.{data_of, text_of, tree_of_text};
 
-use crate::tree::{Node, Tree};
-use serde_json::{Map, Number, Value};
+use crate::tree::Tree;
+use json::Writer;
 use std::alloc::{AllocError, Global};
-use std::collections::BTreeMap;
+
+/// How many bytes a text has room for before it first grows.
+const FIRST_ROOM: usize = 128;
 
 impl Tree {
     /// The compact text: no white space, member names in byte order, whole numbers in decimal.
-    /// A tree that nests at most 127 containers reads back from it as itself.
+    /// A tree that nests at most 127 containers reads back from it as itself. It costs that one text, and copies nothing.
     pub fn text(&self, alloc: Global) -> Result<String, AllocError>
         ensures text { IfOk result (λ text. string_bytes text ≡ text_of self.now) }
         ensures reads_back { IfOk result (λ text. json_depth (data_of self.now) ≤ max_depth → tree_of_text (string_bytes text) ≡ Some self.now) }
     {
-        value_of(alloc, self)?.to_string(alloc)
+        let mut out = begin_text(alloc)?;
+        self.write(&mut out)?;
+        Ok(end_text(out))
     }
 }
 
-#[cycle(value)]
-#[tactic(auto, using(crate::proofs::Texts::whole_back, crate::proofs::Texts::list_back, crate::proofs::Texts::object_back))]
-fn value_of(alloc: Global, tree: &Tree) -> Result<Value, AllocError>
-    ensures data { IfOk result (λ value. view value ≡ data_of tree.now) }
-    ensures back { OnOk result (ReadsBack tree.now) }
+/// A writer that has written nothing.
+pub fn begin_text(alloc: Global) -> Result<Writer, AllocError>
+    ensures before { IfOk result (λ out. out.before ≡ []) }
+    ensures tokens { IfOk result (λ out. out.tokens ≡ []) }
 {
-    match &tree.node {
-        Node::Null => Ok(Value::Null),
-        Node::Truth(truth) => Ok(Value::Bool(*truth)),
-        Node::Whole(number) => Ok(Value::Number(Number::from(*number))),
-        Node::Text(text) => Ok(Value::String(text.clone()?)),
-        Node::List(items) => Ok(Value::Array(list_of(alloc, items)?)),
-        Node::Members(members) => Ok(Value::Object(map_of(alloc, members)?)),
-    }
+    Ok(Writer::new(Vec::with_capacity(alloc, FIRST_ROOM)?))
 }
 
-#[cycle(value)]
-#[tactic(auto, using(crate::proofs::Weights::item_weighs, crate::proofs::Texts::items_data_of, crate::proofs::Texts::each_reads_more))]
-fn list_of(alloc: Global, items: &Vec<Tree>) -> Result<Vec<Value>, AllocError>
-    ensures data { IfOk result (λ values. items_view values.items ≡ items_data (items_of items.now.items)) }
-    ensures back { OnOk result (EachReadsBack items.now.items) }
+/// The text that was written, by a writer that began with nothing. No memory is taken.
+pub fn end_text(out: Writer) -> String
+    requires { out.before ≡ [] }
+    ensures text { string_bytes result ≡ print out.tokens }
+    ensures reads_back { tokens (string_bytes result) ≡ out.tokens }
 {
-    let mut values = Vec::with_capacity(alloc, items.len())?;
-    for item in items {
-        values.push(value_of(alloc, item)?)?;
-    }
-    Ok(values)
-}
-
-#[cycle(value)]
-fn map_of(alloc: Global, members: &BTreeMap<String, Tree>) -> Result<Map<String, Value>, AllocError>
-    ensures data { IfOk result (λ map. members_view map.entries ≡ members_data (members_of members.now.entries)) }
-    ensures back { OnOk result (EachReadsBack (values_of members.now.entries)) }
-{
-    let mut map = Map::new(alloc);
-    for (name, member) in members.iter() {
-        let name = name.clone()?;
-        drop(map.insert(name, value_of(alloc, member)?)?);
-    }
-    Ok(map)
+    let Ok(text) = String::from_utf8(out.into_inner()) else {
+        unreachable!()
+    };
+    text
 }

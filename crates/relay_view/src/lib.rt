@@ -8,8 +8,10 @@
 mod fault;
 mod of;
 mod read;
+mod same;
 mod slot;
 mod view;
+mod write;
 
 pub use fault::ViewFault;
 pub use slot::{Slot, SlotKind};

@@ -1,8 +1,11 @@
 //! One slot of a view: a pointer, and what is shown of the value to which it leads.
-ghost use Rattle.std.specs.Prelude.{◌≡◌, ◌-◌, ◌^◌, min, pos, option_map, option_and_then, IfOk};
+ghost use Rattle.std.specs.Prelude.{◌≡◌, ◌-◌, ◌^◌, ◌++◌, min, pos, option_map, option_and_then, IfOk, OnOk};
+ghost use Rattle.relay_tree.specs.Text.{tokens_of, ReadsBack};
 ghost use Rattle.relay_pointer.specs.Path.{at};
 ghost use Rattle.relay_view.specs.View.{counted, shown, size, slot};
+ghost use Rattle.relay_view.specs.Written.{shown_tokens};
 
+use json::Writer;
 use relay_pointer::{Pointer, resolve};
 use relay_tree::{Node, Tree};
 use std::alloc::{AllocError, Global};
@@ -45,6 +48,34 @@ impl Slot {
         match self.kind {
             SlotKind::Value => Ok(Some(part.copy(alloc)?)),
             SlotKind::Size => Ok(size_tree(part)),
+        }
+    }
+
+    /// Writes what the slot shows of a document after what was written, with no copy of it.
+    pub(crate) fn write(&self, document: &Tree, out: &mut Writer) -> Result<(), AllocError>
+        ensures tokens { OnOk result (out.new.tokens ≡ out.old.tokens ++ tokens_of (slot self.now document.now)) }
+        ensures before { out.new.before ≡ out.old.before }
+        ensures reads_back { OnOk result (ReadsBack (slot self.now document.now)) }
+    {
+        out.begin_array()?;
+        self.write_value(document, out)?;
+        out.end_array()
+    }
+
+    fn write_value(&self, document: &Tree, out: &mut Writer) -> Result<(), AllocError>
+        ensures tokens { OnOk result (out.new.tokens ≡ out.old.tokens ++ shown_tokens (option_and_then (shown self.now.kind) (at document.now self.now.pointer))) }
+        ensures before { out.new.before ≡ out.old.before }
+        ensures reads_back { OnOk result (ReadsBack (slot self.now document.now)) }
+    {
+        let Some(part) = resolve(document, &self.pointer) else {
+            return Ok(());
+        };
+        match self.kind {
+            SlotKind::Value => part.write(out),
+            SlotKind::Size => match size_tree(part) {
+                Some(size) => size.write(out),
+                None => Ok(()),
+            },
         }
     }
 }

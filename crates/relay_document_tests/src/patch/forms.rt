@@ -1,5 +1,6 @@
 use crate::shared::{gives, is, pointer_of, text_of, tree_of};
 use relay_patch::{Bounds, Op, Patch, PatchFault, PatchLimits, apply};
+use relay_tree::{begin_text, end_text};
 use std::alloc::AllocGlobal;
 use std::process::Abort;
 
@@ -47,7 +48,16 @@ fn refuses_what_is_no_patch(rt: HostRuntime) {
 fn rewritten(rt: &(impl Abort + AllocGlobal), text: &str, limits: PatchLimits) -> String {
     let patch = Patch::from_tree(rt.alloc(), &tree_of(rt, text), limits).expect(rt, "a patch");
     let tree = patch.to_tree(rt.alloc()).expect(rt, "memory");
-    text_of(rt, &tree)
+    let through_a_tree = text_of(rt, &tree);
+    gives(rt, written(rt, &patch), through_a_tree.as_str(), text);
+    through_a_tree
+}
+
+// The text of a patch, written from its operations themselves.
+fn written(rt: &(impl Abort + AllocGlobal), patch: &Patch) -> String {
+    let mut out = begin_text(rt.alloc()).expect(rt, "memory");
+    patch.write(rt.alloc(), &mut out).expect(rt, "memory");
+    end_text(out)
 }
 
 fn writes(rt: &(impl Abort + AllocGlobal), rows: &[(&str, &str)]) {

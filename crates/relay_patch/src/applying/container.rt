@@ -23,7 +23,7 @@ pub(crate) fn insert_child(
     match &mut container.node {
         Node::List(items) => insert_item(items, token, value),
         Node::Members(members) => insert_member(alloc, members, token, value),
-        _ => Ok(()),
+        _ => unreachable!(),
     }
 }
 
@@ -34,7 +34,7 @@ fn insert_item(items: &mut Vec<Tree>, token: &str, value: Tree) -> Result<(), Al
 {
     match insertion_index(items.len(), token) {
         Ok(index) => Ok(items.insert(index, value)?),
-        Err(_) => Ok(()),
+        Err(_) => unreachable!(),
     }
 }
 
@@ -47,7 +47,7 @@ pub(crate) fn drop_child(container: &mut Tree, token: &str) -> Tree
     match &mut container.node {
         Node::List(items) => drop_item(items, token),
         Node::Members(members) => members.remove(token).unwrap(),
-        _ => Tree::from(Node::Null),
+        _ => unreachable!(),
     }
 }
 

@@ -19,7 +19,7 @@ use super::undo::{Kept, brought};
 use super::walk::walk;
 use crate::change::{Change, Place};
 use relay_pointer::{Pointer, copy_tokens, index_of};
-use relay_tree::{Node, Tree};
+use relay_tree::Tree;
 use std::alloc::{AllocError, Global};
 
 /// Makes a change that is kept. Where memory is refused, what is kept takes back what has been done of it.
@@ -139,7 +139,7 @@ fn take_item(
     ensures back { taken_back tree.new kept.new.items ≡ taken_back tree.old kept.old.items }
 {
     let [before @ .., last] = path else {
-        return Ok(());
+        unreachable!()
     };
     let list = Pointer::from_tokens(copy_tokens(alloc, before)?);
     let room = Vec::with_capacity(alloc, length_at(tree, before))?;
@@ -188,7 +188,7 @@ fn take_member(
     ensures back { taken_back tree.new kept.new.items ≡ taken_back tree.old kept.old.items }
 {
     let [before @ .., last] = path else {
-        return Ok(());
+        unreachable!()
     };
     let path = Pointer::from_tokens(copy_tokens(alloc, before)?);
     let rest = copy_without(alloc, tree, before, last.as_str())?;
@@ -208,12 +208,10 @@ fn copy_without(
     requires { IsOk (then_do (walk tree.now (path_of path.now)) (drop_child token.now)) }
     ensures { IfOk result (λ rest. then_do (walk tree.now (path_of path.now)) (drop_child token.now) ≡ Ok rest) }
 {
-    match walk(tree, path) {
-        Ok(container) => {
-            let mut rest = container.copy(alloc)?;
-            drop(drop_child(&mut rest, token));
-            Ok(rest)
-        }
-        Err(_) => Ok(Tree::from(Node::Null)),
-    }
+    let Ok(container) = walk(tree, path) else {
+        unreachable!()
+    };
+    let mut rest = container.copy(alloc)?;
+    drop(drop_child(&mut rest, token));
+    Ok(rest)
 }

@@ -12,7 +12,7 @@ use super::exchange::exchange;
 use super::sliding::slide;
 use crate::change::{Change, Place};
 use relay_pointer::{child_mut, resolve};
-use relay_tree::{Node, Tree};
+use relay_tree::Tree;
 use std::alloc::{AllocError, Global};
 
 /// Makes a change that carries nothing, and gives what went with it. Want of memory leaves the tree as it was.
@@ -112,7 +112,7 @@ pub(crate) fn remove_at(tree: &mut Tree, path: &[String]) -> Tree
     ensures rest { at_path drop_child (path_of path.now) tree.old ≡ Ok tree.new }
 {
     let [token, rest @ ..] = path else {
-        return Tree::from(Node::Null);
+        unreachable!()
     };
     if rest.is_empty() {
         return drop_child(tree, token.as_str());

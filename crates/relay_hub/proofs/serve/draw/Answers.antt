@@ -1,5 +1,7 @@
-use Rattle.std.proofs.Common.{refl, get_or}
+use Rattle.std.proofs.Common.{refl, ap, get_or}
+use Rattle.relay_hub.proofs.Rising.{numbers_set}
 use Rattle.relay_hub.proofs.Sessions.{set_changes, found_at}
+use Rattle.relay_hub.specs.declared.session.Session.{Session}
 use Rattle.relay_hub.specs.Session.{drawn}
 use Rattle.relay_hub.proofs.serve.draw.Goals as goal
 
@@ -17,3 +19,8 @@ pub returns-in-Err-clause-no_memory : goal.returns-in-Err-clause-no_memory
 returns-in-Err-clause-no_memory c =
     let z = c.index-sessions-place.result in
     λ e. rw (found_at c.args.sessions.now c.args.number c.place_in-place.result c.place_in-place.ensures z) c.in-Err.ensures.no_memory
+
+pub returns-in-Ok-clause-numbers : goal.returns-in-Ok-clause-numbers
+returns-in-Ok-clause-numbers c =
+    let z = c.index-sessions-place.result in
+    numbers_set c.args.sessions.now c.place_in-place.result c.draw.new.self z (ap (λ (x : Session). x.number) c.in-Ok.ensures.ok)

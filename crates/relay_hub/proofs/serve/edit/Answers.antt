@@ -8,7 +8,7 @@ use Rattle.relay_hub.proofs.serve.edit.Goals as goal
 
 pub tell_touched-requires-clause-indexed : goal.tell_touched-requires-clause-indexed
 tell_touched-requires-clause-indexed c =
-    changed_same c.args.sessions.now c.reply_at.new.sessions c.args.number c.args.place c.requires.place (replied (Done c.args.id c.in-Ok.rev)) c.reply_at.ensures
+    changed_same c.args.sessions.now c.reply_at.new.sessions c.args.number c.args.place c.requires.place (replied (Done c.args.id c.in-Ok.rev)) c.reply_at.ensures.changes c.reply_at.ensures.numbers
     c.args.watches.now c.requires.indexed (λ x. refl)
 
 pub returns-in-Ok-clause-indexed : goal.returns-in-Ok-clause-indexed
@@ -19,10 +19,10 @@ returns-in-Ok-clause-indexed c =
     let led = c.in-Ok.ensures.kept.led before reaches in
     told_indexed led.0 (changes_since before room.history) room c.reply_at.new.sessions c.tell_touched.new.sessions c.tell_touched.result
     (c.tell_touched.ensures led.0 (changes_since before room.history) refl led.1) c.args.watches.now
-    (changed_same c.args.sessions.now c.reply_at.new.sessions c.args.number c.args.place c.requires.place (replied (Done c.args.id c.in-Ok.rev)) c.reply_at.ensures
+    (changed_same c.args.sessions.now c.reply_at.new.sessions c.args.number c.args.place c.requires.place (replied (Done c.args.id c.in-Ok.rev)) c.reply_at.ensures.changes c.reply_at.ensures.numbers
     c.args.watches.now c.requires.indexed (λ x. refl))
 
 pub returns-in-Some-clause-indexed : goal.returns-in-Some-clause-indexed
 returns-in-Some-clause-indexed c =
-    changed_same c.args.sessions.now c.reply_at-in-Err.new.sessions c.args.number c.args.place c.requires.place (replied c.in-Some.reply) c.reply_at-in-Err.ensures
+    changed_same c.args.sessions.now c.reply_at-in-Err.new.sessions c.args.number c.args.place c.requires.place (replied c.in-Some.reply) c.reply_at-in-Err.ensures.changes c.reply_at-in-Err.ensures.numbers
     c.args.watches.now c.requires.indexed (λ x. refl)

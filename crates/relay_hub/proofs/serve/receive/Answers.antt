@@ -27,7 +27,7 @@ returns-in-Ok-served-clause-step c =
           let said = rw w.in-Err-Refused.field-0-is at w.reply.ensures in
           answered c.args.epoch s place c.in-Ok-served.short c.args.text.now (Err w.in-Err-Refused.refusal) old new at c.if-is_full.ensures
           (rw w.in-Err-Refused.field-0-is at w.in-Err-Refused.ensures.refused)
-          (rw (w.room-is, w.sessions-is) (λ x e. (none, (refl, rw said at (w.reply_at.ensures x e)))))
+          (rw (w.room-is, w.sessions-is) (λ x e. (none, (refl, rw said at (w.reply_at.ensures.changes x e)))))
       | in-Err-NoMemory w ↦ absurd (cc (w.served-is, c.in-Ok-served.is))
     ]
 
@@ -36,7 +36,7 @@ returns-in-Ok-served-clause-indexed c =
     elim c.match-read.branch [
       | in-Ok w ↦ rw (w.watches-is, w.sessions-is) w.perform-served.ensures.indexed
       | in-Err-Refused w ↦ rw (w.watches-is, w.sessions-is)
-          (changed_same c.args.sessions.now w.reply_at.new.sessions c.args.number c.place_in-place.result c.place_in-place.ensures (replied w.reply.result) w.reply_at.ensures
+          (changed_same c.args.sessions.now w.reply_at.new.sessions c.args.number c.place_in-place.result c.place_in-place.ensures (replied w.reply.result) w.reply_at.ensures.changes w.reply_at.ensures.numbers
           c.args.watches.now c.requires.indexed (λ x. refl))
       | in-Err-NoMemory w ↦ rw (w.watches-is, w.sessions-is) c.requires.indexed
     ]

@@ -2,6 +2,7 @@ use Rattle.std.proofs.Common.{◌≡◌, not, refl, rules, None}
 use Rattle.std.specs.Prelude.{filter}
 use Rattle.std.proofs.lemmas.Fn.{filter_same}
 use Rattle.relay_hub.proofs.Indexed.{out_indexed}
+use Rattle.relay_hub.proofs.Rising.{left_rises}
 use Rattle.relay_hub.proofs.Sessions.{filter_removes}
 use Rattle.relay_hub.specs.State.{is_number}
 use Rattle.relay_hub.proofs.serve.remove.Goals as goal
@@ -14,5 +15,5 @@ returns c =
     let gone = filter_removes xs s in
     rw (left, c.take_out.ensures) (record {
       gone = gone;
-      indexed = out_indexed c.args.watches.now xs (filter (λ x. not (is_number s x)) xs) s None gone refl c.requires;
+      indexed = out_indexed c.args.watches.now xs (filter (λ x. not (is_number s x)) xs) s None gone (left_rises xs s c.requires.rising) refl c.requires;
     })

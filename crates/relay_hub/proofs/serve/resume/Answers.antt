@@ -1,4 +1,6 @@
-use Rattle.std.proofs.Common.{refl}
+use Rattle.std.proofs.Common.{◌≡◌, refl}
+use Rattle.relay_room.specs.Room.{revision}
+use Rattle.relay_hub.specs.News.{news_of}
 use Rattle.relay_hub.specs.Session.{replied, resumes}
 use Rattle.relay_hub.proofs.Indexed.{changed_same, changed_put}
 use Rattle.relay_hub.proofs.Serving.{resume_served, resumes-view}
@@ -7,7 +9,9 @@ use Rattle.relay_hub.proofs.serve.resume.Goals.{then-present+in-Ok, else-present
 
 pub returns-clause-ok : goal.returns-clause-ok
 returns-clause-ok c =
-    let changed = rw c.revision.ensures.revision at c.resume_at.ensures in
+    let room = c.args.room.now in
+    let news : c.in_ok-news.news ≡ news_of (revision room) c.if-present.how = rw c.revision.ensures.revision at c.in_ok-news.ensures in
+    let changed = rw c.in_ok-view.ensures at (c.resume_at.ensures.changes (revision room) c.if-present.how news) in
     λ x e. elim c.if-present.branch [
       | then-present+in-Ok w ↦
           let how = w.in-Ok.ensures in
@@ -18,12 +22,13 @@ returns-clause-ok c =
 
 pub returns-in-Err-Future-clause-indexed : goal.returns-in-Err-Future-clause-indexed
 returns-in-Err-Future-clause-indexed c =
-    changed_same c.args.sessions.now c.reply_at.new.sessions c.args.number c.args.place c.requires.place (replied c.reply.result) c.reply_at.ensures
+    changed_same c.args.sessions.now c.reply_at.new.sessions c.args.number c.args.place c.requires.place (replied c.reply.result) c.reply_at.ensures.changes c.reply_at.ensures.numbers
     c.args.watches.now c.requires.indexed (λ x. refl)
 
 pub returns-clause-indexed : goal.returns-clause-indexed
 returns-clause-indexed c =
     let rev = c.revision.result in
+    let v = c.in_ok-view.view in
     let how = c.if-present.how in
-    rw c.in_ok-put.ensures.ok (changed_put c.args.sessions.now c.resume_at.new.sessions c.args.number c.args.place c.requires.place (resumes rev c.args.id c.args.view how) c.resume_at.ensures
-    c.args.watches.now c.requires.indexed c.args.view (resumes-view rev c.args.id c.args.view how))
+    rw (c.in_ok-put.ensures.ok, c.get.ensures) (changed_put c.args.sessions.now c.resume_at.new.sessions c.args.number c.args.place c.requires.place (resumes rev c.args.id v how)
+    (c.resume_at.ensures.changes rev how c.in_ok-news.ensures) c.resume_at.ensures.numbers c.args.watches.now c.requires.indexed v (resumes-view rev c.args.id v how))

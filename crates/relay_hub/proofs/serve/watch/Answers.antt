@@ -5,5 +5,6 @@ use Rattle.relay_hub.proofs.serve.watch.Goals as goal
 
 pub returns-clause-indexed : goal.returns-clause-indexed
 returns-clause-indexed c =
-    rw c.in_ok-put.ensures.ok (changed_put c.args.sessions.now c.watch_at.new.sessions c.args.number c.args.place c.requires.place (watches c.args.id c.args.view) c.watch_at.ensures
-    c.args.watches.now c.requires.indexed c.args.view (λ x. refl))
+    let v = c.in_ok-view.view in
+    rw (c.in_ok-put.ensures.ok, c.get.ensures) (changed_put c.args.sessions.now c.watch_at.new.sessions c.args.number c.args.place c.requires.place (watches c.args.id v) c.watch_at.ensures.changes c.watch_at.ensures.numbers
+    c.args.watches.now c.requires.indexed v (λ x. refl))

@@ -1,5 +1,6 @@
 use Rattle.std.proofs.Common.{refl}
-use Rattle.relay_hub.proofs.Sessions.{room_at, set_changes}
+use Rattle.relay_hub.proofs.Rising.{set_keeps}
+use Rattle.relay_hub.proofs.Sessions.{room_at}
 use Rattle.relay_hub.specs.Session.{watches}
 use Rattle.relay_hub.proofs.serve.watch_at.Goals as goal
 
@@ -7,4 +8,6 @@ pub watch-requires : goal.watch-requires
 watch-requires c = room_at c.args.sessions.now c.args.number c.args.place c.requires.place c.requires.space c.index-sessions-place.result
 
 pub returns : goal.returns
-returns c = rw c.watch.ensures (set_changes c.args.sessions.now c.args.number c.args.place (watches c.args.id c.args.view) (λ x. refl) c.requires.place c.index-sessions-place.result)
+returns c =
+    let kept = set_keeps c.args.sessions.now c.args.number c.args.place (watches c.args.id c.args.view) (λ x. refl) c.requires.place c.index-sessions-place.result in
+    rw c.watch.ensures (record { changes = kept.0; numbers = kept.1 })

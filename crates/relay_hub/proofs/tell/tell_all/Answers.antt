@@ -14,8 +14,9 @@ loop-session-preserved c =
       | else-is_err w ↦ let told : is_err c.tell.result ≡ false = search rules in rw told (omega (arith, w.short-is))
     ] in
     record {
-      told = λ d changes since led. rw short (tell_more d changes c.args.room.now xs l.sessions l.session-index l.short (is_err c.tell.result) c.session-item.result c.tell.new.self
+      told = λ d changes since led. rw short (tell_more d changes c.args.room.now xs l.sessions l.session-index l.short (is_err c.tell.result) c.session-item.result c.tell.new.session
           (omega arith) l.auto.sessions l.invariant.rest (c.tell.ensures.told d changes since led) (l.invariant.told d changes since led));
-      rest = rest_more xs l.sessions l.session-index c.tell.new.self l.invariant.rest;
+      rest = rest_more xs l.sessions l.session-index c.tell.new.session l.invariant.rest;
+      kept = c.tell.ensures.kept;
       count = elim c.if-is_err.branch [ then-is_err w ↦ omega (arith, w.short-is, l.invariant.count) | else-is_err w ↦ omega (arith, w.short-is, l.invariant.count) ];
     }

@@ -5,6 +5,7 @@ use Rattle.relay_patch.specs.declared.change.Change.{Change}
 use Rattle.relay_room.specs.Room.{revision}
 use Rattle.relay_tree.specs.Document.{Document}
 use Rattle.relay_hub.specs.Step.{AllTold}
+use Rattle.relay_hub.specs.Tale.{IsKept}
 use Rattle.relay_hub.proofs.tell.tell_all.Given as goal
 
 abbrev pub invariant-loop-session : goal.invariant-loop-session
@@ -12,5 +13,6 @@ invariant-loop-session l = record {
   told : (d : Document) (changes : List Change) → changes ≡ changes_since (revision l.room - 1) l.room.history → Leads d changes l.room.document →
       AllTold d changes l.room (take l.session-index l.initial.sessions) (take l.session-index l.sessions) l.short;
   rest : drop l.session-index l.sessions ≡ drop l.session-index l.initial.sessions;
+  kept : IsKept l.room l.kept;
   count : l.short ≤ l.session-index;
 }

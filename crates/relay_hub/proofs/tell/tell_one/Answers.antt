@@ -1,18 +1,21 @@
 use Rattle.std.proofs.Common.{sym, ◌∙◌}
-use Rattle.std.specs.Prelude.{is_err}
+use Rattle.std.specs.Prelude.{is_err, slice_set}
 use Rattle.relay_hub.proofs.Among.{absent_among, place_among}
-use Rattle.relay_hub.proofs.Sessions.{not_found, once_set}
+use Rattle.relay_hub.proofs.Rising.{once_rising, same_rises, numbers_set}
+use Rattle.relay_hub.proofs.Sessions.{not_found}
 use Rattle.relay_hub.proofs.tell.tell_one.Goals as goal
 
-pub returns-in-Some-clause-once : goal.returns-in-Some-clause-once
-returns-in-Some-clause-once c =
+pub returns-in-Some-clause-ordered : goal.returns-in-Some-clause-ordered
+returns-in-Some-clause-ordered c =
+    let xs = c.args.sessions.now in
     let z = c.index-sessions-place.result in
-    once_set c.args.sessions.now c.in-Some.place c.tell.new.self z c.tell.ensures.number c.requires.once
+    same_rises xs (slice_set xs c.in-Some.place c.tell.new.session) (numbers_set xs c.in-Some.place c.tell.new.session z c.tell.ensures.number) c.requires.ordered
 
 pub returns-in-Some-clause-told : goal.returns-in-Some-clause-told
 returns-in-Some-clause-told c = λ d changes since leads.
+    let xs = c.args.sessions.now in
     let z = c.index-sessions-place.result in
-    place_among d changes c.args.room.now c.args.number c.args.sessions.now c.in-Some.place z c.tell.new.self (is_err c.tell.result) (sym c.position_of.ensures ∙ c.in-Some.is) c.requires.once
+    place_among d changes c.args.room.now c.args.number xs c.in-Some.place z c.tell.new.session (is_err c.tell.result) (sym c.position_of.ensures ∙ c.in-Some.is) (once_rising xs c.requires.ordered)
     (c.tell.ensures.told d changes since leads)
 
 pub returns-in-None-clause-told : goal.returns-in-None-clause-told

@@ -7,7 +7,8 @@ use Rattle.relay_hub.proofs.tell.tell_those.Goals.{then-is_err, else-is_err}
 pub loop-number-init : goal.loop-number-init
 loop-number-init c = record {
   told = λ d changes since leads. none_among d changes c.args.room.now c.args.sessions.now;
-  once = c.requires.once;
+  ordered = c.requires.ordered;
+  kept = tt;
   count = omega arith;
 }
 
@@ -24,6 +25,7 @@ loop-number-preserved c =
     record {
       told = λ d changes since leads. rw short (next_among d changes c.args.room.now c.args.numbers.now l.number-index 0 c.args.sessions.now l.sessions c.tell_one.new.sessions l.short more
           c.requires.rising within (l.invariant.told d changes since leads) (c.tell_one.ensures.told d changes since leads));
-      once = c.tell_one.ensures.once;
+      ordered = c.tell_one.ensures.ordered;
+      kept = c.tell_one.ensures.kept;
       count = elim c.if-is_err.branch [ then-is_err w ↦ omega (arith, w.short-is, l.invariant.count) | else-is_err w ↦ omega (arith, w.short-is, l.invariant.count) ];
     }

@@ -1,4 +1,4 @@
-use Rattle.std.proofs.Common.{refl}
+use Rattle.std.proofs.Common.{refl, arith}
 use Rattle.relay_hub.proofs.Indexed.{joined_indexed}
 use Rattle.relay_hub.proofs.Sessions.{push_last}
 use Rattle.relay_hub.proofs.group.Group.join.Goals as goal
@@ -11,4 +11,4 @@ invariant_of-self-2 c =
 pub returns-clause-ok : goal.returns-clause-ok
 returns-clause-ok c =
     let g = c.self.inside in
-    rw (← c.self.view_is, c.in_ok-push.ensures.items) (refl, push_last g.sessions.items c.args.session (rw (← c.self.view_is) at c.requires.fresh))
+    rw (← c.self.view_is, c.in_ok-push.ensures.items) (refl, push_last g.sessions.items c.args.session (rw (← c.self.view_is) at (c.requires.fresh c.args.session.number (omega arith))))

@@ -7,16 +7,16 @@ use Rattle.relay_patch.proofs.Landed.{list_refuses}
 use Rattle.relay_patch.proofs.applying.container.insert_item.Goals as goal
 use Rattle.relay_tree.proofs.Outcomes.{refused_not_ok}
 
-pub returns-in_ok-insert-in-Ok-clause-ok : goal.returns-in_ok-insert-in-Ok-clause-ok
-returns-in_ok-insert-in-Ok-clause-ok c =
+pub returns-clause-ok : goal.returns-clause-ok
+returns-clause-ok c =
     let v = c.args.items.now in
     let ok = v.ok in
     let long : c.len.result ≡ length v.items = c.len.ensures ∙ ok.0 in
     rw c.in_ok-insert-in-Ok.ensures.items (inserts v.items c.args.token.now c.args.value c.len.result c.in-Ok.index long c.in-Ok.ensures.is)
 
-pub returns-in-Err : goal.returns-in-Err
-returns-in-Err c =
+pub unreachable-requires : goal.unreachable-requires
+unreachable-requires c =
     let v = c.args.items.now in
     let ok = v.ok in
     let long : c.len.result ≡ items_length (items_of v.items) = c.len.ensures ∙ ok.0 ∙ sym (items_length-items_of v.items) in
-    absurd (refused_not_ok _ _ (list_refuses (items_of v.items) c.args.token.now c.in-Err.field-0 (rw long at (sym c.in-Err.ensures.is)) c.args.value) c.requires)
+    refused_not_ok _ _ (list_refuses (items_of v.items) c.args.token.now c.in-Err.field-0 (rw long at (sym c.in-Err.ensures.is)) c.args.value) c.requires

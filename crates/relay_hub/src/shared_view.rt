@@ -1,0 +1,51 @@
+//! A view that is shared by count.
+use relay_view::View;
+use std::alloc::{AllocError, Global};
+use std::marker::Model;
+use std::rc::Rc;
+
+/// A view, which is copied at no cost. Contracts see it as the view.
+#[derive(Drop)]
+pub struct SharedView {
+    view: Rc<View>,
+}
+
+impl Model for SharedView {
+    ghost use Rattle.std.specs.Coded.{coded_list};
+    ghost use Rattle.relay_view.specs.View.{View};
+    ghost use Rattle.relay_view.specs.contracts.slot.Slot as slot;
+
+    ghost Value = { View };
+
+    ghost coded = { coded_list slot.the_row.coded };
+
+    ghost view = { λ v. v.view.value };
+}
+
+impl SharedView {
+    ghost use Rattle.std.specs.Prelude.{◌≡◌, IfOk};
+
+    pub fn new(alloc: Global, view: View) -> Result<SharedView, AllocError>
+        ensures { IfOk result (λ shared. shared ≡ view) }
+    {
+        match Rc::new(alloc, view) {
+            Ok(view) => Ok(SharedView { view }),
+            Err(_) => Err(AllocError),
+        }
+    }
+
+    /// The same once more: a count, and no memory. AllocError: as many share it as can be counted.
+    pub fn share(&self) -> Result<SharedView, AllocError>
+        ensures { IfOk result (λ shared. shared ≡ self.now) }
+    {
+        Ok(SharedView {
+            view: self.view.clone()?,
+        })
+    }
+
+    pub fn get(&self) -> &View
+        ensures { result.now ≡ self.now }
+    {
+        self.view.as_ref()
+    }
+}

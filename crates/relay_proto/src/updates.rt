@@ -1,0 +1,93 @@
+//! The texts of the messages that bring a view up to date, written token by token: compact JSON, member names in byte order.
+ghost use Rattle.std.specs.Prelude.{◌≡◌, Some, [], ◌∷◌, ◌++◌, IfOk, string_bytes, codes, decimal};
+ghost use Rattle.json.specs.Lex.{tokens};
+ghost use Rattle.json.specs.Print.{print};
+ghost use Rattle.json.specs.Token.{begin_object, end_object, key, string, number};
+ghost use Rattle.relay_tree.specs.Text.{text_of};
+ghost use Rattle.relay_view.specs.View.{view as shown};
+ghost use Rattle.relay_proto.specs.Message.{patch_message, snapshot_message};
+ghost use Rattle.relay_proto.specs.MessageRead.{message_of_text};
+ghost use Rattle.relay_proto.specs.Written.{IsWritable};
+ghost use Rattle.relay_proto.specs.declared.message.Message.TheVariants as message;
+
+use json::Writer;
+use relay_patch::Patch;
+use relay_tree::{Tree, begin_text, end_text};
+use relay_view::View;
+use std::alloc::{AllocError, Global};
+
+/// The text of a patch message: the operations that lead a view to that of the revision. It costs that one text, and copies no
+/// value. It reads back as the message, where the revision is a count, paths have at most 66 tokens and the text nests at most
+/// 127 containers.
+pub fn patch_text(alloc: Global, rev: u64, patch: &Patch) -> Result<String, AllocError>
+    ensures text { IfOk result (λ text. string_bytes text ≡ text_of (patch_message rev patch.now)) }
+    ensures reads_back { IfOk result (λ text. IsWritable (message.Patch rev patch.now) → message_of_text (string_bytes text) ≡ Some (message.Patch rev patch.now)) }
+{
+    let mut out = begin_message(alloc, "patch")?;
+    out.key("patch")?;
+    patch.write(alloc, &mut out)?;
+    out.key("rev")?;
+    out.u64(rev)?;
+    end_message(out)
+}
+
+/// The text of a snapshot: the whole view of the revision. It costs that one text, and copies no value. It reads back as the
+/// message, where the revision is a count, the view is a list of slots and the text nests at most 127 containers.
+pub fn snapshot_text(alloc: Global, rev: u64, view: &Tree) -> Result<String, AllocError>
+    ensures text { IfOk result (λ text. string_bytes text ≡ text_of (snapshot_message rev view.now)) }
+    ensures reads_back { IfOk result (λ text. IsWritable (message.Snapshot rev view.now) → message_of_text (string_bytes text) ≡ Some (message.Snapshot rev view.now)) }
+{
+    let mut out = begin_snapshot(alloc, rev)?;
+    view.write(&mut out)?;
+    end_message(out)
+}
+
+/// The text of a snapshot of what a view shows of the document of the revision, as [`snapshot_text`] gives it. It costs that one
+/// text: each part is written where it stands in the document.
+pub fn shown_text(
+    alloc: Global,
+    rev: u64,
+    view: &View,
+    document: &Tree,
+) -> Result<String, AllocError>
+    ensures text { IfOk result (λ text. string_bytes text ≡ text_of (snapshot_message rev (shown view.now document.now))) }
+    ensures reads_back { IfOk result (λ text. IsWritable (message.Snapshot rev (shown view.now document.now)) → message_of_text (string_bytes text) ≡ Some (message.Snapshot rev (shown view.now document.now))) }
+{
+    let mut out = begin_snapshot(alloc, rev)?;
+    view.write(document, &mut out)?;
+    end_message(out)
+}
+
+/// A message as far as its kind.
+fn begin_message(alloc: Global, kind: &str) -> Result<Writer, AllocError>
+    ensures before { IfOk result (λ out. out.before ≡ []) }
+    ensures tokens { IfOk result (λ out. out.tokens ≡ begin_object ∷ key (codes "kind") ∷ string kind.now ∷ []) }
+{
+    let mut out = begin_text(alloc)?;
+    out.begin_object()?;
+    out.key("kind")?;
+    out.string(kind)?;
+    Ok(out)
+}
+
+/// A snapshot as far as its view.
+fn begin_snapshot(alloc: Global, rev: u64) -> Result<Writer, AllocError>
+    ensures before { IfOk result (λ out. out.before ≡ []) }
+    ensures tokens { IfOk result (λ out. out.tokens ≡ begin_object ∷ key (codes "kind") ∷ string (codes "snapshot") ∷ key (codes "rev") ∷ number (decimal rev) ∷ key (codes "view") ∷ []) }
+{
+    let mut out = begin_message(alloc, "snapshot")?;
+    out.key("rev")?;
+    out.u64(rev)?;
+    out.key("view")?;
+    Ok(out)
+}
+
+/// The text of a message whose members are written.
+fn end_message(mut out: Writer) -> Result<String, AllocError>
+    requires { out.before ≡ [] }
+    ensures text { IfOk result (λ text. string_bytes text ≡ print (out.tokens ++ end_object ∷ [])) }
+    ensures reads_back { IfOk result (λ text. tokens (string_bytes text) ≡ out.tokens ++ end_object ∷ []) }
+{
+    out.end_object()?;
+    Ok(end_text(out))
+}

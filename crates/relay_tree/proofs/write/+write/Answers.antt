@@ -1,0 +1,75 @@
+use Rattle.std.proofs.Common.{◌≡◌, ◌≤◌, [], ◌∷◌, ◌++◌, length, string_bytes, sym, ap, ◌∙◌, subst, append_assoc, append-nil, arith, rules}
+use Rattle.std.proofs.lemmas.List.{take_all}
+use Rattle.std.proofs.lemmas.Result.{on_ok_weaker}
+use Rattle.json.specs.Token.{begin_array, begin_object, key}
+use Rattle.relay_tree.specs.Document.{members_weight}
+use Rattle.relay_tree.specs.Seen.{members_of}
+use Rattle.relay_tree.specs.Text.{ReadsBack}
+use Rattle.relay_tree.proofs.Members.{Entry}
+use Rattle.relay_tree.proofs.Texts.{whole_back, list_back, object_back}
+use Rattle.relay_tree.proofs.Weights.{item_weighs, member_weighs}
+use Rattle.relay_tree.proofs.Writing.{WritesEach, WritesMembers, list_ends, writes_member, object_ends}
+use Rattle.relay_tree.proofs.write.+write.Goals as goal
+
+pub write_tree-returns-in-Whole-clause-reads_back : goal.write_tree-returns-in-Whole-clause-reads_back
+write_tree-returns-in-Whole-clause-reads_back t c =
+    let back : ReadsBack c.args.tree.now = rw (← c.tree.view_is, c.in-Whole.is) (whole_back c.in-Whole.number (search rules)) in
+    on_ok_weaker c.i64.result (λ e. back) c.i64.ensures.ok
+
+pub write_list-write_tree-requires : goal.write_list-write_tree-requires
+write_list-write_tree-requires t c =
+    let at = item_weighs c.args.items.now.items c.loop-item.item-index c.item-item.result in
+    (grind (arith, at), tt)
+
+pub write_list-returns-clause-tokens : goal.write_list-returns-clause-tokens
+write_list-returns-clause-tokens t c =
+    let items = c.args.items.now.items in
+    let past : length items ≤ c.loop-item.item-index = grind arith in
+    let start : c.begin_array.new.self.tokens ≡ c.args.out.now.tokens ++ begin_array ∷ [] = search rules in
+    let each = subst (λ ds. WritesEach ds c.begin_array.new.self.tokens c.loop-item.out.tokens) (take_all c.loop-item.item-index items past) c.loop-item.invariant.each in
+    on_ok_weaker c.end_array.result (λ e. list_ends items c.args.out.now.tokens start each e) c.end_array.ensures.ok
+
+pub write_list-returns-clause-reads_back : goal.write_list-returns-clause-reads_back
+write_list-returns-clause-reads_back t c =
+    let items = c.args.items.now.items in
+    let past : length items ≤ c.loop-item.item-index = grind arith in
+    let each = subst (λ ds. WritesEach ds c.begin_array.new.self.tokens c.loop-item.out.tokens) (take_all c.loop-item.item-index items past) c.loop-item.invariant.each in
+    on_ok_weaker c.end_array.result (λ e. list_back items each.back) c.end_array.ensures.ok
+
+pub write_object-write_tree-requires : goal.write_object-write_tree-requires
+write_object-write_tree-requires t c =
+    let done = c.loop-name.invariant.done in
+    let e : Entry = (c.in-Some.name.now, c.in-Some.member.now) in
+    let left = c.next.new.self in
+    let all : c.args.members.now.entries ≡ done ++ e ∷ left = c.loop-name.invariant.all ∙ ap (λ es. done ++ es) c.in-Some.ensures.steps in
+    let whole = ap (λ es. members_weight (members_of es)) all in
+    (omega (arith, member_weighs done e left, whole), tt)
+
+pub write_object-loop-name-preserved : goal.write_object-loop-name-preserved
+write_object-loop-name-preserved t c =
+    let l = c.loop-name in
+    let e : Entry = (c.in-Some.name.now, c.in-Some.member.now) in
+    let left = c.next.new.self in
+    let named : c.key.new.self.tokens ≡ l.out.tokens ++ key (string_bytes c.in-Some.name.now) ∷ [] = search rules in
+    let written = c.in_ok-write_tree.ensures in
+    record {
+      before = search rules;
+      done = l.invariant.done ++ e ∷ [];
+      all = l.invariant.all ∙ ap (λ es. l.invariant.done ++ es) c.in-Some.ensures.steps ∙ sym (append_assoc l.invariant.done (e ∷ []) left);
+      each = writes_member l.invariant.done e l.invariant.each named written.tokens written.reads_back;
+    }
+
+pub write_object-returns-clause-tokens : goal.write_object-returns-clause-tokens
+write_object-returns-clause-tokens t c =
+    let done = c.loop-name.invariant.done in
+    let all : done ≡ c.args.members.now.entries = sym (c.loop-name.invariant.all ∙ ap (λ es. done ++ es) c.in-None.ensures.steps.0 ∙ append-nil done) in
+    let start : c.begin_object.new.self.tokens ≡ c.args.out.now.tokens ++ begin_object ∷ [] = search rules in
+    let each = subst (λ es. WritesMembers es c.begin_object.new.self.tokens c.loop-name.out.tokens) all c.loop-name.invariant.each in
+    on_ok_weaker c.end_object.result (λ e. object_ends c.args.members.now.entries c.args.out.now.tokens start each e) c.end_object.ensures.ok
+
+pub write_object-returns-clause-reads_back : goal.write_object-returns-clause-reads_back
+write_object-returns-clause-reads_back t c =
+    let done = c.loop-name.invariant.done in
+    let all : done ≡ c.args.members.now.entries = sym (c.loop-name.invariant.all ∙ ap (λ es. done ++ es) c.in-None.ensures.steps.0 ∙ append-nil done) in
+    let each = subst (λ es. WritesMembers es c.begin_object.new.self.tokens c.loop-name.out.tokens) all c.loop-name.invariant.each in
+    on_ok_weaker c.end_object.result (λ e. object_back c.args.members.now.entries c.iter-name-items.ensures.ordered each.back) c.end_object.ensures.ok

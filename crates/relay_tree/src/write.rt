@@ -1,0 +1,65 @@
+//! Trees written as JSON (RFC 8259), a token at a time.
+ghost use Rattle.std.specs.Prelude.{◌≡◌, ◌++◌, OnOk};
+ghost use Rattle.relay_tree.specs.Document.{list, object, items_of};
+ghost use Rattle.relay_tree.specs.Seen.{members_of};
+ghost use Rattle.relay_tree.specs.Text.{tokens_of, ReadsBack};
+
+use crate::tree::{Node, Tree};
+use json::Writer;
+use std::alloc::AllocError;
+use std::collections::BTreeMap;
+
+impl Tree {
+    /// Writes the tree after what was written: member names in byte order, whole numbers in decimal. It costs the length of
+    /// its text, and copies nothing. After want of memory some first tokens of it may be written.
+    pub fn write(&self, out: &mut Writer) -> Result<(), AllocError>
+        ensures tokens { OnOk result (out.new.tokens ≡ out.old.tokens ++ tokens_of self.now) }
+        ensures before { out.new.before ≡ out.old.before }
+        ensures reads_back { OnOk result (ReadsBack self.now) }
+    {
+        write_tree(self, out)
+    }
+}
+
+#[cycle(write)]
+fn write_tree(tree: &Tree, out: &mut Writer) -> Result<(), AllocError>
+    ensures tokens { OnOk result (out.new.tokens ≡ out.old.tokens ++ tokens_of tree.now) }
+    ensures before { out.new.before ≡ out.old.before }
+    ensures reads_back { OnOk result (ReadsBack tree.now) }
+{
+    match &tree.node {
+        Node::Null => out.null(),
+        Node::Truth(truth) => out.boolean(*truth),
+        Node::Whole(number) => out.i64(*number),
+        Node::Text(text) => out.string(text.as_str()),
+        Node::List(items) => write_list(items, out),
+        Node::Members(members) => write_object(members, out),
+    }
+}
+
+#[cycle(write)]
+fn write_list(items: &Vec<Tree>, out: &mut Writer) -> Result<(), AllocError>
+    ensures tokens { OnOk result (out.new.tokens ≡ out.old.tokens ++ tokens_of (list (items_of items.now.items))) }
+    ensures before { out.new.before ≡ out.old.before }
+    ensures reads_back { OnOk result (ReadsBack (list (items_of items.now.items))) }
+{
+    out.begin_array()?;
+    for item in items {
+        write_tree(item, out)?;
+    }
+    out.end_array()
+}
+
+#[cycle(write)]
+fn write_object(members: &BTreeMap<String, Tree>, out: &mut Writer) -> Result<(), AllocError>
+    ensures tokens { OnOk result (out.new.tokens ≡ out.old.tokens ++ tokens_of (object (members_of members.now.entries))) }
+    ensures before { out.new.before ≡ out.old.before }
+    ensures reads_back { OnOk result (ReadsBack (object (members_of members.now.entries))) }
+{
+    out.begin_object()?;
+    for (name, member) in members.iter() {
+        out.key(name.as_str())?;
+        write_tree(member, out)?;
+    }
+    out.end_object()
+}

@@ -1,0 +1,33 @@
+//! Whether two views are one.
+ghost use Rattle.std.specs.Prelude.{◌≡◌, ◌↔◌, IsTrue, length};
+
+use crate::slot::Slot;
+use crate::view::View;
+use relay_pointer::same_path;
+
+impl View {
+    /// Whether the other view has the same slots in the same order. No memory is taken.
+    pub fn same(&self, other: &View) -> bool
+        ensures { IsTrue result ↔ (self.now ≡ other.now) }
+    {
+        same_slots(self.slots(), other.slots())
+    }
+}
+
+fn same_slots(slots: &[Slot], others: &[Slot]) -> bool
+    ensures { IsTrue result ↔ (slots.now ≡ others.now) }
+{
+    let [slot, rest @ ..] = slots else {
+        return others.is_empty();
+    };
+    let [other, onward @ ..] = others else {
+        return false;
+    };
+    same_slot(slot, other) && same_slots(rest, onward)
+}
+
+fn same_slot(slot: &Slot, other: &Slot) -> bool
+    ensures { IsTrue result ↔ (slot.now ≡ other.now) }
+{
+    slot.kind == other.kind && same_path(slot.pointer.tokens(), other.pointer.tokens())
+}
