@@ -1,3 +1,4 @@
 pub mod Follows
 pub mod Adds
 pub mod Stage
+pub mod SocketError

@@ -26,16 +26,28 @@ pub enum Cause {
 }
 
 impl Cause {
-    /// The cause that a socket's error is.
-    pub(crate) fn of(error: &Error) -> Cause {
+    ghost use Rattle.relay_link.specs.SocketError.{IsOfSocket};
+
+    /// The cause that an error is of a socket whose handshake is done.
+    pub(crate) fn of(error: &Error) -> Cause
+        requires { IsOfSocket error.now }
+    {
         match error {
             Error::ConnectionClosed
             | Error::AlreadyClosed
             | Error::Protocol(ProtocolError::ResetWithoutClosingHandshake) => Cause::Peer,
+            Error::Protocol(_) | Error::Capacity(_) | Error::Utf8 => Cause::Broken,
             Error::Io(_) => Cause::Stream,
             Error::OutOfMemory => Cause::Memory,
             Error::WriteBufferFull => Cause::Full,
-            _ => Cause::Broken,
+            Error::AttackAttempt
+            | Error::Handshake(_)
+            | Error::HandshakeIncomplete
+            | Error::JunkAfterRequest
+            | Error::CustomResponseSuccessful
+            | Error::Url
+            | Error::Http(_)
+            | Error::Refused(_) => unreachable!(),
         }
     }
 }

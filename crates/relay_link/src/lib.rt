@@ -16,6 +16,7 @@ mod cause;
 mod closing;
 mod events;
 mod head;
+mod hears;
 mod link;
 mod made;
 mod next;

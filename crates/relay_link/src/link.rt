@@ -2,7 +2,7 @@
 ghost use Rattle.std.specs.Prelude.{◌≡◌, ℕ, ◌+◌, ◌≤◌, [], None, Some, true, min, is_some, IfOk, OnOk, OnErr, length};
 ghost use Rattle.std.specs.List.{Contains};
 ghost use Rattle.relay_hub.specs.declared.event.Event.TheVariants.{Close};
-ghost use Rattle.relay_link.specs.Adds.{Adds, receives, draws as draws_of};
+ghost use Rattle.relay_link.specs.Adds.{Adds, receives, draws as draws_of, texts_of};
 ghost use Rattle.relay_link.specs.Follows.{Follows, at, closing_of};
 ghost use Rattle.relay_link.specs.Stage.{stage_of, session_of, rests, leaves, is_over, ended, IsForward};
 ghost use Rattle.relay_link.specs.declared.link.TheConstants.{DRAWS_MOST};
@@ -10,6 +10,7 @@ ghost use Rattle.relay_link.specs.declared.made.TheConstants.{EVENTS_MOST};
 ghost use Rattle.relay_link.specs.declared.stage.Stage.TheVariants.{Head, Gone};
 
 use crate::cause::Cause;
+use crate::hears::Hears;
 use crate::made::Made;
 use crate::next::Next;
 use crate::polled::Polled;
@@ -115,7 +116,8 @@ impl<S: Read + Write + Drop> Link<S> {
     {
         let mut made = Made::new(alloc)?;
         let state = mem::replace(&mut self.state, State::Gone);
-        let next = advance(alloc, state, draws.min(DRAWS_MOST), hub, &mut made);
+        let draws = draws.min(DRAWS_MOST);
+        let next = advance(alloc, state, Hears::Text, draws, hub, &mut made);
         self.state = next.state;
         Ok(Turn {
             made: made.into_events(),
@@ -143,7 +145,8 @@ impl<S: Read + Write + Drop> Link<S> {
     {
         let mut made = Made::new(alloc)?;
         let state = mem::replace(&mut self.state, State::Gone);
-        let next = say(alloc, state, draws.min(DRAWS_MOST), hub, &mut made);
+        let draws = draws.min(DRAWS_MOST);
+        let next = advance(alloc, state, Hears::Nothing, draws, hub, &mut made);
         self.state = next.state;
         Ok(Turn {
             made: made.into_events(),
@@ -185,45 +188,19 @@ impl<S: Read + Write + Drop> Link<S> {
     }
 }
 
-/// A turn, by the stage of the link.
+/// A turn, by the stage of the link. Where nothing is read a link that has nothing to say stays as it is.
 #[tactic(auto, using(crate::proofs::Following::follows_same))]
 fn advance<S: Read + Write + Drop>(
     alloc: Global,
     state: State<S>,
+    hears: Hears,
     draws: u64,
     hub: &mut Hub,
     made: &mut Made,
 ) -> Next<S>
     requires { length made.old + draws + 2 ≤ EVENTS_MOST }
     ensures follows { Follows (at hub.old (session_of state) made.old) (at hub.new (session_of result.state) made.new) }
-    ensures adds { Adds (draws + 2) 1 draws made.old made.new }
-    ensures cause { is_some result.cause ≡ leaves (stage_of state) (stage_of result.state) }
-    ensures forward { IsForward (stage_of state) (stage_of result.state) }
-    ensures gone { stage_of state ≡ Gone → (made.new ≡ made.old) × (result.state ≡ state) }
-{
-    match state {
-        State::Head { stream, bytes } => head::listen(alloc, stream, bytes, hub, made),
-        State::Replying { stream, reply } => head::reply(alloc, stream, reply, hub, made),
-        State::Open { socket, session } => {
-            opened::turn(alloc, socket, session, draws, hub, made)
-        }
-        State::Closing { socket, turns } => closing::turn(socket, turns),
-        State::Gone => Next::on(State::Gone),
-    }
-}
-
-/// A turn in which nothing is read, by the stage of the link.
-#[tactic(auto, using(crate::proofs::Following::follows_same))]
-fn say<S: Read + Write + Drop>(
-    alloc: Global,
-    state: State<S>,
-    draws: u64,
-    hub: &mut Hub,
-    made: &mut Made,
-) -> Next<S>
-    requires { length made.old + draws + 2 ≤ EVENTS_MOST }
-    ensures follows { Follows (at hub.old (session_of state) made.old) (at hub.new (session_of result.state) made.new) }
-    ensures adds { Adds (draws + 2) 0 draws made.old made.new }
+    ensures adds { Adds (draws + 2) (texts_of hears) draws made.old made.new }
     ensures cause { is_some result.cause ≡ leaves (stage_of state) (stage_of result.state) }
     ensures forward { IsForward (stage_of state) (stage_of result.state) }
     ensures gone { stage_of state ≡ Gone → (made.new ≡ made.old) × (result.state ≡ state) }
@@ -231,8 +208,12 @@ fn say<S: Read + Write + Drop>(
     match state {
         State::Replying { stream, reply } => head::reply(alloc, stream, reply, hub, made),
         State::Open { socket, session } => {
-            opened::tell(alloc, socket, session, draws, hub, made)
+            opened::turn(alloc, socket, session, hears, draws, hub, made)
         }
+        State::Head { stream, bytes } if hears == Hears::Text => {
+            head::listen(alloc, stream, bytes, hub, made)
+        }
+        State::Closing { socket, turns } if hears == Hears::Text => closing::turn(socket, turns),
         State::Head { .. } | State::Closing { .. } | State::Gone => Next::on(state),
     }
 }

@@ -1,6 +1,6 @@
 //! An open link: what waits is sent, a message is heard, and messages are drawn and sent.
 ghost use Rattle.std.specs.Prelude.{◌≡◌, ◌+◌, ◌≤◌, length, is_some, Some, None};
-ghost use Rattle.relay_link.specs.Adds.{Adds};
+ghost use Rattle.relay_link.specs.Adds.{Adds, texts_of};
 ghost use Rattle.relay_link.specs.Follows.{Follows, at};
 ghost use Rattle.relay_link.specs.Stage.{leaves, stage_of, session_of, IsForward};
 ghost use Rattle.relay_link.specs.declared.made.TheConstants.{EVENTS_MOST};
@@ -8,6 +8,7 @@ ghost use Rattle.relay_link.specs.declared.stage.Stage.TheVariants.{Open};
 
 use crate::cause::Cause;
 use crate::events;
+use crate::hears::Hears;
 use crate::made::Made;
 use crate::next::Next;
 use crate::socket::{Socket, close, flush, read, write};
@@ -25,6 +26,10 @@ enum Parting {
 }
 
 impl From<Cause> for Parting {
+    ghost use Rattle.relay_link.specs.declared.opened.Parting.TheVariants as parting;
+
+    ghost from_gives = { λ cause given. given ≡ parting.Gone cause };
+
     fn from(cause: Cause) -> Parting {
         Parting::Gone(cause)
     }
@@ -36,39 +41,22 @@ pub(crate) fn turn<S: Read + Write + Drop>(
     alloc: Global,
     mut socket: Socket<S>,
     session: u64,
+    hears: Hears,
     draws: u64,
     hub: &mut Hub,
     made: &mut Made,
 ) -> Next<S>
     requires { length made.old + draws + 2 ≤ EVENTS_MOST }
     ensures follows { Follows (at hub.old (Some session) made.old) (at hub.new (session_of result.state) made.new) }
-    ensures adds { Adds (draws + 2) 1 draws made.old made.new }
+    ensures adds { Adds (draws + 2) (texts_of hears) draws made.old made.new }
     ensures cause { is_some result.cause ≡ leaves Open (stage_of result.state) }
     ensures forward { IsForward Open (stage_of result.state) }
 {
-    socket.get_mut().renew();
-    let talked = talk(alloc, &mut socket, session, draws, hub, made);
+    if hears == Hears::Text {
+        socket.get_mut().renew();
+    }
+    let talked = talk(alloc, &mut socket, session, hears, draws, hub, made);
     settle(talked, socket, session, hub, made)
-}
-
-/// A turn of an open link in which nothing is read.
-#[tactic(auto, using(crate::proofs::Following::follows_same, crate::proofs::Following::follows_then))]
-pub(crate) fn tell<S: Read + Write + Drop>(
-    alloc: Global,
-    mut socket: Socket<S>,
-    session: u64,
-    draws: u64,
-    hub: &mut Hub,
-    made: &mut Made,
-) -> Next<S>
-    requires { length made.old + draws + 2 ≤ EVENTS_MOST }
-    ensures follows { Follows (at hub.old (Some session) made.old) (at hub.new (session_of result.state) made.new) }
-    ensures adds { Adds (draws + 2) 0 draws made.old made.new }
-    ensures cause { is_some result.cause ≡ leaves Open (stage_of result.state) }
-    ensures forward { IsForward Open (stage_of result.state) }
-{
-    let told = say_waiting(alloc, &mut socket, session, draws, hub, made);
-    settle(told, socket, session, hub, made)
 }
 
 /// The link after a turn: still open, or its session is closed.
@@ -98,44 +86,25 @@ fn settle<S: Read + Write + Drop>(
     }
 }
 
-/// Sends what waits. Where nothing waits any more messages are drawn and sent.
-#[tactic(auto, using(crate::proofs::Following::follows_same, crate::proofs::Following::follows_then))]
-fn say_waiting<S: Read + Write + Drop>(
-    alloc: Global,
-    socket: &mut Socket<S>,
-    session: u64,
-    draws: u64,
-    hub: &mut Hub,
-    made: &mut Made,
-) -> Result<(), Parting>
-    requires { length made.old + draws ≤ EVENTS_MOST }
-    ensures follows { Follows (at hub.old (Some session) made.old) (at hub.new (Some session) made.new) }
-    ensures adds { Adds draws 0 draws made.old made.new }
-{
-    if !flush(socket)? {
-        return Ok(());
-    }
-    send_drawn(alloc, socket, session, draws, hub, made)
-}
-
-/// Sends what waits. Where nothing waits any more a message is heard, and messages are drawn and sent.
+/// Sends what waits. Where nothing waits any more a message may be heard, and messages are drawn and sent.
 #[tactic(auto, using(crate::proofs::Following::follows_same, crate::proofs::Following::follows_then))]
 fn talk<S: Read + Write + Drop>(
     alloc: Global,
     socket: &mut Socket<S>,
     session: u64,
+    hears: Hears,
     draws: u64,
     hub: &mut Hub,
     made: &mut Made,
 ) -> Result<(), Parting>
     requires { length made.old + draws + 1 ≤ EVENTS_MOST }
     ensures follows { Follows (at hub.old (Some session) made.old) (at hub.new (Some session) made.new) }
-    ensures adds { Adds (draws + 1) 1 draws made.old made.new }
+    ensures adds { Adds (draws + 1) (texts_of hears) draws made.old made.new }
 {
     if !flush(socket)? {
         return Ok(());
     }
-    if hub.may_hear(session) {
+    if hears == Hears::Text && hub.may_hear(session) {
         hear(alloc, socket, session, hub, made)?;
     }
     send_drawn(alloc, socket, session, draws, hub, made)

@@ -1,4 +1,7 @@
 //! The WebSocket of a link, as a turn uses it: no call waits.
+ghost use Rattle.std.specs.Prelude.{IfErr};
+ghost use Rattle.relay_link.specs.SocketError.{IsOfSocket};
+
 use crate::cause::Cause;
 use crate::polled::{Polled, is_nothing_now};
 use std::alloc::Global;
@@ -25,6 +28,7 @@ pub(crate) fn socket_on<S: Read + Write + Drop>(alloc: Global, stream: Polled<S>
 }
 
 /// Reads one message. None where no whole message is there for now. Where there was one another may be there already.
+#[tactic(auto, using(crate::proofs::SocketErrors::read_error))]
 pub(crate) fn read<S: Read + Write + Drop>(
     socket: &mut Socket<S>,
 ) -> Result<Option<Message>, Cause> {
@@ -39,12 +43,14 @@ pub(crate) fn read<S: Read + Write + Drop>(
 }
 
 /// Sends what waits. False where output still waits, and so for the other calls that send.
+#[tactic(auto, using(crate::proofs::SocketErrors::flush_error))]
 pub(crate) fn flush<S: Read + Write + Drop>(socket: &mut Socket<S>) -> Result<bool, Cause> {
     is_sent(socket.flush())
 }
 
 /// Frames a text behind the output that was gathered. Once there are 16 KiB all of it is sent: false where output still waits
 /// then.
+#[tactic(auto, using(crate::proofs::SocketErrors::write_error))]
 pub(crate) fn write<S: Read + Write + Drop>(
     socket: &mut Socket<S>,
     words: Utf8Bytes,
@@ -53,6 +59,7 @@ pub(crate) fn write<S: Read + Write + Drop>(
 }
 
 /// Sends a close frame with no reason.
+#[tactic(auto, using(crate::proofs::SocketErrors::write_error))]
 pub(crate) fn close<S: Read + Write + Drop>(
     socket: &mut Socket<S>,
     code: CloseCode,
@@ -61,7 +68,10 @@ pub(crate) fn close<S: Read + Write + Drop>(
     is_sent(socket.close(Some(CloseFrame { code, reason })))
 }
 
-fn is_sent(sent: Result<(), Error>) -> Result<bool, Cause> {
+/// Whether a call has sent all that waited.
+fn is_sent(sent: Result<(), Error>) -> Result<bool, Cause>
+    requires { IfErr sent IsOfSocket }
+{
     match sent {
         Ok(()) => Ok(true),
         Err(Error::Io(error)) if is_nothing_now(&error) => Ok(false),

@@ -1,6 +1,6 @@
 -- Lemmas on the heads that bytes begin with, and on what is answered to them.
-use Rattle.std.proofs.Common.{◌≡◌, ℕ, ◌-◌, ◌*◌, ◌<◌, ◌≤◌, List, [], ◌∷◌, ◌++◌, length, drop, nat_lt, sym, ◌∙◌, ap, subst, arith, append-nil, length-append, length-take, length-drop, All, Bool, Option, None, Some, unwrap_or}
-use Rattle.std.specs.Prelude.{option_copied}
+use Rattle.std.proofs.Common.{◌≡◌, ℕ, ◌-◌, ◌*◌, ◌<◌, ◌≤◌, List, [], ◌∷◌, ◌++◌, length, drop, nat_lt, sym, ◌∙◌, ap, subst, arith, append-nil, length-append, length-take, length-drop, All, Bool, Option, None, Some, refl}
+use Rattle.std.specs.Prelude.{option_copied, IsSome}
 use denote.Ref.{Bor}
 use Rattle.std.proofs.lemmas.Bool.Decides.{nat_tests}
 use Rattle.std.specs.List.{flat_map}
@@ -68,13 +68,13 @@ nat_lt-behind len bytes within =
     nat_lt-minus len (length bytes) _
     (omega (arith, within, length-append (drop len (window bytes)) (drop HEAD_MOST bytes), length-drop len (window bytes), length-drop HEAD_MOST bytes, length-take HEAD_MOST bytes))
 
--- what a copied option holds
-pub now-from_copied : (o : Option (Bor (List ℕ))) (d : Bor (List ℕ)) (x : List ℕ) → option_copied o ≡ Some x → (unwrap_or o d).now ≡ x
-now-from_copied None d x e = absurd (cc)
-now-from_copied (Some r) d x e = cc
+-- what an option holds, of which a copy is known
+pub some-from_copied : (o : Option (Bor (List ℕ))) (x : List ℕ) → option_copied o ≡ Some x → IsSome o
+some-from_copied None x e = absurd (cc)
+some-from_copied (Some r) x e = refl
 
-pub value-from_some : (o : Option ℕ) (d x : ℕ) → o ≡ Some x → unwrap_or o d ≡ x
-value-from_some o d x e = ap (λ p. unwrap_or p d) e
+pub now-from_copied : (o : Option (Bor (List ℕ))) (r : Bor (List ℕ)) (x : List ℕ) → o ≡ Some r → option_copied o ≡ Some x → r.now ≡ x
+now-from_copied o r x is e = let both : Some r.now ≡ Some x = ap option_copied (sym is) ∙ e in cc
 
 -- the verdict over equal parts
 pub same_verdict : (method target : List ℕ) (minor : ℕ) (fields : Fields) (more : Bool) (head : RequestHead) (surplus : List ℕ)

@@ -1,6 +1,6 @@
 -- Lemmas on the statuses of refusals.
 use Rattle.std.proofs.Common.{◌≡◌, ℕ, ◌++◌, ◌∷◌, Bool, true, false, refl, sym, subst, eqb-true, unwrap_or, [], List, Option, Some, None, option_map, append_assoc, ap, ◌∙◌, Result, Ok, Err}
-use Rattle.std.specs.Prelude.{◌==◌, ◌||◌, IsTrue}
+use Rattle.std.specs.Prelude.{◌==◌, ◌||◌, IsTrue, IsSome}
 use Rattle.std.specs.Result.{OkIff}
 use denote.Ref.{Bor}
 use Rattle.http.specs.StatusCode.{code_digits, reason_phrase}
@@ -16,19 +16,20 @@ by_status P a b c d e f status h =
     one_more P 503 status _ f (one_more P 431 status _ e (one_more P 426 status _ d (one_more P 405 status _ c (one_more P 404 status _ b
     (λ first. subst P (sym (eqb-true status 400 first)) a))))) h
 
+-- each has a phrase
+pub has_phrase : (phrase : Option (Bor (List ℕ))) (status : ℕ) → IsTrue (is_refusal status) → option_map (λ b. b.now) phrase ≡ reason_phrase status → IsSome phrase
+has_phrase None status h e = subst IsSome (sym e) (by_status (λ s. IsSome (reason_phrase s)) refl refl refl refl refl refl status h)
+has_phrase (Some b) status h e = refl
+
 -- the digits and the phrase, with a space between them
-pub spelled : (status : ℕ) → IsTrue (is_refusal status) → code_digits status ++ 32 ∷ unwrap_or (reason_phrase status) [] ≡ status_text status
-spelled status h = by_status (λ s. code_digits s ++ 32 ∷ unwrap_or (reason_phrase s) [] ≡ status_text s) refl refl refl refl refl refl status h
+pub spelled : (phrase : List ℕ) (status : ℕ) → IsTrue (is_refusal status) → Some phrase ≡ reason_phrase status → code_digits status ++ 32 ∷ phrase ≡ status_text status
+spelled phrase status h e =
+    ap (λ o. code_digits status ++ 32 ∷ unwrap_or o []) e
+    ∙ by_status (λ s. code_digits s ++ 32 ∷ unwrap_or (reason_phrase s) [] ≡ status_text s) refl refl refl refl refl refl status h
 
 -- three pieces behind a list
 pub joined : (old digits phrase text : List ℕ) → digits ++ 32 ∷ phrase ≡ text → ((old ++ digits) ++ 32 ∷ []) ++ phrase ≡ old ++ text
 joined old digits phrase text e = simp append_assoc (ap (λ t. old ++ t) e)
-
--- the text of an option, or of a default
-pub text-unwrap_or : (o : Option (Bor (List ℕ))) (d : Bor (List ℕ)) (text : Option (List ℕ)) → option_map (λ b. b.now) o ≡ text
-    → (unwrap_or o d).now ≡ unwrap_or text d.now
-text-unwrap_or None d text e = ap (λ t. unwrap_or t d.now) e
-text-unwrap_or (Some b) d text e = ap (λ t. unwrap_or t d.now) e
 
 -- the value that is given where a fact holds
 pub value-from_OkIff : {T E : Type 0} (P : Type 0) (r : Result T E) (v x : T) → OkIff r P v → r ≡ Ok x → x ≡ v

@@ -11,7 +11,9 @@ use Rattle.std.proofs.lemmas.List.Elements.{All-head, All-tail}
 use Rattle.matchit.specs.Rows.{RowsOf}
 use Rattle.matchit.specs.Seek.{seek, param_step, or_else, has_slash}
 use Rattle.matchit.specs.Params.{walk, wild_from, wild_stop, next_at, part_of, named, AllText}
-use Rattle.matchit.specs.Router.{RouteOf}
+use Rattle.matchit.specs.Router.{RouteOf, Refused}
+use Rattle.matchit.specs.declared.error.InsertError.{InsertError}
+use Rattle.matchit.specs.declared.error.InsertError.TheVariants.{Conflict, InvalidParamSegment, InvalidParam, InvalidCatchAll, OutOfMemory}
 use Rattle.relay_shake.specs.Head.{kept}
 use Rattle.relay_shake.specs.Route.{behind, is_segment, routed}
 
@@ -156,6 +158,14 @@ walked target room =
     let places : wild_from room_route.pattern (length target) 0 0 ≡ (7, 7) = wild-plain prefix_bytes (256 ∷ []) (length target) 0 0 plain room in
     ap (λ w. (codes "room", part_of target w.1 (wild_stop room_route.pattern w.0 target w.1)) ∷ []) places
     ∙ ap (λ part. (codes "room", part) ∷ []) (part-end target 7 room)
+
+-- an empty router refuses a route for want of memory alone
+pub only_memory : (pattern : List ℕ) (fault : InsertError) → Refused {T = Unit {0}} pattern [] fault → fault ≡ OutOfMemory
+only_memory pattern (Conflict with) (route, near, text) = absurd (cc)
+only_memory pattern InvalidParamSegment h = absurd h
+only_memory pattern InvalidParam h = absurd h
+only_memory pattern InvalidCatchAll h = absurd h
+only_memory pattern OutOfMemory h = refl
 
 -- where the router finds its route, or finds none
 pub found-true : {K : Type 0} (k m : K) (test : Bool) → found k test ≡ Some m → (test ≡ true) × (k ≡ m)

@@ -55,8 +55,8 @@ pub fn shake(alloc: Global, bytes: &[u8]) -> Result<Shake, AllocError>
     match request.parse(window(bytes)) {
         Ok(Status::Complete(len)) => with_head(alloc, bytes, &request, len),
         Ok(Status::Partial) => without_head(alloc, bytes),
-        // There is room for each field that the window can hold, so that this never comes.
-        Err(Error::TooManyHeaders) => without_head(alloc, bytes),
+        // There is room for each field that the window can hold.
+        Err(Error::TooManyHeaders) => unreachable!(),
         Err(_) => hopeless(alloc, bytes),
     }
 }
@@ -83,9 +83,9 @@ fn with_head(
     ensures no_head { IfOk result (AnswersNoHead bytes.now) }
 {
     let head = Head {
-        method: request.method.unwrap_or(""),
-        target: request.path.unwrap_or(""),
-        minor: request.version.unwrap_or(0),
+        method: request.method.unwrap(),
+        target: request.path.unwrap(),
+        minor: request.version.unwrap(),
         fields: &*request.headers,
         has_surplus: len < bytes.len(),
     };

@@ -57,7 +57,7 @@ fn write_status(reply: &mut Vec<u8>, status: u16) -> Result<(), AllocError>
     let code = StatusCode::from_u16(status).unwrap();
     reply.extend_from_slice(code.as_str().as_bytes())?;
     reply.extend_from_slice(b" ")?;
-    reply.extend_from_slice(code.canonical_reason().unwrap_or("").as_bytes())?;
+    reply.extend_from_slice(code.canonical_reason().unwrap().as_bytes())?;
     Ok(())
 }
 

@@ -1,8 +1,9 @@
 //! The route of a room.
 ghost use Rattle.std.specs.Prelude.{◌≡◌, IfOk, option_copied};
+ghost use Rattle.matchit.specs.declared.error.InsertError.TheVariants as InsertError;
 ghost use Rattle.relay_shake.specs.Route.{routed, room_of};
 
-use matchit::Router;
+use matchit::{InsertError, Router};
 use relay_proto::is_room_name;
 use std::alloc::{AllocError, Global};
 
@@ -13,16 +14,30 @@ pub(crate) fn room_of<'b>(alloc: Global, target: &'b str) -> Result<Option<&'b s
     Ok(routed(alloc, target)?.filter(|name| is_room_name(name)))
 }
 
-// The route is well formed and the only one, so that want of memory alone can refuse it.
+// The part of a target that the route takes.
 fn routed<'b>(alloc: Global, target: &'b str) -> Result<Option<&'b str>, AllocError>
     ensures { IfOk result (λ part. option_copied part ≡ routed target.now) }
 {
     let mut router = Router::new(alloc);
-    let Ok(()) = router.insert("/rooms/{room}", ()) else {
-        return Err(AllocError);
-    };
+    match router.insert("/rooms/{room}", ()) {
+        Ok(()) => {}
+        Err(fault) => return Err(want_of_memory(&fault)),
+    }
     match router.at(target) {
         Ok(found) => Ok(found.params.get("room")),
         Err(_) => Ok(None),
+    }
+}
+
+// The route is well formed and the only one, so that want of memory alone can refuse it.
+fn want_of_memory(fault: &InsertError) -> AllocError
+    requires { fault.now ≡ InsertError.OutOfMemory }
+{
+    match fault {
+        InsertError::OutOfMemory => AllocError,
+        InsertError::Conflict { .. }
+        | InsertError::InvalidParamSegment
+        | InsertError::InvalidParam
+        | InsertError::InvalidCatchAll => unreachable!(),
     }
 }

@@ -1,10 +1,16 @@
 -- The router has the one row, whose prefix is below the tokens.
-use Rattle.std.proofs.Common.{◌≡◌, ◌∙◌, ◌<◌, All, codes, sym, arith}
+use Rattle.std.proofs.Common.{◌≡◌, ◌∙◌, ◌<◌, [], ◌∷◌, ◌++◌, All, codes, sym, arith}
 use Rattle.std.proofs.lemmas.List.Elements.{All-from_get_or}
 use Rattle.matchit.specs.Seek.{first}
 use Rattle.matchit.proofs.OnLiterals.{matchit_on_literals}
-use Rattle.relay_shake.proofs.Routes.{plain, room_route, found, found-true, found-false, has_segment_after, seek-row, missed, taken}
+use Rattle.relay_shake.proofs.Routes.{plain, room_route, found, found-true, found-false, has_segment_after, seek-row, missed, taken, only_memory}
 use Rattle.relay_shake.proofs.route.routed.Goals as goal
+
+pub want_of_memory-requires : goal.want_of_memory-requires
+unfolding matchit_on_literals
+want_of_memory-requires c =
+    let refused = rw c.new-router.ensures at c.in-Err.ensures in
+    only_memory (codes "/rooms/" ++ 256 ∷ []) _ refused.1
 
 pub returns-in-Ok-at : goal.returns-in-Ok-at
 unfolding matchit_on_literals
@@ -25,4 +31,4 @@ returns c =
     let bytes : All (λ b. b < 256) target = All-from_get_or (λ b. b < 256) target 0 (λ i _. let fits = c.type_inv.target i in omega (arith, fits)) in
     let row : first c.insert.new.self target ≡ found room_route (has_segment_after (codes "/rooms/") target) =
     rw rows.1 (seek-row room_route (codes "/rooms/") target plain bytes) in
-    missed target (found-false room_route (has_segment_after (codes "/rooms/") target) (sym row ∙ c.in-Err.ensures.missing))
+    missed target (found-false room_route (has_segment_after (codes "/rooms/") target) (sym row ∙ c.in-Err-at.ensures.missing))

@@ -7,4 +7,4 @@ use Rattle.relay_link.proofs.link.Link.tell.Goals as goal
 pub returns-clause-closed : goal.returns-clause-closed
 returns-clause-closed g c s had gone =
     let was : session_of c.replace-state.result ≡ Some s = ap session_of (c.replace-state.ensures.value ∙ c.self.view_is) ∙ had in
-    rw c.into_events.ensures (closed c.say-next.ensures.follows s was gone)
+    rw c.into_events.ensures (closed c.advance-next.ensures.follows s was gone)
