@@ -1,12 +1,16 @@
 -- Lemmas on how jobs end.
-use Rattle.std.proofs.Common.{◌≡◌, ◌≢◌, ◌↔◌, ℕ, List, Option, Result, Ok, Err, OnOk, IfErr, IsErrOf, refl, sym, ap, subst}
+use Rattle.std.proofs.Common.{◌≡◌, ◌≢◌, ◌↔◌, ◌⊎◌, inl, inr, ℕ, List, Option, Result, Ok, Err, OnOk, IfErr, IsErrOf, refl, sym, ap, subst}
 use Rattle.std.specs.Io.KnownBytes.{IsAtEnd}
 use Rattle.relay_options.specs.declared.job.Job.{Job}
-use Rattle.relay_server.specs.Jobs.{Ends, JobEnds}
+use Rattle.relay_server.specs.Jobs.{Ends, LoopEnds, JobEnds}
 use Rattle.relay_server.specs.Respond.{Answering, AnswersAll, AnswersSome}
+use Rattle.relay_server.specs.Sockets as sockets
 use Rattle.relay_server.specs.declared.fault.ScriptFault.{ScriptFault}
 use Rattle.relay_server.specs.declared.fault.ScriptFault.TheVariants.{BadLimit, Input, Output, LineTooLong, TooManyLines, NoMemory}
+use Rattle.relay_server.specs.declared.fault.ServeFault.{ServeFault}
+use Rattle.relay_server.specs.declared.fault.ServeFault.TheVariants.{Ended, Listen}
 use Rattle.relay_server.specs.declared.status.Status.{Status}
+use Rattle.relay_server.proofs.RunLemmas.{on_success, if_fault, AnswersSome-none, AnswersAll-seen, AnswersSome-seen}
 
 -- the job is known
 pub JobEnds-at : (todo known : Job) (status : Status) (input left old new : Option (List ℕ)) → todo ≡ known → JobEnds known status input left old new
@@ -49,3 +53,28 @@ pub untouched : {A B : Type 0} (ended : Result (Unit {0}) ScriptFault) (remainin
     → IfErr ended (λ fault. fault ≡ BadLimit → (remaining left ≡ remaining input) × (contents new ≡ contents old))
 untouched (Ok u) remaining contents input left old new same = tt
 untouched (Err fault) remaining contents input left old new same = λ bad. (ap remaining (same bad).0, ap contents (same bad).1)
+
+-- a loop that had no hub or no sockets
+pub LoopEnds-none : (fault : ServeFault) (input old : Option (List ℕ)) → (fault ≡ Listen) ⊎ (fault ≡ Ended NoMemory) ⊎ (fault ≡ Ended BadLimit)
+    → LoopEnds (Err fault) input input old old
+LoopEnds-none fault input old (inl e) = subst (λ f. LoopEnds (Err f) input input old old) (sym e) (refl, refl)
+LoopEnds-none fault input old (inr (inl e)) = subst (λ f. LoopEnds (Err f) input input old old) (sym e) (AnswersSome-none sockets.Answers tt input old)
+LoopEnds-none fault input old (inr (inr e)) = subst (λ f. LoopEnds (Err f) input input old old) (sym e) (refl, refl)
+
+-- a run of the loop is a run of answers that speak of their names
+pub loop_ran : {S : Type 0} (answers : Answering S) (from : S) (input left old new : Option (List ℕ)) (ended : Result (Unit {0}) ScriptFault)
+    → ((old new : S) (number : ℕ) (line answer : List ℕ) → answers old number line new answer → sockets.Answers tt number line tt answer)
+    → OnOk ended (AnswersAll answers from input old new) → OnOk ended (IsAtEnd left)
+    → IfErr ended (λ fault. AnswersSome answers fault from input old new) → IfErr ended (λ fault. fault ≢ BadLimit)
+    → Ends sockets.Answers tt ended input left old new
+loop_ran answers from input left old new ended same all end some limits =
+    Ends-free sockets.Answers tt input left old new ended
+    (on_success ended (AnswersAll-seen answers sockets.Answers (λ _. tt) same from input old new) all)
+    end
+    (if_fault ended (λ fault. AnswersSome-seen answers sockets.Answers (λ _. tt) same fault from input old new) some)
+    limits
+
+-- where a job was begun, and no such fault came later, no limit is out of range
+pub limits_kept : {A B E F : Type 0} (begun : A) (ended : Result B F) (early : E) (late : F) (bad : Type 0) → (IsErrOf (Ok begun) early ↔ bad)
+    → (ended ≡ Err late → ⊥) → IsErrOf ended late ↔ bad
+limits_kept begun ended early late bad limits none = (λ e. absurd (none e), λ b. absurd (let e : Ok begun ≡ Err early = limits.1 b in cc))

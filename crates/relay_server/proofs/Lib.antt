@@ -4,5 +4,7 @@ pub mod LineLemmas
 pub mod Players
 pub mod RunLemmas
 pub mod ScriptLemmas
+pub mod ServeLemmas
 pub mod SettingsFit
+pub mod Speaking
 pub mod WordLemmas

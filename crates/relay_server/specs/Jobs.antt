@@ -1,19 +1,28 @@
 -- How the program's jobs end, and with what status.
-use Rattle.std.specs.Prelude.{◌≡◌, ◌↔◌, ℕ, ◌⊎◌, ⊤, List, Option, None, Result, Ok, Err, IsErrOf}
-use Rattle.std.specs.Io.KnownBytes.{IsAtEnd}
+use Rattle.std.specs.Prelude.{◌≡◌, ◌↔◌, ℕ, ◌⊎◌, List, Option, None, Result, Ok, Err, IsErrOf}
+use Rattle.std.specs.Io.KnownBytes.{IsAtEnd, Appends}
 use Rattle.std.specs.declared.io.ErrorKind.{ErrorKind}
 use Rattle.std.specs.declared.io.ErrorKind.TheVariants as kind
 use Rattle.relay_hub.specs.Telling.{BadLimits}
+use Rattle.relay_hub.specs.declared.fault.HubNewFault.{HubNewFault}
+use Rattle.relay_hub.specs.declared.fault.HubNewFault.TheVariants as hub
 use Rattle.relay_options.specs.declared.job.Job.{Job}
 use Rattle.relay_options.specs.declared.job.Job.TheVariants as job
 use Rattle.relay_options.specs.declared.job.Stop.{Stop}
 use Rattle.relay_options.specs.declared.job.Stop.TheVariants as stop
+use Rattle.relay_options.specs.declared.settings.Settings.{Settings}
 use Rattle.relay_server.specs.Follow as follow
+use Rattle.relay_server.specs.Lines.{AppendsPart}
 use Rattle.relay_server.specs.Respond.{Answering, AnswersAll, AnswersSome}
 use Rattle.relay_server.specs.Script as script
 use Rattle.relay_server.specs.Script.{new_stage}
+use Rattle.relay_server.specs.Sockets as sockets
+use Rattle.relay_server.specs.Words.{served_text}
+use Rattle.relay_server.specs.declared.serve.TheConstants.{FIRST}
 use Rattle.relay_server.specs.declared.fault.ScriptFault.{ScriptFault}
 use Rattle.relay_server.specs.declared.fault.ScriptFault.TheVariants.{BadLimit, NoMemory}
+use Rattle.relay_server.specs.declared.fault.ServeFault.{ServeFault}
+use Rattle.relay_server.specs.declared.fault.ServeFault.TheVariants as serve
 use Rattle.relay_server.specs.declared.status.Status.{Status}
 use Rattle.relay_server.specs.declared.status.Status.TheVariants as is
 
@@ -22,6 +31,11 @@ code_of is.Done = 0
 code_of is.Failed = 1
 code_of is.Misused = 2
 code_of is.NoMemory = 3
+
+-- a hub that was not made ends a script early
+abbrev pub not_made : HubNewFault → ScriptFault
+not_made hub.BadLimit = BadLimit
+not_made hub.NoMemory = NoMemory
 
 abbrev pub status_of : Result (Unit {0}) ScriptFault → Status
 status_of (Ok u) = is.Done
@@ -42,13 +56,39 @@ abbrev pub EndsAs : {S : Type 0} → Answering S → S → Type 0 → Status →
 EndsAs answers from is_bad status input left old new = (ended : Result (Unit {0}) ScriptFault) × (status ≡ status_of ended)
     × (IsErrOf ended BadLimit ↔ is_bad) × Ends answers from ended input left old new
 
--- a job was done so far; what sockets give is not said
+-- The jobs with sockets.
+
+abbrev pub sockets_status : Result (Unit {0}) ServeFault → Status
+sockets_status (Ok u) = is.Done
+sockets_status (Err (serve.Ended fault)) = status_of (Err fault)
+sockets_status (Err _) = is.Failed
+
+-- as a script ends; or there were no sockets for it, and nothing was read and nothing written
+abbrev pub LoopEnds : Result (Unit {0}) ServeFault → Option (List ℕ) → Option (List ℕ) → Option (List ℕ) → Option (List ℕ) → Type 0
+LoopEnds (Ok u) input left old new = Ends sockets.Answers tt (Ok u) input left old new
+LoopEnds (Err (serve.Ended fault)) input left old new = Ends sockets.Answers tt (Err fault) input left old new
+LoopEnds (Err _) input left old new = (left ≡ input) × (new ≡ old)
+
+-- Of a server that was to make so many rounds, and of what was written before and after: both of its lines, at some port; nothing,
+-- where a limit is out of range or there were no sockets for it; or, after another fault, a part at the front of them.
+abbrev pub ServeEnds : ℕ → Result (Unit {0}) ServeFault → Option (List ℕ) → Option (List ℕ) → Type 0
+ServeEnds turns (Ok u) old new = (port : ℕ) × Appends old new (served_text port turns)
+ServeEnds turns (Err (serve.Ended BadLimit)) old new = new ≡ old
+ServeEnds turns (Err (serve.Ended fault)) old new = (port : ℕ) × AppendsPart old new (served_text port turns)
+ServeEnds turns (Err _) old new = new ≡ old
+
+-- the same of a job whose end has this status, and that finds a limit out of range exactly where one is
+abbrev pub EndsBy : (Result (Unit {0}) ServeFault → Type 0) → Settings → Status → Type 0
+EndsBy ends settings status = (ended : Result (Unit {0}) ServeFault) × (status ≡ sockets_status ended)
+    × (IsErrOf ended (serve.Ended BadLimit) ↔ BadLimits settings.epoch FIRST settings.history settings.outbox) × ends ended
+
+-- A job was done so far. A server reads nothing.
 abbrev pub JobEnds : Job → Status → Option (List ℕ) → Option (List ℕ) → Option (List ℕ) → Option (List ℕ) → Type 0
 JobEnds (job.Script settings) status input left old new =
     EndsAs script.Answers (new_stage settings.epoch settings.history settings.outbox) (BadLimits settings.epoch 1 settings.history settings.outbox) status input left old new
 JobEnds job.Follow status input left old new = EndsAs follow.Answers None ⊥ status input left old new
-JobEnds (job.Loop settings) status input left old new = ⊤
-JobEnds (job.Serve port turns log settings) status input left old new = ⊤
+JobEnds (job.Loop settings) status input left old new = EndsBy (λ ended. LoopEnds ended input left old new) settings status
+JobEnds (job.Serve port turns log settings) status input left old new = (left ≡ input) × EndsBy (λ ended. ServeEnds turns ended old new) settings status
 
 -- there was no job; help that was asked for may not have been written
 abbrev pub StopEnds : Stop → Status → Type 0

@@ -4,5 +4,6 @@ pub mod Respond
 pub mod Words
 pub mod Script
 pub mod Follow
+pub mod Sockets
 pub mod Kept
 pub mod Jobs

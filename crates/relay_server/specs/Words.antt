@@ -80,3 +80,14 @@ held_text name held = name ++ (codes " " ++ view_text (codes "held") held)
 
 abbrev pub truth_text : List ℕ → Option (ℕ × Document) → List ℕ
 truth_text name shown = name ++ (codes " " ++ view_text (codes "truth") shown)
+
+-- what a server prints: the port that it listens on, and, at its end, how many rounds it made
+
+abbrev pub listening_text : ℕ → List ℕ
+listening_text port = codes "listening " ++ (decimal port ++ codes "\n")
+
+abbrev pub turns_text : ℕ → List ℕ
+turns_text turns = codes "turns " ++ (decimal turns ++ codes "\n")
+
+abbrev pub served_text : ℕ → ℕ → List ℕ
+served_text port turns = listening_text port ++ turns_text turns

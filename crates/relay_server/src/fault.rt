@@ -38,6 +38,20 @@ impl From<AllocError> for ScriptFault {
     }
 }
 
+impl From<HubNewFault> for ScriptFault {
+    ghost use Rattle.std.specs.Prelude.{◌≡◌};
+    ghost use Rattle.relay_server.specs.Jobs.{not_made};
+
+    ghost from_gives = { λ fault ended. ended ≡ not_made fault };
+
+    fn from(fault: HubNewFault) -> ScriptFault {
+        match fault {
+            HubNewFault::BadLimit => ScriptFault::BadLimit,
+            HubNewFault::NoMemory => ScriptFault::NoMemory,
+        }
+    }
+}
+
 /// Why a job with sockets ended early. Its connections are let go.
 #[derive(Clone, Copy, Debug, PartialEq, Eq, Error)]
 pub enum ServeFault {
@@ -53,21 +67,35 @@ pub enum ServeFault {
 }
 
 impl From<ScriptFault> for ServeFault {
+    ghost use Rattle.std.specs.Prelude.{◌≡◌};
+    ghost use Rattle.relay_server.specs.declared.fault.ServeFault.TheVariants.{Ended};
+
+    ghost from_gives = { λ fault ended. ended ≡ Ended fault };
+
     fn from(fault: ScriptFault) -> ServeFault {
         ServeFault::Ended(fault)
     }
 }
 
 impl From<HubNewFault> for ServeFault {
+    ghost use Rattle.std.specs.Prelude.{◌≡◌};
+    ghost use Rattle.relay_server.specs.Jobs.{not_made};
+    ghost use Rattle.relay_server.specs.declared.fault.ServeFault.TheVariants.{Ended};
+
+    ghost from_gives = { λ fault ended. ended ≡ Ended (not_made fault) };
+
     fn from(fault: HubNewFault) -> ServeFault {
-        ServeFault::Ended(match fault {
-            HubNewFault::BadLimit => ScriptFault::BadLimit,
-            HubNewFault::NoMemory => ScriptFault::NoMemory,
-        })
+        ServeFault::Ended(ScriptFault::from(fault))
     }
 }
 
 impl From<AllocError> for ServeFault {
+    ghost use Rattle.std.specs.Prelude.{◌≡◌};
+    ghost use Rattle.relay_server.specs.declared.fault.ScriptFault.TheVariants.{NoMemory};
+    ghost use Rattle.relay_server.specs.declared.fault.ServeFault.TheVariants.{Ended};
+
+    ghost from_gives = { λ _ ended. ended ≡ Ended NoMemory };
+
     fn from(_: AllocError) -> ServeFault {
         ServeFault::Ended(ScriptFault::NoMemory)
     }

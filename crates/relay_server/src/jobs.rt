@@ -1,6 +1,10 @@
 //! The program's jobs, from its words to its exit status.
-ghost use Rattle.std.specs.Prelude.{◌≡◌};
-ghost use Rattle.relay_server.specs.Jobs.{IsExit, JobEnds, StopEnds, code_of, unread_status};
+ghost use Rattle.std.specs.Prelude.{◌≡◌, ◌↔◌, IsErrOf};
+ghost use Rattle.relay_hub.specs.Telling.{BadLimits};
+ghost use Rattle.relay_server.specs.Jobs.{IsExit, JobEnds, LoopEnds, StopEnds, code_of, sockets_status, unread_status};
+ghost use Rattle.relay_server.specs.declared.fault.ScriptFault.TheVariants.{BadLimit};
+ghost use Rattle.relay_server.specs.declared.fault.ServeFault.TheVariants.{Ended};
+ghost use Rattle.relay_server.specs.declared.serve.TheConstants.{FIRST};
 
 use crate::fault::{ScriptFault, ServeFault};
 use crate::looped::Looped;
@@ -111,14 +115,19 @@ fn run_loop<N: Net, R: Read, W: Write>(
     reader: &mut R,
     writer: &mut W,
     settings: Settings,
-) -> Result<(), ServeFault> {
+) -> Result<(), ServeFault>
+    ensures ends { LoopEnds result (R.remaining reader.old) (R.remaining reader.new) (W.contents writer.old) (W.contents writer.new) }
+    ensures bad_limit { IsErrOf result (Ended BadLimit) ↔ BadLimits settings.epoch FIRST settings.history settings.outbox }
+{
     let mut looped = Looped::new(alloc, net, settings)?;
     run_lines(alloc, &mut looped, reader, writer)?;
     Ok(())
 }
 
 /// Says on `errors` why a job with sockets ended early, and gives the status.
-fn report_sockets<E: Write>(ended: Result<(), ServeFault>, port: u16, errors: &mut E) -> Status {
+fn report_sockets<E: Write>(ended: Result<(), ServeFault>, port: u16, errors: &mut E) -> Status
+    ensures { result ≡ sockets_status ended }
+{
     match ended {
         Ok(()) => Status::Done,
         Err(ServeFault::Listen) => {

@@ -1,6 +1,11 @@
 //! `relay loop`: a script through loopback sockets, server and clients alternating in one thread.
-ghost use Rattle.std.specs.Prelude.{⊤, ◌≡◌, ◌≢◌, None};
+ghost use Rattle.std.specs.Prelude.{◌≡◌, ◌≢◌, ◌↔◌, ◌⊎◌, None, IfOk, IfErr, IsErrOf, string_bytes};
 ghost use Rattle.relay_follow.specs.declared.fault.HearFault.TheVariants.{NoMemory};
+ghost use Rattle.relay_hub.specs.Telling.{BadLimits};
+ghost use Rattle.relay_server.specs.Sockets.{SpeaksOf, Answers};
+ghost use Rattle.relay_server.specs.declared.fault.ScriptFault.TheVariants as script;
+ghost use Rattle.relay_server.specs.declared.fault.ServeFault.TheVariants.{Ended, Listen};
+ghost use Rattle.relay_server.specs.declared.serve.TheConstants.{FIRST};
 
 use crate::connection::{Connection, Door, Drawing, Entering, Saying};
 use crate::ear::Ear;
@@ -36,7 +41,10 @@ pub struct Looped<'n, N: Net> {
 
 impl<'n, N: Net> Looped<'n, N> {
     /// A new hub behind a port that the system chooses, and no names.
-    pub fn new(alloc: Global, net: &'n N, settings: Settings) -> Result<Looped<'n, N>, ServeFault> {
+    pub fn new(alloc: Global, net: &'n N, settings: Settings) -> Result<Looped<'n, N>, ServeFault>
+        ensures fault { IfErr result (λ fault. (fault ≡ Listen) ⊎ (fault ≡ Ended script.NoMemory) ⊎ (fault ≡ Ended script.BadLimit)) }
+        ensures bad_limit { IsErrOf result (Ended script.BadLimit) ↔ BadLimits settings.epoch FIRST settings.history settings.outbox }
+    {
         let hub = Hub::new(
             alloc,
             settings.epoch,
@@ -56,8 +64,8 @@ impl<'n, N: Net> Looped<'n, N> {
 }
 
 impl<'n, N: Net> Respond for Looped<'n, N> {
-    // No proof says what a socket gives: the loop's answers are tested.
-    ghost answers = { λ old number line new answer. ⊤ };
+    // No proof says what a socket gives: what becomes of a name's line is tested.
+    ghost answers = { λ old number line new answer. Answers tt number line tt answer };
 
     fn respond(&mut self, alloc: Global, number: u32, line: &[u8]) -> Result<String, AllocError> {
         match line_of(line) {
@@ -75,7 +83,9 @@ impl<'n, N: Net> Looped<'n, N> {
         alloc: Global,
         name: &str,
         asks: Asks<'_>,
-    ) -> Result<String, AllocError> {
+    ) -> Result<String, AllocError>
+        ensures { IfOk result (λ answer. SpeaksOf name.now (string_bytes answer)) }
+    {
         if let Some(peer) = self.peers.get_mut(name) {
             return peer.attend(alloc, &self.door, &mut self.hub, name, asks);
         }
@@ -104,7 +114,9 @@ impl<S: Read + Write + OpenStream + Drop> Peer<S> {
         hub: &mut Hub,
         name: &str,
         asks: Asks<'_>,
-    ) -> Result<String, AllocError> {
+    ) -> Result<String, AllocError>
+        ensures { IfOk result (λ answer. SpeaksOf name.now (string_bytes answer)) }
+    {
         match self.ear.hear_again(alloc) {
             None => self.act(alloc, door, hub, name, asks),
             Some(fault) => self.go_on(alloc, door, hub, name, asks, fault),
@@ -122,6 +134,7 @@ impl<S: Read + Write + OpenStream + Drop> Peer<S> {
         fault: HearFault,
     ) -> Result<String, AllocError>
         requires { fault ≢ NoMemory → self.old.ear.unheard ≡ None }
+        ensures { IfOk result (λ answer. SpeaksOf name.now (string_bytes answer)) }
     {
         match fault {
             HearFault::NoMemory => words::off(alloc, name, fault),
@@ -133,6 +146,7 @@ impl<S: Read + Write + OpenStream + Drop> Peer<S> {
         }
     }
 
+    #[tactic(auto, using(crate::proofs::Speaking::truth_speaks))]
     fn act<N: Net<Stream = S>>(
         &mut self,
         alloc: Global,
@@ -142,6 +156,7 @@ impl<S: Read + Write + OpenStream + Drop> Peer<S> {
         asks: Asks<'_>,
     ) -> Result<String, AllocError>
         requires { self.old.ear.unheard ≡ None }
+        ensures { IfOk result (λ answer. SpeaksOf name.now (string_bytes answer)) }
     {
         match (asks, &mut self.connection) {
             (Asks::Held, _) => self.ear.held(alloc, name),
@@ -179,6 +194,7 @@ impl<S: Read + Write + OpenStream + Drop> Peer<S> {
     /// Answers a text that was drawn, which the follower hears.
     fn drawn(&mut self, alloc: Global, name: &str, text: &str) -> Result<String, AllocError>
         requires { self.old.ear.unheard ≡ None }
+        ensures { IfOk result (λ answer. SpeaksOf name.now (string_bytes answer)) }
     {
         let answer = format!(in alloc; "{name} {text}\n")?;
         let kept = Text::of(String::from_str(alloc, text)?);
@@ -188,17 +204,20 @@ impl<S: Read + Write + OpenStream + Drop> Peer<S> {
     }
 }
 
-fn entered<S>(alloc: Global, name: &str, entering: &Entering<S>) -> Result<String, AllocError> {
+/// What came of an opening.
+fn entered<S>(alloc: Global, name: &str, entering: &Entering<S>) -> Result<String, AllocError>
+    ensures { IfOk result (λ answer. SpeaksOf name.now (string_bytes answer)) }
+{
     match entering {
-        Entering::Opened(connection) => {
-            let session = connection.session;
-            format!(in alloc; "{name} opened {session}\n")
-        }
+        Entering::Opened(connection) => words::entered(alloc, name, connection.session),
         Entering::Refused(status) => format!(in alloc; "{name} refused {status}\n"),
         Entering::Stuck => stuck(alloc, name),
     }
 }
 
-fn stuck(alloc: Global, name: &str) -> Result<String, AllocError> {
+/// That sockets gave nothing in time.
+fn stuck(alloc: Global, name: &str) -> Result<String, AllocError>
+    ensures { IfOk result (λ answer. SpeaksOf name.now (string_bytes answer)) }
+{
     format!(in alloc; "{name} stuck\n")
 }

@@ -11,7 +11,7 @@ use crate::player::Player;
 use crate::respond::Respond;
 use crate::words;
 use indexmap::IndexMap;
-use relay_hub::{Hub, HubNewFault};
+use relay_hub::Hub;
 use std::alloc::{AllocError, Global};
 
 /// A hub, and what each name of the script has.
@@ -30,14 +30,10 @@ impl Script {
         ensures fault { IfErr result (λ fault. (fault ≡ ScriptFault.BadLimit) ⊎ (fault ≡ ScriptFault.NoMemory)) }
         ensures bad_limit { IsErrOf result ScriptFault.BadLimit ↔ BadLimits epoch 1 history outbox }
     {
-        match Hub::new(alloc, epoch, 1, history, outbox) {
-            Ok(hub) => Ok(Script {
-                hub,
-                players: IndexMap::new(alloc),
-            }),
-            Err(HubNewFault::BadLimit) => Err(ScriptFault::BadLimit),
-            Err(HubNewFault::NoMemory) => Err(ScriptFault::NoMemory),
-        }
+        Ok(Script {
+            hub: Hub::new(alloc, epoch, 1, history, outbox)?,
+            players: IndexMap::new(alloc),
+        })
     }
 }
 

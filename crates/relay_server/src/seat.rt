@@ -60,7 +60,7 @@ impl<S: Read + Write + Drop> Seat<S> {
             return false;
         }
         match self.link.session() {
-            Some(session) => hub.waiting(session).unwrap_or(0) > 0,
+            Some(session) => matches!(hub.waiting(session), Some(1..)),
             None => false,
         }
     }

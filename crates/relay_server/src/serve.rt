@@ -1,13 +1,24 @@
 //! `relay serve`: listens, makes its rounds, and ends.
+ghost use Rattle.std.specs.Prelude.{◌≡◌, ◌↔◌, ◌⊎◌, OnOk, OnErr, IfErr, IsErrOf};
+ghost use Rattle.std.specs.Io.KnownBytes.{Appends};
+ghost use Rattle.relay_hub.specs.Telling.{BadLimits};
+ghost use Rattle.relay_server.specs.Jobs.{ServeEnds};
+ghost use Rattle.relay_server.specs.Lines.{AppendsPart};
+ghost use Rattle.relay_server.specs.Words.{served_text};
+ghost use Rattle.relay_server.specs.declared.fault.ScriptFault.TheVariants.{BadLimit, NoMemory, Output};
+ghost use Rattle.relay_server.specs.declared.fault.ServeFault.TheVariants.{Ended, Listen};
+ghost use Rattle.relay_server.specs.declared.serve.TheConstants.{FIRST};
+
 use crate::fault::{ScriptFault, ServeFault};
 use crate::journal::{Journal, Lines, NoJournal};
-use crate::readiness::Polling;
+use crate::output::write_whole;
+use crate::readiness::{Polling, Readiness};
 use crate::serving::Serving;
 use relay_hub::Hub;
 use relay_options::Settings;
 use std::alloc::Global;
-use std::io::Write;
-use std::net::{Ipv4Addr, Net, OpenListener, SocketAddr};
+use std::io::{Read, Write};
+use std::net::{Ipv4Addr, Net, OpenListener, OpenStream, SocketAddr};
 
 /// The number of the first session.
 pub const FIRST: u64 = 1;
@@ -24,7 +35,7 @@ pub struct Served {
 }
 
 /// Listens on 127.0.0.1, prints `listening PORT`, makes the rounds, ends every link, and prints `turns N`. What it tells of its
-/// links goes to `errors`.
+/// links goes to `errors`. Nothing was printed at `BadLimit`, `Listen` and `Wait`, no line is cut at `NoMemory`; at `Output` one may be.
 pub fn serve<N: Net, W: Write, E: Write>(
     alloc: Global,
     net: &N,
@@ -32,7 +43,10 @@ pub fn serve<N: Net, W: Write, E: Write>(
     errors: &mut E,
     served: Served,
     settings: Settings,
-) -> Result<(), ServeFault> {
+) -> Result<(), ServeFault>
+    ensures ends { ServeEnds served.turns result (W.contents writer.old) (W.contents writer.new) }
+    ensures bad_limit { IsErrOf result (Ended BadLimit) ↔ BadLimits settings.epoch FIRST settings.history settings.outbox }
+{
     if served.log {
         serve_noting(alloc, net, writer, &mut Lines::to(errors), served, settings)
     } else {
@@ -40,6 +54,7 @@ pub fn serve<N: Net, W: Write, E: Write>(
     }
 }
 
+#[tactic(auto, using(crate::proofs::JobLemmas::limits_kept, crate::proofs::ServeLemmas::ends_hosting, crate::proofs::ServeLemmas::ends_unmade))]
 fn serve_noting<N: Net, W: Write, J: Journal>(
     alloc: Global,
     net: &N,
@@ -47,8 +62,10 @@ fn serve_noting<N: Net, W: Write, J: Journal>(
     journal: &mut J,
     served: Served,
     settings: Settings,
-) -> Result<(), ServeFault> {
-    let Served { port, turns, .. } = served;
+) -> Result<(), ServeFault>
+    ensures ends { ServeEnds served.turns result (W.contents writer.old) (W.contents writer.new) }
+    ensures bad_limit { IsErrOf result (Ended BadLimit) ↔ BadLimits settings.epoch FIRST settings.history settings.outbox }
+{
     let hub = Hub::new(
         alloc,
         settings.epoch,
@@ -56,25 +73,54 @@ fn serve_noting<N: Net, W: Write, J: Journal>(
         settings.history,
         settings.outbox,
     )?;
-    let listener = listen(net, port)?;
+    let listener = listen(net, served.port)?;
     let Ok(address) = listener.local_addr() else {
         return Err(ServeFault::Listen);
     };
-    let port = address.port();
     let Ok(polling) = Polling::new(alloc, net, &listener) else {
         return Err(ServeFault::Wait);
     };
-    print(writer, format!(in alloc; "listening {port}\n")?.as_str())?;
     let mut serving = Serving::new(alloc, hub, settings.outbox, polling);
+    host(
+        alloc,
+        writer,
+        journal,
+        &mut serving,
+        &listener,
+        address.port(),
+        served.turns,
+    )
+}
+
+/// Prints the port, makes the rounds, ends every link, and prints how many rounds there were.
+#[tactic(auto, using(crate::proofs::ServeLemmas::part_none, crate::proofs::ServeLemmas::then_all))]
+fn host<L: OpenListener, P: Readiness<L::Stream>, W: Write, J: Journal>(
+    alloc: Global,
+    writer: &mut W,
+    journal: &mut J,
+    serving: &mut Serving<L::Stream, P>,
+    listener: &L,
+    port: u16,
+    turns: u64,
+) -> Result<(), ServeFault>
+where
+    L::Stream: Read + Write + OpenStream + Drop,
+    ensures done { OnOk result (Appends (W.contents writer.old) (W.contents writer.new) (served_text port turns)) }
+    ensures stopped { OnErr result (AppendsPart (W.contents writer.old) (W.contents writer.new) (served_text port turns)) }
+    ensures fault { IfErr result (λ fault. (fault ≡ Ended Output) ⊎ (fault ≡ Ended NoMemory)) }
+{
+    print(writer, format!(in alloc; "listening {port}\n")?.as_str())?;
     for _ in 0..turns {
-        serving.round(alloc, &listener, journal);
+        serving.round(alloc, listener, journal);
     }
     serving.end(alloc, journal);
     print(writer, format!(in alloc; "turns {turns}\n")?.as_str())
 }
 
 /// A listener that never waits.
-pub fn listen<N: Net>(net: &N, port: u16) -> Result<N::Listener, ServeFault> {
+pub fn listen<N: Net>(net: &N, port: u16) -> Result<N::Listener, ServeFault>
+    ensures { IfErr result (λ fault. fault ≡ Listen) }
+{
     let Ok(listener) = net.bind(SocketAddr::from((Ipv4Addr::LOCALHOST, port))) else {
         return Err(ServeFault::Listen);
     };
@@ -85,9 +131,13 @@ pub fn listen<N: Net>(net: &N, port: u16) -> Result<N::Listener, ServeFault> {
 }
 
 /// Writes a line at once.
-fn print<W: Write>(writer: &mut W, text: &str) -> Result<(), ServeFault> {
-    let written = writer.write_all(text.as_bytes());
-    match written.and_then(|()| writer.flush()) {
+fn print<W: Write>(writer: &mut W, text: &str) -> Result<(), ServeFault>
+    ensures ok { OnOk result (Appends (W.contents writer.old) (W.contents writer.new) text.now) }
+    ensures err { OnErr result (AppendsPart (W.contents writer.old) (W.contents writer.new) text.now) }
+    ensures fault { IfErr result (λ fault. fault ≡ Ended Output) }
+{
+    write_whole(writer, text.as_bytes())?;
+    match writer.flush() {
         Ok(()) => Ok(()),
         Err(_) => Err(ServeFault::Ended(ScriptFault::Output)),
     }

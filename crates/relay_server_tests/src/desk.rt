@@ -5,11 +5,11 @@ use relay_hub::Hub;
 use relay_server::{Lines, News, Readiness, Serving};
 use std::alloc::{AllocError, Global};
 use std::cell::RefCell;
-use std::io;
 use std::io::{ErrorKind, Read, Write};
 use std::net::{Ipv4Addr, OpenListener, OpenStream, SocketAddr};
 use std::test::Fail;
 use std::time::Duration;
+use std::{io, mem};
 
 /// Both ends of a stream.
 #[derive(Drop)]
@@ -155,7 +155,9 @@ impl<'a> OpenListener for Door<'a> {
 pub(crate) struct Sayings {
     /// The news of the next round.
     next: Vec<News>,
-    /// The next wait fails.
+    /// How many pieces of it the next wait has room for. What finds none comes with the wait after it.
+    room: usize,
+    /// The next wait fails, behind the news that finds room; the rest is lost.
     fails: bool,
     /// How long the last wait could have been, in milliseconds.
     waited: u64,
@@ -171,6 +173,7 @@ impl Sayings {
     pub fn new(alloc: Global) -> RefCell<Sayings> {
         RefCell::new(Sayings {
             next: Vec::new(alloc),
+            room: usize::MAX,
             fails: false,
             waited: 0,
         })
@@ -181,16 +184,15 @@ impl Sayings {
             .as_secs()
             .saturating_mul(1_000)
             .saturating_add(u64::from(most.subsec_millis()));
+        let room = mem::replace(&mut self.room, usize::MAX).min(self.next.len());
+        for piece in self.next.drain(..room) {
+            news.push(piece)?;
+        }
         if self.fails {
             self.fails = false;
+            self.next.clear();
             return Err(busy());
         }
-        for piece in self.next.iter() {
-            if news.push(*piece).is_err() {
-                return Err(busy());
-            }
-        }
-        self.next.clear();
         Ok(())
     }
 }
@@ -247,6 +249,12 @@ impl<'a> Desk<'a> {
     /// The next round hears this.
     pub fn news(&mut self, news: News) -> Result<(), Fail> {
         Ok(self.sayings.try_borrow_mut()?.next.push(news)?)
+    }
+
+    /// The next round has room for so much of the news that waits.
+    pub fn room(&mut self, room: usize) -> Result<(), Fail> {
+        self.sayings.try_borrow_mut()?.room = room;
+        Ok(())
     }
 
     /// The next round cannot be told what is ready.

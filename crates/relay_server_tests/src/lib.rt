@@ -10,6 +10,8 @@ mod hostile;
 #[cfg(test)]
 mod lines;
 #[cfg(test)]
+mod nets;
+#[cfg(test)]
 mod options;
 #[cfg(test)]
 mod program;

@@ -34,12 +34,14 @@ enum Act {
     Fails(usize),
     Full(usize),
     Empty(usize),
+    /// The next round has room for so much of the news that waits.
+    Room(usize),
     /// The next round cannot be told what is ready.
     Blind,
     Round,
 }
 
-use Act::{Blind, Comes, Empty, Fails, Full, Knock, Readable, Round, Says, Writable};
+use Act::{Blind, Comes, Empty, Fails, Full, Knock, Readable, Room, Round, Says, Writable};
 
 /// How often an act is done, the act, and what is told of it each time: of a round how many connections are held, whether it could
 /// have slept, and for each wire how many reads (`r`) and writes (`w`) were made, and what was written.
@@ -80,6 +82,7 @@ impl<'a> Pair<'a> {
             Fails(place) => self.wire(place).try_borrow_mut()?.fails = true,
             Full(place) => self.wire(place).try_borrow_mut()?.is_full = true,
             Empty(place) => self.wire(place).try_borrow_mut()?.is_full = false,
+            Room(room) => self.desk.room(room)?,
             Blind => self.desk.fail()?,
             Round => return self.round(alloc),
         }
@@ -341,6 +344,34 @@ fn goes_on_where_nothing_is_known(rt: HostRuntime) -> Result<(), Fail> {
         (1, Round, "2 sleeps, 0r0w, 0r0w"),
     ];
     play(&rt, 32, &[ENTERS, WATCHES, JOINS, blind])
+}
+
+/// News that finds no room comes with the next round, in which nothing else is new; where it is lost everything is taken as ready.
+#[test]
+fn hears_of_news_that_found_no_room(rt: HostRuntime) -> Result<(), Fail> {
+    let later: &[Row] = &[
+        (1, Says(0, EDIT), ""),
+        (1, Says(1, EDIT), ""),
+        (1, Readable(0), ""),
+        (1, Readable(1), ""),
+        (1, Room(1), ""),
+        (1, Round, "2 sleeps, 2r1w done patch, 0r0w"),
+        (1, Round, "2 sleeps, 0r1w patch, 2r1w done"),
+        (1, Round, "2, 0r0w, 0r0w"),
+        (1, Round, "2 sleeps, 0r0w, 0r0w"),
+    ];
+    play(&rt, 32, &[ENTERS, WATCHES, JOINS, later])?;
+    let lost: &[Row] = &[
+        (1, Says(0, EDIT), ""),
+        (1, Says(1, EDIT), ""),
+        (1, Readable(0), ""),
+        (1, Readable(1), ""),
+        (1, Room(1), ""),
+        (1, Blind, ""),
+        (1, Round, "2 sleeps, 2r1w done patch patch, 2r1w done"),
+        (1, Round, "2 sleeps, 0r0w, 0r0w"),
+    ];
+    play(&rt, 32, &[ENTERS, WATCHES, JOINS, lost])
 }
 
 /// A closing link has a turn when its peer said something, or when a wait has passed without news.

@@ -1,5 +1,5 @@
--- A script, or a follower's texts.
-use Rattle.std.proofs.Common.{None}
+-- What each job was ended by.
+use Rattle.std.proofs.Common.{None, refl}
 use Rattle.relay_server.specs.Follow as follow
 use Rattle.relay_server.specs.Script as script
 use Rattle.relay_server.specs.Script.{new_stage}
@@ -32,7 +32,18 @@ returns-in-Follow g c =
     )
 
 pub returns-in-Loop : goal.returns-in-Loop
-returns-in-Loop g c = JobEnds-at _ _ _ _ _ _ _ c.in-Loop.is tt
+returns-in-Loop g c =
+    let input = g.R.Read.remaining c.args.reader.now in
+    let old = g.W.Write.contents c.args.writer.now in
+    let ran = c.run_loop-ended in
+    let left = g.R.Read.remaining ran.new.reader in
+    let new = g.W.Write.contents ran.new.writer in
+    JobEnds-at _ _ _ input left old new c.in-Loop.is (ran.result, c.report_sockets.ensures, ran.ensures.bad_limit, ran.ensures.ends)
 
 pub returns-in-Serve : goal.returns-in-Serve
-returns-in-Serve g c = JobEnds-at _ _ _ _ _ _ _ c.in-Serve.is tt
+returns-in-Serve g c =
+    let input = g.R.Read.remaining c.args.reader.now in
+    let old = g.W.Write.contents c.args.writer.now in
+    let ran = c.serve-ended in
+    let new = g.W.Write.contents ran.new.writer in
+    JobEnds-at _ _ _ input input old new c.in-Serve.is (refl, (ran.result, c.report_sockets-in-Serve.ensures, ran.ensures.bad_limit, ran.ensures.ends))

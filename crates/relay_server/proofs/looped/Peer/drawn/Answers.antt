@@ -1,0 +1,13 @@
+-- The line of a fault stands behind the text.
+use Rattle.std.proofs.Common.{string_bytes}
+use Rattle.std.proofs.lemmas.Result.{IfOk-weaker}
+use Rattle.relay_server.specs.Sockets.{SpeaksOf}
+use Rattle.relay_server.proofs.Speaking.{speaks, speaks_on}
+use Rattle.relay_server.proofs.looped.Peer.drawn.Goals as goal
+
+pub returns : goal.returns
+returns g c =
+    let name = c.args.name.now in
+    let text = string_bytes c.in_ok-answer.answer in
+    let first : SpeaksOf name text = speaks name _ text c.in_ok-answer.ensures.ok in
+    IfOk-weaker c.format-2.result _ _ (λ answer e. speaks_on name text _ (string_bytes answer) first e) c.format-2.ensures.ok
