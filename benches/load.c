@@ -1,6 +1,9 @@
 // Load for `relay serve`: watchers that count what they are told, editors that keep some edits on the way, and idle connections.
 //
-//     load PORT deliver WATCHERS SECONDS     edits and patches a second; 4 editors, 8 edits of 1 KiB on the way for each
+//     load PORT deliver WATCHERS SECONDS [PID [KIB]]
+//                                            edits and patches a second; 4 editors, 8 edits of 1 KiB on the way for each; what the
+//                                            process PID, the server, took of a processor meanwhile; in a document that weighs so many
+//                                            KiB, 64 at most, besides what is edited
 //     load PORT answer IDLE EDITS            microseconds from an edit to its own patch, IDLE links beside
 //     load PORT idle LINKS                   opens links, says so, and waits for the end of its input
 //     load PORT single WATCHERS EDITS        EDITS edits of one editor, each told to all before the next
@@ -70,8 +73,9 @@ static size_t framed(unsigned char *frame, const char *text, size_t len) {
 }
 
 static void say(int fd, const char *text) {
-    unsigned char frame[2 * TEXT];
-    send_all(fd, frame, framed(frame, text, strlen(text)));
+    size_t len = strlen(text);
+    unsigned char frame[len + 8];
+    send_all(fd, frame, framed(frame, text, len));
 }
 
 static void edit(int fd, unsigned n) {
@@ -176,16 +180,34 @@ static void *edit_on(void *arg) {
     return 0;
 }
 
-static Link begun(void) {
+// An editor who began the document: the text that is edited, and a list of texts of eight bytes, which weigh 16 each.
+static Link begun(int kibibytes) {
+    static char text[1 << 16];
     Link link = opened("bench");
-    say(link.fd, "{\"do\":\"edit\",\"id\":1,\"patch\":[{\"op\":\"add\",\"path\":\"\",\"value\":{\"x\":\"\"}}]}");
+    strcpy(text, "{\"do\":\"edit\",\"id\":1,\"patch\":[{\"op\":\"add\",\"path\":\"\",\"value\":{\"x\":\"\",\"rest\":[0");
+    char *end = text + strlen(text);
+    for (int i = 0; i < kibibytes * 64; i++) end = stpcpy(end, ",\"abcdefgh\"");
+    strcpy(end, "]}}]}");
+    say(link.fd, text);
     read_replies(&link, 2);
     return link;
 }
 
-static void deliver(int watchers, int seconds) {
+// Seconds of a processor that a process took so far, all its threads together.
+static double processor(int pid) {
+    char name[64], text[1024] = "";
+    unsigned long user = 0, system = 0;
+    snprintf(name, sizeof name, "/proc/%d/stat", pid);
+    FILE *stat = fopen(name, "r");
+    if (!stat || !fgets(text, sizeof text, stat)) fail(name);
+    fclose(stat);
+    sscanf(strrchr(text, ')'), ") %*c %*d %*d %*d %*d %*d %*u %*u %*u %*u %*u %lu %lu", &user, &system);
+    return (double)(user + system) / sysconf(_SC_CLK_TCK);
+}
+
+static void deliver(int watchers, int seconds, int server, int kibibytes) {
     Link *links = calloc(watchers, sizeof *links), editors[EDITORS];
-    for (int i = 0; i < EDITORS; i++) editors[i] = i ? opened("bench") : begun();
+    for (int i = 0; i < EDITORS; i++) editors[i] = i ? opened("bench") : begun(kibibytes);
     for (int i = 1; i < EDITORS; i++) read_replies(&editors[i], 1);
     for (int i = 0; i < watchers; i++) links[i] = watching("bench", "/x");
     pthread_t threads[READERS + EDITORS];
@@ -198,7 +220,7 @@ static void deliver(int watchers, int seconds) {
     }
     for (int i = 0; i < EDITORS; i++) pthread_create(&threads[READERS + i], 0, edit_on, &editors[i]);
     uint64_t patches = 0, snapshots = 0, edits = 0;
-    double begin = 0;
+    double begin = 0, used = 0;
     for (int round = 0; round < 2; round++) { // the first second only warms up
         usleep(round ? seconds * 1000000 : 1000000);
         uint64_t p = 0, s = 0, e = 0;
@@ -206,9 +228,12 @@ static void deliver(int watchers, int seconds) {
         for (int i = 0; i < EDITORS; i++) e += editors[i].replies;
         if (round) {
             double took = now() - begin;
-            printf("%.0f edits, %.0f patches, %.0f snapshots a second\n", (e - edits) / took, (p - patches) / took, (s - snapshots) / took);
+            printf("%.0f edits, %.0f patches, %.0f snapshots a second", (e - edits) / took, (p - patches) / took, (s - snapshots) / took);
+            if (server) printf(", %.1f %% of a processor", (processor(server) - used) / took * 100);
+            printf("\n");
         }
         patches = p, snapshots = s, edits = e, begin = now();
+        if (server) used = processor(server);
     }
     exit(0);
 }
@@ -233,7 +258,7 @@ static int by_size(const void *a, const void *b) {
 static void answer(int links, int edits) {
     static unsigned char room[ROOM];
     idle(links);
-    Link writer = begun();
+    Link writer = begun(0);
     close(writer.fd);
     Link link = watching("bench", "/x");
     double *took = calloc(edits, sizeof *took), all = 0;
@@ -250,7 +275,7 @@ static void answer(int links, int edits) {
 
 static void single(int watchers, int edits) {
     static unsigned char room[ROOM];
-    Link writer = begun(), *links = calloc(watchers, sizeof *links);
+    Link writer = begun(0), *links = calloc(watchers, sizeof *links);
     for (int i = 0; i < watchers; i++) links[i] = watching("bench", "/x");
     printf("ready\n");
     fflush(stdout);
@@ -268,10 +293,11 @@ static void single(int watchers, int edits) {
 }
 
 int main(int argc, char **argv) {
-    if (argc < 4) return fprintf(stderr, "usage: load PORT deliver|answer|idle|single NUMBER [NUMBER]\n"), 2;
+    int server = argc > 5 ? atoi(argv[5]) : 0, kibibytes = argc > 6 ? atoi(argv[6]) : 0;
+    if (argc < 4 || kibibytes > 64) return fprintf(stderr, "usage: load PORT deliver|answer|idle|single NUMBER [NUMBER [PID [KIB]]]\n"), 2;
     port = atoi(argv[1]);
     int first = atoi(argv[3]), second = argc > 4 ? atoi(argv[4]) : 1000;
-    if (!strcmp(argv[2], "deliver")) deliver(first, second);
+    if (!strcmp(argv[2], "deliver")) deliver(first, second, server, kibibytes);
     else if (!strcmp(argv[2], "answer")) answer(first, second);
     else if (!strcmp(argv[2], "single")) single(first, second);
     else {
