@@ -10,10 +10,10 @@ use Rattle.std.proofs.lemmas.List.Kept.{AllPairs-from_increasing}
 use Rattle.relay_patch.specs.declared.change.Change.{Change}
 use Rattle.relay_room.specs.Room.{State as Room}
 use Rattle.relay_tree.specs.Document.{Document}
+use Rattle.relay_hub.specs.Session.{Session}
 use Rattle.relay_hub.specs.State.{EachOnce, is_number, session_in}
 use Rattle.relay_hub.specs.Step.{Told}
 use Rattle.relay_hub.specs.Watched.{ToldIf, ToldAmong}
-use Rattle.relay_hub.specs.declared.session.Session.{Session}
 use Rattle.relay_hub.proofs.Sessions.{none_there, place_within}
 use Rattle.relay_hub.proofs.Told.{told_number}
 

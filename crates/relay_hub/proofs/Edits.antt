@@ -17,7 +17,7 @@ use Rattle.relay_room.specs.declared.fault.EditFault.{EditFault}
 use Rattle.relay_tree.specs.Document.{Document}
 use Rattle.relay_hub.specs.Log.{Log, Watching, entry, home, documents, present_of, next_document, asked_at_home, watching}
 use Rattle.relay_hub.specs.Refusal.{edit_refusal}
-use Rattle.relay_hub.specs.Session.{replied}
+use Rattle.relay_hub.specs.Session.{Session, replied}
 use Rattle.relay_hub.specs.Stands.{RoomStands, LineStands, WatchStands, SessionStands, StandsFor}
 use Rattle.relay_hub.specs.State.{Group, State, Home, session_in}
 use Rattle.relay_hub.specs.Step.{telling, ToldView, ToldAs, EditServed, with_group}
@@ -25,7 +25,6 @@ use Rattle.relay_hub.specs.declared.beginning.Beginning.{Beginning}
 use Rattle.relay_hub.specs.declared.event.Answer.TheVariants.{Heard}
 use Rattle.relay_hub.specs.declared.event.Event.TheVariants.{Receive}
 use Rattle.relay_hub.specs.declared.event.Heard.TheVariants.{Answered}
-use Rattle.relay_hub.specs.declared.session.Session.{Session}
 use Rattle.relay_hub.proofs.Documents.{goes_on_stands}
 use Rattle.relay_hub.proofs.Follow.{folded_follows, told_follows}
 use Rattle.relay_hub.proofs.Frames.{room_changes, session_stands, here}

@@ -5,11 +5,11 @@ use Rattle.std.proofs.lemmas.Bool.Decides.{eqb_tells}
 use Rattle.relay_room.specs.Room.{State as Room}
 use Rattle.relay_tree.specs.Document.{Document, null}
 use Rattle.relay_hub.specs.Log.{Log, Entry, Watching, home, is_opened, documents, watching, opened, open_count}
+use Rattle.relay_hub.specs.Session.{Session}
 use Rattle.relay_hub.specs.Stands.{RoomStands, LineStands, WatchStands, SessionStands, GroupStands, HomeStands, StandsFor}
 use Rattle.relay_hub.specs.State.{Group, State, RoomOf, Home, place_of, place_named, session_in}
 use Rattle.relay_hub.specs.Step.{ChangesOnly, with_group}
 use Rattle.relay_hub.specs.declared.beginning.Beginning.{Beginning}
-use Rattle.relay_hub.specs.declared.session.Session.{Session}
 use Rattle.relay_hub.proofs.Places.{by_number, slice_set_cases, slice_get-set, slice_get-set_other}
 use Rattle.relay_hub.proofs.Rooms.{named_set}
 

@@ -11,10 +11,10 @@ use Rattle.relay_translate.specs.Watches.{Watches}
 use Rattle.relay_tree.specs.Document.{Document}
 use Rattle.relay_view.specs.View.{View}
 use Rattle.relay_hub.specs.Call.{ChangesBy, IsAbove}
+use Rattle.relay_hub.specs.Session.{Session}
 use Rattle.relay_hub.specs.State.{IsRising, numbers, is_number, session_in}
 use Rattle.relay_hub.specs.Step.{OnlyAt, ToldAs, AllTold}
 use Rattle.relay_hub.specs.Watched.{IsIndexed}
-use Rattle.relay_hub.specs.declared.session.Session.{Session}
 use Rattle.relay_hub.proofs.Places.{by_number}
 use Rattle.relay_hub.proofs.Sessions.{push_last, session_there}
 use Rattle.relay_hub.proofs.Told.{IsTold, each_told}

@@ -9,6 +9,7 @@ use Rattle.indexmap.specs.IndexMap.{set_value_at, with_value_at, values}
 use Rattle.relay_outbox.specs.declared.outbox.TheConstants.{REPLIES}
 use Rattle.relay_hub.specs.Call.{StepIf, ReceivesIf, DrawsIf, HasRoom}
 use Rattle.relay_hub.specs.Kept.{named, hub_of}
+use Rattle.relay_hub.specs.Session.{Session}
 use Rattle.relay_hub.specs.State.{Group, State, IsHub, place_of, place_named, session_in, session_of}
 use Rattle.relay_hub.specs.Step.{ChangesOnly, with_group, Step}
 use Rattle.relay_hub.specs.Telling.{room_and_session, may_hear}
@@ -17,7 +18,6 @@ use Rattle.relay_hub.specs.declared.event.Answer.TheVariants as answer
 use Rattle.relay_hub.specs.declared.event.Event.{Event}
 use Rattle.relay_hub.specs.declared.event.Event.TheVariants.{Receive, Draw, Close}
 use Rattle.relay_hub.specs.declared.hub.Hub.TheInside.{Inside}
-use Rattle.relay_hub.specs.declared.session.Session.{Session}
 use Rattle.relay_hub.proofs.Members.{step_is_hub}
 use Rattle.relay_hub.proofs.Places.{slice_set_same}
 use Rattle.relay_hub.proofs.Rooms.{some_named}

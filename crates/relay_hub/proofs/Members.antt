@@ -17,7 +17,7 @@ use Rattle.relay_room.specs.declared.catch_up.CatchUp.TheVariants.{Snapshot}
 use Rattle.relay_room.specs.declared.fault.EditFault.{EditFault}
 use Rattle.relay_tree.specs.Document.{Document, null}
 use Rattle.relay_hub.specs.Refusal.{refused, future_refusal}
-use Rattle.relay_hub.specs.Session.{replied, newcomer, watches, unwatches, resumes, drawn}
+use Rattle.relay_hub.specs.Session.{Session, replied, newcomer, watches, unwatches, resumes, drawn}
 use Rattle.relay_hub.specs.State.{Group, group, State, EachOnce, Home, RoomOf, IsHub, place_of, place_named, session_in}
 use Rattle.relay_hub.specs.Step.{OnlyAt, EditServed, ResumeServed, Serves, Receives, Draws, with_group, InGroup, AtPlace, Enters, Opens, Closes, ClosesIn, ClosesGroup, ClosesAt, Step}
 use Rattle.relay_hub.specs.declared.event.Answer.{Answer}
@@ -25,7 +25,6 @@ use Rattle.relay_hub.specs.declared.event.Answer.TheVariants.{Opened, NotOpened,
 use Rattle.relay_hub.specs.declared.event.Event.{Event}
 use Rattle.relay_hub.specs.declared.event.Event.TheVariants.{Open, Receive, Draw, Close}
 use Rattle.relay_hub.specs.declared.event.Heard.TheVariants.{Answered, Busy}
-use Rattle.relay_hub.specs.declared.session.Session.{Session}
 use Rattle.relay_hub.proofs.Places.{by_number, by_finding, slice_set_cases, append_cases, slice_get-set, slice_get-set_other, slice_get-earlier, slice_get-last}
 use Rattle.relay_hub.proofs.Told.{each_told, none_told, some_told, once_told}
 

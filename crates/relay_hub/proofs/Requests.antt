@@ -24,7 +24,7 @@ use Rattle.relay_tree.specs.Document.{Document, null}
 use Rattle.relay_view.specs.View.{View, view}
 use Rattle.relay_hub.specs.Log.{Log, Watching as Watched, begun, entry, home, documents, requested, asked, watching}
 use Rattle.relay_hub.specs.Refusal.{refused, future_refusal}
-use Rattle.relay_hub.specs.Session.{session_with, replied, watches, unwatches, resumes}
+use Rattle.relay_hub.specs.Session.{Session, session_with, replied, watches, unwatches, resumes}
 use Rattle.relay_hub.specs.Stands.{RoomStands, LineStands, WatchStands, StandsFor}
 use Rattle.relay_hub.specs.State.{Group, State, Home}
 use Rattle.relay_hub.specs.Step.{ChangesOnly, ResumeServed, with_group}
@@ -32,7 +32,6 @@ use Rattle.relay_hub.specs.declared.beginning.Beginning.{Beginning}
 use Rattle.relay_hub.specs.declared.event.Answer.TheVariants.{Heard}
 use Rattle.relay_hub.specs.declared.event.Event.TheVariants.{Receive}
 use Rattle.relay_hub.specs.declared.event.Heard.TheVariants.{Answered}
-use Rattle.relay_hub.specs.declared.session.Session.{Session}
 use Rattle.relay_hub.proofs.Follow.{Follows-snapshot, level_follows, resumed_follows}
 use Rattle.relay_hub.proofs.Frames.{session_changes, here}
 use Rattle.relay_hub.proofs.Rooms.{none_added, others_stay}

@@ -11,9 +11,9 @@ use Rattle.relay_patch.specs.declared.change.Change.{Change}
 use Rattle.relay_room.specs.Room.{State as Room}
 use Rattle.relay_tree.specs.Document.{Document}
 use Rattle.relay_hub.specs.Call.{ChangesBy}
+use Rattle.relay_hub.specs.Session.{Session}
 use Rattle.relay_hub.specs.State.{EachOnce, IsRising, numbers, is_number, session_in}
 use Rattle.relay_hub.specs.Step.{AllTold}
-use Rattle.relay_hub.specs.declared.session.Session.{Session}
 use Rattle.relay_hub.proofs.Sessions.{none_there, set_changes}
 use Rattle.relay_hub.proofs.Told.{told_number}
 

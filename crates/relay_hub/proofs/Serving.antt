@@ -11,12 +11,11 @@ use Rattle.relay_room.specs.declared.catch_up.CatchUp.{CatchUp}
 use Rattle.relay_room.specs.declared.catch_up.CatchUp.TheVariants.{Nothing, Patch, Snapshot}
 use Rattle.relay_hub.proofs.Sessions.{session_there}
 use Rattle.relay_hub.specs.Call.{HasRoom}
-use Rattle.relay_hub.specs.Session.{resumes}
+use Rattle.relay_hub.specs.Session.{Session, resumes}
 use Rattle.relay_hub.specs.State.{Group, group, is_number, session_in}
 use Rattle.relay_hub.specs.Step.{OnlyAt, ResumeServed, Serves, Receives}
 use Rattle.relay_hub.specs.declared.event.Answer.TheVariants.{Heard}
 use Rattle.relay_hub.specs.declared.event.Heard.TheVariants.{Answered}
-use Rattle.relay_hub.specs.declared.session.Session.{Session}
 
 -- a text of a session that is there, and in whose line a reply fits, is answered
 pub answered : (epoch s i short : ℕ) (text : List ℕ) (asked : Result Request Refusal) (old new : Group) →

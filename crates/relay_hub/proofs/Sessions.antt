@@ -9,9 +9,9 @@ use Rattle.std.proofs.lemmas.List.Folds.{find-set, find_past, find_at, find-appe
 use Rattle.std.proofs.lemmas.Option.{slice_get_past, slice_get-get_or}
 use Rattle.relay_outbox.specs.declared.outbox.TheConstants.{REPLIES}
 use Rattle.relay_hub.specs.Call.{ChangesBy, HasRoom, IsFull}
+use Rattle.relay_hub.specs.Session.{Session}
 use Rattle.relay_hub.specs.State.{session_in, is_number, EachOnce}
 use Rattle.relay_hub.specs.Step.{OnlyAt}
-use Rattle.relay_hub.specs.declared.session.Session.{Session}
 use Rattle.relay_hub.proofs.Places.{by_number, tested, untested}
 
 -- Where a session stands.

@@ -11,6 +11,7 @@ use Rattle.relay_room.specs.Room.{revision}
 use Rattle.relay_hub.specs.Call.{StepIf, logged, Runs, stops, steps, followed}
 use Rattle.relay_hub.specs.Log.{Log, entry}
 use Rattle.relay_hub.specs.Refusal.{refused}
+use Rattle.relay_hub.specs.Session.{Session}
 use Rattle.relay_hub.specs.Stands.{StandsFor}
 use Rattle.relay_hub.specs.State.{Group, State, RoomOf, Home, place_of, session_in}
 use Rattle.relay_hub.specs.Step.{Serves, Receives, Draws, with_group, InGroup, AtPlace, ClosesIn, ClosesGroup, ClosesAt, Step}
@@ -20,7 +21,6 @@ use Rattle.relay_hub.specs.declared.event.Answer.TheVariants.{Opened, NotOpened,
 use Rattle.relay_hub.specs.declared.event.Event.{Event}
 use Rattle.relay_hub.specs.declared.event.Event.TheVariants.{Open, Receive, Draw, Close}
 use Rattle.relay_hub.specs.declared.event.Heard.TheVariants.{Answered, Busy}
-use Rattle.relay_hub.specs.declared.session.Session.{Session}
 use Rattle.relay_hub.proofs.Counts.{edit_refusal_counts}
 use Rattle.relay_hub.proofs.Doors.{open_stands, close_stands}
 use Rattle.relay_hub.proofs.Draws.{draw_stands}

@@ -5,8 +5,8 @@ use Rattle.std.proofs.lemmas.List.{take_more, take_more_set, drop-drop, drop-set
 use Rattle.relay_patch.specs.declared.change.Change.{Change}
 use Rattle.relay_room.specs.Room.{State as Room}
 use Rattle.relay_tree.specs.Document.{Document}
+use Rattle.relay_hub.specs.Session.{Session}
 use Rattle.relay_hub.specs.Step.{Told, AllTold}
-use Rattle.relay_hub.specs.declared.session.Session.{Session}
 
 -- where nothing differs from a place on, neither does what stands there
 same_item : (xs ys : List Session) (i : ℕ) (z : Session) → drop i ys ≡ drop i xs → get_or ys i z ≡ get_or xs i z

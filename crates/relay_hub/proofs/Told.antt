@@ -5,9 +5,9 @@ use Rattle.relay_patch.specs.declared.change.Change.{Change}
 use Rattle.relay_view.specs.View.{View}
 use Rattle.relay_room.specs.Room.{State as Room}
 use Rattle.relay_tree.specs.Document.{Document}
+use Rattle.relay_hub.specs.Session.{Session}
 use Rattle.relay_hub.specs.State.{EachOnce, session_in}
 use Rattle.relay_hub.specs.Step.{ToldAs, Told, AllTold}
-use Rattle.relay_hub.specs.declared.session.Session.{Session}
 
 -- a session that is there is told and stays, and no other comes
 abbrev pub IsTold : Document → List Change → Room → Option Session → Option Session → Type 0

@@ -18,10 +18,10 @@ use Rattle.relay_translate.specs.Watches.{Watches}
 use Rattle.relay_translate.proofs.Slots.{translation}
 use Rattle.relay_tree.specs.Document.{Document}
 use Rattle.relay_view.specs.View.{View, view}
+use Rattle.relay_hub.specs.Session.{Session}
 use Rattle.relay_hub.specs.State.{EachOnce, session_in}
 use Rattle.relay_hub.specs.Step.{telling, ToldView, ToldAs, Told, AllTold}
 use Rattle.relay_hub.specs.Watched.{IsIndexed, ToldIf, ToldAmong}
-use Rattle.relay_hub.specs.declared.session.Session.{Session}
 use Rattle.relay_hub.proofs.Places.{by_number}
 use Rattle.relay_hub.proofs.Rising.{once_rising}
 

@@ -11,9 +11,8 @@ use Rattle.relay_proto.specs.declared.reply.Reply.{Reply}
 use Rattle.relay_room.specs.CatchUp.{Fits}
 use Rattle.relay_room.specs.declared.catch_up.CatchUp.{CatchUp}
 use Rattle.relay_room.specs.declared.catch_up.CatchUp.TheVariants as how
-use Rattle.relay_hub.specs.Session.{session_with, with_line, replied, told_line, drawn}
+use Rattle.relay_hub.specs.Session.{Session, session_with, with_line, replied, told_line, drawn}
 use Rattle.relay_hub.specs.Stands.{LineStands, PatchFits}
-use Rattle.relay_hub.specs.declared.session.Session.{Session}
 
 -- a line that a patch comes to stays, has it last, or folds
 pub by_waiting : (P : Line Reply (ℕ × List Op) → Type 0) (rev : ℕ) (ops : List Op) (o : Line Reply (ℕ × List Op)) → (o.due ≡ true → P o)

@@ -15,7 +15,7 @@ use Rattle.relay_room.specs.declared.fault.EditFault.{EditFault}
 use Rattle.relay_tree.specs.Document.{Document}
 use Rattle.relay_hub.specs.Log.{Log, Watching, documents, watching}
 use Rattle.relay_hub.specs.Refusal.{refused, edit_refusal}
-use Rattle.relay_hub.specs.Session.{replied, later}
+use Rattle.relay_hub.specs.Session.{Session, replied, later}
 use Rattle.relay_hub.specs.Stands.{IsAtNamed, EachLeads, HoldsPresent, Follows, WatchStands, StandsFor}
 use Rattle.relay_hub.specs.State.{Group, State, RoomOf, Home, place_of, home_of, session_in, session_of, without_sessions}
 use Rattle.relay_hub.specs.Step.{OnlyAt, ChangesOnly, EditServed, Serves, Receives, with_group, InGroup, Step}
@@ -24,7 +24,6 @@ use Rattle.relay_hub.specs.declared.beginning.Beginning.{Beginning}
 use Rattle.relay_hub.specs.declared.event.Answer.TheVariants.{Heard}
 use Rattle.relay_hub.specs.declared.event.Event.TheVariants.{Receive}
 use Rattle.relay_hub.specs.declared.event.Heard.TheVariants.{Answered}
-use Rattle.relay_hub.specs.declared.session.Session.{Session}
 use Rattle.relay_hub.proofs.Follow.{client_after-append}
 use Rattle.relay_hub.proofs.Frames.{here}
 use Rattle.relay_hub.proofs.Places.{slice_get-set, slice_get-set_other}

@@ -4,6 +4,7 @@ use Rattle.std.specs.Global.{Vec}
 use Rattle.std.specs.declared.string.String.{String}
 use Rattle.relay_outbox.specs.declared.outbox.TheConstants.{REPLIES}
 use Rattle.relay_hub.specs.Log.{Log, entry}
+use Rattle.relay_hub.specs.Session.{Session}
 use Rattle.relay_hub.specs.State.{Group, State, session_in}
 use Rattle.relay_hub.specs.Step.{OnlyAt, Receives, Draws, Step}
 use Rattle.relay_hub.specs.declared.event.Answer.{Answer}
@@ -16,7 +17,6 @@ use Rattle.relay_hub.specs.declared.fault.NoSession.{NoSession}
 use Rattle.relay_hub.specs.declared.fault.OpenFault.{OpenFault}
 use Rattle.relay_hub.specs.declared.fault.OpenFault.TheVariants as opening_fault
 use Rattle.relay_hub.specs.declared.fault.RunFault.{RunFault}
-use Rattle.relay_hub.specs.declared.session.Session.{Session}
 
 -- what a call answers; nothing where it found no memory
 

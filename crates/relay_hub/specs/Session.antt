@@ -1,6 +1,7 @@
 -- What becomes of one session: its view, and what waits for it.
-use Rattle.std.specs.Prelude.{ℕ, ◌+◌, length, List, [], ◌∷◌, ◌++◌, map, Option, Some, None, option_map, if◌then◌else◌}
-use Rattle.relay_outbox.specs.Outbox.{Line, Foremost, reply, patch, snapshot, nothing, empty, with_reply, with_patch, folded, cleared, front_of, without_front}
+use Rattle.std.specs.Prelude.{ℕ, ◌≡◌, ◌+◌, false, length, List, [], ◌∷◌, ◌++◌, map, Option, Some, None, option_map, if◌then◌else◌, refl}
+use Rattle.std.specs.Coded.{Coded, code_by, coded×, coded_ℕ, coded_list, coded_option}
+use Rattle.relay_outbox.specs.Outbox.{Line, Foremost, reply, patch, snapshot, nothing, empty, with_reply, with_patch, folded, cleared, front_of, without_front, line_code}
 use Rattle.relay_patch.specs.declared.op.Op.{Op}
 use Rattle.relay_proto.specs.declared.message.Message.{Message}
 use Rattle.relay_proto.specs.declared.message.Message.TheVariants as message
@@ -11,11 +12,22 @@ use Rattle.relay_room.specs.Room.{State as Room, revision}
 use Rattle.relay_room.specs.declared.catch_up.CatchUp.{CatchUp}
 use Rattle.relay_room.specs.declared.catch_up.CatchUp.TheVariants.{Nothing, Patch, Snapshot}
 use Rattle.relay_view.specs.View.{View, view}
+use Rattle.relay_view.specs.declared.slot.Slot.{Slot}
 pub use Rattle.relay_hub.specs.Posted.{patch_message, message_text, ReadsBack}
-use Rattle.relay_hub.specs.declared.session.Session.{Session}
+
+-- a session: its number, the view that it watches, if it does, and what waits for it
+pub record Session : Type 0 where
+  pub number : ℕ
+  pub view : Option View
+  pub outbox : Line Reply (ℕ × List Op)
 
 abbrev pub session_with : ℕ → Option View → Line Reply (ℕ × List Op) → Session
 session_with number pointers line = record { number = number; view = pointers; outbox = line }
+
+-- What holds of each session.
+pub record IsSession (x : Session) : Type 0 where
+  -- for one that watches nothing, nothing waits but replies
+  pub idle : x.view ≡ None → (x.outbox.patches ≡ []) × (x.outbox.due ≡ false)
 
 -- the session with another line
 abbrev pub with_line : Line Reply (ℕ × List Op) → Session → Session
@@ -75,3 +87,11 @@ drawn x = with_line (without_front x.outbox) x
 -- the snapshots and patches that wait, for a view
 abbrev pub later : Room → View → Line Reply (ℕ × List Op) → List Message
 later room pointers line = map patch_message line.patches ++ (if line.due then snapshot_of room pointers ∷ [] else [])
+
+-- how the logic stores a session
+abbrev pub session_code : Coded Slot → Coded Reply → Coded Op → Coded Session
+session_code slots replies ops = code_by (ℕ × (Option View × Line Reply (ℕ × List Op)))
+    (coded× coded_ℕ (coded× (coded_option (coded_list slots)) (line_code replies (coded× coded_ℕ (coded_list ops)))))
+    (λ x. (x.number, (x.view, x.outbox)))
+    (λ p. session_with p.0 p.1.0 p.1.1)
+    (λ _. refl)

@@ -15,10 +15,9 @@ use Rattle.relay_room.specs.Room.{State as Room, IsRoom, revision}
 use Rattle.relay_tree.specs.Document.{Document, null}
 use Rattle.relay_view.specs.View.{View, view}
 use Rattle.relay_hub.specs.Log.{Log, Watching, home, is_opened, documents, present_of, watching, opened, open_count}
-use Rattle.relay_hub.specs.Session.{later}
+use Rattle.relay_hub.specs.Session.{Session, later}
 use Rattle.relay_hub.specs.State.{State, IsBeginning, Group, place_of, home_of, place_named, session_in}
 use Rattle.relay_hub.specs.declared.beginning.Beginning.{Beginning}
-use Rattle.relay_hub.specs.declared.session.Session.{Session}
 
 -- What a client holds.
 

@@ -9,7 +9,7 @@ use Rattle.relay_patch.specs.declared.change.Change.{Change}
 use Rattle.relay_room.specs.Room.{State as Room, state_code}
 use Rattle.relay_tree.specs.declared.count.TheConstants.{COUNT_MOST}
 use Rattle.relay_hub.specs.declared.beginning.Beginning.{Beginning}
-use Rattle.relay_hub.specs.declared.session.Session.{Session}
+use Rattle.relay_hub.specs.Session.{Session}
 
 -- a room with the sessions that are open in it
 pub record Group : Type 0 where

@@ -31,9 +31,8 @@ use Rattle.relay_hub.specs.declared.event.Heard.TheVariants.{Answered, Busy}
 use Rattle.relay_hub.specs.declared.fault.OpenFault.{OpenFault}
 use Rattle.relay_hub.specs.declared.fault.OpenFault.TheVariants.{RoomName, RoomsFull, SessionsFull, Exhausted}
 use Rattle.relay_hub.specs.declared.hub.TheConstants.{ROOMS_MOST, SESSIONS_MOST}
-use Rattle.relay_hub.specs.declared.session.Session.{Session}
 use Rattle.relay_hub.specs.Refusal.{refused, edit_refusal, future_refusal}
-use Rattle.relay_hub.specs.Session.{with_line, replied, newcomer, watches, unwatches, resumes, told_line, front_message, message_text, ReadsBack, drawn}
+use Rattle.relay_hub.specs.Session.{Session, with_line, replied, newcomer, watches, unwatches, resumes, told_line, front_message, message_text, ReadsBack, drawn}
 use Rattle.relay_hub.specs.State.{Group, group, State, EachOnce, place_of, place_named, session_in}
 
 -- Within a room.

@@ -14,9 +14,8 @@ use Rattle.relay_tree.specs.Document.{Document}
 use Rattle.relay_tree.specs.declared.count.TheConstants.{COUNT_MOST}
 use Rattle.relay_view.specs.View.{view}
 use Rattle.relay_hub.specs.Refusal.{refused, edit_refusal}
-use Rattle.relay_hub.specs.Session.{replied}
+use Rattle.relay_hub.specs.Session.{Session, replied}
 use Rattle.relay_hub.specs.State.{Group, State, home_of, session_in, session_of, without_sessions}
-use Rattle.relay_hub.specs.declared.session.Session.{Session}
 
 -- one of these is no count, or out of its range
 abbrev pub BadLimits : ℕ → ℕ → ℕ → ℕ → Type 0

@@ -7,9 +7,9 @@ use Rattle.relay_room.specs.Room.{State as Room}
 use Rattle.relay_translate.specs.Watches.{Watches}
 use Rattle.relay_tree.specs.Document.{Document}
 use Rattle.relay_view.specs.View.{View}
+use Rattle.relay_hub.specs.Session.{Session}
 use Rattle.relay_hub.specs.State.{IsRising, session_in}
 use Rattle.relay_hub.specs.Step.{Told}
-use Rattle.relay_hub.specs.declared.session.Session.{Session}
 
 -- the view of session t, where it is there and watches
 abbrev pub view_in : List Session → ℕ → Option View

@@ -247,7 +247,7 @@ impl Hub {
         let Some((room, session)) = self.find(session) else {
             return Err(HubFault::NoSession);
         };
-        let Some(view) = &session.view else {
+        let Some(view) = session.view() else {
             return Ok(None);
         };
         match view.get().of(alloc, room.document()) {

@@ -9,11 +9,10 @@ ghost use Rattle.relay_hub.specs.Call.{receiving, drawing, ReceivesIf, DrawsIf, 
 ghost use Rattle.relay_room.specs.declared.catch_up.CatchUp.{CatchUp};
 ghost use Rattle.relay_hub.specs.News.{news_of};
 ghost use Rattle.relay_hub.specs.Refusal.{cause_word, edit_refusal};
-ghost use Rattle.relay_hub.specs.Session.{replied, watches as watching, unwatches, resumes, waiting};
+ghost use Rattle.relay_hub.specs.Session.{Session, replied, watches as watching, unwatches, resumes, waiting};
 ghost use Rattle.relay_hub.specs.State.{IsRising, group, is_number, numbers, session_in};
 ghost use Rattle.relay_hub.specs.Step.{EditServed, ResumeServed, Serves, OnlyAt};
 ghost use Rattle.relay_hub.specs.Watched.{IsIndexed};
-ghost use Rattle.relay_hub.specs.declared.session.Session.{Session};
 
 use crate::event::Heard;
 use crate::fault::HubFault;
@@ -56,7 +55,7 @@ pub fn position_of(sessions: &[Session], number: u64) -> Option<usize>
 {
     let place = place_from(sessions, number);
     let session = sessions.get(place)?;
-    if session.number == number {
+    if session.number() == number {
         Some(place)
     } else {
         None
@@ -68,7 +67,7 @@ fn place_from(sessions: &[Session], number: u64) -> usize
     requires { IsRising sessions.now }
     ensures { IsPartitionPoint (λ x. x.number < number) (λ x. number ≤ x.number) sessions.now result }
 {
-    sessions.partition_point(|session| session.number < number)
+    sessions.partition_point(|session| session.number() < number)
 }
 
 /// Takes a text from a session that is there: exactly one reply is put in its line, but where no further one may wait.
@@ -341,7 +340,7 @@ pub fn remove(sessions: &mut Vec<Session>, watches: &mut WatchIndex, number: u64
     ensures indexed { IsIndexed watches.new sessions.new.items }
 {
     watches.take_out(number);
-    sessions.retain(|session| session.number != number);
+    sessions.retain(|session| session.number() != number);
 }
 
 // One session of the list, where its place was found.

@@ -1,10 +1,4 @@
 //! One session: its view, and what waits for it.
-ghost use Rattle.std.specs.Prelude.{◌≡◌, ◌<◌, ◌≤◌, ℕ, nat_le, length, option_map, IfOk, OnOk, OnErr, string_bytes};
-ghost use Rattle.relay_outbox.specs.declared.outbox.TheConstants.{REPLIES, MOST_PATCHES};
-ghost use Rattle.relay_room.specs.declared.catch_up.CatchUp.{CatchUp};
-ghost use Rattle.relay_hub.specs.News.{news_of, heard};
-ghost use Rattle.relay_hub.specs.Session.{with_line, replied, newcomer, watches, unwatches, resumes, front_message, message_text, ReadsBack, waiting, drawn};
-
 use crate::news::News;
 use crate::posted::Posted;
 use crate::shared_view::SharedView;
@@ -12,17 +6,39 @@ use relay_outbox::{Front, Outbox, OutboxFault};
 use relay_proto::{Reply, shown_text};
 use relay_room::Room;
 use std::alloc::{AllocError, Global};
+use std::marker::Model;
 
-/// A session that is open.
+/// A session that is open. Contracts see it as its number, the view that it watches, if it does, and the line of what waits for it.
+/// For one that watches nothing, nothing waits but replies.
 #[derive(Drop)]
 pub struct Session {
-    pub number: u64,
-    /// What it watches, if it does.
-    pub view: Option<SharedView>,
-    pub outbox: Outbox<Reply, Posted>,
+    number: u64,
+    view: Option<SharedView>,
+    outbox: Outbox<Reply, Posted>,
+}
+
+impl Model for Session {
+    ghost use Rattle.relay_patch.specs.contracts.op.Op as op;
+    ghost use Rattle.relay_proto.specs.contracts.reply.Reply as reply;
+    ghost use Rattle.relay_view.specs.contracts.slot.Slot as slot;
+    ghost use Rattle.relay_hub.specs.Session.{Session, IsSession, session_with, session_code};
+
+    ghost Value = { Session };
+
+    ghost coded = { session_code slot.the_row.coded reply.the_row.coded op.the_row.coded };
+
+    ghost view = { λ x. session_with x.number x.view x.outbox };
+
+    ghost invariant = { λ x. IsSession (session_with x.number x.view x.outbox) };
 }
 
 impl Session {
+    ghost use Rattle.std.specs.Prelude.{◌≡◌, ◌<◌, ◌≤◌, ℕ, nat_le, length, option_map, IfOk, OnOk, OnErr, IsSome, string_bytes};
+    ghost use Rattle.relay_outbox.specs.declared.outbox.TheConstants.{REPLIES, MOST_PATCHES};
+    ghost use Rattle.relay_room.specs.declared.catch_up.CatchUp.{CatchUp};
+    ghost use Rattle.relay_hub.specs.News.{news_of, heard};
+    ghost use Rattle.relay_hub.specs.Session.{with_line, replied, newcomer, watches, unwatches, resumes, front_message, message_text, ReadsBack, waiting, drawn};
+
     /// A session that was just opened in a room of revision `rev`: it watches nothing, and a `Welcome` is in its line, in
     /// which at most `waiting` patches may wait.
     pub fn new(
@@ -54,6 +70,20 @@ impl Session {
             view: None,
             outbox,
         })
+    }
+
+    /// Its number.
+    pub fn number(&self) -> u64
+        ensures { result ≡ self.now.number }
+    {
+        self.number
+    }
+
+    /// What it watches, if it does.
+    pub fn view(&self) -> Option<&SharedView>
+        ensures { option_map (λ v. v.now) result ≡ self.now.view }
+    {
+        self.view.as_ref()
     }
 
     /// Whether no further reply may wait.
@@ -112,6 +142,7 @@ impl Session {
     /// Takes in what leads its view on: nothing, a patch that may wait in other lines too, or a snapshot in place of all patches. No
     /// memory is taken.
     pub fn hear(&mut self, news: News)
+        requires { IsSome self.old.view }
         ensures { self.new ≡ with_line (heard news self.old.outbox) self.old }
     {
         match news {
@@ -144,13 +175,13 @@ impl Session {
             Front::Nothing => Ok(None),
             Front::Reply(reply) => Ok(Some(reply.text(alloc)?)),
             Front::Patch(posted) => Ok(Some(posted.text(alloc)?)),
-            Front::Snapshot => match &self.view {
-                None => Ok(None),
-                Some(view) => {
-                    let (rev, document) = (room.revision(), room.document());
-                    Ok(Some(shown_text(alloc, rev, view.get(), document)?))
-                }
-            },
+            Front::Snapshot => {
+                let Some(view) = &self.view else {
+                    unreachable!()
+                };
+                let (rev, document) = (room.revision(), room.document());
+                Ok(Some(shown_text(alloc, rev, view.get(), document)?))
+            }
         }
     }
 

@@ -11,6 +11,7 @@ ghost use Rattle.relay_hub.specs.Step.{Told, AllTold};
 ghost use Rattle.relay_hub.specs.Tale.{IsKept};
 ghost use Rattle.relay_hub.specs.Watched.{IsIndexed, ToldAmong};
 
+use crate::news::News;
 use crate::serve::position_of;
 use crate::session::Session;
 use crate::tale::{Tale, news_for};
@@ -117,7 +118,7 @@ fn tell(
     ensures told { (d : Document) (changes : List Change) → changes ≡ changes_since (revision room.now - 1) room.now.history
         → Leads d changes room.now.document → Told d changes room.now (is_err result) session.old session.new }
 {
-    let Some(view) = &session.view else {
+    let Some(view) = session.view() else {
         return Ok(());
     };
     match news_for(alloc, room, view, kept) {
@@ -126,7 +127,7 @@ fn tell(
             Ok(())
         }
         Err(_) => {
-            session.outbox.fold();
+            session.hear(News::Snapshot);
             Err(AllocError)
         }
     }

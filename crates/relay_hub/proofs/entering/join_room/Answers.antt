@@ -1,9 +1,8 @@
 use Rattle.std.proofs.Common.{subst, ◌≡◌, Some}
 use Rattle.relay_room.specs.Room.{revision}
-use Rattle.relay_hub.specs.Session.{newcomer}
+use Rattle.relay_hub.specs.Session.{Session, newcomer}
 use Rattle.relay_hub.specs.State.{Group}
 use Rattle.relay_hub.specs.Step.{ChangesOnly}
-use Rattle.relay_hub.specs.declared.session.Session.{Session}
 use Rattle.relay_hub.proofs.entering.join_room.Goals as goal
 
 pub returns-clause-ok : goal.returns-clause-ok

@@ -1,8 +1,7 @@
 use Rattle.std.proofs.Common.{refl, ap, get_or}
 use Rattle.relay_hub.proofs.Rising.{numbers_set}
 use Rattle.relay_hub.proofs.Sessions.{set_changes, found_at}
-use Rattle.relay_hub.specs.declared.session.Session.{Session}
-use Rattle.relay_hub.specs.Session.{drawn}
+use Rattle.relay_hub.specs.Session.{Session, drawn}
 use Rattle.relay_hub.proofs.serve.draw.Goals as goal
 
 pub returns-in-Ok-clause-step : goal.returns-in-Ok-clause-step

@@ -6,14 +6,14 @@ pub returns-in_err-session : goal.returns-in_err-session
 returns-in_err-session c =
     c.from_residual.ensures ∙ sym (found_past c.args.sessions.now c.args.number c.place_from-place.result c.place_from-place.ensures c.requires c.in_err-session.ensures.lookup.3)
 
-pub returns-then-session-number : goal.returns-then-session-number
-returns-then-session-number c =
+pub returns-then-number : goal.returns-then-number
+returns-then-number c =
     let at = c.in_ok-session.ensures.lookup in
     sym (found_there c.args.sessions.now c.args.number c.place_from-place.result c.in_ok-session.session.now c.place_from-place.ensures at.3.0
-    (ap (λ x. x.number) (sym at.1) ∙ c.if-session-number.true))
+    (ap (λ x. x.number) (sym at.1) ∙ (sym c.number.ensures ∙ c.if-number.true)))
 
-pub returns-else-session-number : goal.returns-else-session-number
-returns-else-session-number c =
+pub returns-else-number : goal.returns-else-number
+returns-else-number c =
     let at = c.in_ok-session.ensures.lookup in
     sym (found_nowhere c.args.sessions.now c.args.number c.place_from-place.result c.in_ok-session.session.now c.place_from-place.ensures c.requires
-    (λ within is. c.if-session-number.false (ap (λ x. x.number) at.1 ∙ is)))
+    (λ within is. c.if-number.false (c.number.ensures ∙ (ap (λ x. x.number) at.1 ∙ is))))

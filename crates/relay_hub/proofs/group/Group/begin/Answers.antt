@@ -1,5 +1,5 @@
 use Rattle.std.proofs.Common.{◌≡◌, ◌∙◌, ap, List, [], ◌∷◌, ◌++◌}
-use Rattle.relay_hub.specs.declared.session.Session.{Session}
+use Rattle.relay_hub.specs.Session.{Session}
 use Rattle.relay_hub.proofs.Indexed.{first_indexed}
 use Rattle.relay_hub.proofs.group.Group.begin.Goals as goal
 

@@ -1,7 +1,7 @@
 use Rattle.std.proofs.Common.{◌∙◌, refl, sym, ap}
 use Rattle.std.specs.Prelude.{option_map, string_bytes}
 use Rattle.relay_hub.specs.Kept.{hub_of, named}
-use Rattle.relay_hub.specs.declared.session.Session.{Session}
+use Rattle.relay_hub.specs.Session.{Session}
 use Rattle.relay_hub.proofs.Kept.{never_no_entry, entry_session, found_home, room_at}
 use Rattle.relay_hub.proofs.hub.Hub.find.Goals as goal
 
