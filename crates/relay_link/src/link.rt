@@ -75,8 +75,7 @@ impl<S: Read + Write + Drop> Link<S> {
     }
 
     /// Whether a turn would find nothing to do until the stream is ready for more or a message waits for the session. Not where
-    /// the last turn read a message, since another may have come with it, met want of memory or an interruption, or moved a
-    /// byte.
+    /// the last turn read a byte, since another message may have come with it, or met want of memory or an interruption.
     pub fn may_rest(&self) -> bool
         ensures { result ≡ rests self.now }
     {
@@ -91,7 +90,7 @@ impl<S: Read + Write + Drop> Link<S> {
     ///   link is Open, or Gone with [`Cause::Refused`].
     /// - Open: while output waits a turn only sends. Else, where the hub may hear the session, one message is read: a text goes
     ///   to the hub, a ping is answered, a pong does nothing, a binary message is closed with 1003 and a close is answered.
-    ///   Then messages are drawn, and sent together, 16 KiB at a time, until output waits; a draw that finds no memory ends
+    ///   Then messages are drawn, and sent together, 64 KiB at a time, until output waits; a draw that finds no memory ends
     ///   the turn. After a binary message or a close the link is Closing. Where the bytes end, the stream fails, frames break
     ///   the protocol or memory is refused it is Gone.
     /// - Closing: one message is read and let go. A link that has not heard the other side's close after 16 such turns is Gone

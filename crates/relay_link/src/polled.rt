@@ -17,7 +17,7 @@ pub(crate) struct Polled<S> {
 }
 
 impl<S> Polled<S> {
-    ghost use Rattle.std.specs.Prelude.{◌≡◌, not};
+    ghost use Rattle.std.specs.Prelude.{◌≡◌, Ok, IfOk, not};
 
     pub(crate) fn new(stream: S) -> Polled<S> {
         Polled {
@@ -38,22 +38,24 @@ impl<S> Polled<S> {
         self.restless = true;
     }
 
-    /// Whether, since the last turn that read began, no byte was moved, no call was interrupted, and nothing asked for
-    /// another turn.
+    /// Whether, since the last turn that read began, no byte was read, no call was interrupted, and nothing asked for
+    /// another turn. What was written asks for none: what is left of it waits until the stream takes more.
     pub(crate) fn rests(&self) -> bool
         ensures { result ≡ not self.now.restless }
     {
         !self.restless
     }
 
-    /// Notes what a call came to.
-    fn note(&mut self, moved: &io::Result<usize>) {
-        let goes_on = match moved {
-            Ok(len) => *len > 0,
-            Err(error) => error.kind() == ErrorKind::Interrupted,
-        };
-        if goes_on {
-            self.stir();
+    /// What a call came to. One that was interrupted asks for another turn.
+    fn noted<T>(&mut self, called: io::Result<T>) -> io::Result<T>
+        ensures { IfOk result (λ value. called ≡ Ok value) }
+    {
+        match called {
+            Err(error) if error.kind() == ErrorKind::Interrupted => {
+                self.stir();
+                Err(Error::from(ErrorKind::WouldBlock))
+            }
+            _ => called,
         }
     }
 }
@@ -67,31 +69,23 @@ impl<S: Read> Read for Polled<S> {
                 return Err(Error::from(ErrorKind::WouldBlock));
             }
         }
-        let moved = self.stream.read(buf);
-        self.note(&moved);
-        moved.map_err(calmed)
+        let read = self.stream.read(buf);
+        if matches!(read, Ok(1..)) {
+            self.stir();
+        }
+        self.noted(read)
     }
 }
 
 impl<S: Write> Write for Polled<S> {
     fn write(&mut self, buf: &[u8]) -> io::Result<usize> {
-        let moved = self.stream.write(buf);
-        self.note(&moved);
-        moved.map_err(calmed)
+        let written = self.stream.write(buf);
+        self.noted(written)
     }
 
     fn flush(&mut self) -> io::Result<()> {
-        let moved = self.stream.flush().map(|()| 0);
-        self.note(&moved);
-        moved.map(|_| ()).map_err(calmed)
-    }
-}
-
-fn calmed(error: Error) -> Error {
-    if error.kind() == ErrorKind::Interrupted {
-        Error::from(ErrorKind::WouldBlock)
-    } else {
-        error
+        let flushed = self.stream.flush();
+        self.noted(flushed)
     }
 }
 

@@ -17,7 +17,7 @@ pub(crate) type Socket<S> = WebSocket<Polled<S>, NoMask>;
 pub(crate) const READ_MOST: usize = 4_096;
 
 /// How many bytes of output are gathered before they are written.
-const GATHERED_MOST: usize = 16_384;
+const GATHERED_MOST: usize = 65_536;
 
 /// The socket of a stream whose handshake is done.
 pub(crate) fn socket_on<S: Read + Write + Drop>(alloc: Global, stream: Polled<S>) -> Socket<S> {
@@ -48,7 +48,7 @@ pub(crate) fn flush<S: Read + Write + Drop>(socket: &mut Socket<S>) -> Result<bo
     is_sent(socket.flush())
 }
 
-/// Frames a text behind the output that was gathered. Once there are 16 KiB all of it is sent: false where output still waits
+/// Frames a text behind the output that was gathered. Once there are 64 KiB all of it is sent: false where output still waits
 /// then.
 #[tactic(auto, using(crate::proofs::SocketErrors::write_error))]
 pub(crate) fn write<S: Read + Write + Drop>(

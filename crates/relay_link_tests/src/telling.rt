@@ -54,12 +54,12 @@ const RESTS: [(Act, bool); 10] = [
     (Draws(0), true),
     (Says(UNWATCH), false),
     (Idle, true),
-    (Draws(9), false),
+    (Draws(9), true),
     (Idle, true),
     (Reads(Some(Trick::Interrupt)), false),
 ];
 
-/// A link goes on where its turn moved a byte, read a message or was interrupted.
+/// A link goes on where its turn read a byte or was interrupted.
 #[test]
 fn rests_where_nothing_is_left(rt: HostRuntime) -> Result<(), Fail> {
     let wire = Wire::new(rt.alloc());

@@ -211,7 +211,7 @@ fn sleeps_where_there_is_nothing_to_do(rt: HostRuntime) -> Result<(), Fail> {
     )
 }
 
-/// What three edits come to is written to a watcher at once, and nothing is read of it.
+/// What three edits come to is written to a watcher at once, and nothing is read of it; also where it was told just before.
 #[test]
 fn hears_and_then_tells(rt: HostRuntime) -> Result<(), Fail> {
     let edits: &[Row] = &[
@@ -222,10 +222,9 @@ fn hears_and_then_tells(rt: HostRuntime) -> Result<(), Fail> {
             Round,
             "2 sleeps, 0r1w patch patch patch, 2r3w done done done",
         ),
-        (1, Round, "2, 0r0w, 0r0w"),
-        (1, Round, "2 sleeps, 0r0w, 0r0w"),
     ];
-    play(&rt, 32, &[ENTERS, WATCHES, JOINS, edits])
+    let sleeps: &[Row] = &[(1, Round, "2 sleeps, 0r0w, 0r0w")];
+    play(&rt, 32, &[ENTERS, WATCHES, JOINS, edits, edits, sleeps])
 }
 
 /// Where two patches may wait one text is heard in a round, and no line folds.
@@ -284,7 +283,6 @@ fn waits_for_a_stream_that_is_full(rt: HostRuntime) -> Result<(), Fail> {
         (2, Round, "2 sleeps, 0r0w, 0r0w"),
         (1, Writable(0), ""),
         (1, Round, "2 sleeps, 0r2w patch patch, 0r0w"),
-        (1, Round, "2, 0r0w, 0r0w"),
         (1, Round, "2 sleeps, 0r0w, 0r0w"),
     ];
     play(&rt, 32, &[ENTERS, WATCHES, JOINS, full])
@@ -357,7 +355,6 @@ fn hears_of_news_that_found_no_room(rt: HostRuntime) -> Result<(), Fail> {
         (1, Room(1), ""),
         (1, Round, "2 sleeps, 2r1w done patch, 0r0w"),
         (1, Round, "2 sleeps, 0r1w patch, 2r1w done"),
-        (1, Round, "2, 0r0w, 0r0w"),
         (1, Round, "2 sleeps, 0r0w, 0r0w"),
     ];
     play(&rt, 32, &[ENTERS, WATCHES, JOINS, later])?;
