@@ -1,8 +1,8 @@
 //! Frames against RFC 6455, each kind of its rules in all forms; `frames` has an example of each. All are masked by zeros.
 use crate::side::Act::{Comes, Draws, Idle};
 use crate::side::{SAMPLE, Side, play_open};
-use crate::wire::Wire;
 use relay_hub::Hub;
+use relay_wire::Wire;
 use std::alloc::{AllocError, Global};
 use std::test::Fail;
 

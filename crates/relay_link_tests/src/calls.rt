@@ -4,10 +4,10 @@
 use crate::frames::CLOSE;
 use crate::side::Act::{Comes, Says};
 use crate::side::{Act, SAMPLE, Side};
-use crate::wire::{Trick, Wire};
 use crate::written::words;
 use relay_hub::{Event, Hub};
 use relay_link::{DRAWS_MOST, Stage, Turn};
+use relay_wire::{Trick, Wire};
 use std::alloc::{AllocGlobal, Global};
 use std::cell::RefCell;
 use std::process::Abort;

@@ -2,7 +2,7 @@
 use crate::frames::BINARY;
 use crate::side::Act::{Comes, Draws, End, Ends, Idle, Reads, Says, Writes};
 use crate::side::{Row, SAMPLE, play, play_after};
-use crate::wire::Trick::{End as Ending, Fail as Failing, Nothing};
+use relay_wire::Trick::{End as Ending, Fail as Failing, Nothing};
 use std::test::Fail;
 
 const ENTERS: Row = (1, Comes(SAMPLE), "open a; Open as 1 > switched");

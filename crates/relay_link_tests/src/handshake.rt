@@ -1,8 +1,8 @@
 //! From the first byte to the reply: the head may come in pieces, and the reply may go out in pieces.
 use crate::side::Act::{Comes, End, Idle, Look, Reads};
 use crate::side::{SAMPLE, play, play_on};
-use crate::wire::Trick;
 use relay_hub::{Hub, SESSIONS_MOST};
+use relay_wire::Trick;
 use std::test::Fail;
 
 const OLD_VERSION: &[u8] =

@@ -1,8 +1,8 @@
 //! Messages of more than 65,535 bytes, whose frames tell their length in eight bytes (RFC 6455, section 5.2).
 use crate::side::Act::{Comes, Draws, Idle};
 use crate::side::{SAMPLE, Side};
-use crate::wire::Wire;
 use relay_hub::Hub;
+use relay_wire::Wire;
 use std::alloc::{AllocError, Global};
 use std::cell::RefCell;
 use std::test::Fail;

@@ -24,6 +24,4 @@ mod streams;
 #[cfg(test)]
 mod telling;
 #[cfg(test)]
-mod wire;
-#[cfg(test)]
 mod written;

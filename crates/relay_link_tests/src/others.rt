@@ -1,10 +1,10 @@
 //! A link beside others of the same hub.
 use crate::side::Act::{Comes, Draws, Idle, Says, Writes};
 use crate::side::{Act, Row, SAMPLE, Side};
-use crate::wire::{Trick, Wire};
 use relay_hub::Hub;
 use relay_link::DRAWS_MOST;
 use relay_outbox::REPLIES;
+use relay_wire::{Trick, Wire};
 use std::alloc::{AllocGlobal, Global};
 use std::cell::RefCell;
 use std::process::Abort;

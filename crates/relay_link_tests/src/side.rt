@@ -1,8 +1,8 @@
 //! A link that rows are played to: what comes, and what the turn says.
-use crate::wire::{Memory, Trick, Wire};
 use crate::written::words;
 use relay_hub::{Event, Hub};
 use relay_link::{DRAWS_MOST, Link, Turn};
+use relay_wire::{End, Trick, Wire};
 use std::alloc::{AllocError, AllocGlobal, Global};
 use std::cell::RefCell;
 use std::process::Abort;
@@ -95,7 +95,7 @@ fn play_by(
 pub(crate) struct Side<'a> {
     alloc: Global,
     pub wire: &'a RefCell<Wire>,
-    pub link: Link<Memory<'a>>,
+    pub link: Link<End<'a>>,
     draws: u64,
 }
 
@@ -104,7 +104,7 @@ impl<'a> Side<'a> {
         Ok(Side {
             alloc,
             wire,
-            link: Link::new(alloc, Memory { wire })?,
+            link: Link::new(alloc, End { wire })?,
             draws: DRAWS_MOST,
         })
     }

@@ -2,7 +2,7 @@
 use crate::frames::{BINARY, CLOSE};
 use crate::side::Act::{Comes, Draws, Fills, Idle, Reads, Says, Writes};
 use crate::side::{SAMPLE, play, play_open};
-use crate::wire::Trick;
+use relay_wire::Trick;
 use std::test::Fail;
 
 #[test]

@@ -1,9 +1,9 @@
 //! Turns that tell without hearing, and whether a link may rest behind a turn.
 use crate::side::Act::{Comes, Draws, Idle, Reads, Says};
 use crate::side::{Act, SAMPLE, Side};
-use crate::wire::{Trick, Wire};
 use relay_hub::{Event, Hub};
 use relay_link::Turn;
+use relay_wire::{Trick, Wire};
 use std::alloc::{AllocError, AllocGlobal, Global};
 use std::process::Abort;
 use std::test::Fail;

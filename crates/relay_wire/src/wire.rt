@@ -1,45 +1,40 @@
-//! A stream over memory that a test feeds and looks into, and that can misbehave.
+//! A test's own side of a stream.
 ghost use Rattle.std.specs.Prelude.{◌≤◌, length, IfOk};
 
+use crate::trick::Trick;
 use std::alloc::{AllocError, Global};
 use std::cell::RefCell;
 use std::io;
-use std::io::{ErrorKind, Read, Write};
+use std::io::ErrorKind;
 
-/// What a stream does at a call in place of what was asked.
-#[derive(Clone, Copy, Debug, PartialEq, Eq)]
-pub(crate) enum Trick {
-    Fail,
-    Nothing,
-    Interrupt,
-    /// One byte is moved.
-    OneByte,
-    /// A read gives no byte, as at the end; a write takes none.
-    End,
-}
-
-/// Both ends of a stream.
+/// What goes over a stream, what goes wrong with it, and how often it was called.
 #[derive(Drop)]
-pub(crate) struct Wire {
+pub struct Wire {
     input: Vec<u8>,
     at: usize,
+    /// What was written. A test may clear it.
     pub output: Vec<u8>,
-    /// The input ends, where more could come else.
+    /// The input ends behind what was fed, where more could come else.
     pub ended: bool,
-    /// What each read does.
+    /// What each read does; `None`: what it is asked to.
     pub reads: Option<Trick>,
-    /// What each write does.
+    /// What each write does; `None`: what it is asked to.
     pub writes: Option<Trick>,
-    /// What one call does, by its number from 0.
+    /// What one call does, by its number from 0, whether it reads, writes or flushes.
     pub trick: Option<(u64, Trick)>,
-    /// How many calls were made, and how many of them read or wrote; the others flushed.
+    /// How many calls were made: each reads, writes or flushes.
     pub calls: u64,
+    /// How many of them read. A test may begin at 0 again.
     pub read_calls: u64,
+    /// How many of them wrote. A test may begin at 0 again.
     pub write_calls: u64,
+    /// How many of them failed by [`Trick::Fail`].
     pub failures: u64,
 }
 
 impl Wire {
+    /// A wire that nothing was fed or written to, on which nothing goes wrong. Behind the cell a test and its [`End`](crate::End)
+    /// hold it both; an end that is called while the test borrows it fails.
     pub fn new(alloc: Global) -> RefCell<Wire> {
         RefCell::new(Wire {
             input: Vec::new(alloc),
@@ -56,6 +51,7 @@ impl Wire {
         })
     }
 
+    /// Bytes come, behind those that were not read yet. At an error none of them does.
     pub fn feed(&mut self, bytes: &[u8]) -> Result<(), AllocError> {
         if self.is_read() {
             self.input.clear();
@@ -64,18 +60,22 @@ impl Wire {
         self.input.extend_from_slice(bytes)
     }
 
-    /// Feeds a text message of a client, in one frame whose mask is of zeros (RFC 6455, section 5.2).
+    /// A text message of a client comes, in one frame whose mask is of zeros (RFC 6455, section 5.2). At an error a part of it may.
     pub fn say(&mut self, text: &str) -> Result<(), AllocError> {
-        let len = text.len().min(65_535) as u16;
-        self.input.push(0x81)?;
-        if len < 126 {
-            self.input.push(0x80 | (len as u8))?;
-        } else {
-            self.input.push(0xfe)?;
-            self.input.extend_from_slice(&len.to_be_bytes())?;
+        self.feed(&[0x81])?;
+        match text.len() {
+            len @ 0..=125 => self.feed(&[0x80 | (len as u8)])?,
+            len @ 126..=65_535 => {
+                self.feed(&[0xfe])?;
+                self.feed(&(len as u16).to_be_bytes())?;
+            }
+            len => {
+                self.feed(&[0xff])?;
+                self.feed(&(len as u64).to_be_bytes())?;
+            }
         }
-        self.input.extend_from_slice(&[0; 4])?;
-        self.input.extend_from_slice(text.as_bytes())
+        self.feed(&[0; 4])?;
+        self.feed(text.as_bytes())
     }
 
     /// Whether all that was fed was read.
@@ -104,7 +104,8 @@ impl Wire {
         }
     }
 
-    fn give(&mut self, buf: &mut [u8]) -> io::Result<usize>
+    /// Gives what a read takes.
+    pub(crate) fn give(&mut self, buf: &mut [u8]) -> io::Result<usize>
         ensures { IfOk result (λ len. len ≤ length buf.new) }
     {
         self.read_calls = self.read_calls.saturating_add(1);
@@ -119,7 +120,8 @@ impl Wire {
         Ok(len)
     }
 
-    fn take(&mut self, buf: &[u8]) -> io::Result<usize>
+    /// Takes what a write gives.
+    pub(crate) fn take(&mut self, buf: &[u8]) -> io::Result<usize>
         ensures { IfOk result (λ len. len ≤ length buf.now) }
     {
         self.write_calls = self.write_calls.saturating_add(1);
@@ -127,39 +129,9 @@ impl Wire {
         self.output.extend_from_slice(&buf[..len])?;
         Ok(len)
     }
-}
 
-/// A link's end of a wire.
-#[derive(Drop)]
-pub(crate) struct Memory<'a> {
-    pub wire: &'a RefCell<Wire>,
-}
-
-fn busy() -> io::Error {
-    io::Error::from(ErrorKind::Other)
-}
-
-impl Read for Memory<'_> {
-    fn read(&mut self, buf: &mut [u8]) -> io::Result<usize> {
-        match self.wire.try_borrow_mut() {
-            Ok(mut wire) => wire.give(buf),
-            Err(_) => Err(busy()),
-        }
-    }
-}
-
-impl Write for Memory<'_> {
-    fn write(&mut self, buf: &[u8]) -> io::Result<usize> {
-        match self.wire.try_borrow_mut() {
-            Ok(mut wire) => wire.take(buf),
-            Err(_) => Err(busy()),
-        }
-    }
-
-    fn flush(&mut self) -> io::Result<()> {
-        match self.wire.try_borrow_mut() {
-            Ok(mut wire) => wire.call(0, None).map(|_| ()),
-            Err(_) => Err(busy()),
-        }
+    /// Nothing waits to be flushed.
+    pub(crate) fn flush(&mut self) -> io::Result<()> {
+        self.call(0, None).map(|_| ())
     }
 }
