@@ -14,6 +14,12 @@ const SWITCH: &str =
 /// The sample's room, and the accept value of its key (RFC 6455, section 1.3).
 const ACCEPTED: &str = "a s3pPLMBiTxaQ9kYGzzhZRbK+xOo=";
 
+/// A line of the sample that has to stand once.
+const HOST: &str = "Host: localhost\r\n";
+
+/// Another.
+const KEY: &str = "Sec-WebSocket-Key: dGhlIHNhbXBsZSBub25jZQ==\r\n";
+
 /// A header line that is ignored.
 const LINE: &str = "X: y\r\n";
 
@@ -125,22 +131,12 @@ fn refuses_by_the_first_check_that_fails(rt: HostRuntime) -> Result<(), Fail> {
             ("/rooms/a", "/rooms/a/b", "404"),
             ("/rooms/a HTTP/1.1", "/other HTTP/1.0", "404"),
             ("HTTP/1.1", "HTTP/1.0", "400"),
-            ("Host: localhost\r\n", "", "400"),
-            (
-                "Host: localhost",
-                "Host: localhost\r\nHost: localhost",
-                "400",
-            ),
+            (HOST, "", "400"),
             ("Upgrade: websocket", "Upgrade: websockets", "400"),
             ("keep-alive, Upgrade", "keep-alive", "400"),
             ("Version: 13", "Version: 8", "426"),
             ("Sec-WebSocket-Version: 13\r\n", "", "400"),
-            ("Sec-WebSocket-Key: dGhlIHNhbXBsZSBub25jZQ==\r\n", "", "400"),
-            (
-                "Sec-WebSocket-Key: dGhlIHNhbXBsZSBub25jZQ==\r\n",
-                "Sec-WebSocket-Key: dGhlIHNhbXBsZSBub25jZQ==\r\nSec-WebSocket-Key: dGhlIHNhbXBsZSBub25jZQ==\r\n",
-                "400",
-            ),
+            (KEY, "", "400"),
             ("ZQ==", "ZQ=", "400"),
             ("deflate\r\n\r\n", "deflate\r\n\r\nx", "400"),
             (
@@ -150,6 +146,16 @@ fn refuses_by_the_first_check_that_fails(rt: HostRuntime) -> Result<(), Fail> {
             ),
         ],
     )
+}
+
+#[test]
+fn refuses_a_header_that_stands_twice(rt: HostRuntime) -> Result<(), Fail> {
+    for line in [HOST, KEY] {
+        let twice = line.repeat(rt.alloc(), 2)?;
+        let answer = answer_with(rt.alloc(), line, twice.as_str())?;
+        assert_eq!(rt; answer.as_str(), "400", "with {line}");
+    }
+    Ok(())
 }
 
 #[test]
@@ -183,8 +189,8 @@ fn waits_for_8192_bytes_at_most(rt: HostRuntime) -> Result<(), Fail> {
 /// The answer to the sample with so many more header lines.
 fn answer_with_lines(alloc: Global, count: usize) -> Result<String, Fail> {
     let lines = LINE.repeat(alloc, count)?;
-    let host = format!(in alloc; "Host: localhost\r\n{lines}")?;
-    answer_with(alloc, "Host: localhost\r\n", host.as_str())
+    let host = format!(in alloc; "{HOST}{lines}")?;
+    answer_with(alloc, HOST, host.as_str())
 }
 
 #[test]
