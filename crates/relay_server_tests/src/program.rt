@@ -155,37 +155,35 @@ fn done(rt: &(impl AllocGlobal + Net), line: &str, input: &str) -> Result<String
     Ok(format!(in rt.alloc(); "{output}{complaint}status {status}")?)
 }
 
+/// A line of a script, by which a session is opened.
+const OPEN: &str = "a open r\n";
+
 #[test]
 fn does_what_its_words_say(rt: HostRuntime) -> Result<(), Fail> {
     for (line, input, wanted) in [
-        ("relay", "a open r\n", "a opened 1\nstatus 0"),
-        (
-            "relay script --history 3",
-            "a open r\n",
-            "a opened 1\nstatus 0",
-        ),
-        ("relay follow", "a open r\n", "off not-message\nstatus 0"),
+        ("relay", OPEN, "a opened 1\nstatus 0"),
+        ("relay script --history 3", OPEN, "a opened 1\nstatus 0"),
+        ("relay follow", OPEN, "off not-message\nstatus 0"),
         ("relay follow", "", "status 0"),
-        (
-            "relay script --outbox 0",
-            "a open r\n",
-            "complaint, status 2",
-        ),
-        (
-            "relay script --history 1025",
-            "a open r\n",
-            "complaint, status 2",
-        ),
-        ("relay frob", "a open r\n", "complaint, status 2"),
-        ("relay serve", "a open r\n", "complaint, status 2"),
-        (
-            "relay follow --epoch 1",
-            "a open r\n",
-            "complaint, status 2",
-        ),
     ] {
         let found = done(&rt, line, input)?;
         assert_eq!(rt; found.as_str(), wanted, "{line}");
+    }
+    Ok(())
+}
+
+/// A number out of its range, a job that there is not, one that lacks its port, and one with an option of another.
+#[test]
+fn complains_of_other_words(rt: HostRuntime) -> Result<(), Fail> {
+    for line in [
+        "relay script --outbox 0",
+        "relay script --history 1025",
+        "relay frob",
+        "relay serve",
+        "relay follow --epoch 1",
+    ] {
+        let found = done(&rt, line, OPEN)?;
+        assert_eq!(rt; found.as_str(), "complaint, status 2", "{line}");
     }
     Ok(())
 }
