@@ -1,136 +1,20 @@
 //! A server over streams in memory, whose readiness a test tells.
-ghost use Rattle.std.specs.Prelude.{◌≤◌, length, IfOk};
-
 use relay_hub::Hub;
 use relay_server::{Lines, News, Readiness, Serving};
-use std::alloc::{AllocError, Global};
+use relay_wire::{End, Wire};
+use std::alloc::Global;
 use std::cell::RefCell;
-use std::io::{ErrorKind, Read, Write};
-use std::net::{Ipv4Addr, OpenListener, OpenStream, SocketAddr};
+use std::io::ErrorKind;
+use std::net::{Ipv4Addr, OpenListener, SocketAddr};
 use std::test::Fail;
 use std::time::Duration;
 use std::{io, mem};
-
-/// Both ends of a stream.
-#[derive(Drop)]
-pub(crate) struct Wire {
-    input: Vec<u8>,
-    at: usize,
-    pub output: Vec<u8>,
-    /// Each call fails.
-    pub fails: bool,
-    /// Writes take nothing for now.
-    pub is_full: bool,
-    /// How many reads and writes were made.
-    pub reads: u64,
-    pub writes: u64,
-}
-
-impl Wire {
-    pub fn new(alloc: Global) -> RefCell<Wire> {
-        RefCell::new(Wire {
-            input: Vec::new(alloc),
-            at: 0,
-            output: Vec::new(alloc),
-            fails: false,
-            is_full: false,
-            reads: 0,
-            writes: 0,
-        })
-    }
-
-    pub fn feed(&mut self, bytes: &[u8]) -> Result<(), AllocError> {
-        self.input.extend_from_slice(bytes)
-    }
-
-    /// Feeds a text message of a client, in one frame whose mask is of zeros (RFC 6455, section 5.2).
-    pub fn say(&mut self, text: &str) -> Result<(), AllocError> {
-        let len = text.len().min(65_535) as u16;
-        self.feed(&[0x81])?;
-        if len < 126 {
-            self.feed(&[0x80 | (len as u8)])?;
-        } else {
-            self.feed(&[0xfe])?;
-            self.feed(&len.to_be_bytes())?;
-        }
-        self.feed(&[0; 4])?;
-        self.feed(text.as_bytes())
-    }
-
-    fn call(&self) -> io::Result<()> {
-        if self.fails {
-            return Err(io::Error::from(ErrorKind::ConnectionReset));
-        }
-        Ok(())
-    }
-
-    fn give(&mut self, buf: &mut [u8]) -> io::Result<usize>
-        ensures { IfOk result (λ len. len ≤ length buf.new) }
-    {
-        self.reads = self.reads.saturating_add(1);
-        self.call()?;
-        let rest = self.input.get(self.at..).unwrap_or(&[]);
-        if rest.is_empty() {
-            return Err(io::Error::from(ErrorKind::WouldBlock));
-        }
-        let len = rest.len().min(buf.len());
-        buf[..len].copy_from_slice(&rest[..len]);
-        self.at = self.at.saturating_add(len);
-        Ok(len)
-    }
-
-    fn take(&mut self, buf: &[u8]) -> io::Result<usize>
-        ensures { IfOk result (λ len. len ≤ length buf.now) }
-    {
-        self.writes = self.writes.saturating_add(1);
-        self.call()?;
-        if self.is_full {
-            return Err(io::Error::from(ErrorKind::WouldBlock));
-        }
-        self.output.extend_from_slice(buf)?;
-        Ok(buf.len())
-    }
-}
-
-/// The server's end of a wire.
-#[derive(Drop)]
-pub(crate) struct End<'a> {
-    wire: &'a RefCell<Wire>,
-}
 
 fn busy() -> io::Error {
     io::Error::from(ErrorKind::Other)
 }
 
-impl Read for End<'_> {
-    fn read(&mut self, buf: &mut [u8]) -> io::Result<usize> {
-        match self.wire.try_borrow_mut() {
-            Ok(mut wire) => wire.give(buf),
-            Err(_) => Err(busy()),
-        }
-    }
-}
-
-impl Write for End<'_> {
-    fn write(&mut self, buf: &[u8]) -> io::Result<usize> {
-        match self.wire.try_borrow_mut() {
-            Ok(mut wire) => wire.take(buf),
-            Err(_) => Err(busy()),
-        }
-    }
-
-    fn flush(&mut self) -> io::Result<()> {
-        Ok(())
-    }
-}
-
-impl OpenStream for End<'_> {
-    fn set_nonblocking(&self, _nonblocking: bool) -> io::Result<()> {
-        Ok(())
-    }
-}
-
-/// Connections that wait, and how often it was asked for one.
+/// Connections that wait.
 #[derive(Drop)]
 pub(crate) struct Door<'a> {
     waiting: RefCell<Vec<&'a RefCell<Wire>>>,

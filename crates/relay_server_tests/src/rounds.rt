@@ -1,6 +1,7 @@
 //! Rounds of a server whose streams are ready when a test says so.
-use crate::desk::{Desk, Sayings, Wire};
+use crate::desk::{Desk, Sayings};
 use relay_server::{LINKS_MOST, News};
+use relay_wire::{Trick, Wire};
 use std::alloc::{AllocGlobal, Global};
 use std::cell::RefCell;
 use std::process::Abort;
@@ -79,9 +80,13 @@ impl<'a> Pair<'a> {
             Says(place, text) => self.wire(place).try_borrow_mut()?.say(text)?,
             Readable(key) => self.news(key, true)?,
             Writable(key) => self.news(key, false)?,
-            Fails(place) => self.wire(place).try_borrow_mut()?.fails = true,
-            Full(place) => self.wire(place).try_borrow_mut()?.is_full = true,
-            Empty(place) => self.wire(place).try_borrow_mut()?.is_full = false,
+            Fails(place) => {
+                let mut wire = self.wire(place).try_borrow_mut()?;
+                wire.reads = Some(Trick::Fail);
+                wire.writes = Some(Trick::Fail);
+            }
+            Full(place) => self.wire(place).try_borrow_mut()?.writes = Some(Trick::Nothing),
+            Empty(place) => self.wire(place).try_borrow_mut()?.writes = None,
             Room(room) => self.desk.room(room)?,
             Blind => self.desk.fail()?,
             Round => return self.round(alloc),
@@ -113,11 +118,11 @@ impl<'a> Pair<'a> {
 /// Tells what happened on a wire since it was told last.
 fn tell_wire(wire: &RefCell<Wire>, told: &mut String) -> Result<(), Fail> {
     let mut wire = wire.try_borrow_mut()?;
-    let (reads, writes) = (wire.reads, wire.writes);
+    let (reads, writes) = (wire.read_calls, wire.write_calls);
     write!(told, ", {reads}r{writes}w")?;
     tell_words(wire.output.as_slice(), told)?;
-    wire.reads = 0;
-    wire.writes = 0;
+    wire.read_calls = 0;
+    wire.write_calls = 0;
     wire.output.clear();
     Ok(())
 }
