@@ -1,5 +1,5 @@
 -- How the program's jobs end, and with what status.
-use Rattle.std.specs.Prelude.{◌≡◌, ◌↔◌, ℕ, ◌⊎◌, List, Option, None, Result, Ok, Err, IsErrOf}
+use Rattle.std.specs.Prelude.{◌≡◌, ◌↔◌, ℕ, ◌⊎◌, List, Option, None, Result, Ok, Err, IsErrOf, string_bytes}
 use Rattle.std.specs.Io.KnownBytes.{IsAtEnd, Appends}
 use Rattle.std.specs.declared.io.ErrorKind.{ErrorKind}
 use Rattle.std.specs.declared.io.ErrorKind.TheVariants as kind
@@ -11,6 +11,7 @@ use Rattle.relay_options.specs.declared.job.Job.TheVariants as job
 use Rattle.relay_options.specs.declared.job.Stop.{Stop}
 use Rattle.relay_options.specs.declared.job.Stop.TheVariants as stop
 use Rattle.relay_options.specs.declared.settings.Settings.{Settings}
+use Rattle.relay_options.specs.Ranges.{IsPossible}
 use Rattle.relay_server.specs.Follow as follow
 use Rattle.relay_server.specs.Lines.{AppendsPart}
 use Rattle.relay_server.specs.Respond.{Answering, AnswersAll, AnswersSome}
@@ -90,11 +91,22 @@ JobEnds job.Follow status input left old new = EndsAs follow.Answers None ⊥ st
 JobEnds (job.Loop settings) status input left old new = EndsBy (λ ended. LoopEnds ended input left old new) settings status
 JobEnds (job.Serve port turns log settings) status input left old new = (left ≡ input) × EndsBy (λ ended. ServeEnds turns ended old new) settings status
 
--- there was no job; help that was asked for may not have been written
-abbrev pub StopEnds : Stop → Status → Type 0
-StopEnds (stop.Help text) status = (status ≡ is.Done) ⊎ (status ≡ is.Failed)
-StopEnds (stop.Misuse text) status = status ≡ is.Misused
-StopEnds stop.NoMemory status = status ≡ is.NoMemory
+-- what was asked for was written, or, where the writer failed, a part at its front
+abbrev pub Shows : List ℕ → Status → Option (List ℕ) → Option (List ℕ) → Type 0
+Shows text is.Done old new = Appends old new text
+Shows text is.Failed old new = AppendsPart old new text
+Shows text _ old new = ⊥
+
+-- there was no job
+abbrev pub StopEnds : Stop → Status → Option (List ℕ) → Option (List ℕ) → Type 0
+StopEnds (stop.Help text) status old new = Shows (string_bytes text) status old new
+StopEnds (stop.Misuse text) status old new = (status ≡ is.Misused) × (new ≡ old)
+StopEnds stop.NoMemory status old new = (status ≡ is.NoMemory) × (new ≡ old)
+
+-- What words ask for was done so far: a job whose numbers are within their ranges, or there was none, and nothing was read.
+abbrev pub WordsEnd : Status → Option (List ℕ) → Option (List ℕ) → Option (List ℕ) → Option (List ℕ) → Type 0
+WordsEnd status input left old new = ((job : Job) × IsPossible job × JobEnds job status input left old new)
+    ⊎ ((why : Stop) × (left ≡ input) × StopEnds why status old new)
 
 -- The words could not be read: one of them is not UTF-8, which is a fault of the command line; memory was refused; or the
 -- system failed.
@@ -103,6 +115,6 @@ unread_status kind.InvalidData = is.Misused
 unread_status kind.OutOfMemory = is.NoMemory
 unread_status _ = is.Failed
 
--- one of the program's exit statuses
-abbrev pub IsExit : ℕ → Type 0
-IsExit code = (status : Status) × (code ≡ code_of status)
+-- the process ends with the number of such a status
+abbrev pub Starts : ℕ → Option (List ℕ) → Option (List ℕ) → Option (List ℕ) → Option (List ℕ) → Type 0
+Starts code input left old new = (status : Status) × (code ≡ code_of status) × WordsEnd status input left old new

@@ -1,13 +1,14 @@
 //! The program's jobs, from its words to its exit status.
 ghost use Rattle.std.specs.Prelude.{◌≡◌, ◌↔◌, IsErrOf};
 ghost use Rattle.relay_hub.specs.Telling.{BadLimits};
-ghost use Rattle.relay_server.specs.Jobs.{IsExit, JobEnds, LoopEnds, StopEnds, code_of, sockets_status, unread_status};
+ghost use Rattle.relay_server.specs.Jobs.{JobEnds, LoopEnds, Starts, StopEnds, code_of, sockets_status, unread_status};
 ghost use Rattle.relay_server.specs.declared.fault.ScriptFault.TheVariants.{BadLimit};
 ghost use Rattle.relay_server.specs.declared.fault.ServeFault.TheVariants.{Ended};
 ghost use Rattle.relay_server.specs.declared.serve.TheConstants.{FIRST};
 
 use crate::fault::{ScriptFault, ServeFault};
 use crate::looped::Looped;
+use crate::output::write_whole;
 use crate::run::run_lines;
 use crate::serve::{Served, serve};
 use crate::status::{Status, report, say};
@@ -23,7 +24,7 @@ const SHARED_EPOCH: &str =
 
 /// Does what the words ask for, the first of which is the program's name, over a reader and a writer, with faults told on
 /// `errors`. The exit status: 0 where all was done, 1 for a fault of input, output or a line, 2 for the words, 3 for want of
-/// memory. Help that was asked for goes to the writer.
+/// memory. Help that was asked for goes to the writer. Where the words ask for no job, nothing is read.
 pub fn start<H: AllocGlobal + Net, R: Read, W: Write, E: Write>(
     rt: &H,
     words: &[String],
@@ -31,7 +32,7 @@ pub fn start<H: AllocGlobal + Net, R: Read, W: Write, E: Write>(
     writer: &mut W,
     errors: &mut E,
 ) -> u8
-    ensures { IsExit result }
+    ensures { Starts result (R.remaining reader.old) (R.remaining reader.new) (W.contents writer.old) (W.contents writer.new) }
 {
     let alloc = rt.alloc();
     match job_of(alloc, words) {
@@ -144,13 +145,10 @@ fn report_sockets<E: Write>(ended: Result<(), ServeFault>, port: u16, errors: &m
 
 /// Tells why there is nothing to do.
 fn explain<W: Write, E: Write>(stop: &Stop, writer: &mut W, errors: &mut E) -> Status
-    ensures { StopEnds stop.now result }
+    ensures { StopEnds stop.now result (W.contents writer.old) (W.contents writer.new) }
 {
     match stop {
-        Stop::Help(text) => match writer.write_all(text.as_bytes()) {
-            Ok(()) => Status::Done,
-            Err(_) => report(Err(ScriptFault::Output), errors),
-        },
+        Stop::Help(text) => report(write_whole(writer, text.as_bytes()), errors),
         Stop::Misuse(text) => {
             say(text, errors);
             Status::Misused
