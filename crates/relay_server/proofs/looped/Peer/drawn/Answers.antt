@@ -2,7 +2,7 @@
 use Rattle.std.proofs.Common.{string_bytes}
 use Rattle.std.proofs.lemmas.Result.{IfOk-weaker}
 use Rattle.relay_server.specs.Sockets.{SpeaksOf}
-use Rattle.relay_server.proofs.Speaking.{speaks, speaks_on}
+use Rattle.relay_server.proofs.Speaking.{speaks, speaks_off}
 use Rattle.relay_server.proofs.looped.Peer.drawn.Goals as goal
 
 pub returns : goal.returns
@@ -10,4 +10,5 @@ returns g c =
     let name = c.args.name.now in
     let text = string_bytes c.in_ok-answer.answer in
     let first : SpeaksOf name text = speaks name _ text c.in_ok-answer.ensures.ok in
-    IfOk-weaker c.format-2.result _ _ (λ answer e. speaks_on name text _ (string_bytes answer) first e) c.format-2.ensures.ok
+    let after = c.in_ok-after in
+    IfOk-weaker c.format-2.result _ _ (λ answer e. speaks_off name c.hear-fault.result text (string_bytes after.after) (string_bytes answer) first after.ensures e) c.format-2.ensures.ok

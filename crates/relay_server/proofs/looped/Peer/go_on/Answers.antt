@@ -10,4 +10,5 @@ returns-in_ok-answer-in_default g c =
     let name = c.args.name.now in
     let before = string_bytes c.in_ok-before-in_default.before in
     let first : SpeaksOf name before = off_speaks name c.args.fault before c.in_ok-before-in_default.ensures in
-    IfOk-weaker c.format.result _ _ (λ answer e. speaks_on name before _ (string_bytes answer) first e) c.format.ensures.ok
+    let rest = c.in_ok-answer-in_default in
+    IfOk-weaker c.format.result _ _ (λ answer e. speaks_on name before (string_bytes rest.answer) (string_bytes answer) first rest.ensures e) c.format.ensures.ok
