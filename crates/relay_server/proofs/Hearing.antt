@@ -49,7 +49,7 @@ pub Takes-heard : (held : Option (ℕ × Document)) (text : List ℕ) (r : Resul
     → OnOk r (told (as_client held) text ≡ Some (as_client next)) → IfErr r (λ fault. fault ≢ NoMemory → hear_fault held text ≡ Some fault)
     → OnErr r (next ≡ held) → Takes held text (result_err r) next
 Takes-heard held text (Ok u) next utf8 ok fault same = (utf8, heard_well held text next ok, ok)
-Takes-heard held text (Err NoMemory) next utf8 ok fault same = same
+Takes-heard held text (Err NoMemory) next utf8 ok fault same = (same, utf8)
 Takes-heard held text (Err NotMessage) next utf8 ok fault same = (same, λ _. fault (λ e. cc), λ none. absurd (none utf8))
 Takes-heard held text (Err NoView) next utf8 ok fault same = (same, λ _. fault (λ e. cc), λ none. absurd (none utf8))
 Takes-heard held text (Err Order) next utf8 ok fault same = (same, λ _. fault (λ e. cc), λ none. absurd (none utf8))

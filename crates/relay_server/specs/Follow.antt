@@ -10,7 +10,7 @@ use Rattle.relay_server.specs.Words.{hear_word, view_text}
 -- a text is taken, or is not, with the first fault; bytes that are no UTF-8 are no message
 abbrev pub Takes : Option (ℕ × Document) → List ℕ → Option HearFault → Option (ℕ × Document) → Type 0
 Takes held text None next = IsUtf8 text × (hear_fault held text ≡ None) × (told (as_client held) text ≡ Some (as_client next))
-Takes held text (Some NoMemory) next = next ≡ held
+Takes held text (Some NoMemory) next = (next ≡ held) × IsUtf8 text
 Takes held text (Some fault) next = (next ≡ held) × (IsUtf8 text → hear_fault held text ≡ Some fault) × ((IsUtf8 text → ⊥) → fault ≡ NotMessage)
 
 abbrev pub taken_text : Option HearFault → Option (ℕ × Document) → List ℕ
