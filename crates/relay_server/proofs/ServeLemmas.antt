@@ -3,10 +3,10 @@ use Rattle.std.proofs.Common.{◌≡◌, ℕ, ◌+◌, List, ◌++◌, length, t
 use Rattle.std.proofs.lemmas.List.{take-append-le}
 use Rattle.std.proofs.Math.Seq.{take-append-add, take-length}
 use Rattle.std.specs.Io.KnownBytes.{Appends}
-use Rattle.std.proofs.KnownBytes.{Appends-nil, Appends-trans}
+use Rattle.std.proofs.KnownBytes.{Appends-nil, Appends-trans, Keeps-refl}
 use Rattle.relay_hub.specs.declared.fault.HubNewFault.{HubNewFault}
 use Rattle.relay_hub.specs.declared.fault.HubNewFault.TheVariants as made
-use Rattle.relay_server.specs.Jobs.{ServeEnds, not_made}
+use Rattle.relay_server.specs.Jobs.{Listens, ServeEnds, not_made}
 use Rattle.relay_server.specs.Lines.{AppendsPart}
 use Rattle.relay_server.specs.Words.{served_text}
 use Rattle.relay_server.specs.declared.fault.ScriptFault.TheVariants.{Output, NoMemory}
@@ -36,11 +36,11 @@ part_behind old mid new bs more first (n, few, wrote) = (
 
 -- what a server printed that made its rounds, or ended early as it printed
 pub ends_hosting : (turns port : ℕ) (ended : Result (Unit {0}) ServeFault) (old new : Option (List ℕ)) → OnOk ended (Appends old new (served_text port turns))
-    → OnErr ended (AppendsPart old new (served_text port turns)) → IfErr ended (λ fault. (fault ≡ Ended Output) ⊎ (fault ≡ Ended NoMemory))
-    → ServeEnds turns ended old new
-ends_hosting turns port (Ok u) old new all part which = (port, all)
-ends_hosting turns port (Err fault) old new all part (inl output) = subst (λ f. ServeEnds turns (Err f) old new) (sym output) (port, part)
-ends_hosting turns port (Err fault) old new all part (inr memory) = subst (λ f. ServeEnds turns (Err f) old new) (sym memory) (port, part)
+    → OnErr ended (AppendsPart old new (served_text port turns)) → IfErr ended (λ fault. fault ≡ Ended NoMemory → Listens port old new)
+    → IfErr ended (λ fault. (fault ≡ Ended Output) ⊎ (fault ≡ Ended NoMemory)) → ServeEnds turns ended old new
+ends_hosting turns port (Ok u) old new all part uncut which = (port, all)
+ends_hosting turns port (Err fault) old new all part uncut (inl output) = subst (λ f. ServeEnds turns (Err f) old new) (sym output) (port, part)
+ends_hosting turns port (Err fault) old new all part uncut (inr memory) = subst (λ f. ServeEnds turns (Err f) old new) (sym memory) (port, uncut memory)
 
 -- a last print, behind what was printed
 pub then_all : {E : Type 0} (r : Result (Unit {0}) E) (old mid new : Option (List ℕ)) (bs more : List ℕ) → Appends old mid bs → OnOk r (Appends mid new more)
@@ -56,4 +56,4 @@ then_part (Err fault) old mid new bs more first last = part_behind old mid new b
 -- a server that has no hub printed nothing
 pub ends_unmade : (turns : ℕ) (fault : HubNewFault) (old : Option (List ℕ)) → ServeEnds turns (Err (Ended (not_made fault))) old old
 ends_unmade turns made.BadLimit old = refl
-ends_unmade turns made.NoMemory old = (0, part_none old (served_text 0 turns))
+ends_unmade turns made.NoMemory old = (0, inl (Keeps-refl old))

@@ -1,6 +1,6 @@
 -- How the program's jobs end, and with what status.
 use Rattle.std.specs.Prelude.{◌≡◌, ◌↔◌, ℕ, ◌⊎◌, List, Option, None, Result, Ok, Err, IsErrOf, string_bytes}
-use Rattle.std.specs.Io.KnownBytes.{IsAtEnd, Appends}
+use Rattle.std.specs.Io.KnownBytes.{IsAtEnd, Appends, Keeps}
 use Rattle.std.specs.declared.io.ErrorKind.{ErrorKind}
 use Rattle.std.specs.declared.io.ErrorKind.TheVariants as kind
 use Rattle.relay_hub.specs.Telling.{BadLimits}
@@ -18,7 +18,7 @@ use Rattle.relay_server.specs.Respond.{Answering, AnswersAll, AnswersSome}
 use Rattle.relay_server.specs.Script as script
 use Rattle.relay_server.specs.Script.{new_stage}
 use Rattle.relay_server.specs.Sockets as sockets
-use Rattle.relay_server.specs.Words.{served_text}
+use Rattle.relay_server.specs.Words.{listening_text, served_text}
 use Rattle.relay_server.specs.declared.serve.TheConstants.{FIRST}
 use Rattle.relay_server.specs.declared.fault.ScriptFault.{ScriptFault}
 use Rattle.relay_server.specs.declared.fault.ScriptFault.TheVariants.{BadLimit, NoMemory}
@@ -70,11 +70,17 @@ LoopEnds (Ok u) input left old new = Ends sockets.Answers tt (Ok u) input left o
 LoopEnds (Err (serve.Ended fault)) input left old new = Ends sockets.Answers tt (Err fault) input left old new
 LoopEnds (Err _) input left old new = (left ≡ input) × (new ≡ old)
 
+-- no line was cut: nothing was written, or the first line
+abbrev pub Listens : ℕ → Option (List ℕ) → Option (List ℕ) → Type 0
+Listens port old new = Keeps old new ⊎ Appends old new (listening_text port)
+
 -- Of a server that was to make so many rounds, and of what was written before and after: both of its lines, at some port; nothing,
--- where a limit is out of range or there were no sockets for it; or, after another fault, a part at the front of them.
+-- where a limit is out of range or there were no sockets for it; no more than the first line, where memory was refused; or, after
+-- another fault, a part at the front of both.
 abbrev pub ServeEnds : ℕ → Result (Unit {0}) ServeFault → Option (List ℕ) → Option (List ℕ) → Type 0
 ServeEnds turns (Ok u) old new = (port : ℕ) × Appends old new (served_text port turns)
 ServeEnds turns (Err (serve.Ended BadLimit)) old new = new ≡ old
+ServeEnds turns (Err (serve.Ended NoMemory)) old new = (port : ℕ) × Listens port old new
 ServeEnds turns (Err (serve.Ended fault)) old new = (port : ℕ) × AppendsPart old new (served_text port turns)
 ServeEnds turns (Err _) old new = new ≡ old
 

@@ -2,7 +2,7 @@
 ghost use Rattle.std.specs.Prelude.{◌≡◌, ◌↔◌, ◌⊎◌, OnOk, OnErr, IfErr, IsErrOf};
 ghost use Rattle.std.specs.Io.KnownBytes.{Appends};
 ghost use Rattle.relay_hub.specs.Telling.{BadLimits};
-ghost use Rattle.relay_server.specs.Jobs.{ServeEnds};
+ghost use Rattle.relay_server.specs.Jobs.{Listens, ServeEnds};
 ghost use Rattle.relay_server.specs.Lines.{AppendsPart};
 ghost use Rattle.relay_server.specs.Words.{served_text};
 ghost use Rattle.relay_server.specs.declared.fault.ScriptFault.TheVariants.{BadLimit, NoMemory, Output};
@@ -107,6 +107,7 @@ where
     L::Stream: Read + Write + OpenStream + Drop,
     ensures done { OnOk result (Appends (W.contents writer.old) (W.contents writer.new) (served_text port turns)) }
     ensures stopped { OnErr result (AppendsPart (W.contents writer.old) (W.contents writer.new) (served_text port turns)) }
+    ensures uncut { IfErr result (λ fault. fault ≡ Ended NoMemory → Listens port (W.contents writer.old) (W.contents writer.new)) }
     ensures fault { IfErr result (λ fault. (fault ≡ Ended Output) ⊎ (fault ≡ Ended NoMemory)) }
 {
     print(writer, format!(in alloc; "listening {port}\n")?.as_str())?;
