@@ -7,3 +7,4 @@ pub mod Follow
 pub mod Sockets
 pub mod Kept
 pub mod Jobs
+pub mod Seats

@@ -1,4 +1,9 @@
 //! A link of a server, and whether a turn of it would do anything.
+ghost use Rattle.std.specs.Prelude.{◌≡◌, ◌↔◌, ◌&&◌, ◌||◌, IsTrue, is_none, not};
+ghost use Rattle.relay_link.specs.Stage.{stage_of, session_of, rests};
+ghost use Rattle.relay_link.specs.declared.stage.Stage.TheVariants.{Closing};
+ghost use Rattle.relay_server.specs.Seats.{has_room};
+
 use crate::ready::{Known, Watched};
 use relay_hub::Hub;
 use relay_link::{Link, Stage};
@@ -44,7 +49,9 @@ impl<S: Read + Write + Drop> Seat<S> {
 
     /// Whether a turn that hears might do something: something became ready, or the last turn left something to go on with;
     /// and the hub has room for an answer.
-    pub(crate) fn may_be_heard(&self, hub: &Hub) -> bool {
+    pub(crate) fn may_be_heard(&self, hub: &Hub) -> bool
+        ensures { result ≡ (self.now.woken || not (rests self.now.link)) && has_room hub.now (session_of self.now.link) }
+    {
         if !self.woken && self.link.may_rest() {
             return false;
         }
@@ -66,12 +73,16 @@ impl<S: Read + Write + Drop> Seat<S> {
     }
 
     /// Whether the other side may still answer a close.
-    pub(crate) fn is_closing(&self) -> bool {
+    pub(crate) fn is_closing(&self) -> bool
+        ensures { IsTrue result ↔ (stage_of self.now.link ≡ Closing) }
+    {
         self.link.stage() == Stage::Closing
     }
 
     /// Whether nobody is served by it: no session was opened, or it is closed.
-    pub(crate) fn is_unserved(&self) -> bool {
+    pub(crate) fn is_unserved(&self) -> bool
+        ensures { result ≡ is_none (session_of self.now.link) }
+    {
         self.link.session().is_none()
     }
 }

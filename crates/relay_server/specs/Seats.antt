@@ -1,0 +1,9 @@
+-- Whether a link of a server has something to do.
+use Rattle.std.specs.Prelude.{ℕ, Bool, true, Option, Some, None}
+use Rattle.relay_hub.specs.State.{State, session_of}
+use Rattle.relay_hub.specs.Telling.{may_hear}
+
+-- a hub has room for an answer to a link with this session; one without a session asks none
+abbrev pub has_room : State → Option ℕ → Bool
+has_room hub (Some s) = may_hear (session_of hub s)
+has_room hub None = true
