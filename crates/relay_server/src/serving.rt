@@ -1,4 +1,8 @@
 //! The relay as a server: one thread, sockets that never wait, and a number of rounds.
+ghost use Rattle.std.specs.Prelude.{◌≡◌, ◌≤◌};
+ghost use Rattle.relay_server.specs.Seats.{links_of};
+ghost use Rattle.relay_server.specs.declared.serving.TheConstants.{LINKS_MOST};
+
 use crate::journal::{Journal, Note};
 use crate::readiness::{News, Readiness};
 use crate::seat::Seat;
@@ -46,7 +50,9 @@ pub struct Serving<S, R> {
 impl<S: Read + Write + OpenStream + Drop, R: Readiness<S>> Serving<S, R> {
     /// A server of a hub, with no connection. At most `outbox` patches wait for a session of the hub: a round hears half as many
     /// texts, so that it brings nobody who keeps up more patches than may wait.
-    pub fn new(alloc: Global, hub: Hub, outbox: u64, readiness: R) -> Serving<S, R> {
+    pub fn new(alloc: Global, hub: Hub, outbox: u64, readiness: R) -> Serving<S, R>
+        ensures { links_of result ≡ 0 }
+    {
         Serving {
             hub,
             seats: Slab::new(alloc),
@@ -62,8 +68,10 @@ impl<S: Read + Write + OpenStream + Drop, R: Readiness<S>> Serving<S, R> {
         }
     }
 
-    /// How many connections are held.
-    pub fn links(&self) -> usize {
+    /// How many connections are held: never more than [`LINKS_MOST`], since a round holds no more.
+    pub fn links(&self) -> usize
+        ensures { result ≡ links_of self.now }
+    {
         self.seats.len()
     }
 
@@ -84,7 +92,9 @@ impl<S: Read + Write + OpenStream + Drop, R: Readiness<S>> Serving<S, R> {
         alloc: Global,
         listener: &L,
         journal: &mut J,
-    ) {
+    )
+        ensures { links_of self.old ≤ LINKS_MOST → links_of self.new ≤ LINKS_MOST }
+    {
         self.rounds = self.rounds.saturating_add(1);
         self.look();
         self.admit(alloc, listener, journal);
@@ -93,7 +103,9 @@ impl<S: Read + Write + OpenStream + Drop, R: Readiness<S>> Serving<S, R> {
     }
 
     /// Ends every link, by rising key.
-    pub fn end<J: Journal>(&mut self, alloc: Global, journal: &mut J) {
+    pub fn end<J: Journal>(&mut self, alloc: Global, journal: &mut J)
+        ensures { links_of self.new ≤ links_of self.old }
+    {
         for key in 0..self.keys() {
             self.end_link(alloc, key, journal);
         }
@@ -105,7 +117,9 @@ impl<S: Read + Write + OpenStream + Drop, R: Readiness<S>> Serving<S, R> {
     }
 
     /// Asks what became ready, and waits where there is nothing to do.
-    fn look(&mut self) {
+    fn look(&mut self)
+        ensures { links_of self.new ≤ links_of self.old }
+    {
         let has_work = self.has_work();
         let most = Duration::from_millis(if has_work { 0 } else { WAIT });
         self.news.clear();
@@ -161,7 +175,9 @@ impl<S: Read + Write + OpenStream + Drop, R: Readiness<S>> Serving<S, R> {
     }
 
     /// Takes a piece of news. One of a link that is gone means nothing.
-    fn take(&mut self, news: News) {
+    fn take(&mut self, news: News)
+        ensures { links_of self.new ≤ links_of self.old }
+    {
         match news {
             News::Knock => self.knocks = true,
             News::Stream {
@@ -178,7 +194,9 @@ impl<S: Read + Write + OpenStream + Drop, R: Readiness<S>> Serving<S, R> {
     }
 
     /// Takes everything as ready.
-    fn wake_all(&mut self) {
+    fn wake_all(&mut self)
+        ensures { links_of self.new ≤ links_of self.old }
+    {
         self.knocks = true;
         self.untold = true;
         for key in 0..self.keys() {
@@ -189,7 +207,9 @@ impl<S: Read + Write + OpenStream + Drop, R: Readiness<S>> Serving<S, R> {
     }
 
     /// Counts the wait that has passed to those who may still answer a close.
-    fn wake_closing(&mut self) {
+    fn wake_closing(&mut self)
+        ensures { links_of self.new ≤ links_of self.old }
+    {
         for key in 0..self.keys() {
             if let Some(seat) = self.seats.get_mut(key) {
                 if seat.is_closing() {
@@ -205,7 +225,9 @@ impl<S: Read + Write + OpenStream + Drop, R: Readiness<S>> Serving<S, R> {
         alloc: Global,
         listener: &L,
         journal: &mut J,
-    ) {
+    )
+        ensures { links_of self.old ≤ LINKS_MOST → links_of self.new ≤ LINKS_MOST }
+    {
         for _ in 0..ACCEPTS_MOST {
             if !self.knocks {
                 return;
@@ -224,7 +246,9 @@ impl<S: Read + Write + OpenStream + Drop, R: Readiness<S>> Serving<S, R> {
     }
 
     /// Where as many connections are held as may be, the one that came first of those without a session is let go.
-    fn make_room<J: Journal>(&mut self, alloc: Global, journal: &mut J) {
+    fn make_room<J: Journal>(&mut self, alloc: Global, journal: &mut J)
+        ensures { links_of self.new ≤ links_of self.old }
+    {
         if self.seats.len() < LINKS_MOST {
             return;
         }
@@ -249,7 +273,9 @@ impl<S: Read + Write + OpenStream + Drop, R: Readiness<S>> Serving<S, R> {
     }
 
     /// Holds a connection from now on, where there is room.
-    fn hold(&mut self, alloc: Global, stream: S) -> Result<(), AllocError> {
+    fn hold(&mut self, alloc: Global, stream: S) -> Result<(), AllocError>
+        ensures { links_of self.old ≤ LINKS_MOST → links_of self.new ≤ LINKS_MOST }
+    {
         if self.seats.len() >= LINKS_MOST || stream.set_nonblocking(true).is_err() {
             return Ok(());
         }
@@ -269,7 +295,9 @@ impl<S: Read + Write + OpenStream + Drop, R: Readiness<S>> Serving<S, R> {
     }
 
     /// Hears the links, round and round.
-    fn hear<J: Journal>(&mut self, alloc: Global, journal: &mut J) {
+    fn hear<J: Journal>(&mut self, alloc: Global, journal: &mut J)
+        ensures { links_of self.new ≤ links_of self.old }
+    {
         let mut left = self.texts;
         for _ in 0..self.texts {
             let before = left;
@@ -281,7 +309,9 @@ impl<S: Read + Write + OpenStream + Drop, R: Readiness<S>> Serving<S, R> {
     }
 
     /// Hears each link once, beginning behind the one that was heard last, until so many texts were heard. How many are left.
-    fn hear_each<J: Journal>(&mut self, alloc: Global, most: u64, journal: &mut J) -> u64 {
+    fn hear_each<J: Journal>(&mut self, alloc: Global, most: u64, journal: &mut J) -> u64
+        ensures { links_of self.new ≤ links_of self.old }
+    {
         let keys = self.keys();
         let behind = self.last.saturating_add(1).min(keys);
         let mut left = most;
@@ -298,7 +328,9 @@ impl<S: Read + Write + OpenStream + Drop, R: Readiness<S>> Serving<S, R> {
     }
 
     /// Gives a link a turn. Whether it said a text.
-    fn hear_link<J: Journal>(&mut self, alloc: Global, key: usize, journal: &mut J) -> bool {
+    fn hear_link<J: Journal>(&mut self, alloc: Global, key: usize, journal: &mut J) -> bool
+        ensures { links_of self.new ≤ links_of self.old }
+    {
         let Some(seat) = self.seats.get_mut(key) else {
             return false;
         };
@@ -314,7 +346,9 @@ impl<S: Read + Write + OpenStream + Drop, R: Readiness<S>> Serving<S, R> {
     }
 
     /// Tells the links for which messages wait.
-    fn tell<J: Journal>(&mut self, alloc: Global, journal: &mut J) {
+    fn tell<J: Journal>(&mut self, alloc: Global, journal: &mut J)
+        ensures { links_of self.new ≤ links_of self.old }
+    {
         if !self.untold {
             return;
         }
@@ -326,7 +360,9 @@ impl<S: Read + Write + OpenStream + Drop, R: Readiness<S>> Serving<S, R> {
         }
     }
 
-    fn tell_link<J: Journal>(&mut self, alloc: Global, key: usize, journal: &mut J) {
+    fn tell_link<J: Journal>(&mut self, alloc: Global, key: usize, journal: &mut J)
+        ensures { links_of self.new ≤ links_of self.old }
+    {
         let Some(seat) = self.seats.get_mut(key) else {
             return;
         };
@@ -338,7 +374,9 @@ impl<S: Read + Write + OpenStream + Drop, R: Readiness<S>> Serving<S, R> {
         }
     }
 
-    fn end_link<J: Journal>(&mut self, alloc: Global, key: usize, journal: &mut J) {
+    fn end_link<J: Journal>(&mut self, alloc: Global, key: usize, journal: &mut J)
+        ensures { links_of self.new ≤ links_of self.old }
+    {
         let Some(seat) = self.seats.get_mut(key) else {
             return;
         };
@@ -352,7 +390,9 @@ impl<S: Read + Write + OpenStream + Drop, R: Readiness<S>> Serving<S, R> {
     }
 
     /// Notes what befell a link in a turn, and lets it go where it is gone.
-    fn settle<J: Journal>(&mut self, key: usize, before: Stage, turn: &Turn, journal: &mut J) {
+    fn settle<J: Journal>(&mut self, key: usize, before: Stage, turn: &Turn, journal: &mut J)
+        ensures { links_of self.new ≤ links_of self.old }
+    {
         let Some(seat) = self.seats.get(key) else {
             return;
         };
