@@ -70,37 +70,52 @@ impl<'n, N: Net> Door<'n, N> {
         hub: &mut Hub,
         room: &str,
     ) -> Result<Entering<N::Stream>, AllocError> {
-        let Ok(stream) = self.net.connect(self.address) else {
+        let Some((stream, accepted)) = self.ends() else {
             return Ok(Entering::Stuck);
         };
-        let Some(accepted) = accepted(&self.listener) else {
-            return Ok(Entering::Stuck);
-        };
-        if !never_waits(&stream) || !never_waits(&accepted) {
-            return Ok(Entering::Stuck);
+        let link = Link::new(alloc, accepted)?;
+        match Knocking::at(alloc, stream, room)? {
+            Some(knocking) => Ok(let_in(alloc, hub, link, knocking)),
+            None => Ok(Entering::Stuck),
         }
-        let mut link = Link::new(alloc, accepted)?;
-        let Some(mut knocking) = Knocking::at(alloc, stream, room)? else {
-            return Ok(Entering::Stuck);
-        };
-        for _ in 0..TURNS_MOST {
-            let _ = link.turn(alloc, hub, 0);
-            if link.stage() == Stage::Head {
-                continue;
-            }
-            if let Some(status) = knocking.status() {
-                return Ok(match link.session() {
-                    Some(session) => Entering::Opened(Connection {
-                        session,
-                        link,
-                        client: knocking.client(alloc),
-                    }),
-                    None => Entering::Refused(status),
-                });
-            }
-        }
-        Ok(Entering::Stuck)
     }
+
+    /// The client's and the server's end of a new socket, which never wait.
+    fn ends(&self) -> Option<(N::Stream, N::Stream)> {
+        let stream = self.net.connect(self.address).ok()?;
+        let accepted = accepted(&self.listener)?;
+        if never_waits(&stream) && never_waits(&accepted) {
+            Some((stream, accepted))
+        } else {
+            None
+        }
+    }
+}
+
+/// Gives a link turns until its client has a reply.
+fn let_in<S: Read + Write + Drop>(
+    alloc: Global,
+    hub: &mut Hub,
+    mut link: Link<S>,
+    mut knocking: Knocking<S>,
+) -> Entering<S> {
+    for _ in 0..TURNS_MOST {
+        let _ = link.turn(alloc, hub, 0);
+        if link.stage() == Stage::Head {
+            continue;
+        }
+        if let Some(status) = knocking.status() {
+            return match link.session() {
+                Some(session) => Entering::Opened(Connection {
+                    session,
+                    link,
+                    client: knocking.client(alloc),
+                }),
+                None => Entering::Refused(status),
+            };
+        }
+    }
+    Entering::Stuck
 }
 
 /// The connection that a client made.

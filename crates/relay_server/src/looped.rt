@@ -86,23 +86,49 @@ impl<'n, N: Net> Looped<'n, N> {
     ) -> Result<String, AllocError>
         ensures { IfOk result (λ answer. SpeaksOf name.now (string_bytes answer)) }
     {
-        if let Some(peer) = self.peers.get_mut(name) {
-            return peer.attend(alloc, &self.door, &mut self.hub, name, asks);
+        match self.peers.get_mut(name) {
+            Some(peer) => peer.attend(alloc, &self.door, &mut self.hub, name, asks),
+            None => self.begin(alloc, name, asks),
         }
-        let Asks::Open(room) = asks else {
-            return words::unknown(alloc, name);
-        };
+    }
+
+    /// Does what a name is to do that was never opened: it can open, and nothing else.
+    fn begin(&mut self, alloc: Global, name: &str, asks: Asks<'_>) -> Result<String, AllocError>
+        ensures { IfOk result (λ answer. SpeaksOf name.now (string_bytes answer)) }
+    {
+        match asks {
+            Asks::Open(room) => self.open_first(alloc, name, room),
+            _ => words::unknown(alloc, name),
+        }
+    }
+
+    /// Opens the first session of a name.
+    fn open_first(&mut self, alloc: Global, name: &str, room: &str) -> Result<String, AllocError>
+        ensures { IfOk result (λ answer. SpeaksOf name.now (string_bytes answer)) }
+    {
         let entering = self.door.enter(alloc, &mut self.hub, room)?;
         let answer = entered(alloc, name, &entering)?;
         if let Entering::Opened(connection) = entering {
-            let peer = Peer {
-                ear: Ear::new(),
-                connection: Some(connection),
-            };
-            drop(self.peers.insert(String::from_str(alloc, name)?, peer)?);
+            add(alloc, &mut self.peers, name, connection)?;
         }
         Ok(answer)
     }
+}
+
+/// Adds a name whose first session was just opened.
+fn add<S: Read + Write + OpenStream + Drop>(
+    alloc: Global,
+    peers: &mut IndexMap<String, Peer<S>>,
+    name: &str,
+    connection: Connection<S>,
+) -> Result<(), AllocError> {
+    let known = String::from_str(alloc, name)?;
+    let peer = Peer {
+        ear: Ear::new(),
+        connection: Some(connection),
+    };
+    drop(peers.insert(known, peer)?);
+    Ok(())
 }
 
 impl<S: Read + Write + OpenStream + Drop> Peer<S> {
@@ -161,25 +187,16 @@ impl<S: Read + Write + OpenStream + Drop> Peer<S> {
         match (asks, &mut self.connection) {
             (Asks::Held, _) => self.ear.held(alloc, name),
             (Asks::Open(_), Some(_)) => words::taken(alloc, name),
-            (Asks::Open(room), None) => {
-                let entering = door.enter(alloc, hub, room)?;
-                let answer = entered(alloc, name, &entering)?;
-                if let Entering::Opened(connection) = entering {
-                    self.connection = Some(connection);
-                }
-                Ok(answer)
-            }
+            (Asks::Open(room), None) => self.open(alloc, door, hub, name, room),
             (_, None) => words::unknown(alloc, name),
-            (Asks::Say(text), Some(connection)) => match connection.say(alloc, hub, text)? {
-                Saying::Answered => format!(in alloc; "{name} answered\n"),
-                Saying::Busy => format!(in alloc; "{name} busy\n"),
-                Saying::Stuck => stuck(alloc, name),
-            },
-            (Asks::Draw, Some(connection)) => match connection.draw(alloc, hub) {
-                Drawing::Nothing => format!(in alloc; "{name} nothing\n"),
-                Drawing::Stuck => stuck(alloc, name),
-                Drawing::Text(text) => self.drawn(alloc, name, text.as_str()),
-            },
+            (Asks::Say(text), Some(connection)) => {
+                let saying = connection.say(alloc, hub, text)?;
+                said(alloc, name, saying)
+            }
+            (Asks::Draw, Some(connection)) => {
+                let drawing = connection.draw(alloc, hub);
+                self.drew(alloc, name, drawing)
+            }
             (Asks::Close, Some(connection)) => {
                 if !connection.close(alloc, hub) {
                     return stuck(alloc, name);
@@ -188,6 +205,37 @@ impl<S: Read + Write + OpenStream + Drop> Peer<S> {
                 format!(in alloc; "{name} closed\n")
             }
             (Asks::Truth, Some(connection)) => truth(alloc, hub, connection.session, name),
+        }
+    }
+
+    /// Opens a session, where the name has none.
+    fn open<N: Net<Stream = S>>(
+        &mut self,
+        alloc: Global,
+        door: &Door<'_, N>,
+        hub: &mut Hub,
+        name: &str,
+        room: &str,
+    ) -> Result<String, AllocError>
+        ensures { IfOk result (λ answer. SpeaksOf name.now (string_bytes answer)) }
+    {
+        let entering = door.enter(alloc, hub, room)?;
+        let answer = entered(alloc, name, &entering)?;
+        if let Entering::Opened(connection) = entering {
+            self.connection = Some(connection);
+        }
+        Ok(answer)
+    }
+
+    /// What came of a draw.
+    fn drew(&mut self, alloc: Global, name: &str, drawing: Drawing) -> Result<String, AllocError>
+        requires { self.old.ear.unheard ≡ None }
+        ensures { IfOk result (λ answer. SpeaksOf name.now (string_bytes answer)) }
+    {
+        match drawing {
+            Drawing::Nothing => format!(in alloc; "{name} nothing\n"),
+            Drawing::Stuck => stuck(alloc, name),
+            Drawing::Text(text) => self.drawn(alloc, name, text.as_str()),
         }
     }
 
@@ -201,6 +249,17 @@ impl<S: Read + Write + OpenStream + Drop> Peer<S> {
         let fault = self.ear.hear(alloc, kept);
         let after = words::after_hearing(alloc, name, fault)?;
         format!(in alloc; "{answer}{after}")
+    }
+}
+
+/// What came of a text.
+fn said(alloc: Global, name: &str, saying: Saying) -> Result<String, AllocError>
+    ensures { IfOk result (λ answer. SpeaksOf name.now (string_bytes answer)) }
+{
+    match saying {
+        Saying::Answered => format!(in alloc; "{name} answered\n"),
+        Saying::Busy => format!(in alloc; "{name} busy\n"),
+        Saying::Stuck => stuck(alloc, name),
     }
 }
 

@@ -381,12 +381,11 @@ impl<S: Read + Write + OpenStream + Drop, R: Readiness<S>> Serving<S, R> {
             return;
         };
         let before = seat.link.stage();
-        match seat.link.end(alloc, &mut self.hub) {
-            Ok(turn) => self.settle(key, before, &turn, journal),
-            Err(_) => {
-                let _ = self.seats.try_remove(key);
-            }
-        }
+        let Ok(turn) = seat.link.end(alloc, &mut self.hub) else {
+            self.let_go(key);
+            return;
+        };
+        self.settle(key, before, &turn, journal);
     }
 
     /// Notes what befell a link in a turn, and lets it go where it is gone.
@@ -413,8 +412,12 @@ impl<S: Read + Write + OpenStream + Drop, R: Readiness<S>> Serving<S, R> {
             None => {}
         }
         if turn.stage == Stage::Gone {
-            let _ = self.seats.try_remove(key);
+            self.let_go(key);
         }
+    }
+
+    fn let_go(&mut self, key: usize) {
+        let _ = self.seats.try_remove(key);
     }
 }
 
