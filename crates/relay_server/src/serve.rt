@@ -1,5 +1,5 @@
 //! `relay serve`: listens, makes its rounds, and ends.
-ghost use Rattle.std.specs.Prelude.{◌≡◌, ◌↔◌, ◌⊎◌, OnOk, OnErr, IfErr, IsErrOf};
+ghost use Rattle.std.specs.Prelude.{◌≡◌, ◌≢◌, ◌↔◌, ◌⊎◌, OnOk, OnErr, IfErr, IsErrOf};
 ghost use Rattle.std.specs.Io.KnownBytes.{Appends};
 ghost use Rattle.relay_hub.specs.Telling.{BadLimits};
 ghost use Rattle.relay_server.specs.Jobs.{Listens, ServeEnds};
@@ -54,7 +54,7 @@ pub fn serve<N: Net, W: Write, E: Write>(
     }
 }
 
-#[tactic(auto, using(crate::proofs::JobLemmas::limits_kept, crate::proofs::ServeLemmas::ends_hosting, crate::proofs::ServeLemmas::ends_unmade))]
+#[tactic(auto, using(crate::proofs::JobLemmas::limits_kept, crate::proofs::ServeLemmas::ends_unmade))]
 fn serve_noting<N: Net, W: Write, J: Journal>(
     alloc: Global,
     net: &N,
@@ -73,6 +73,23 @@ fn serve_noting<N: Net, W: Write, J: Journal>(
         settings.history,
         settings.outbox,
     )?;
+    serve_hub(alloc, net, writer, journal, hub, served, settings.outbox)
+}
+
+/// Serves a hub for whose sessions at most `outbox` patches wait.
+#[tactic(auto, using(crate::proofs::ServeLemmas::ends_hosting))]
+fn serve_hub<N: Net, W: Write, J: Journal>(
+    alloc: Global,
+    net: &N,
+    writer: &mut W,
+    journal: &mut J,
+    hub: Hub,
+    served: Served,
+    outbox: u64,
+) -> Result<(), ServeFault>
+    ensures ends { ServeEnds served.turns result (W.contents writer.old) (W.contents writer.new) }
+    ensures limits { IfErr result (λ fault. fault ≢ Ended BadLimit) }
+{
     let listener = listen(net, served.port)?;
     let Ok(address) = listener.local_addr() else {
         return Err(ServeFault::Listen);
@@ -80,7 +97,7 @@ fn serve_noting<N: Net, W: Write, J: Journal>(
     let Ok(polling) = Polling::new(alloc, net, &listener) else {
         return Err(ServeFault::Wait);
     };
-    let mut serving = Serving::new(alloc, hub, settings.outbox, polling);
+    let mut serving = Serving::new(alloc, hub, outbox, polling);
     host(
         alloc,
         writer,
