@@ -416,7 +416,9 @@ impl<S: Read + Write + OpenStream + Drop, R: Readiness<S>> Serving<S, R> {
         }
     }
 
-    fn let_go(&mut self, key: usize) {
+    fn let_go(&mut self, key: usize)
+        ensures { links_of self.new ≤ links_of self.old }
+    {
         let _ = self.seats.try_remove(key);
     }
 }
