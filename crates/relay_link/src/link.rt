@@ -75,7 +75,8 @@ impl<S: Read + Write + Drop> Link<S> {
     }
 
     /// Whether a turn would find nothing to do until the stream is ready for more or a message waits for the session. Not where
-    /// the last turn read a byte, since another message may have come with it, or met want of memory or an interruption.
+    /// the last turn that hears read a byte, since another message may have come with it, or a turn since then met want of memory
+    /// or an interruption.
     pub fn may_rest(&self) -> bool
         ensures { result ≡ rests self.now }
     {

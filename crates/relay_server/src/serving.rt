@@ -416,6 +416,7 @@ impl<S: Read + Write + OpenStream + Drop, R: Readiness<S>> Serving<S, R> {
         }
     }
 
+    /// Lets a link go, where it is held.
     fn let_go(&mut self, key: usize)
         ensures { links_of self.new ≤ links_of self.old }
     {
