@@ -1,11 +1,10 @@
 -- Elements that are read one by one: those that were read, before the ones that are left.
-use Rattle.std.proofs.Common.{◌≡◌, ℕ, suc, ◌+◌, ◌<◌, ◌≤◌, List, [], ◌∷◌, ◌++◌, length, get_or, drop, Result, Ok, Err, refl, ap, add-one, append_assoc, append-nil, Option, Some, None, Bool, true, false, nat_lt, if◌then◌else◌, arith}
+use Rattle.std.proofs.Common.{◌≡◌, ℕ, suc, ◌+◌, ◌<◌, ◌≤◌, List, [], ◌∷◌, ◌++◌, length, get_or, drop, Result, Ok, Err, refl, ap, add-one, append_assoc, append-nil, Option, Some, None, Bool, true, false, nat_lt, if◌then◌else◌, arith, IfOk, IfErr}
 use Rattle.std.proofs.Math.Seq.{drop-cons}
 use Rattle.std.proofs.lemmas.List.{drop_all}
 use Rattle.relay_tree.specs.Document.{Document, items_of, Items, no_items, item}
 use Rattle.relay_tree.specs.Each.{onto, each_from}
 use Rattle.relay_tree.proofs.Outcomes.{if_err}
-use Rattle.std.specs.Prelude.{IfOk, IfErr}
 use Rattle.std.proofs.lemmas.Bool.Decides.{nat_tests}
 use Rattle.relay_tree.specs.Part.{items_length}
 
@@ -51,8 +50,7 @@ IsBelow most None = Unit {0}
 module _ {A E : Type 0} where
   onto-length : (r : Result A E) (rest : Result (List A) E) (m : ℕ) → IfOk rest (λ xs. length xs ≡ m) → IfOk (onto r rest) (λ xs. length xs ≡ suc m)
   onto-length (Ok x) (Ok xs) m h = rw h refl
-  onto-length (Ok x) (Err e) m h = tt
-  onto-length (Err e) rest m h = tt
+  onto-length _ _ m h = tt
 
   each-length : (reads : ℕ → Document → Result A E) (n : ℕ) (ds : Items) → IfOk (each_from reads n ds) (λ xs. length xs ≡ items_length ds)
   each-length reads n no_items = refl
@@ -96,5 +94,4 @@ module _ {A E : Type 0} (reads : ℕ → Document → Result A E) (named : E →
       go false (Ok xs) e h = tt
       go false (Err fault) e h =
           let few : items_length ds ≤ most = grind (arith, nat_tests, e) in
-          let below = h.1 in
-          rw h.2 (omega (arith, few, below))
+          rw h.2 (omega (arith, few, h.1))

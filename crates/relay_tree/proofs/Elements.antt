@@ -1,6 +1,5 @@
 -- A vector's elements beside the items that they stand for, and items after a change.
-use Rattle.std.proofs.Common.{◌≡◌, ◌≢◌, ℕ, zero, suc, ◌<◌, ◌≤◌, List, [], ◌∷◌, length, Option, Some, None, option_map, refl, sym, ap, arith}
-use Rattle.std.specs.Prelude.{slice_get, slice_set}
+use Rattle.std.proofs.Common.{◌≡◌, ◌≢◌, ℕ, zero, suc, ◌<◌, ◌≤◌, List, [], ◌∷◌, length, Option, Some, None, option_map, refl, sym, ap, arith, slice_get, slice_set}
 use Rattle.std.specs.List.{insert, remove}
 use Rattle.relay_tree.specs.Document.{Document, Items, no_items, item, items_of}
 use Rattle.relay_tree.specs.Part.{items_length, item_at, put_item, insert_item, drop_item}
@@ -12,14 +11,12 @@ items_length-items_of [] = refl
 items_length-items_of (x ∷ xs) = ap suc (items_length-items_of xs)
 
 pub slice_get-items_of : (xs : List Document) (i : ℕ) → slice_get xs i ≡ item_at (items_of xs) i
-slice_get-items_of [] i = refl
-slice_get-items_of (x ∷ xs) zero = refl
 slice_get-items_of (x ∷ xs) (suc i) = slice_get-items_of xs i
+slice_get-items_of _ _ = refl
 
 pub items_of-slice_set : (xs : List Document) (i : ℕ) (e : Document) → items_of (slice_set xs i e) ≡ put_item (items_of xs) i e
-items_of-slice_set [] i e = refl
-items_of-slice_set (x ∷ xs) zero e = refl
 items_of-slice_set (x ∷ xs) (suc i) e = ap (item x) (items_of-slice_set xs i e)
+items_of-slice_set _ _ e = refl
 
 pub insert_item-items_of : (xs : List Document) (i : ℕ) (v : Document) → i ≤ length xs → insert_item (items_of xs) i v ≡ Some (items_of (insert xs i v))
 insert_item-items_of xs zero v h = refl
@@ -62,11 +59,9 @@ item_at-put_same (item d ds) zero c e h = refl
 item_at-put_same (item d ds) (suc i) c e h = item_at-put_same ds i c e h
 
 pub item_at-put_other : (ds : Items) (i j : ℕ) (e : Document) → i ≢ j → item_at (put_item ds i e) j ≡ item_at ds j
-item_at-put_other no_items i j e h = refl
 item_at-put_other (item d ds) zero zero e h = absurd (h refl)
-item_at-put_other (item d ds) zero (suc j) e h = refl
-item_at-put_other (item d ds) (suc i) zero e h = refl
 item_at-put_other (item d ds) (suc i) (suc j) e h = item_at-put_other ds i j e (λ k. h (ap suc k))
+item_at-put_other _ _ _ e h = refl
 
 pub item_at-insert_below : (ds : Items) (i j : ℕ) (e : Document) (es : Items) → j < i → insert_item ds i e ≡ Some es → item_at es j ≡ item_at ds j
 item_at-insert_below ds zero j e es h k = absurd (omega arith)
@@ -111,9 +106,7 @@ drop_item-shorter (item d ds) (suc i) es h = go (drop_item ds i) refl (drop_item
         let found : Some (item d fs) ≡ Some es = rw f at h in
         let is : es ≡ item d fs = cc in
         let k = ih fs f in
-        let a = k.0 in
-        let b = k.1 in
-        (rw is (omega (arith, a)), omega (arith, b))
+        (rw is (omega (arith, k.0)), omega (arith, k.1))
 
 pub item_at-drop_behind : (ds : Items) (i j : ℕ) (es : Items) → i ≤ j → drop_item ds i ≡ Some es → item_at es j ≡ item_at ds (suc j)
 item_at-drop_behind no_items i j es h k = cc
@@ -151,14 +144,12 @@ item_at-insert_same (item d ds) (suc i) v es h = go (insert_item ds i v) refl (i
         rw is (ih fs f)
 
 pub put_item-length : (ds : Items) (i : ℕ) (e : Document) → items_length (put_item ds i e) ≡ items_length ds
-put_item-length no_items i e = refl
-put_item-length (item d ds) zero e = refl
 put_item-length (item d ds) (suc i) e = ap suc (put_item-length ds i e)
+put_item-length _ _ e = refl
 
 pub put_item-twice : (ds : Items) (i : ℕ) (a b : Document) → put_item (put_item ds i a) i b ≡ put_item ds i b
-put_item-twice no_items i a b = refl
-put_item-twice (item d ds) zero a b = refl
 put_item-twice (item d ds) (suc i) a b = ap (item d) (put_item-twice ds i a b)
+put_item-twice _ _ a b = refl
 
 -- an element that was inserted is dropped again
 pub drop_item-insert : (ds : Items) (i : ℕ) (v : Document) (es : Items) → insert_item ds i v ≡ Some es → drop_item es i ≡ Some ds

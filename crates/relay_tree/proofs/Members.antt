@@ -34,13 +34,11 @@ members_of-set_value k (e ∷ es) d = members_of-cond (is_eq (slice_cmp nat_cmp 
 
 members_of-match_ordering : (o : Ordering) (a b c : List Entry) → members_of (match_ordering o a b c) ≡ match_ordering o (members_of a) (members_of b) (members_of c)
 members_of-match_ordering Less a b c = refl
-members_of-match_ordering Equal a b c = refl
-members_of-match_ordering Greater a b c = refl
+members_of-match_ordering _ a b c = refl
 
 renamed : (o : Ordering) (k n : List ℕ) (v d : Document) (ms rest : Members) → (o ≡ Equal → k ≡ n) → match_ordering o (member k v (member n d ms)) (member n v ms) (member n d rest) ≡ match_ordering o (member k v (member n d ms)) (member k v ms) (member n d rest)
-renamed Less k n v d ms rest same = refl
 renamed Equal k n v d ms rest same = ap (λ m. member m v ms) (sym (same refl))
-renamed Greater k n v d ms rest same = refl
+renamed _ k n v d ms rest same = refl
 
 pub members_of-insert_entry : (es : List Entry) (k : String Global) (v : Document) → members_of (insert_entry string_cmp es k v) ≡ add_member (members_of es) (string_bytes k) v
 members_of-insert_entry [] k v = refl
@@ -188,9 +186,8 @@ set_member-twice (member n d ms) name a b = go (bytes_eq n name) refl (set_membe
     go false e rest = rw e (rw e (ap (member n d) rest))
 
 added_step : (o : Ordering) (n a : List ℕ) (d e : Document) (ms rest : Members) → is_eq o ≡ bytes_eq a n → member_at rest a ≡ Some e → bytes_eq n a ≡ false → member_at (match_ordering o (member a e (member n d ms)) (member a e ms) (member n d rest)) a ≡ Some e
-added_step Less n a d e ms rest o ih other = rw (bytes_same a) refl
-added_step Equal n a d e ms rest o ih other = rw (bytes_same a) refl
 added_step Greater n a d e ms rest o ih other = rw other ih
+added_step _ n a d e ms rest o ih other = rw (bytes_same a) refl
 
 member_at-add_same : (ms : Members) (a : List ℕ) (e : Document) → member_at ms a ≡ None → member_at (add_member ms a e) a ≡ Some e
 member_at-add_same no_members a e h = rw (bytes_same a) refl

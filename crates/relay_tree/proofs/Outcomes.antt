@@ -1,6 +1,5 @@
 -- What holds of an outcome, from what holds of another.
-use Rattle.std.proofs.Common.{◌≡◌, Result, Ok, Err, IsOk, refl}
-use Rattle.std.specs.Prelude.{OnOk, OnErr, IfOk, IfErr, IsErrAnd}
+use Rattle.std.proofs.Common.{◌≡◌, Result, Ok, Err, IsOk, refl, OnOk, OnErr, IfOk, IfErr, IsErrAnd}
 
 pub is_ok_then : {A E : Type 0} (r : Result A E) (x : A) → r ≡ Ok x → IsOk r
 is_ok_then r x h = rw h refl

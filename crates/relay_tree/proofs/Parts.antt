@@ -1,6 +1,5 @@
 -- A node's parts beside those of its document.
-use Rattle.std.proofs.Common.{◌≡◌, ℕ, ◌<◌, ◌≤◌, length, get_or, Bor, MutBor, arith, List, Option, Some, None, Vec, BTreeMap, Global, String, OnSome, refl, sym}
-use Rattle.std.specs.Prelude.{slice_get, option_copied, is_some, IfSome, nat_lt}
+use Rattle.std.proofs.Common.{◌≡◌, ℕ, ◌<◌, ◌≤◌, length, get_or, Bor, MutBor, arith, List, Option, Some, None, Vec, BTreeMap, Global, String, OnSome, refl, sym, slice_get, option_copied, is_some, IfSome, nat_lt}
 use Rattle.std.specs.Option.{option_copied_mut}
 use Rattle.std.proofs.lemmas.Option.{slice_get_past, slice_get_read}
 use Rattle.std.proofs.lemmas.Bool.Decides.{nat_tests}
@@ -17,35 +16,19 @@ on_some (Some x) p = p
 
 pub is_list : (n : Node) (v : Vec Document Global) → Some v ≡ node_items n → n ≡ node.List v
 is_list node.Null v h = cc
-is_list (node.Truth b) v h = cc
-is_list (node.Whole z) v h = cc
-is_list (node.Text s) v h = cc
-is_list (node.List u) v h = cc
-is_list (node.Members m) v h = cc
+is_list _ v h = cc
 
 pub is_object : (n : Node) (m : BTreeMap (String Global) Document) → Some m ≡ node_members n → n ≡ node.Members m
 is_object node.Null m h = cc
-is_object (node.Truth b) m h = cc
-is_object (node.Whole z) m h = cc
-is_object (node.Text s) m h = cc
-is_object (node.List u) m h = cc
-is_object (node.Members l) m h = cc
+is_object _ m h = cc
 
 pub no_item : (n : Node) (i : ℕ) → None ≡ node_items n → None ≡ list_item (document_of n) i
-no_item node.Null i h = refl
-no_item (node.Truth b) i h = refl
-no_item (node.Whole z) i h = refl
-no_item (node.Text s) i h = refl
 no_item (node.List u) i h = cc
-no_item (node.Members m) i h = refl
+no_item _ i h = refl
 
 pub no_member : (n : Node) (k : List ℕ) → None ≡ node_members n → None ≡ object_member (document_of n) k
-no_member node.Null k h = refl
-no_member (node.Truth b) k h = refl
-no_member (node.Whole z) k h = refl
-no_member (node.Text s) k h = refl
-no_member (node.List u) k h = refl
 no_member (node.Members m) k h = cc
+no_member _ k h = refl
 
 -- what `Vec::get_mut` and `get` give is the element
 pub got_mut : (xs : List Document) (i : ℕ) (r : Option (MutBor Document)) → is_some r ≡ nat_lt i (length xs) → IfSome r (λ x. x.now ≡ get_or xs i x.now) → option_copied_mut r ≡ slice_get xs i

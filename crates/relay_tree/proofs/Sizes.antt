@@ -22,11 +22,7 @@ member_depth (member m d ms) n c h = go (bytes_eq m n) h (member_depth ms n c)
 
 pub weight-least : (d : Document) → 8 ≤ weight d
 weight-least null = omega arith
-weight-least (truth b) = omega arith
-weight-least (whole z) = omega arith
-weight-least (text s) = omega arith
-weight-least (list ds) = omega arith
-weight-least (object ms) = omega arith
+weight-least _ = omega arith
 
 pub put_item-weight : (ds : Items) (i : ℕ) (c e : Document) → item_at ds i ≡ Some c → items_weight (put_item ds i e) + weight c ≡ items_weight ds + weight e
 put_item-weight no_items i c e h = cc
@@ -34,9 +30,8 @@ put_item-weight (item d ds) zero c e h = let same : d ≡ c = cc in let w = ap w
 put_item-weight (item d ds) (suc i) c e h = let ih = put_item-weight ds i c e h in omega (arith, ih)
 
 pub put_item-depth : (ds : Items) (i : ℕ) (e : Document) → items_depth (put_item ds i e) ≤ max (items_depth ds) (depth e)
-put_item-depth no_items i e = omega arith
-put_item-depth (item d ds) zero e = omega arith
 put_item-depth (item d ds) (suc i) e = let ih = put_item-depth ds i e in omega (arith, ih)
+put_item-depth _ _ e = omega arith
 
 pub set_member-depth : (ms : Members) (k : List ℕ) (e : Document) → members_depth (set_member ms k e) ≤ max (members_depth ms) (depth e)
 set_member-depth no_members k e = omega arith
@@ -55,12 +50,8 @@ insert_item-sizes (item d ds) (suc i) v es h = go (insert_item ds i v) h (insert
     go None h ih = cc
     go (Some fs) h ih =
         let same : item d fs ≡ es = cc in
-        let w = ap items_weight same in
-        let e = ap items_depth same in
         let r = ih fs refl in
-        let rw_ = r.0 in
-        let rd = r.1 in
-        (omega (arith, w, rw_), omega (arith, e, rd))
+        (omega (arith, ap items_weight same, r.0), omega (arith, ap items_depth same, r.1))
 
 unlike : (a n : List ℕ) → bytes_eq n a ≡ false → bytes_eq a n ≡ false
 unlike a n h = go (bytes_eq a n) refl
@@ -75,9 +66,8 @@ added_weighs Equal n a d v ms rest other ih = cc
 added_weighs Greater n a d v ms rest other ih = omega (arith, ih)
 
 added_deep : (o : Ordering) (n a : List ℕ) (d v : Document) (ms rest : Members) → members_depth rest ≤ max (members_depth ms) (depth v) → members_depth (match_ordering o (member a v (member n d ms)) (member a v ms) (member n d rest)) ≤ max (members_depth (member n d ms)) (depth v)
-added_deep Less n a d v ms rest ih = omega arith
-added_deep Equal n a d v ms rest ih = omega arith
 added_deep Greater n a d v ms rest ih = omega (arith, ih)
+added_deep _ n a d v ms rest ih = omega arith
 
 pub add_member-weight : (ms : Members) (a : List ℕ) (v : Document) → member_at ms a ≡ None → members_weight (add_member ms a v) ≡ members_weight ms + weight v + length a
 add_member-weight no_members a v h = omega arith
@@ -107,12 +97,8 @@ drop_item-sizes (item d ds) (suc i) c es h k = go (drop_item ds i) k (λ fs. dro
     go None k ih = cc
     go (Some fs) k ih =
         let same : item d fs ≡ es = cc in
-        let y = ap items_weight same in
-        let z = ap items_depth same in
         let r = ih fs refl in
-        let a = r.0 in
-        let b = r.1 in
-        (omega (arith, y, a), omega (arith, z, b))
+        (omega (arith, ap items_weight same, r.0), omega (arith, ap items_depth same, r.1))
 
 pub drop_member-sizes : (ms : Members) (a : List ℕ) (c : Document) (ns : Members) → member_at ms a ≡ Some c → drop_member ms a ≡ Some ns → (members_weight ns + weight c + length a ≡ members_weight ms) × (members_depth ns ≤ members_depth ms)
 drop_member-sizes no_members a c ns h k = cc
@@ -122,20 +108,12 @@ drop_member-sizes (member n d ms) a c ns h k = go (bytes_eq n a) refl h k (drop_
     rest None k ih = cc
     rest (Some fs) k ih =
         let same : member n d fs ≡ ns = cc in
-        let y = ap members_weight same in
-        let z = ap members_depth same in
         let r = ih fs refl in
-        let u = r.0 in
-        let v = r.1 in
-        (omega (arith, y, u), omega (arith, z, v))
+        (omega (arith, ap members_weight same, r.0), omega (arith, ap members_depth same, r.1))
 
     go : (x : Bool) → bytes_eq n a ≡ x → (if x then Some d else member_at ms a) ≡ Some c → (if x then Some ms else option_map (member n d) (drop_member ms a)) ≡ Some ns → ((fs : Members) → member_at ms a ≡ Some c → drop_member ms a ≡ Some fs → (members_weight fs + weight c + length a ≡ members_weight ms) × (members_depth fs ≤ members_depth ms)) → (members_weight ns + weight c + length a ≡ members_weight (member n d ms)) × (members_depth ns ≤ members_depth (member n d ms))
     go true e h k ih =
         let s : d ≡ c = cc in
         let m : ms ≡ ns = cc in
-        let l = ap length (equal_bytes n a e) in
-        let x = ap weight s in
-        let y = ap members_weight m in
-        let z = ap members_depth m in
-        (omega (arith, l, x, y), omega (arith, z))
+        (omega (arith, ap length (equal_bytes n a e), ap weight s, ap members_weight m), omega (arith, ap members_depth m))
     go false e h k ih = rest (drop_member ms a) k (λ fs. ih fs h)

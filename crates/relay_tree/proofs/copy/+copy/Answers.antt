@@ -9,8 +9,7 @@ use Rattle.relay_tree.proofs.copy.+copy.Goals as goal
 
 pub copy_items-copy_tree-requires : goal.copy_items-copy_tree-requires
 copy_items-copy_tree-requires t c =
-    let at = item_weighs c.args.items.now.items c.loop-item.item-index c.item-item.result in
-    (grind (arith, at), tt)
+    (grind (arith, item_weighs c.args.items.now.items c.loop-item.item-index c.item-item.result), tt)
 
 pub copy_members-copy_tree-requires : goal.copy_members-copy_tree-requires
 copy_members-copy_tree-requires t c =

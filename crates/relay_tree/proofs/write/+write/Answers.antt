@@ -18,8 +18,7 @@ write_tree-returns-in-Whole-clause-reads_back t c =
 
 pub write_list-write_tree-requires : goal.write_list-write_tree-requires
 write_list-write_tree-requires t c =
-    let at = item_weighs c.args.items.now.items c.loop-item.item-index c.item-item.result in
-    (grind (arith, at), tt)
+    (grind (arith, item_weighs c.args.items.now.items c.loop-item.item-index c.item-item.result), tt)
 
 pub write_list-returns-clause-tokens : goal.write_list-returns-clause-tokens
 write_list-returns-clause-tokens t c =
