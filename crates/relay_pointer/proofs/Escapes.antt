@@ -72,9 +72,8 @@ is_escaped-cut rest plain behind cut none = rw cut (is_escaped-append plain behi
 -- A text behind a first `/` gives tokens where its escapes are whole.
 
 is_some-begun : (o : Option Token) (path : Option Path) → is_some (begun o path) ≡ (is_some o && is_some path)
-is_some-begun None path = refl
 is_some-begun (Some t) None = refl
-is_some-begun (Some t) (Some ts) = refl
+is_some-begun _ _ = refl
 
 is_some-map : (b : ℕ) (o : Option Token) → is_some (option_map (λ t. b ∷ t) o) ≡ is_some o
 is_some-map b None = refl

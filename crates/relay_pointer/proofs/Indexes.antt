@@ -1,11 +1,10 @@
 -- A number has one index that spells it, and its decimal text is that index.
-use Rattle.std.proofs.Common.{◌≡◌, ◌⊎◌, ℕ, zero, suc, ◌+◌, ◌-◌, ◌*◌, ◌/◌, ◌%◌, ◌<◌, ◌≤◌, ◌^◌, List, [], ◌∷◌, ◌++◌, length, Bool, true, false, ◌||◌, ◌==◌, nat_lt, nat_le, Some, None, decimal, refl, sym, ap, subst, ◌∙◌, inl, inr, ⊎_elim, arith, div-add-mod', mod-lt, min, option_map, bytes_eq}
+use Rattle.std.proofs.Common.{◌≡◌, ◌⊎◌, ℕ, zero, suc, ◌+◌, ◌-◌, ◌*◌, ◌/◌, ◌%◌, ◌<◌, ◌≤◌, ◌^◌, List, [], ◌∷◌, ◌++◌, length, Bool, true, false, ◌||◌, ◌==◌, nat_lt, nat_le, Some, None, decimal, refl, sym, ap, subst, ◌∙◌, inl, inr, ⊎_elim, arith, div-add-mod', mod-lt, min, option_map, bytes_eq, slice_get}
 use Rattle.std.specs.List.{list_all}
 use Rattle.std.proofs.lemmas.Bool.{cases_lt}
 use Rattle.std.proofs.lemmas.List.Folds.{list_all-append}
 use Rattle.std.proofs.lemmas.Fmt.{decimal_by_steps}
 use Rattle.relay_pointer.specs.Index.{Token, is_digit, is_index, number_onto, index_of, spell, index_text, number_of}
-use Rattle.std.specs.Prelude.{slice_get}
 use Rattle.relay_tree.specs.Document.{Document}
 use Rattle.std.proofs.lemmas.Bool.Decides.{nat_tests}
 use Rattle.std.proofs.lemmas.Slice.Eq.{bytes_eq-Decides}
@@ -39,8 +38,6 @@ digit b h = let p = both (nat_le 48 b) (nat_le b 57) h in record { low = le_from
 -- the same digits, where as many digits spell the same number
 same_digits : (s t : List ℕ) (m n : ℕ) → list_all is_digit s ≡ true → list_all is_digit t ≡ true → length s ≡ length t → number_onto m s ≡ number_onto n t → (m ≡ n) × (s ≡ t)
 same_digits [] [] m n h k l e = (e, refl)
-same_digits [] (c ∷ t) m n h k l e = absurd (omega arith)
-same_digits (b ∷ s) [] m n h k l e = absurd (omega arith)
 same_digits (b ∷ s) (c ∷ t) m n h k l e =
     let p = both (is_digit b) (list_all is_digit s) h in
     let q = both (is_digit c) (list_all is_digit t) k in
@@ -50,16 +47,16 @@ same_digits (b ∷ s) (c ∷ t) m n h k l e =
     let first : b ≡ c = omega (arith, ih.0) in
     let tail : s ≡ t = ih.1 in
     (omega (arith, ih.0), cc)
+same_digits _ _ m n h k l e = absurd (omega arith)
 
 -- a smaller number stays smaller under as many digits
 smaller : (s t : List ℕ) (m n : ℕ) → list_all is_digit s ≡ true → length s ≡ length t → m < n → number_onto m s < number_onto n t
 smaller [] [] m n h l less = less
-smaller [] (c ∷ t) m n h l less = absurd (omega arith)
-smaller (b ∷ s) [] m n h l less = absurd (omega arith)
 smaller (b ∷ s) (c ∷ t) m n h l less =
     let p = both (is_digit b) (list_all is_digit s) h in
     let x = digit b p.0 in
     smaller s t (m * 10 + (b - 48)) (n * 10 + (c - 48)) p.1 (omega arith) (omega arith)
+smaller _ _ m n h l less = absurd (omega arith)
 
 fewer : (s t : List ℕ) (n : ℕ) → list_all is_digit s ≡ true → length s ≤ length t → 0 < n → number_onto 0 s < number_onto n t
 fewer s [] n h l positive = smaller s [] 0 n h (omega arith) positive
@@ -80,8 +77,6 @@ spelled b bs h =
     record { digits = p.0; led = ⊎_elim (λ x. inl (lt_from 48 b x)) (λ x. inr (no_length bs x)) (either (nat_lt 48 b) (length bs == 0) p.1) }
 
 fewer_digits : (s t : List ℕ) → is_index s ≡ true → is_index t ≡ true → length s < length t → number_onto 0 s < number_onto 0 t
-fewer_digits [] t h k l = cc
-fewer_digits (b ∷ s) [] h k l = cc
 fewer_digits (b ∷ s) (c ∷ t) h k l =
     let x = spelled b s h in
     let y = spelled c t k in
@@ -89,6 +84,7 @@ fewer_digits (b ∷ s) (c ∷ t) h k l =
     (λ above. fewer (b ∷ s) t (0 * 10 + (c - 48)) x.digits (omega arith) (omega arith))
     (λ alone. let none : length t ≡ 0 = ap length alone in absurd (omega arith))
     y.led
+fewer_digits _ _ h k l = cc
 
 all_digits : (s : List ℕ) → is_index s ≡ true → list_all is_digit s ≡ true
 all_digits [] h = cc
@@ -204,8 +200,7 @@ pub index_is : (xs : List Document) (t : Token) (n : ℕ) → length xs < 2 ^ 64
 index_is xs t n few is m =
     let least : Some n ≡ Some (min (2 ^ 64 - 1) m.index) = is ∙ ap (option_map (min (2 ^ 64 - 1))) m.is in
     let same : n ≡ min (2 ^ 64 - 1) m.index = cc in
-    let within = m.within in
-    omega (arith, same, within)
+    omega (arith, same, m.within)
 
 -- the token of the last of n + 1 elements
 pub last_index : (t : Token) (i n : ℕ) → index_of t ≡ Some i → bytes_eq t (index_text n) ≡ (i + 1 == suc n)

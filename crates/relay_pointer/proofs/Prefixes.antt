@@ -43,13 +43,12 @@ same_itself (t ∷ p) = rw (bytes_same t) (same_itself p)
 
 pub equal_paths : (p q : Path) → same_path p q ≡ true → p ≡ q
 equal_paths [] [] h = refl
-equal_paths [] (u ∷ q) h = cc
-equal_paths (t ∷ p) [] h = cc
 equal_paths (t ∷ p) (u ∷ q) h =
     let b = both (bytes_eq t u) (same_path p q) h in
     let first : t ≡ u = equal_bytes t u b.0 in
     let rest : p ≡ q = equal_paths p q b.1 in
     cc
+equal_paths _ _ h = cc
 
 pub other_parent : (from path before parent : Path) (t l : Token) → from ≡ before ++ t ∷ [] → path ≡ parent ++ l ∷ [] → same_path before parent ≡ false → same_path from path ≡ false
 other_parent from path before parent t l is goes other = rw (is, goes, same_path-end before parent t l, other) refl

@@ -17,24 +17,18 @@ put_element-twice ds (Some i) a b = put_item-twice ds i a b
 
 -- Children.
 pub with_child-twice : (d : Document) (t : Token) (a b : Document) → with_child (with_child d t a) t b ≡ with_child d t b
-with_child-twice null t a b = refl
-with_child-twice (truth x) t a b = refl
-with_child-twice (whole z) t a b = refl
-with_child-twice (text s) t a b = refl
 with_child-twice (list ds) t a b = ap list (put_element-twice ds (index_of t) a b)
 with_child-twice (object ms) t a b = ap object (set_member-twice ms t a b)
+with_child-twice _ t a b = refl
 
 pub child-with_child : (d : Document) (t : Token) (c a : Document) → child d t ≡ Some c → child (with_child d t a) t ≡ Some a
-child-with_child null t c a h = cc
-child-with_child (truth x) t c a h = cc
-child-with_child (whole z) t c a h = cc
-child-with_child (text s) t c a h = cc
 child-with_child (list ds) t c a h = go (index_of t) refl
   where
     go : (o : Option ℕ) → index_of t ≡ o → child (list (put_element ds (index_of t) a)) t ≡ Some a
     go None e = let k : None ≡ Some c = rw e at h in cc
     go (Some i) e = let k : item_at ds i ≡ Some c = rw e at h in rw e (item_at-put_same ds i c a k)
 child-with_child (object ms) t c a h = member_at-set_same ms t c a h
+child-with_child _ t c a h = cc
 
 -- Paths.
 
@@ -80,12 +74,9 @@ put_element-depth ds None e = omega arith
 put_element-depth ds (Some i) e = put_item-depth ds i e
 
 pub with_child-depth : (d : Document) (t : Token) (e : Document) → depth (with_child d t e) ≤ max (depth d) (suc (depth e))
-with_child-depth null t e = omega arith
-with_child-depth (truth b) t e = omega arith
-with_child-depth (whole z) t e = omega arith
-with_child-depth (text s) t e = omega arith
 with_child-depth (list ds) t e = let w = put_element-depth ds (index_of t) e in omega (arith, w)
 with_child-depth (object ms) t e = let w = set_member-depth ms t e in omega (arith, w)
+with_child-depth _ t e = omega arith
 
 pub put_element-length : (ds : Items) (o : Option ℕ) (e : Document) → items_length (put_element ds o e) ≡ items_length ds
 put_element-length ds None e = refl

@@ -15,10 +15,10 @@ cut (t ∷ ts) zero h = refl
 cut (t ∷ ts) (suc i) h = cut ts i (omega arith)
 
 spent : (ts : List (List ℕ)) (i : ℕ) → length ts ≤ i → drop i ts ≡ []
-spent [] zero h = refl
-spent [] (suc i) h = refl
 spent (t ∷ ts) zero h = absurd (omega arith)
 spent (t ∷ ts) (suc i) h = spent ts i (omega arith)
+spent [] zero h = refl
+spent [] (suc i) h = refl
 
 pub starts : (top : Document) (ts : List (List ℕ)) (d : Node) → document_of d ≡ top → Reached top ts 0 d document_of
 starts top ts d is = (ap (λ x. at x ts) (sym is), λ w e h. h ∙ ap (λ x. put x ts e) is, λ w h. h ∙ is)
@@ -44,9 +44,8 @@ front_length (suc n) (t ∷ ts) h = ap suc (front_length n ts (omega arith))
 
 pub front_token : (n : ℕ) (ts : List (List ℕ)) (i : ℕ) → i < n → get_or (take n ts) i [] ≡ get_or ts i []
 front_token zero ts i h = absurd (omega arith)
-front_token (suc n) [] i h = refl
-front_token (suc n) (t ∷ ts) zero h = refl
 front_token (suc n) (t ∷ ts) (suc i) h = front_token n ts i (omega arith)
+front_token (suc n) _ _ h = refl
 
 pub ends : (top : Document) (ts : List (List ℕ)) (i : ℕ) (d : Node) (F : Node → Document) → length ts ≤ i → Reached top ts i d F → (Some (document_of d) ≡ at top ts) × ((w : Node) → F w ≡ put top ts (document_of w))
 ends top ts i d F over r =

@@ -16,20 +16,17 @@ pub record Begins (o : Option Token) (rest : Option Path) (path : Path) : Type 0
   pub are : path ≡ token ∷ tokens
 
 pub begins : (o : Option Token) (rest : Option Path) (path : Path) → begun o rest ≡ Some path → Begins o rest path
-begins None rest path h = cc
-begins (Some t) None path h = cc
 begins (Some t) (Some ts) path h = record { token = t; tokens = ts; first = refl; more = refl; are = cc }
+begins _ _ path h = cc
 
 -- one more byte before the first token
 longer : (b : ℕ) (o : Option Token) (rest : Option Path) (t : Token) (path : Path) → begun o rest ≡ Some (t ∷ path) → begun (option_map (λ t. b ∷ t) o) rest ≡ Some ((b ∷ t) ∷ path)
-longer b None rest t path h = cc
-longer b (Some s) None t path h = cc
 longer b (Some s) (Some ts) t path h = let e : s ≡ t = cc in let f : ts ≡ path = cc in rw (e, f) refl
+longer b _ _ t path h = cc
 
 shorter : (b : ℕ) (o : Option Token) (rest : Option Path) (path : Path) → begun (option_map (λ t. b ∷ t) o) rest ≡ Some path → (q : Path) × (t : Token) × (begun o rest ≡ Some (t ∷ q)) × (path ≡ (b ∷ t) ∷ q)
-shorter b None rest path h = cc
-shorter b (Some t) None path h = cc
 shorter b (Some t) (Some ts) path h = (ts, t, refl, cc)
+shorter b _ _ path h = cc
 
 -- Reading what was written.
 

@@ -20,10 +20,9 @@ tokens_front (x ∷ ts) t h is =
     rw all (ap (λ s. string_bytes s ∷ path_of ts) (sym is))
 
 tokens_split : (ts : List (String Global)) (t : String Global) (n : ℕ) → length ts ≡ suc n → t ≡ get_or ts n t → path_of ts ≡ path_of (take n ts) ++ string_bytes t ∷ []
-tokens_split [] t n h is = absurd (omega arith)
 tokens_split (x ∷ []) t zero h is = ap (λ s. string_bytes s ∷ []) (sym is)
-tokens_split (x ∷ y ∷ ts) t zero h is = absurd (omega arith)
 tokens_split (x ∷ ts) t (suc n) h is = ap (λ p. string_bytes x ∷ p) (tokens_split ts t n (omega arith) is)
+tokens_split _ t _ h is = absurd (omega arith)
 
 pub tokens_back : (ts : List (String Global)) (t : String Global) → 1 ≤ length ts → t ≡ get_or ts (length ts - 1) t → path_of ts ≡ path_of (take (length ts - 1) ts) ++ string_bytes t ∷ []
 tokens_back ts t h is = tokens_split ts t (length ts - 1) (omega arith) is

@@ -1,6 +1,5 @@
 -- One step of a walk, by the kind of the document.
-use Rattle.std.proofs.Common.{◌≡◌, ℕ, ◌-◌, ◌^◌, ◌<◌, ◌≤◌, min, Bool, true, false, Option, Some, None, option_map, option_and_then, is_some, ◌∷◌, refl, sym, ap, ◌∙◌, arith}
-use Rattle.std.specs.Prelude.{IfSome, nat_lt}
+use Rattle.std.proofs.Common.{◌≡◌, ℕ, ◌-◌, ◌^◌, ◌<◌, ◌≤◌, min, Bool, true, false, Option, Some, None, option_map, option_and_then, is_some, ◌∷◌, refl, sym, ap, ◌∙◌, arith, IfSome, nat_lt}
 use Rattle.std.proofs.lemmas.Bool.Decides.{nat_tests}
 use Rattle.relay_tree.specs.Document.{Document, null, truth, whole, text, list, object, Items}
 use Rattle.relay_tree.specs.Part.{items_length, list_len, item_at, put_item, list_item, object_member, with_item, with_member}
@@ -47,11 +46,7 @@ child-number (list ds) t n m h few is =
     let same : items_length ds ≡ m = cc in
     let small : items_length ds < 2 ^ 64 = omega arith in
     rw s.1 (item_counted ds s.0 n small s.2)
-child-number null t n m h few is = cc
-child-number (truth b) t n m h few is = cc
-child-number (whole z) t n m h few is = cc
-child-number (text s) t n m h few is = cc
-child-number (object ms) t n m h few is = cc
+child-number _ t n m h few is = cc
 
 pub with_child-number : (d : Document) (t : Token) (n m : ℕ) (c : Document) → list_len d ≡ Some m → m < 2 ^ 64 → Some n ≡ number_of t → with_item d n c ≡ with_child d t c
 with_child-number (list ds) t n m c h few is =
@@ -59,28 +54,16 @@ with_child-number (list ds) t n m c h few is =
     let same : items_length ds ≡ m = cc in
     let small : items_length ds < 2 ^ 64 = omega arith in
     rw s.1 (ap list (put_counted ds s.0 n c small s.2))
-with_child-number null t n m c h few is = cc
-with_child-number (truth b) t n m c h few is = cc
-with_child-number (whole z) t n m c h few is = cc
-with_child-number (text s) t n m c h few is = cc
-with_child-number (object ms) t n m c h few is = cc
+with_child-number _ t n m c h few is = cc
 
 -- where the document is no list
 pub child-member : (d : Document) (t : Token) → list_len d ≡ None → object_member d t ≡ child d t
-child-member null t h = refl
-child-member (truth b) t h = refl
-child-member (whole z) t h = refl
-child-member (text s) t h = refl
 child-member (list ds) t h = cc
-child-member (object ms) t h = refl
+child-member _ t h = refl
 
 pub with_child-member : (d : Document) (t : Token) (c : Document) → list_len d ≡ None → with_member d t c ≡ with_child d t c
-with_child-member null t c h = refl
-with_child-member (truth b) t c h = refl
-with_child-member (whole z) t c h = refl
-with_child-member (text s) t c h = refl
 with_child-member (list ds) t c h = cc
-with_child-member (object ms) t c h = refl
+with_child-member _ t c h = refl
 
 pub was_list : (o r : Option ℕ) → r ≡ o → IfSome r (λ n. n < 2 ^ 64) → is_some r ≡ true → (m : ℕ) × (o ≡ Some m) × (m < 2 ^ 64)
 was_list o None e few h = cc
@@ -96,12 +79,9 @@ element_same ds None c h = refl
 element_same ds (Some i) c h = put_item-same ds i c h
 
 pub with_child-same : (d : Document) (t : Token) (c : Document) → child d t ≡ Some c → with_child d t c ≡ d
-with_child-same null t c h = refl
-with_child-same (truth b) t c h = refl
-with_child-same (whole z) t c h = refl
-with_child-same (text s) t c h = refl
 with_child-same (list ds) t c h = ap list (element_same ds (index_of t) c h)
 with_child-same (object ms) t c h = ap object (set_member-same ms t c h)
+with_child-same _ t c h = refl
 
 -- One step of a walk.
 

@@ -1,11 +1,10 @@
 -- `part_mut` walks down a path, by a walk of its MIR by hand. The lender's way to the current node is composed, turn by turn (`denote.Follow`'s `follows_then`).
-use Rattle.std.proofs.Common.{◌≡◌, ℕ, zero, suc, ◌+◌, ◌-◌, ◌^◌, ◌<◌, ◌≤◌, Option, Some, None, List, [], ◌∷◌, ◌++◌, length, get_or, take, refl, sym, ap, ◌∙◌, lit<, nltb→le, w64, Bor, MutBor, arith}
+use Rattle.std.proofs.Common.{◌≡◌, ℕ, zero, suc, ◌+◌, ◌-◌, ◌^◌, ◌<◌, ◌≤◌, Option, Some, None, List, [], ◌∷◌, ◌++◌, length, get_or, take, refl, sym, ap, ◌∙◌, lit<, nltb→le, w64, Bor, MutBor, arith, ltb→lt, OnSome}
 use Rattle.std.proofs.raw_atomic.Walks.{proved}
 use seplogic.Ra.Ura.{Ura}
 use mathlib.Core.WellFounded.InvImage
 use mathlib.Core.Path.{subst⁻¹}
 use mathlib.Core.Option as maybe
-use lib.Dec.{ltb→lt}
 use lib.WfN.{lt-wf_rel}
 use base.Fraction.{full_share}
 use base.Logic.{SProp, ent, sep, emp, ex, id⊢}
@@ -41,7 +40,6 @@ use denote.Triple.Clauses.{Clauses, lasts}
 use denote.Triple.Spec.{triple_of}
 use denote.Triple.Statement.{Contract, Triple}
 use denote.Triple.Walked.{Stays, walk_of, says, stay_dropped, Goes-dropped, Goes-spent_ref, ends_at}
-use Rattle.std.specs.Prelude.{OnSome}
 use Rattle.std.specs.Option.{option_copied_mut}
 use Rattle.std.specs.contracts.option.Option as OP
 use Rattle.relay_tree.specs.Document.{Document}
