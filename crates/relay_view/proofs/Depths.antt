@@ -7,11 +7,7 @@ use Rattle.relay_view.specs.declared.slot.SlotKind.TheVariants.{Value, Size}
 
 depth-some : (d : Document) → 1 ≤ depth d
 depth-some null = omega arith
-depth-some (truth b) = omega arith
-depth-some (whole z) = omega arith
-depth-some (text s) = omega arith
-depth-some (list ds) = omega arith
-depth-some (object ms) = omega arith
+depth-some _ = omega arith
 
 pub shown_depth : (kind : SlotKind) (v w : Document) → shown kind v ≡ Some w → depth w ≤ depth v
 shown_depth Value v w is = let same : v ≡ w = cc in omega (arith, ap depth same)

@@ -1,5 +1,4 @@
-use Rattle.std.proofs.Common.{◌≡◌, ◌≤◌, length}
-use Rattle.std.specs.Prelude.{vec_len, vec_capacity}
+use Rattle.std.proofs.Common.{◌≡◌, ◌≤◌, length, vec_len, vec_capacity}
 use Rattle.relay_tree.specs.Document.{items_of}
 use Rattle.relay_tree.specs.Each.{each_from}
 use Rattle.relay_view.specs.Form.{slot_at}
