@@ -51,16 +51,13 @@ drops_element ds t (Some i) h = go (item_at ds i) refl h
     go (Some c) e k = let r = drop_item-there ds i c e in rw r.1 refl
 
 pub drops : (d : Document) (t : Token) → IsOk (step d t) → IsOk (drop_child t d)
-drops null t h = cc
-drops (truth b) t h = cc
-drops (whole z) t h = cc
-drops (text s) t h = cc
 drops (list ds) t h = drops_element ds t (index_of t) h
 drops (object ms) t h = go (member_at ms t) refl h
   where
     go : (o : Option Document) → member_at ms t ≡ o → IsOk (ok_or o Missing) → IsOk (drop_child t (object ms))
     go None e k = cc
     go (Some c) e k = let r = drop_member-there ms t c e in rw r.1 refl
+drops _ t h = cc
 
 no_element_dropped : (ds : Items) (t : Token) (o : Option ℕ) (e : Cause) → element ds t o ≡ Err e → drop_element ds t o ≡ Err e
 no_element_dropped ds t None e h = h
@@ -71,16 +68,13 @@ no_element_dropped ds t (Some i) e h = go (item_at ds i) refl h
     go (Some c) g k = cc
 
 pub drop_refused : (d : Document) (t : Token) (e : Cause) → step d t ≡ Err e → drop_child t d ≡ Err e
-drop_refused null t e h = h
-drop_refused (truth b) t e h = h
-drop_refused (whole z) t e h = h
-drop_refused (text s) t e h = h
 drop_refused (list ds) t e h = no_element_dropped ds t (index_of t) e h
 drop_refused (object ms) t e h = go (member_at ms t) refl h
   where
     go : (o : Option Document) → member_at ms t ≡ o → ok_or o Missing ≡ Err e → drop_child t (object ms) ≡ Err e
     go None g k = rw (drop_member-none ms t g) k
     go (Some c) g k = cc
+drop_refused _ t e h = h
 
 -- and what can be dropped is there
 pub droppable : (d : Document) (t : Token) → IsOk (drop_child t d) → IsOk (step d t)

@@ -1,6 +1,5 @@
 -- What a change makes of a document, carried out.
-use Rattle.std.proofs.Common.{◌≡◌, [], ◌∷◌, Bool, true, false, not, ◌&&◌, Option, Some, None, if◌then◌else◌, Result, Ok, IsOk, refl, sym, ap, subst, ◌∙◌}
-use Rattle.std.specs.Prelude.{option_and_then}
+use Rattle.std.proofs.Common.{◌≡◌, [], ◌∷◌, Bool, true, false, not, ◌&&◌, Option, Some, None, if◌then◌else◌, Result, Ok, IsOk, refl, sym, ap, subst, ◌∙◌, option_and_then}
 use Rattle.std.specs.Result.{result_ok}
 use Rattle.relay_tree.specs.Document.{Document, null, truth, whole, text, list, object}
 use Rattle.relay_pointer.specs.Index.{Token, index_of}
@@ -17,20 +16,12 @@ use Rattle.relay_patch.proofs.Inside.{was_inside}
 
 -- an act in one kind of container is the act
 list_act : (act : Act) (t : Token) (d d' : Document) → in_list act t d ≡ Ok d' → act t d ≡ Ok d'
-list_act act t null d' h = cc
-list_act act t (truth b) d' h = cc
-list_act act t (whole n) d' h = cc
-list_act act t (text bs) d' h = cc
 list_act act t (list ds) d' h = (at_index act t (list ds) d' (index_of t) h).2
-list_act act t (object ms) d' h = cc
+list_act act t _ d' h = cc
 
 object_act : (act : Act) (t : Token) (d d' : Document) → in_object act t d ≡ Ok d' → act t d ≡ Ok d'
-object_act act t null d' h = cc
-object_act act t (truth b) d' h = cc
-object_act act t (whole n) d' h = cc
-object_act act t (text bs) d' h = cc
-object_act act t (list ds) d' h = cc
 object_act act t (object ms) d' h = h
+object_act act t _ d' h = cc
 
 pub placed_act : (item : Bool) (act : Act) (t : Token) (d d' : Document) → placed item act t d ≡ Ok d' → act t d ≡ Ok d'
 placed_act true act = list_act act

@@ -1,6 +1,5 @@
 -- Insertions and removals in a vector of documents, and in a map's entries.
-use Rattle.std.proofs.Common.{◌≡◌, ℕ, ◌<◌, ◌≤◌, List, length, get_or, Bool, true, false, Option, Some, None, Ok, Err, IsOk, ok_or, String, Global, Vec, BTreeMap, string_bytes, refl, sym, ap, ◌∙◌, nat_le, nat_cmp, arith}
-use Rattle.std.specs.Prelude.{slice_get}
+use Rattle.std.proofs.Common.{◌≡◌, ℕ, ◌<◌, ◌≤◌, List, length, get_or, Bool, true, false, Option, Some, None, Ok, Err, IsOk, ok_or, String, Global, Vec, BTreeMap, string_bytes, refl, sym, ap, ◌∙◌, nat_le, nat_cmp, arith, slice_get}
 use Rattle.std.specs.List.{insert, remove}
 use Rattle.std.specs.Map.{lookup, remove_entry}
 use Rattle.std.specs.BTreeMap.{is_at}
@@ -70,8 +69,7 @@ element_is xs t m = let there : item_at (items_of xs) m.index ≡ Some m.value =
 
 pub element_taken : (xs : List Document) (t : Token) (n : ℕ) (r : Document) → (m : Named xs t) → n ≡ m.index → r ≡ get_or xs n r → step (list (items_of xs)) t ≡ Ok r
 element_taken xs t n r m same is =
-    let within = m.within in
-    let inside : n < length xs = omega (arith, same, within) in
+    let inside : n < length xs = omega (arith, same, m.within) in
     let found : Some r ≡ Some m.value = sym (slice_get_read xs (length xs) n r refl inside is) ∙ ap (slice_get xs) same ∙ m.there in
     let value : r ≡ m.value = cc in
     element_is xs t m ∙ ap Ok (sym value)
@@ -92,12 +90,9 @@ member_drops es k v there = rw (dropped_member es k v there) refl
 
 -- a node that holds nothing has no part
 pub no_parts : (n : Node) (t : Token) → ((x : Vec Document Global) → n ≡ node.List x → ⊥) → ((x : BTreeMap (String Global) Document) → n ≡ node.Members x → ⊥) → IsOk (step (document_of n) t) → ⊥
-no_parts node.Null t l m h = cc
-no_parts (node.Truth b) t l m h = cc
-no_parts (node.Whole z) t l m h = cc
-no_parts (node.Text s) t l m h = cc
 no_parts (node.List v) t l m h = l v refl
 no_parts (node.Members x) t l m h = m x refl
+no_parts _ t l m h = cc
 
 -- what a map gives is the member
 pub member_taken : (es : List Entry) (k : List ℕ) (r : Option Document) → IsOk (step (object (members_of es)) k) → r ≡ lookup (is_at (λ l. slice_cmp nat_cmp k (string_bytes l))) es → (v : Document) × (r ≡ Some v) × (member_at (members_of es) k ≡ Some v)

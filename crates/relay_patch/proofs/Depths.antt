@@ -12,17 +12,12 @@ element_depth ds t None c h = cc
 element_depth ds t (Some i) c h = item_depth ds i c (ok_or_some _ _ _ h)
 
 child_depth : (d : Document) (t : Token) (c : Document) → step d t ≡ Ok c → suc (depth c) ≤ depth d
-child_depth null t c h = cc
-child_depth (truth b) t c h = cc
-child_depth (whole n) t c h = cc
-child_depth (text bs) t c h = cc
 child_depth (list ds) t c h = let e = element_depth ds t (index_of t) c h in omega (arith, e)
 child_depth (object ms) t c h = let e = member_depth ms t c (ok_or_some _ _ _ h) in omega (arith, e)
+child_depth _ t c h = cc
 
 pub walk_depth : (path : Path) (d v : Document) → walk d path ≡ Ok v → length path + depth v ≤ depth d
 walk_depth [] d v h = let same : d ≡ v = cc in let e = ap depth same in omega (arith, e)
 walk_depth (t ∷ path) d v h =
     let s = then_ok (step d t) (λ c. walk c path) v h in
-    let one = child_depth d t s.0 s.1 in
-    let rest = walk_depth path s.0 v s.2 in
-    omega (arith, one, rest)
+    omega (arith, child_depth d t s.0 s.1, walk_depth path s.0 v s.2)

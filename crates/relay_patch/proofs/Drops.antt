@@ -53,21 +53,13 @@ lands_in_shorter (list ds) n k gone t rest len one h =
     let long : items_length ds ≡ n = cc in
     let same : k ≡ items_length s.items = omega arith in
     rw (s.is, same) refl
-lands_in_shorter null n k gone t rest len one h = cc
-lands_in_shorter (truth b) n k gone t rest len one h = cc
-lands_in_shorter (whole z) n k gone t rest len one h = cc
-lands_in_shorter (text s) n k gone t rest len one h = cc
-lands_in_shorter (object ms) n k gone t rest len one h = cc
+lands_in_shorter _ n k gone t rest len one h = cc
 
 pub lands_in_fewer : (d : Document) (gone t : Token) (rest : Document) → list_len d ≡ None → bytes_eq gone t ≡ false → drop_child gone d ≡ Ok rest → landing_in d t ≡ landing_in rest t
 lands_in_fewer (object ms) gone t rest len other h =
     let s = fewer ms gone rest h in
     rw (s.is, member_at-drop_other ms gone t s.members other s.gone) refl
-lands_in_fewer null gone t rest len other h = cc
-lands_in_fewer (truth b) gone t rest len other h = cc
-lands_in_fewer (whole z) gone t rest len other h = cc
-lands_in_fewer (text s) gone t rest len other h = cc
-lands_in_fewer (list ds) gone t rest len other h = cc
+lands_in_fewer _ gone t rest len other h = cc
 
 -- What a token names.
 
@@ -101,11 +93,7 @@ steps_behind (list ds) gone t k rest h dropped =
     go s (Some j) e =
         let moved = shifts (items_length ds) s.index j k e in
         ap (λ o. ok_or o Missing) (item_at-drop_behind ds s.index j s.items moved.0 s.gone ∙ ap (item_at ds) (sym moved.1))
-steps_behind null gone t k rest h dropped = cc
-steps_behind (truth b) gone t k rest h dropped = cc
-steps_behind (whole z) gone t k rest h dropped = cc
-steps_behind (text s) gone t k rest h dropped = cc
-steps_behind (object ms) gone t k rest h dropped = cc
+steps_behind _ gone t k rest h dropped = cc
 
 pub steps_beside : (d : Document) (gone t : Token) (rest : Document) → shifted d gone t ≡ None → bytes_eq gone t ≡ false → drop_child gone d ≡ Ok rest → step rest t ≡ step d t
 steps_beside (list ds) gone t rest h other dropped =
@@ -118,7 +106,4 @@ steps_beside (list ds) gone t rest h other dropped =
 steps_beside (object ms) gone t rest h other dropped =
     let s = fewer ms gone rest dropped in
     rw (s.is, member_at-drop_other ms gone t s.members other s.gone) refl
-steps_beside null gone t rest h other dropped = cc
-steps_beside (truth b) gone t rest h other dropped = cc
-steps_beside (whole z) gone t rest h other dropped = cc
-steps_beside (text s) gone t rest h other dropped = cc
+steps_beside _ gone t rest h other dropped = cc

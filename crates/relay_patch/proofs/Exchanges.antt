@@ -1,5 +1,5 @@
 -- What an exchange of a part does, and an act at a path as an exchange of the container.
-use Rattle.std.proofs.Common.{◌≡◌, [], ◌∷◌, ◌++◌, Option, Some, Result, Ok, Err, IsOk, refl, sym, ap, ◌∙◌}
+use Rattle.std.proofs.Common.{◌≡◌, [], ◌∷◌, ◌++◌, Option, Some, Result, Ok, Err, IsOk, refl, sym, ap, ◌∙◌, IfSome}
 use Rattle.relay_tree.specs.Document.{Document}
 use Rattle.relay_pointer.specs.Index.{Token}
 use Rattle.relay_pointer.specs.Path.{Path, with_child, at, put}
@@ -10,7 +10,6 @@ use Rattle.relay_patch.proofs.Walks.{child_reached, at_reached}
 use Rattle.relay_patch.proofs.Inside.{was_inside, step-was_inside}
 use Rattle.relay_tree.proofs.Outcomes.{is_ok_then, some_ok}
 use Rattle.relay_pointer.proofs.Puts.{put-twice}
-use Rattle.std.specs.Prelude.{IfSome}
 
 pub replaced-step : (t : Token) (p : Path) (v d : Document) → replaced (t ∷ p) v d ≡ inside (replaced p v) t d
 replaced-step t [] v d = refl
@@ -21,8 +20,7 @@ pub replaced-put : (p : Path) (v d c : Document) → walk d p ≡ Ok c → repla
 replaced-put [] v d c h = refl
 replaced-put (t ∷ p) v d c h =
     let s = then_ok (step d t) (λ b. walk b p) c h in
-    let first = child_reached d t s.0 s.1 in
-    rw (replaced-step t p v d, s.1, replaced-put p v s.0 c s.2, first) refl
+    rw (replaced-step t p v d, s.1, replaced-put p v s.0 c s.2, child_reached d t s.0 s.1) refl
 
 pub walk-replaced : (p : Path) (v d e : Document) → replaced p v d ≡ Ok e → walk e p ≡ Ok v
 walk-replaced [] v d e h = sym h

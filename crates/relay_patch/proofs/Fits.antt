@@ -40,19 +40,11 @@ stands_in_list v t (list ds) c' h =
     let k : Ok (list s.0) ≡ Ok c' = s.2 in
     let is : c' ≡ list s.0 = cc in
     element_stands v t ds s.0 a.0 c' a.1 (ok_or_some _ _ _ s.1) is
-stands_in_list v t null c' h = cc
-stands_in_list v t (truth b) c' h = cc
-stands_in_list v t (whole z) c' h = cc
-stands_in_list v t (text s) c' h = cc
-stands_in_list v t (object ms) c' h = cc
+stands_in_list v t _ c' h = cc
 
 stands_in_object : (v : Document) (t : Token) (c c' : Document) → in_object (insert_child v) t c ≡ Ok c' → step c' t ≡ Ok v
 stands_in_object v t (object ms) c' h = let is : c' ≡ object (put_member ms t v) = cc in rw (is, member_at-put_same ms t v) refl
-stands_in_object v t null c' h = cc
-stands_in_object v t (truth b) c' h = cc
-stands_in_object v t (whole z) c' h = cc
-stands_in_object v t (text s) c' h = cc
-stands_in_object v t (list ds) c' h = cc
+stands_in_object v t _ c' h = cc
 
 stands : (b : Bool) (v : Document) (t : Token) (c c' : Document) → placed b (insert_child v) t c ≡ Ok c' → step c' t ≡ Ok v
 stands true v = stands_in_list v
@@ -87,40 +79,33 @@ makes_fit (change.DropMember path) most d e m before later = let s = stood_at fa
 makes_fit (change.DropItem path) most d e m before later = let s = stood_at true path d e m in let k = walk_depth path d s.0 s.1 in omega (arith, k)
 makes_fit (change.Move from to v) most d e m before later =
     let k = walk_depth from.path d v m.there in
-    let l = walk_depth to.path e v (inserted_stands to.item to.path v m.between e m.came) in
-    (omega (arith, k), omega (arith, l), omega (arith, k))
+    (omega (arith, k), omega (arith, walk_depth to.path e v (inserted_stands to.item to.path v m.between e m.came)), omega (arith, k))
 makes_fit (change.Copy from to v) most d e m before later =
     let k = walk_depth from d v m.0 in
-    let l = walk_depth to.path e v (inserted_stands to.item to.path v d e m.1) in
-    (omega (arith, k), omega (arith, l), omega (arith, k))
+    (omega (arith, k), omega (arith, walk_depth to.path e v (inserted_stands to.item to.path v d e m.1)), omega (arith, k))
 
 -- An operation makes one change at most.
 
 abbrev AtMostOne : List Change → Type 0
-AtMostOne [] = ⊤
-AtMostOne (c ∷ []) = ⊤
 AtMostOne (c ∷ e ∷ cs) = ⊥
+AtMostOne _ = ⊤
 
 moved_one : (from : Place) (path : Path) (v e : Option Document) → AtMostOne (moved_changes from path v e)
-moved_one from path None e = tt
-moved_one from path (Some v) None = tt
 moved_one from path (Some v) (Some e) = go (same_path from.path (place_of e path).path)
   where
     go : (x : Bool) → AtMostOne (if x then [] else change.Move from (place_of e path) v ∷ [])
     go true = tt
     go false = tt
+moved_one from path _ _ = tt
 
 copied_one : (from : Path) (to : Place) (v : Option Document) → AtMostOne (copied_changes from to v)
 copied_one from to None = tt
 copied_one from to (Some v) = tt
 
 one_change : (d : Document) (op : Op) → AtMostOne (changes_of d op)
-one_change d (Add path v) = tt
-one_change d (Remove path) = tt
-one_change d (Replace path v) = tt
 one_change d (Move from path) = moved_one (place_of d from) path (at d from) (result_ok (at_path drop_child from d))
 one_change d (Copy from path) = copied_one from (place_of d path) (at d from)
-one_change d (Test path v) = tt
+one_change d _ = tt
 
 leads_fit : (cs : List Change) (most : ℕ) (d e : Document) → AtMostOne cs → Leads d cs e → depth d ≤ most → depth e ≤ most → AllByRecursion (ChangeFits most most) cs
 leads_fit [] most d e one h before later = tt
@@ -138,9 +123,8 @@ pub within_flat : (bounds : Bounds) (d e : Document) → bounds.depth < 2 ^ 64 -
 within_flat bounds d e small h =
     let a = not_refused (exceeds bounds.depth (depth d)) TooDeep (if exceeds bounds.weight (weight d) then Err TooHeavy else Ok d) e h in
     let test : nat_lt bounds.depth (min (depth d) (2 ^ 64 - 1)) ≡ false = a.0 in
-    let same = ap depth (within_same bounds d e h) in
     let flat : min (depth d) (2 ^ 64 - 1) ≤ bounds.depth = grind (arith, nat_tests) in
-    omega (arith, flat, small, same)
+    omega (arith, flat, small, ap depth (within_same bounds d e h))
 
 pub after_fits : (ops : List Op) (n : ℕ) (bounds : Bounds) (d d' : Document) → bounds.depth < 2 ^ 64 - 1 → depth d ≤ bounds.depth → after_from n bounds d ops ≡ Ok d' → AllByRecursion (ChangeFits bounds.depth bounds.depth) (all_changes d ops)
 after_fits [] n bounds d d' small flat h = tt

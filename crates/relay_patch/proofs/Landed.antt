@@ -69,18 +69,12 @@ not_then (Err c) f e h never = cc
 landing_in_passes : (c : Document) (t : Token) (s : Spot) → landing_in c t ≡ Ok s → (v : Document) → IsOk (insert_child v t c)
 landing_in_passes (list ds) t s h v = let r = then_ok (insertion_index (items_length ds) t) (λ i. Ok (spot.Item i)) s h in list_passes ds t r.0 r.1 v
 landing_in_passes (object ms) t s h v = refl
-landing_in_passes null t s h v = cc
-landing_in_passes (truth b) t s h v = cc
-landing_in_passes (whole z) t s h v = cc
-landing_in_passes (text x) t s h v = cc
+landing_in_passes _ t s h v = cc
 
 landing_in_refuses : (c : Document) (t : Token) (e : Cause) → landing_in c t ≡ Err e → (v : Document) → insert_child v t c ≡ Err e
 landing_in_refuses (list ds) t e h v = list_refuses ds t e (not_then (insertion_index (items_length ds) t) (λ i. Ok (spot.Item i)) e h (λ i k. cc)) v
 landing_in_refuses (object ms) t e h v = cc
-landing_in_refuses null t e h v = let same : NoContainer ≡ e = cc in ap Err same
-landing_in_refuses (truth b) t e h v = let same : NoContainer ≡ e = cc in ap Err same
-landing_in_refuses (whole z) t e h v = let same : NoContainer ≡ e = cc in ap Err same
-landing_in_refuses (text x) t e h v = let same : NoContainer ≡ e = cc in ap Err same
+landing_in_refuses _ t e h v = let same : NoContainer ≡ e = cc in ap Err same
 
 -- Insertions at a path.
 
@@ -126,18 +120,11 @@ landed-place (t ∷ path) d s h =
 there_in : (c : Document) (t : Token) (b : Bool) → landing_in c t ≡ Ok (spot.Member b) → is_some (result_ok (step c t)) ≡ b
 there_in (object ms) t b h = let is : is_some (member_at ms t) ≡ b = cc in ap is_some (ok_or_found (member_at ms t) Missing) ∙ is
 there_in (list ds) t b h = let r = then_ok (insertion_index (items_length ds) t) (λ i. Ok (spot.Item i)) (spot.Member b) h in let k = r.2 in cc
-there_in null t b h = cc
-there_in (truth x) t b h = cc
-there_in (whole z) t b h = cc
-there_in (text x) t b h = cc
+there_in _ t b h = cc
 
 no_root_in : (c : Document) (t : Token) → landing_in c t ≡ Ok spot.Root → ⊥
-no_root_in (object ms) t h = cc
 no_root_in (list ds) t h = let r = then_ok (insertion_index (items_length ds) t) (λ i. Ok (spot.Item i)) spot.Root h in let k = r.2 in cc
-no_root_in null t h = cc
-no_root_in (truth x) t h = cc
-no_root_in (whole z) t h = cc
-no_root_in (text x) t h = cc
+no_root_in _ t h = cc
 
 -- the change of an addition
 pub insertion-change : (path : Path) (d : Document) (s : Spot) (v : Document) → landing d path ≡ Ok s → insertion s (landed s path).path v ≡ added_change d path (place_of d path) v

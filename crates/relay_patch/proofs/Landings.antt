@@ -17,12 +17,9 @@ use Rattle.relay_tree.proofs.Members.{set_member-names}
 
 -- A part that was exchanged leaves its container's length and names.
 landing_in-with_child : (d : Document) (g u : Token) (e : Document) → landing_in (with_child d g e) u ≡ landing_in d u
-landing_in-with_child null g u e = refl
-landing_in-with_child (truth b) g u e = refl
-landing_in-with_child (whole z) g u e = refl
-landing_in-with_child (text s) g u e = refl
 landing_in-with_child (list ds) g u e = rw (put_element-length ds (index_of g) e) refl
 landing_in-with_child (object ms) g u e = rw (set_member-names ms g u e) refl
+landing_in-with_child _ g u e = refl
 
 landing-step : (d : Document) (u w : Token) (ws : Path) → landing d (u ∷ w ∷ ws) ≡ then_do (step d u) (λ c. landing c (w ∷ ws))
 landing-step d u w ws = go (step d u)

@@ -43,12 +43,9 @@ inserted_plain : (v d d' : Document) (t : Token) (path : Path) → at_path (in_o
 inserted_plain v d d' t path h = rw (parent-last t path) (rw (parent-last t path) at h)
 
 insert_at_site : (v d d' : Document) (t : Token) (path : Path) (c later : Document) → insert_child v (last t path) c ≡ Ok later → ((other : Act) (u : Token) → other u c ≡ Ok later → at_path other (parent t path ++ u ∷ []) d ≡ Ok d') → inserted (place_within (Some c) (parent t path) (last t path)) v d ≡ Ok d'
-insert_at_site v d d' t path null later h alike = cc
-insert_at_site v d d' t path (truth b) later h alike = cc
-insert_at_site v d d' t path (whole n) later h alike = cc
-insert_at_site v d d' t path (text bs) later h alike = cc
 insert_at_site v d d' t path (list ds) later h alike = alike (in_list (insert_child v)) (canonical ds (last t path)) (insert_canonical v ds (last t path) later h)
 insert_at_site v d d' t path (object ms) later h alike = inserted_plain v d d' t path (alike (in_object (insert_child v)) (last t path) h)
+insert_at_site v d d' t path _ later h alike = cc
 
 pub inserted-added : (path : Path) (v d d' : Document) → added path v d ≡ Ok d' → inserted (place_of d path) v d ≡ Ok d'
 inserted-added [] v d d' h = h
@@ -72,14 +69,11 @@ pub record DropsAt (place : Place) (path : Path) (d d' : Document) : Type 0 wher
   pub gone : dropped place d ≡ Ok d'
 
 drop_at_site : (d d' : Document) (t : Token) (path : Path) (c later : Document) → drop_child (last t path) c ≡ Ok later → ((other : Act) (u : Token) → other u c ≡ Ok later → at_path other (parent t path ++ u ∷ []) d ≡ Ok d') → DropsAt (place_within (Some c) (parent t path) (last t path)) (t ∷ path) d d'
-drop_at_site d d' t path null later h alike = cc
-drop_at_site d d' t path (truth b) later h alike = cc
-drop_at_site d d' t path (whole n) later h alike = cc
-drop_at_site d d' t path (text bs) later h alike = cc
 drop_at_site d d' t path (list ds) later h alike =
     let plain : canonical ds (last t path) ≡ last t path = canonical_index ds (last t path) later h in
     record { plain = rw plain (parent-last t path); gone = rw plain (alike (in_list drop_child) (last t path) (drop_in_list ds (last t path) later h)) }
 drop_at_site d d' t path (object ms) later h alike = record { plain = parent-last t path; gone = alike (in_object drop_child) (last t path) h }
+drop_at_site d d' t path _ later h alike = cc
 
 pub drops_at : (t : Token) (path : Path) (d d' : Document) → below drop_child t path d ≡ Ok d' → DropsAt (place_of d (t ∷ path)) (t ∷ path) d d'
 drops_at t path d d' h =
@@ -105,13 +99,10 @@ add_in_object v d d' t path ms later (Some w) here there h alike =
     rw there (subst (λ p. at_path (set_child v) p d ≡ Ok d') (parent-last t path) (alike (set_child v) (last t path) (rw here set)))
 
 add_at_site : (v d d' : Document) (t : Token) (path : Path) (c later : Document) → at d (t ∷ path) ≡ result_ok (step c (last t path)) → insert_child v (last t path) c ≡ Ok later → ((other : Act) (u : Token) → other u c ≡ Ok later → at_path other (parent t path ++ u ∷ []) d ≡ Ok d') → Makes d (added_change d (t ∷ path) (place_within (Some c) (parent t path) (last t path)) v) d'
-add_at_site v d d' t path null later found h alike = cc
-add_at_site v d d' t path (truth b) later found h alike = cc
-add_at_site v d d' t path (whole n) later found h alike = cc
-add_at_site v d d' t path (text bs) later found h alike = cc
 add_at_site v d d' t path (list ds) later found h alike = alike (in_list (insert_child v)) (canonical ds (last t path)) (insert_canonical v ds (last t path) later h)
 add_at_site v d d' t path (object ms) later found h alike =
     add_in_object v d d' t path ms later (member_at ms (last t path)) refl (found ∙ ok_or_found (member_at ms (last t path)) Missing) h alike
+add_at_site v d d' t path _ later found h alike = cc
 
 add_makes : (path : Path) (v d d' : Document) → added path v d ≡ Ok d' → Makes d (added_change d path (place_of d path) v) d'
 add_makes [] v d d' h = h
@@ -129,13 +120,8 @@ test_leads true d d' h = cc
 test_leads false d d' h = cc
 
 pub within_last : (o : Option Document) (before : Path) (t : Token) → (a : Token) × ((place_within o before t).path ≡ before ++ a ∷ [])
-within_last None before t = (t, refl)
-within_last (Some null) before t = (t, refl)
-within_last (Some (truth b)) before t = (t, refl)
-within_last (Some (whole n)) before t = (t, refl)
-within_last (Some (text bs)) before t = (t, refl)
 within_last (Some (list ds)) before t = (canonical ds t, refl)
-within_last (Some (object ms)) before t = (t, refl)
+within_last _ before t = (t, refl)
 
 outside_place : (f path : Path) (d : Document) → is_proper_prefix f path ≡ false → is_proper_prefix f (place_of d path).path ≡ false
 outside_place f [] d h = h

@@ -1,6 +1,5 @@
 -- How deep and how heavy a document is after a change, from what the change brought and took.
-use Rattle.std.proofs.Common.{◌≡◌, ℕ, suc, ◌+◌, ◌-◌, ◌^◌, ◌<◌, ◌≤◌, max, List, [], ◌∷◌, ◌++◌, length, Bool, true, false, Option, Some, None, Result, Ok, Err, ok_or, refl, sym, ap, subst, ◌∙◌, bytes_eq, if◌then◌else◌, nat_lt, IsOk, String, Global, string_bytes, get_or, take, OnOk, arith}
-use Rattle.std.specs.Prelude.{IfOk}
+use Rattle.std.proofs.Common.{◌≡◌, ℕ, suc, ◌+◌, ◌-◌, ◌^◌, ◌<◌, ◌≤◌, max, List, [], ◌∷◌, ◌++◌, length, Bool, true, false, Option, Some, None, Result, Ok, Err, ok_or, refl, sym, ap, subst, ◌∙◌, bytes_eq, if◌then◌else◌, nat_lt, IsOk, String, Global, string_bytes, get_or, take, OnOk, arith, IfOk}
 use Rattle.relay_tree.specs.Document.{Document, null, truth, whole, text, list, object, Items, Members, no_members, member, depth, weight, items_weight, members_weight}
 use Rattle.relay_tree.specs.Part.{insert_item, drop_item, member_at, set_member, put_member, drop_member}
 use Rattle.relay_pointer.specs.Index.{Token, index_of}
@@ -44,12 +43,9 @@ element_weighs ds t None c e h = cc
 element_weighs ds t (Some i) c e h = put_item-weight ds i c e (ok_or_some _ _ _ h)
 
 child_weighs : (d : Document) (t : Token) (c e : Document) → step d t ≡ Ok c → weight (with_child d t e) + weight c ≡ weight d + weight e
-child_weighs null t c e h = cc
-child_weighs (truth b) t c e h = cc
-child_weighs (whole z) t c e h = cc
-child_weighs (text s) t c e h = cc
 child_weighs (list ds) t c e h = let w = element_weighs ds t (index_of t) c e h in omega (arith, w)
 child_weighs (object ms) t c e h = let w = member_weighs ms t c e (ok_or_some _ _ _ h) in omega (arith, w)
+child_weighs _ t c e h = cc
 
 -- the whole changes by what the part changes
 pub replaced_weighs : (p : Path) (v d c e : Document) → walk d p ≡ Ok c → replaced p v d ≡ Ok e → weight e + weight c ≡ weight d + weight v
@@ -57,10 +53,7 @@ replaced_weighs [] v d c e h k = let a : d ≡ c = cc in let b : v ≡ e = cc in
 replaced_weighs (t ∷ p) v d c e h k =
     let w = was_inside (replaced p v) t d e (rw (replaced-step t p v d) at k) in
     let there : walk w.before p ≡ Ok c = rw w.stood at h in
-    let ih = replaced_weighs p v w.before c w.later there w.changed in
-    let one = child_weighs d t w.before w.later w.stood in
-    let whole = ap weight w.whole in
-    omega (arith, ih, one, whole)
+    omega (arith, replaced_weighs p v w.before c w.later there w.changed, child_weighs d t w.before w.later w.stood, ap weight w.whole)
 
 -- a document within a bound stays within it where the new part, at its place, does
 pub replaced_deep : (p : Path) (v d e : Document) → replaced p v d ≡ Ok e → depth e ≤ max (depth d) (length p + depth v)
@@ -68,10 +61,7 @@ replaced_deep [] v d e k = let b : v ≡ e = cc in let y = ap depth b in omega (
 replaced_deep (t ∷ p) v d e k =
     let w = was_inside (replaced p v) t d e (rw (replaced-step t p v d) at k) in
     let ih = replaced_deep p v w.before w.later w.changed in
-    let one = with_child-depth d t w.later in
-    let below = walk_depth (t ∷ []) d w.before (rw w.stood refl) in
-    let whole = ap depth w.whole in
-    omega (arith, ih, one, below, whole)
+    omega (arith, ih, with_child-depth d t w.later, walk_depth (t ∷ []) d w.before (rw w.stood refl), ap depth w.whole)
 
 -- the name of a member is its path's last token
 name_weight-end : (before : Path) (t : Token) → name_weight (before ++ t ∷ []) ≡ length t
@@ -93,16 +83,8 @@ inserted_in_list v t (list ds) c' h =
     let k : Ok (list s.0) ≡ Ok c' = s.2 in
     let is : c' ≡ list s.0 = cc in
     let r = insert_item-sizes ds a.0 v s.0 (ok_or_some _ _ _ s.1) in
-    let w = ap weight is in
-    let z = ap depth is in
-    let heavy = r.0 in
-    let deep = r.1 in
-    (omega (arith, w, heavy), omega (arith, z, deep))
-inserted_in_list v t null c' h = cc
-inserted_in_list v t (truth b) c' h = cc
-inserted_in_list v t (whole z) c' h = cc
-inserted_in_list v t (text s) c' h = cc
-inserted_in_list v t (object ms) c' h = cc
+    (omega (arith, ap weight is, r.0), omega (arith, ap depth is, r.1))
+inserted_in_list v t _ c' h = cc
 
 member_put : (ms : Members) (a : List ℕ) (v : Document) (o : Option Document) → member_at ms a ≡ o → members_weight (put_member ms a v) + part_weight o ≡ members_weight ms + weight v + new_name (length a) o
 member_put ms a v None h = rw h (let w = add_member-weight ms a v h in omega (arith, w))
@@ -112,15 +94,8 @@ put_in_object : (v : Document) (t : Token) (c c' : Document) (o : Option Documen
 put_in_object v t (object ms) c' o h found =
     let is : c' ≡ object (put_member ms t v) = cc in
     let heavy = member_put ms t v o (sym (ok_or_found (member_at ms t) Missing) ∙ found) in
-    let deep = put_member-depth ms t v in
-    let w = ap weight is in
-    let z = ap depth is in
-    (omega (arith, w, heavy), omega (arith, z, deep))
-put_in_object v t null c' o h found = cc
-put_in_object v t (truth b) c' o h found = cc
-put_in_object v t (whole z) c' o h found = cc
-put_in_object v t (text s) c' o h found = cc
-put_in_object v t (list ds) c' o h found = cc
+    (omega (arith, ap weight is, heavy), omega (arith, ap depth is, put_member-depth ms t v))
+put_in_object v t _ c' o h found = cc
 
 dropped_from_list : (t : Token) (c c' v : Document) → in_list drop_child t c ≡ Ok c' → step c t ≡ Ok v → (weight c' + weight v ≡ weight c) × (depth c' ≤ depth c)
 dropped_from_list t (list ds) c' v h there =
@@ -131,16 +106,8 @@ dropped_from_list t (list ds) c' v h there =
     let k : Ok (list s.0) ≡ Ok c' = s.2 in
     let is : c' ≡ list s.0 = cc in
     let r = drop_item-sizes ds a.0 v s.0 (ok_or_some _ _ _ stood) (ok_or_some _ _ _ s.1) in
-    let w = ap weight is in
-    let z = ap depth is in
-    let light = r.0 in
-    let flat = r.1 in
-    (omega (arith, w, light), omega (arith, z, flat))
-dropped_from_list t null c' v h there = cc
-dropped_from_list t (truth b) c' v h there = cc
-dropped_from_list t (whole z) c' v h there = cc
-dropped_from_list t (text s) c' v h there = cc
-dropped_from_list t (object ms) c' v h there = cc
+    (omega (arith, ap weight is, r.0), omega (arith, ap depth is, r.1))
+dropped_from_list t _ c' v h there = cc
 
 dropped_from_object : (t : Token) (c c' v : Document) → in_object drop_child t c ≡ Ok c' → step c t ≡ Ok v → (weight c' + weight v + length t ≡ weight c) × (depth c' ≤ depth c)
 dropped_from_object t (object ms) c' v h there =
@@ -148,16 +115,8 @@ dropped_from_object t (object ms) c' v h there =
     let k : Ok (object s.0) ≡ Ok c' = s.2 in
     let is : c' ≡ object s.0 = cc in
     let r = drop_member-sizes ms t v s.0 (ok_or_some _ _ _ there) (ok_or_some _ _ _ s.1) in
-    let w = ap weight is in
-    let z = ap depth is in
-    let light = r.0 in
-    let flat = r.1 in
-    (omega (arith, w, light), omega (arith, z, flat))
-dropped_from_object t null c' v h there = cc
-dropped_from_object t (truth b) c' v h there = cc
-dropped_from_object t (whole z) c' v h there = cc
-dropped_from_object t (text s) c' v h there = cc
-dropped_from_object t (list ds) c' v h there = cc
+    (omega (arith, ap weight is, r.0), omega (arith, ap depth is, r.1))
+dropped_from_object t _ c' v h there = cc
 
 -- At a path.
 
@@ -188,31 +147,23 @@ ended_weighs act t path d e m = replaced_weighs (parent t path) m.later d m.cont
 ended_deep : (act : Act) (t : Token) (path : Path) (v d e : Document) → (m : Ended act t path d e) → depth m.later ≤ max (depth m.container) (suc (depth v)) → depth e ≤ max (depth d) (length (t ∷ path) + depth v)
 ended_deep act t path v d e m deep =
     let whole = replaced_deep (parent t path) m.later d e m.back in
-    let before = walk_depth (parent t path) d m.container m.there in
-    let long = parent_length t path in
-    omega (arith, deep, whole, before, long)
+    omega (arith, deep, whole, walk_depth (parent t path) d m.container m.there, parent_length t path)
 
 ended_flat : (act : Act) (t : Token) (path : Path) (d e : Document) → (m : Ended act t path d e) → depth m.later ≤ depth m.container → depth e ≤ depth d
 ended_flat act t path d e m flat =
-    let whole = replaced_deep (parent t path) m.later d e m.back in
-    let before = walk_depth (parent t path) d m.container m.there in
-    omega (arith, flat, whole, before)
+    omega (arith, flat, replaced_deep (parent t path) m.later d e m.back, walk_depth (parent t path) d m.container m.there)
 
 element_inserted : (t : Token) (path : Path) (v d e : Document) → at_path (in_list (insert_child v)) (t ∷ path) d ≡ Ok e → (weight e ≡ weight d + weight v) × (depth e ≤ max (depth d) (length (t ∷ path) + depth v))
 element_inserted t path v d e h =
     let m = ended (in_list (insert_child v)) t path d e h in
     let c = inserted_in_list v (last t path) m.container m.later m.acted in
-    let whole = ended_weighs (in_list (insert_child v)) t path d e m in
-    let part = c.0 in
-    (omega (arith, whole, part), ended_deep (in_list (insert_child v)) t path v d e m c.1)
+    (omega (arith, ended_weighs (in_list (insert_child v)) t path d e m, c.0), ended_deep (in_list (insert_child v)) t path v d e m c.1)
 
 member_inserted : (t : Token) (path : Path) (v d e : Document) (o : Option Document) → at_path (in_object (insert_child v)) (t ∷ path) d ≡ Ok e → at d (t ∷ path) ≡ o → (weight e + part_weight o ≡ weight d + weight v + new_name (length (last t path)) o) × (depth e ≤ max (depth d) (length (t ∷ path) + depth v))
 member_inserted t path v d e o h found =
     let m = ended (in_object (insert_child v)) t path d e h in
     let c = put_in_object v (last t path) m.container m.later o m.acted (sym (at_last d m.container t path m.there) ∙ found) in
-    let whole = ended_weighs (in_object (insert_child v)) t path d e m in
-    let part = c.0 in
-    (omega (arith, whole, part), ended_deep (in_object (insert_child v)) t path v d e m c.1)
+    (omega (arith, ended_weighs (in_object (insert_child v)) t path d e m, c.0), ended_deep (in_object (insert_child v)) t path v d e m c.1)
 
 inserted_weighs : (place : Place) (v d e : Document) → inserted_at place.item place.path v d ≡ Ok e → weight e + part_weight (displaced place d) ≡ weight d + weight v + new_name (place_weight place) (displaced place d)
 inserted_weighs place v d e h = go place.item place.path h
@@ -240,22 +191,17 @@ dropped_weighs b [] d e v h there = cc
 dropped_weighs true (t ∷ path) d e v h there =
     let m = ended (in_list drop_child) t path d e h in
     let c = dropped_from_list (last t path) m.container m.later v m.acted (step_last t path d m.container v m.there there) in
-    let whole = ended_weighs (in_list drop_child) t path d e m in
-    let part = c.0 in
-    (omega (arith, whole, part), ended_flat (in_list drop_child) t path d e m c.1)
+    (omega (arith, ended_weighs (in_list drop_child) t path d e m, c.0), ended_flat (in_list drop_child) t path d e m c.1)
 dropped_weighs false (t ∷ path) d e v h there =
     let m = ended (in_object drop_child) t path d e h in
     let c = dropped_from_object (last t path) m.container m.later v m.acted (step_last t path d m.container v m.there there) in
-    let whole = ended_weighs (in_object drop_child) t path d e m in
-    let part = c.0 in
-    (omega (arith, whole, part), ended_flat (in_object drop_child) t path d e m c.1)
+    (omega (arith, ended_weighs (in_object drop_child) t path d e m, c.0), ended_flat (in_object drop_child) t path d e m c.1)
 
 -- What a path leads to weighs no more than the whole.
 
 part_fits : (path : Path) (d v : Document) → walk d path ≡ Ok v → weight v ≤ weight d
 part_fits path d v h =
-    let w = replaced_weighs path null d v (put d path null) h (replaced-put path null d v h) in
-    omega (arith, w, weight-least (put d path null))
+    omega (arith, replaced_weighs path null d v (put d path null) h (replaced-put path null d v h), weight-least (put d path null))
 
 displaced_fits : (place : Place) (d : Document) → part_weight (displaced place d) ≤ weight d
 displaced_fits place d = go place.item (walk d place.path) refl
@@ -294,14 +240,11 @@ makes_weigh (change.DropMember path) d e m =
     let s = stood_at false path d e m in
     let w = drop_weighs false path d e s.0 m s.1 in
     let fits = w.0 in
-    let less = w.1 in
-    rw (at_reached path d s.0 s.1) (fits, omega (arith, less))
+    rw (at_reached path d s.0 s.1) (fits, omega (arith, w.1))
 makes_weigh (change.DropItem path) d e m =
     let s = stood_at true path d e m in
     let w = drop_weighs true path d e s.0 m s.1 in
-    let fits = w.0 in
-    let less = w.1 in
-    rw (at_reached path d s.0 s.1) (omega (arith, fits), omega (arith, less))
+    rw (at_reached path d s.0 s.1) (omega (arith, w.0), omega (arith, w.1))
 makes_weigh (change.Move from to v) d e m = move_weighs from to v d e m
 makes_weigh (change.Copy from to v) d e m = let w = inserted_weighs to v d e m.1 in (displaced_fits to d, omega (arith, w))
 
@@ -317,9 +260,7 @@ makes_deep (change.AddItem path v) d e m = inserted_deep true path v d e m
 makes_deep (change.DropMember path) d e m = let s = stood_at false path d e m in let w = (dropped_weighs false path d e s.0 m s.1).1 in omega (arith, w)
 makes_deep (change.DropItem path) d e m = let s = stood_at true path d e m in let w = (dropped_weighs true path d e s.0 m s.1).1 in omega (arith, w)
 makes_deep (change.Move from to v) d e m =
-    let flat = (dropped_weighs from.item from.path d m.between v m.went m.there).1 in
-    let deep = inserted_deep to.item to.path v m.between e m.came in
-    omega (arith, flat, deep)
+    omega (arith, (dropped_weighs from.item from.path d m.between v m.went m.there).1, inserted_deep to.item to.path v m.between e m.came)
 makes_deep (change.Copy from to v) d e m = inserted_deep to.item to.path v d e m.1
 
 -- what came stands
@@ -327,10 +268,9 @@ makes_stand : (c : Change) (d e : Document) → Makes d c e → reach c ≤ dept
 makes_stand (change.Set path v) d e m = walk_depth path e v (walk-replaced path v d e m)
 makes_stand (change.AddMember path v) d e m = walk_depth path e v (stands_at false v path d e m.1)
 makes_stand (change.AddItem path v) d e m = walk_depth path e v (stands_at true v path d e m)
-makes_stand (change.DropMember path) d e m = omega arith
-makes_stand (change.DropItem path) d e m = omega arith
 makes_stand (change.Move from to v) d e m = walk_depth to.path e v (inserted_stands to.item to.path v m.between e m.came)
 makes_stand (change.Copy from to v) d e m = walk_depth to.path e v (inserted_stands to.item to.path v d e m.1)
+makes_stand _ d e m = omega arith
 
 -- The bounds, from the change alone.
 
@@ -359,25 +299,19 @@ judgement c bounds d e n m kept known =
     heavy false b = unbounded bounds.weight (weight e) n b
 
     go : (x y : Bool) → (if x then Err TooDeep else (if y then Err TooHeavy else Ok e)) ≡ then_do (if x then Err TooDeep else (if y then Err TooHeavy else Ok n)) (λ _. Ok e)
-    go true y = refl
     go false true = refl
-    go false false = refl
+    go _ _ = refl
 
 -- A document of which the weight before the change is known.
 
 pub lost_known : (bounds : Bounds) (n : ℕ) (c : Change) (went : Option Document) (d : Document) → Became bounds (Some n) c went d → bounds.weight < 2 ^ 64 - 1 → lost c went ≤ n
 lost_known bounds n c went d b small =
-    let fits = (makes_weigh c b.before d b.made).0 in
-    let same = b.was.1 small in
-    rw b.took (omega (arith, fits, same))
+    rw b.took (omega (arith, (makes_weigh c b.before d b.made).0, b.was.1 small))
 
 pub weight_known : (bounds : Bounds) (n : ℕ) (c : Change) (went : Option Document) (d : Document) → Became bounds (Some n) c went d → bounds.weight < 2 ^ 64 - 1 → weight d ≡ n - lost c went + gained c went
 weight_known bounds n c went d b small =
     let w = makes_weigh c b.before d b.made in
-    let fits = w.0 in
-    let sum = w.1 in
-    let same = b.was.1 small in
-    rw b.took (omega (arith, fits, sum, same))
+    rw b.took (omega (arith, w.0, w.1, b.was.1 small))
 
 judged_known : (bounds : Bounds) (n : ℕ) (c : Change) (went : Option Document) (d : Document) → Became bounds (Some n) c went d → within bounds d ≡ then_do (judged bounds c (n - lost c went + gained c went)) (λ _. Ok d)
 judged_known bounds n c went d b = judgement c bounds b.before d (n - lost c went + gained c went) b.made b.was.0 (weight_known bounds n c went d b)

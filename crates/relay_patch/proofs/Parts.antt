@@ -17,28 +17,21 @@ element-put_same ds t None c x h = cc
 element-put_same ds t (Some i) c x h = rw (item_at-put_same ds i c x (ok_or_some _ _ _ h)) refl
 
 pub step-with_same : (d : Document) (t : Token) (c x : Document) → step d t ≡ Ok c → step (with_child d t x) t ≡ Ok x
-step-with_same null t c x h = cc
-step-with_same (truth b) t c x h = cc
-step-with_same (whole n) t c x h = cc
-step-with_same (text bs) t c x h = cc
 step-with_same (list ds) t c x h = element-put_same ds t (index_of t) c x h
 step-with_same (object ms) t c x h = rw (member_at-set_same ms t c x (ok_or_some _ _ _ h)) refl
+step-with_same _ t c x h = cc
 
 element-put_other : (ds : Items) (t b : Token) (o p : Option ℕ) (x : Document) → index_of t ≡ o → index_of b ≡ p → t ≢ b → element (put_element ds o x) b p ≡ element ds b p
-element-put_other ds t b o None x e f h = refl
-element-put_other ds t b None (Some j) x e f h = refl
 element-put_other ds t b (Some i) (Some j) x e f h =
     let other : i ≢ j = λ s. h (index_of_injective t b j (subst (λ n. index_of t ≡ Some n) s e) f) in
     rw (item_at-put_other ds i j x other) refl
+element-put_other ds t b _ _ x e f h = refl
 
 pub step-with_other : (d : Document) (t b : Token) (x : Document) → bytes_eq t b ≡ false → step (with_child d t x) b ≡ step d b
-step-with_other null t b x h = refl
-step-with_other (truth v) t b x h = refl
-step-with_other (whole n) t b x h = refl
-step-with_other (text bs) t b x h = refl
 step-with_other (list ds) t b x h =
     element-put_other ds t b (index_of t) (index_of b) x refl refl (λ e. true≢false (sym (bytes_same b) ∙ (subst (λ s. bytes_eq s b ≡ false) e h)))
 step-with_other (object ms) t b x h = rw (member_at-set_other ms t b x h) refl
+step-with_other _ t b x h = refl
 
 pub at_index : (act : Act) (t : Token) (d d' : Document) (o : Option ℕ) → at_element act t d o ≡ Ok d' → (i : ℕ) × (o ≡ Some i) × (act t d ≡ Ok d')
 at_index act t d d' None h = cc

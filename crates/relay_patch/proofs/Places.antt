@@ -1,6 +1,5 @@
 -- Which operation a fault names: one of the patch. And how many operations a patch has that was read.
-use Rattle.std.proofs.Common.{◌≡◌, ℕ, suc, ◌+◌, ◌<◌, ◌≤◌, List, [], ◌∷◌, length, Bool, true, false, Option, Some, None, Result, Ok, Err, nat_le, if◌then◌else◌, refl, subst, arith}
-use Rattle.std.specs.Prelude.{IfOk, IfErr, codes}
+use Rattle.std.proofs.Common.{◌≡◌, ℕ, suc, ◌+◌, ◌<◌, ◌≤◌, List, [], ◌∷◌, length, Bool, true, false, Option, Some, None, Result, Ok, Err, nat_le, if◌then◌else◌, refl, subst, arith, IfOk, IfErr, codes}
 use Rattle.relay_tree.specs.Document.{Document, list}
 use Rattle.relay_tree.specs.Part.{object_member, text_in}
 use Rattle.relay_pointer.specs.Path.{Path}
@@ -38,11 +37,10 @@ after-place d ops bounds fault h =
 
 -- the operation that a fault names, if it names one
 abbrev pub place : PatchFault → Option ℕ
-place TooManyOps = None
 place (Shape at) = at
 place (UnknownOp at) = Some at
 place (Pointer at) = Some at
-place NoMemory = None
+place _ = None
 
 abbrev Names : ℕ → PatchFault → Type 0
 Names n fault = place fault ≡ Some n
@@ -77,12 +75,10 @@ sourced-names most n source path make =
     (λ p. then-names n (path_in most n from) _ (path-names most n from) (λ f. tt)))
 
 kind-names : (k : Kind) (most n : ℕ) (value : Option Document) (from : Option (List ℕ)) (path : List ℕ) → IfErr (op_of_kind k most n value from path) (Names n)
-kind-names kind.Add most n value from path = valued-names most n value path _
 kind-names kind.Remove most n value from path = then-names n (path_in most n path) _ (path-names most n path) (λ p. tt)
-kind-names kind.Replace most n value from path = valued-names most n value path _
 kind-names kind.Move most n value from path = sourced-names most n from path _
 kind-names kind.Copy most n value from path = sourced-names most n from path _
-kind-names kind.Test most n value from path = valued-names most n value path _
+kind-names _ most n value from path = valued-names most n value path _
 
 -- an element that is no operation is named by its place
 op_at-names : (most n : ℕ) (d : Document) → IfErr (op_at most n d) (Names n)

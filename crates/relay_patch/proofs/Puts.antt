@@ -23,11 +23,7 @@ put_sets v t (object ms) c' w h there =
     let found = ok_or_some _ _ _ there in
     let set : Ok (object (set_member ms t v)) ≡ Ok c' = rw found at h in
     rw found set
-put_sets v t null c' w h there = cc
-put_sets v t (truth b) c' w h there = cc
-put_sets v t (whole z) c' w h there = cc
-put_sets v t (text s) c' w h there = cc
-put_sets v t (list ds) c' w h there = cc
+put_sets v t _ c' w h there = cc
 
 pub sets : (place : Place) (v d e w : Document) → displaced place d ≡ Some w → inserted place v d ≡ Ok e → replaced place.path v d ≡ Ok e
 sets place v d e w = go place.item place.path

@@ -113,11 +113,7 @@ taken_of before t (list ds) d d' e there was h =
     let found : step (list ds) t ≡ Ok e = sym (then_itself (step (list ds) t)) ∙ (rw there at (sym (walk-append before (t ∷ []) d) ∙ was)) in
     let at_it : item_at ds s.index ≡ Some e = ok_or_some _ Missing _ (rw s.named at found) in
     record { items = ds; rest = s.items; index = s.index; there = there; named = s.named; went = s.gone; was = at_it; new = rw (← s.is) a.2 }
-taken_of before t null d d' e there was h = cc
-taken_of before t (truth b) d d' e there was h = cc
-taken_of before t (whole z) d d' e there was h = cc
-taken_of before t (text s) d d' e there was h = cc
-taken_of before t (object ms) d d' e there was h = cc
+taken_of before t _ d d' e there was h = cc
 
 pub taken : (before : Path) (t : Token) (d d' e : Document) → at_path (in_list drop_child) (before ++ t ∷ []) d ≡ Ok d' → walk d (before ++ t ∷ []) ≡ Ok e → Taken before t d d' e
 taken before t d d' e h was =
@@ -137,6 +133,5 @@ pub item_again : (path before : Path) (t : Token) (d d' e : Document) (n i room 
 item_again path before t d d' e n i room is h was few long large at_it =
     let x = taken before t d d' e (rw is at h) (rw is at was) in
     let count = long x.items x.there in
-    let inside = (drop_item-shorter x.items x.index x.rest x.went).1 in
-    let same : i ≡ x.index = at_it x.index x.named (omega (arith, few, count, inside)) in
+    let same : i ≡ x.index = at_it x.index x.named (omega (arith, few, count, (drop_item-shorter x.items x.index x.rest x.went).1)) in
     rw same (taken_again before t d d' e room x (large ∙ count))

@@ -68,17 +68,8 @@ site act t (u ∷ path) d d' h =
 
 place_within-plain : (is_item : Bool) (act : Act) (before : Path) (t : Token) (c c' : Document) → placed is_item act t c ≡ Ok c' → (place_within (Some c) before t).path ≡ before ++ t ∷ []
 place_within-plain true act before t (list ds) c' h = let a = at_index act t (list ds) c' (index_of t) h in rw (no_dash t a.0 a.1) refl
-place_within-plain true act before t null c' h = refl
-place_within-plain true act before t (truth b) c' h = refl
-place_within-plain true act before t (whole n) c' h = refl
-place_within-plain true act before t (text bs) c' h = refl
-place_within-plain true act before t (object ms) c' h = refl
 place_within-plain false act before t (list ds) c' h = cc
-place_within-plain false act before t null c' h = refl
-place_within-plain false act before t (truth b) c' h = refl
-place_within-plain false act before t (whole n) c' h = refl
-place_within-plain false act before t (text bs) c' h = refl
-place_within-plain false act before t (object ms) c' h = refl
+place_within-plain _ act before t _ c' h = refl
 
 -- an act in a list at an index, or in an object, is at a canonical path
 pub place_of-plain : (is_item : Bool) (act : Act) (t : Token) (path : Path) (d d' : Document) → below (placed is_item act) t path d ≡ Ok d' → (place_of d (t ∷ path)).path ≡ t ∷ path
@@ -88,12 +79,8 @@ place_of-plain is_item act t path d d' h =
 
 place_within-below : (o : Option Document) (t : Token) (before : Path) (u : Token) → (place_within o (t ∷ before) u).path ≡ t ∷ (place_within o before u).path
 place_within-below None t before u = refl
-place_within-below (Some null) t before u = refl
-place_within-below (Some (truth b)) t before u = refl
-place_within-below (Some (whole n)) t before u = refl
-place_within-below (Some (text bs)) t before u = refl
 place_within-below (Some (list ds)) t before u = refl
-place_within-below (Some (object ms)) t before u = refl
+place_within-below _ t before u = refl
 
 -- the place below a child
 pub place_of-below : (d c : Document) (t u : Token) (path : Path) → step d t ≡ Ok c → (place_of d (t ∷ u ∷ path)).path ≡ t ∷ (place_of c (u ∷ path)).path

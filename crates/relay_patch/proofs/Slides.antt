@@ -1,6 +1,5 @@
 -- An element that slides within its list: what a turn of the part between both places makes, that this is the move, and that it slides back.
-use Rattle.std.proofs.Common.{◌≡◌, ℕ, zero, suc, List, length, take, drop, ◌≤◌, [], ◌∷◌, ◌++◌, Bool, true, false, ◌&&◌, Option, Some, None, option_map, ok_or, Ok, String, Global, refl, sym, ap, subst, ◌∙◌, ◌<◌, ◌+◌, ◌^◌, max, arith}
-use Rattle.std.specs.Prelude.{option_and_then}
+use Rattle.std.proofs.Common.{◌≡◌, ℕ, zero, suc, List, length, take, drop, ◌≤◌, [], ◌∷◌, ◌++◌, Bool, true, false, ◌&&◌, Option, Some, None, option_map, ok_or, Ok, String, Global, refl, sym, ap, subst, ◌∙◌, ◌<◌, ◌+◌, ◌^◌, max, arith, option_and_then}
 use Rattle.std.proofs.lemmas.List.{append_assoc}
 use borrow.Rule.Slice.PartMut.{put_mid, mid_of}
 use Rattle.relay_tree.specs.Document.{Document, list, Items, item, items_of}
@@ -33,9 +32,7 @@ slides_nowhere ds i j h = go (item_at ds i) (drop_item ds i) refl
     go (Some e) None f = refl
     go (Some e) (Some es) f =
         let s = drop_item-shorter ds i es f in
-        let short = s.0 in
-        let inside = s.1 in
-        rw (insert_item-none es j e (omega (arith, h, short, inside))) refl
+        rw (insert_item-none es j e (omega (arith, h, s.0, s.1))) refl
 
 -- where both are there: the others, with the element inserted
 slides_there : (ds es fs : Items) (i j : ℕ) (e : Document) → item_at ds i ≡ Some e → drop_item ds i ≡ Some es → insert_item es j e ≡ Some fs → slid_items i j ds ≡ fs
@@ -51,8 +48,7 @@ slid_items-behind d ds i j = go (item_at ds i) (drop_item ds i)
 
     go : (o : Option Document) (r : Option Items) → or_items (option_and_then (λ e. option_and_then (λ es. insert_item es (suc j) e) (option_map (item d) r)) o) (item d ds) ≡ item d (or_items (option_and_then (λ e. option_and_then (λ es. insert_item es j e) r) o) ds)
     go (Some e) (Some es) = last (insert_item es j e)
-    go (Some e) None = refl
-    go None r = refl
+    go _ _ = refl
 
 -- Up, to a later place.
 
@@ -60,18 +56,15 @@ first_goes : (xs : List Document) (x : Document) (j : ℕ) → j ≤ length xs �
 first_goes xs x j h = rw (insert_item-items_of xs j x h, append_assoc (take j xs) (x ∷ []) (drop j xs)) refl
 
 pub slides_up : (xs : List Document) (i k j : ℕ) → j < length xs → suc j ≡ i + k → i ≤ j → items_of (put_mid i k xs (drop 1 (mid_of i k xs) ++ take 1 (mid_of i k xs))) ≡ slid_items i j (items_of xs)
-slides_up [] i k j h e l = absurd (omega arith)
 slides_up (x ∷ xs) zero k j h e l = let is : k ≡ suc j = omega arith in rw is (first_goes xs x j (omega arith))
-slides_up (x ∷ xs) (suc i) k zero h e l = absurd (omega arith)
 slides_up (x ∷ xs) (suc i) k (suc j) h e l = ap (item x) (slides_up xs i k j (omega arith) (omega arith) (omega arith)) ∙ sym (slid_items-behind x (items_of xs) i j)
+slides_up _ _ k _ h e l = absurd (omega arith)
 
 -- Down, to an earlier place.
 
 take_less : (xs : List Document) (i : ℕ) → take i (take (suc i) xs) ≡ take i xs
-take_less [] zero = refl
-take_less [] (suc i) = refl
-take_less (x ∷ xs) zero = refl
 take_less (x ∷ xs) (suc i) = ap (λ ys. x ∷ ys) (take_less xs i)
+take_less _ _ = refl
 
 last_part : (xs : List Document) (i : ℕ) → i < length xs → (x : Document) × (drop i (take (suc i) xs) ≡ x ∷ []) × (item_at (items_of xs) i ≡ Some x)
 last_part [] i h = absurd (omega arith)
@@ -84,13 +77,12 @@ last_comes xs i h =
     rw (p.1, take_less xs i, p.2, drop_item-items_of xs i h) refl
 
 pub slides_down : (xs : List Document) (i k j n : ℕ) → i < length xs → suc i ≡ j + k → suc n ≡ k → items_of (put_mid j k xs (drop n (mid_of j k xs) ++ take n (mid_of j k xs))) ≡ slid_items i j (items_of xs)
-slides_down [] i k j n h e l = absurd (omega arith)
 slides_down (x ∷ xs) i k zero n h e l =
     let is : k ≡ suc i = omega arith in
     let at_end : n ≡ i = omega arith in
     rw (is, at_end) (last_comes (x ∷ xs) i h)
-slides_down (x ∷ xs) zero k (suc j) n h e l = absurd (omega arith)
 slides_down (x ∷ xs) (suc i) k (suc j) n h e l = ap (item x) (slides_down xs i k j n (omega arith) (omega arith) l) ∙ sym (slid_items-behind x (items_of xs) i j)
+slides_down _ _ k _ n h e l = absurd (omega arith)
 
 -- A move within one list.
 
@@ -142,8 +134,6 @@ slide_at t u p q d b v n same went there came =
     let taken_out = drop_item-shorter x.items x.index x.rest x.went in
     let again = drop_item-insert x.rest i.index v i.later i.came in
     let put_in = drop_item-shorter i.later i.index x.rest again in
-    let fewer = taken_out.0 in
-    let more = put_in.0 in
     let high = put_in.1 in
     let stands : item_at i.later i.index ≡ Some v = item_at-insert_same x.rest i.index v i.later i.came in
     record {
@@ -154,7 +144,7 @@ slide_at t u p q d b v n same went there came =
       named = x.named;
       lands = i.named;
       inside = taken_out.1;
-      within = omega (arith, fewer, more, high);
+      within = omega (arith, taken_out.0, put_in.0, high);
       there = at_reached before d (list x.items) x.there;
       new = r.2;
       slides = slides_there x.items x.rest i.later x.index i.index v x.was x.went i.came;
@@ -163,10 +153,7 @@ slide_at t u p q d b v n same went there came =
 
 slide_of : (x y : Bool) (p q : Path) (d b v n : Document) → (x && y && beside p q) ≡ true → at_path (placed x drop_child) p d ≡ Ok b → walk d p ≡ Ok v → inserted_at y q v b ≡ Ok n → Slide p q d n
 slide_of true true (t ∷ p) (u ∷ q) d b v n one went there came = slide_at t u p q d b v n (equal_paths (parent t p) (parent u q) one) went there came
-slide_of true true [] q d b v n one went there came = cc
-slide_of true true (t ∷ p) [] d b v n one went there came = cc
-slide_of true false p q d b v n one went there came = cc
-slide_of false y p q d b v n one went there came = cc
+slide_of _ _ _ _ d b v n one went there came = cc
 
 -- the indexes of both places, as 64 bits hold them
 abbrev pub Reads : Path → ℕ → Type 0
@@ -180,10 +167,8 @@ slides_so from to d v n e path a b one m here low high few made = go (slide_of f
     go s =
         let there : at d path ≡ Some (list s.items) = ap (at d) here ∙ s.there in
         let count = few s.items there in
-        let inside = s.inside in
-        let within = s.within in
-        let first : a ≡ s.low = low s.low s.named (omega (arith, count, inside)) in
-        let second : b ≡ s.high = high s.high s.lands (omega (arith, count, within)) in
+        let first : a ≡ s.low = low s.low s.named (omega (arith, count, s.inside)) in
+        let second : b ≡ s.high = high s.high s.lands (omega (arith, count, s.within)) in
         let new : e ≡ put d path (list s.later) = made ∙ rw (there, first, second, s.slides) refl in
         let old : with_part (slid b a) path (at e path) e ≡ d = rw (new, at-put d path (list s.items) (list s.later) there, first, second, s.back) (put-back d path (list s.items) (list s.later) there) in
         (new ∙ rw here (sym s.new), old)

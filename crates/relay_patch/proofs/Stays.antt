@@ -29,11 +29,7 @@ token_within d t = t
 
 place_within-token : (c : Document) (before : Path) (t : Token) → (place_within (Some c) before t).path ≡ before ++ token_within c t ∷ []
 place_within-token null before t = refl
-place_within-token (truth b) before t = refl
-place_within-token (whole z) before t = refl
-place_within-token (text s) before t = refl
-place_within-token (list ds) before t = refl
-place_within-token (object ms) before t = refl
+place_within-token _ before t = refl
 
 or_false : (x : Bool) → (x || false) ≡ x
 or_false true = refl
@@ -57,10 +53,7 @@ same_end (object ms) c' t l h =
     go : (x : Bool) → bytes_eq t l ≡ (bytes_eq t l || (x && false))
     go true = sym (or_false (bytes_eq t l))
     go false = sym (or_false (bytes_eq t l))
-same_end null c' t l h = cc
-same_end (truth b) c' t l h = cc
-same_end (whole z) c' t l h = cc
-same_end (text s) c' t l h = cc
+same_end _ c' t l h = cc
 
 pub comes_back : (from path before parent : Path) (t l : Token) (d : Document) → from ≡ before ++ t ∷ [] → path ≡ parent ++ l ∷ [] → same_path before parent ≡ true → (rest : Document) → at_path drop_child from d ≡ Ok rest → is_same_end (walk d before) t l ≡ same_path from (place_of rest path).path
 comes_back from path before parent t l d is goes same rest dropped =

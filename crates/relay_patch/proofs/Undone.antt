@@ -1,7 +1,6 @@
 -- A change that is kept leaves what taking back gives.
-use Rattle.std.proofs.Common.{◌≡◌, ℕ, List, [], ◌∷◌, ◌++◌, Bool, true, false, Option, Some, None, Result, Ok, Err, ok_or, is_ok, IsOk, refl, sym, ap, subst, ◌∙◌, if◌then◌else◌}
+use Rattle.std.proofs.Common.{◌≡◌, ℕ, List, [], ◌∷◌, ◌++◌, Bool, true, false, Option, Some, None, Result, Ok, Err, ok_or, is_ok, IsOk, refl, sym, ap, subst, ◌∙◌, if◌then◌else◌, IsNone, IfSome, option_to_list}
 use Rattle.std.specs.Result.{result_ok}
-use Rattle.std.specs.Prelude.{IsNone, IfSome, option_to_list}
 use Rattle.relay_tree.specs.Document.{Document, null, truth, whole, text, list, object, Items}
 use Rattle.relay_tree.specs.Part.{insert_item, member_at, add_member}
 use Rattle.relay_tree.proofs.Elements.{drop_item-insert}
@@ -41,11 +40,7 @@ item_back : (v : Document) (t : Token) (c c' : Document) → in_list (insert_chi
 item_back v t (list ds) c' h =
     let a = at_index (insert_child v) t (list ds) c' (index_of t) h in
     element_back v t ds a.0 c' a.1 (rw (place_in_at_index ds t a.0 a.1) at a.2)
-item_back v t null c' h = cc
-item_back v t (truth b) c' h = cc
-item_back v t (whole z) c' h = cc
-item_back v t (text s) c' h = cc
-item_back v t (object ms) c' h = cc
+item_back v t _ c' h = cc
 
 member_back : (v : Document) (t : Token) (c c' : Document) → result_ok (step c t) ≡ None → in_object (insert_child v) t c ≡ Ok c' → drop_child t c' ≡ Ok c
 member_back v t (object ms) c' none h = go (member_at ms t) refl none
@@ -56,11 +51,7 @@ member_back v t (object ms) c' none h = go (member_at ms t) refl none
         let whole : Ok (object (add_member ms t v)) ≡ Ok c' = rw e at h in
         let is : c' ≡ object (add_member ms t v) = cc in
         rw (is, drop_member-add ms t v e) refl
-member_back v t null c' none h = cc
-member_back v t (truth b) c' none h = cc
-member_back v t (whole z) c' none h = cc
-member_back v t (text s) c' none h = cc
-member_back v t (list ds) c' none h = cc
+member_back v t _ c' none h = cc
 
 -- an act below some tokens that is taken back in its container is taken back
 below_back : (act : Act) (t : Token) (path : Path) (d d' : Document) → below act t path d ≡ Ok d' → ((c c' : Document) → walk d (parent t path) ≡ Ok c → act (last t path) c ≡ Ok c' → drop_child (last t path) c' ≡ Ok c) → below drop_child t path d' ≡ Ok d
@@ -114,10 +105,8 @@ pub change_back : (c : Change) (p : Path) (d d' : Document) → target c ≡ Som
 change_back (change.Set path v) p d d' is m = at_target path p (at d path) d d' is (set_back path v d d' m)
 change_back (change.AddMember path v) p d d' is m = at_target path p None d d' is (rw (object_back v path d d' m.0 m.1) refl)
 change_back (change.AddItem path v) p d d' is m = at_target path p None d d' is (rw (list_back v path d d' m) refl)
-change_back (change.DropMember path) p d d' is m = cc
-change_back (change.DropItem path) p d d' is m = cc
-change_back (change.Move from to v) p d d' is m = cc
 change_back (change.Copy from to v) p d d' is m = at_target to.path p (displaced to d) d d' is (copied_back to v d d' m.1)
+change_back _ p d d' is m = cc
 
 -- Lists of what is kept.
 

@@ -13,12 +13,9 @@ element-at ds t None = refl
 element-at ds t (Some i) = ok_or_found (item_at ds i) Missing
 
 pub child-step : (d : Document) (t : Token) → result_ok (step d t) ≡ child d t
-child-step null t = refl
-child-step (truth b) t = refl
-child-step (whole z) t = refl
-child-step (text s) t = refl
 child-step (list ds) t = element-at ds t (index_of t)
 child-step (object ms) t = ok_or_found (member_at ms t) Missing
+child-step _ t = refl
 
 then-found : (path : Path) (r : Result Document Cause) → ((c : Document) → result_ok (walk c path) ≡ at c path) → result_ok (then_do r (λ c. walk c path)) ≡ option_and_then (λ c. at c path) (result_ok r)
 then-found path (Ok c) ih = ih c

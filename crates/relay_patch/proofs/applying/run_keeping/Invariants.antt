@@ -1,5 +1,4 @@
-use Rattle.std.proofs.Common.{◌≡◌, ◌<◌, ◌++◌, Ok, length, take, drop}
-use Rattle.std.specs.Prelude.{IsSome}
+use Rattle.std.proofs.Common.{◌≡◌, ◌<◌, ◌++◌, Ok, length, take, drop, IsSome}
 use Rattle.relay_patch.specs.Patch.{after, after_from}
 use Rattle.relay_patch.specs.Change.{all_changes}
 use Rattle.relay_patch.specs.Measure.{Known}

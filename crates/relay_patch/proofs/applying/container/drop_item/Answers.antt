@@ -9,9 +9,8 @@ remove-requires c =
     let ok = v.ok in
     let small = v.small in
     let m = named v.items c.args.token.now c.requires in
-    let within = m.within in
     let same = index_is v.items c.args.token.now c.unwrap-index.result (omega arith) (sym c.unwrap-index.ensures ∙ c.index_of.ensures) m in
-    omega (arith, ok.0, same, within)
+    omega (arith, ok.0, same, m.within)
 
 pub returns-clause-value : goal.returns-clause-value
 returns-clause-value c =

@@ -1,5 +1,4 @@
-use Rattle.std.proofs.Common.{◌++◌, true, [], ◌∷◌, ap, ◌∙◌}
-use Rattle.std.specs.Prelude.{vec_capacity}
+use Rattle.std.proofs.Common.{◌++◌, true, [], ◌∷◌, ap, ◌∙◌, vec_capacity}
 use Rattle.relay_pointer.specs.Path.{path_of}
 use Rattle.relay_pointer.proofs.Tokens.{tokens_back}
 use Rattle.relay_patch.specs.declared.applying.undo.Kept.{Kept}

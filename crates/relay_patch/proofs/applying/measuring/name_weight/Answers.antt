@@ -6,6 +6,4 @@ use Rattle.relay_patch.proofs.applying.measuring.name_weight.Goals as goal
 pub returns-in-len1-up : goal.returns-in-len1-up
 returns-in-len1-up c =
     let name = ap name_weight (sym c.tokens.ensures) ∙ tokens_named c.tokens.result.now c.last-item.result c.in-len1-up.len_at_least c.last-item.is in
-    let long = c.len.ensures in
-    let few = c.len.type_inv in
-    omega (arith, name, long, few)
+    omega (arith, name, c.len.ensures, c.len.type_inv)

@@ -8,9 +8,7 @@ use Rattle.relay_patch.proofs.applying.sliding.slide_item.Goals as goal
 pub returns-then-max-items-clause-slid : goal.returns-then-max-items-clause-slid
 returns-then-max-items-clause-slid c =
     let long = items_length-items_of c.args.items.now in
-    let past = c.if-max-items.true in
-    let most = c.max.ensures in
-    sym (slides_nowhere (items_of c.args.items.now) c.args.from c.args.to (omega (arith, long, past, most)))
+    sym (slides_nowhere (items_of c.args.items.now) c.args.from c.args.to (omega (arith, long, c.if-max-items.true, c.max.ensures)))
 
 pub returns-then-from-to-clause-slid : goal.returns-then-from-to-clause-slid
 returns-then-from-to-clause-slid c =

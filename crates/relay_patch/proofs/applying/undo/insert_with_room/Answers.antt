@@ -1,6 +1,5 @@
-use Rattle.std.proofs.Common.{◌≡◌, ◌++◌, length, ◌∙◌, arith}
+use Rattle.std.proofs.Common.{◌≡◌, ◌++◌, length, ◌∙◌, arith, vec_capacity}
 use Rattle.std.specs.List.{insert}
-use Rattle.std.specs.Prelude.{vec_capacity}
 use Rattle.relay_patch.proofs.Regained.{no_room, past_end, with_room}
 use Rattle.relay_patch.proofs.applying.undo.insert_with_room.Goals as goal
 use Rattle.relay_patch.proofs.applying.undo.insert_with_room.Goals.{then-len-capacity-via-then-len-capacity, then-len-capacity-via-else-len-capacity+then-index-len}
@@ -13,12 +12,10 @@ returns-then-len-capacity c =
     elim c.then-len-capacity.branch [
       | then-len-capacity-via-then-len-capacity w ↦
           let full = w.if-len-capacity.true in
-          let size = c.capacity.ensures in
-          no_room v.items (vec_capacity c.args.room) c.args.index c.args.element (omega (arith, full, size, long))
+          no_room v.items (vec_capacity c.args.room) c.args.index c.args.element (omega (arith, full, c.capacity.ensures, long))
       | then-len-capacity-via-else-len-capacity+then-index-len w ↦
-          let past = w.if-index-len.true in
           let again : w.len-else-len-capacity.result ≡ length v.items = w.len-else-len-capacity.ensures ∙ ok.0 in
-          past_end v.items (vec_capacity c.args.room) c.args.index c.args.element (omega (arith, past, again))
+          past_end v.items (vec_capacity c.args.room) c.args.index c.args.element (omega (arith, w.if-index-len.true, again))
     ]
 
 pub returns : goal.returns

@@ -1,5 +1,4 @@
-use Rattle.std.proofs.Common.{◌∙◌, ◌≡◌, ◌+◌, suc, Ok, Err, length, refl, sym, ap, subst, append-nil, arith}
-use Rattle.std.specs.Prelude.{vec_len}
+use Rattle.std.proofs.Common.{◌∙◌, ◌≡◌, ◌+◌, suc, Ok, Err, length, refl, sym, ap, subst, append-nil, arith, vec_len}
 use Rattle.std.specs.Vec.Iter.{into_iter_items, into_iter_len}
 use Rattle.std.proofs.lemmas.List.{nil_from_length}
 use Rattle.relay_tree.specs.Document.{items_of}
@@ -21,9 +20,7 @@ loop-item-init c =
 
 pub push_reserved-requires : goal.push_reserved-requires
 push_reserved-requires c =
-    let longer = ap length c.in-Some.ensures.steps.0 in
-    let room = c.loop-item.invariant.room in
-    grind (arith, longer, room)
+    grind (arith, ap length c.in-Some.ensures.steps.0, c.loop-item.invariant.room)
 
 pub returns-in-Err-clause-err : goal.returns-in-Err-clause-err
 returns-in-Err-clause-err c is_refused =
