@@ -7,10 +7,9 @@ use Rattle.relay_history.specs.History.{Past, Reaches, in_order, with_revision, 
 
 -- the first of the first
 take_shorter : {X : Type 0} (n m : ℕ) (xs : List X) → n ≤ m → take n (take m xs) ≡ take n xs
-take_shorter zero m xs h = refl
 take_shorter (suc n) zero xs h = absurd (omega arith)
-take_shorter (suc n) (suc m) [] h = refl
 take_shorter (suc n) (suc m) (x ∷ xs) h = ap (λ ys. x ∷ ys) (take_shorter n m xs (omega arith))
+take_shorter _ _ _ h = refl
 
 -- nothing changed after the newest revision
 pub changes_since-newest : (past : Past) → changes_since past.newest past ≡ []

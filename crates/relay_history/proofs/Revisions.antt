@@ -1,7 +1,5 @@
 -- Revisions one by one, the oldest of several first, as a reader is told of them.
-use Rattle.std.specs.Prelude.{◌≡◌, ℕ, zero, suc, ◌-◌, ◌<◌, List, [], ◌∷◌, ◌++◌, take, slice_get, Some, Vec, length, true, ◌==◌}
-use Rattle.std.specs.Global.{Global}
-use Rattle.std.proofs.Common.{arith, sym, ap, ◌∙◌, append_assoc, append-nil, sub-one}
+use Rattle.std.proofs.Common.{arith, sym, ap, ◌∙◌, append_assoc, append-nil, sub-one, ◌≡◌, ℕ, zero, suc, ◌-◌, ◌<◌, List, [], ◌∷◌, ◌++◌, take, slice_get, Some, Vec, length, true, ◌==◌, Global}
 use Rattle.std.proofs.lemmas.List.{take-map}
 use Rattle.std.proofs.lemmas.Grind.{common_steps}
 use Rattle.relay_patch.specs.declared.change.Change.{Change}
