@@ -29,14 +29,14 @@ below_apart is_item act leaves t (u ∷ path) (b ∷ q) d d' h k = go (bytes_eq 
     go false e ih = rw (w.whole, step-with_other d t b w.later e) refl
 
 -- an act at and below the value that a pointer leads to
-pub record IsInside (act : Act) (t : Token) (path q : Path) (d d' : Document) : Type 0 where
+pub record IsInside (act : Act) (path q : Path) (d d' : Document) : Type 0 where
   pub before : Document
   pub later : Document
   pub stood : walk d q ≡ Ok before
   pub stands : walk d' q ≡ Ok later
   pub token : Token
   pub rest : Path
-  pub path_is : drop (length q) (t ∷ path) ≡ token ∷ rest
+  pub path_is : drop (length q) path ≡ token ∷ rest
   pub acted : below act token rest before ≡ Ok later
 
 shifts_never_inside : (o p : Option ℕ) → shifts o p ≡ Inside → ⊥
@@ -45,8 +45,7 @@ shifts_never_inside (Some i) (Some j) h = go (nat_le i j) refl
     go : (x : Bool) → nat_le i j ≡ x → ⊥
     go true e = let k : Reset ≡ Inside = rw e at h in cc
     go false e = let k : Apart ≡ Inside = rw e at h in cc
-shifts_never_inside (Some i) None h = cc
-shifts_never_inside None p h = cc
+shifts_never_inside _ _ h = cc
 
 pub last_never_inside : (is_item : Bool) (t b : Token) → touch_last is_item t b ≡ Inside → ⊥
 last_never_inside true t b h = shifts_never_inside (number_of t) (number_of b) h
@@ -56,7 +55,7 @@ last_never_inside false t b h = go (bytes_eq t b) refl
     go true e = let k : Reset ≡ Inside = rw e at h in cc
     go false e = let k : Apart ≡ Inside = rw e at h in cc
 
-pub below_inside : (is_item : Bool) (act : Act) (t : Token) (path q : Path) (d d' : Document) → below act t path d ≡ Ok d' → touch_below is_item t path q ≡ Inside → IsInside act t path q d d'
+pub below_inside : (is_item : Bool) (act : Act) (t : Token) (path q : Path) (d d' : Document) → below act t path d ≡ Ok d' → touch_below is_item t path q ≡ Inside → IsInside act (t ∷ path) q d d'
 below_inside is_item act t path [] d d' h k =
     record { before = d; later = d'; stood = refl; stands = refl; token = t; rest = path; path_is = refl; acted = h }
 below_inside is_item act t [] (b ∷ q) d d' h k = absurd (last_never_inside is_item t b k)
@@ -65,7 +64,7 @@ below_inside is_item act t (u ∷ path) (b ∷ q) d d' h k = go (bytes_eq t b) r
     w : WasInside (below act u path) t d d'
     w = was_inside (below act u path) t d d' h
 
-    go : (x : Bool) → bytes_eq t b ≡ x → ((c c' : Document) → below act u path c ≡ Ok c' → touch_below is_item u path q ≡ Inside → IsInside act u path q c c') → IsInside act t (u ∷ path) (b ∷ q) d d'
+    go : (x : Bool) → bytes_eq t b ≡ x → ((c c' : Document) → below act u path c ≡ Ok c' → touch_below is_item u path q ≡ Inside → IsInside act (u ∷ path) q c c') → IsInside act (t ∷ u ∷ path) (b ∷ q) d d'
     go true e ih =
         let same : t ≡ b = equal_bytes t b e in
         let stood : step d b ≡ Ok w.before = subst (λ s. step d s ≡ Ok w.before) same w.stood in

@@ -21,7 +21,7 @@ use Rattle.relay_patch.proofs.Moved.{DidMove, from_moved}
 use Rattle.relay_translate.specs.Touch.{Touch, Apart, Inside, Reset, touch_path, touch_place, touch_either, touch_below, touch_value}
 use Rattle.relay_translate.specs.Translate.{op_of, move_op, with_paths}
 use Rattle.relay_translate.proofs.Leaves.{Leaves, set_child_leaves, insert_in_object_leaves, insert_in_list_leaves, drop_in_object_leaves, drop_in_list_leaves}
-use Rattle.relay_translate.proofs.Below.{below_apart, below_inside, last_never_inside}
+use Rattle.relay_translate.proofs.Below.{IsInside, below_apart, below_inside, last_never_inside}
 use Rattle.relay_translate.proofs.Under.{Longer, IsDeep}
 
 -- what an operation did to the value that a pointer leads to
@@ -33,34 +33,12 @@ pub record ChangedInside (q : Path) (op : Op) (d d' : Document) : Type 0 where
   pub deep : IsDeep (with_paths (drop (length q)) op)
   pub acted : effect before (with_paths (drop (length q)) op) ≡ Ok later
 
--- the same of an act at a path
-record ActedInside (act : Act) (path q : Path) (d d' : Document) : Type 0 where
-  before : Document
-  later : Document
-  stood : walk d q ≡ Ok before
-  stands : walk d' q ≡ Ok later
-  token : Token
-  rest : Path
-  path_is : drop (length q) path ≡ token ∷ rest
-  acted : below act token rest before ≡ Ok later
-
-at_path_inside : (is_item : Bool) (act : Act) (path q : Path) (d d' : Document) → at_path (placed is_item act) path d ≡ Ok d' → touch_path is_item path q ≡ Inside → ActedInside (placed is_item act) path q d d'
+at_path_inside : (is_item : Bool) (act : Act) (path q : Path) (d d' : Document) → at_path (placed is_item act) path d ≡ Ok d' → touch_path is_item path q ≡ Inside → IsInside (placed is_item act) path q d d'
 at_path_inside is_item act [] q d d' h k = cc
-at_path_inside is_item act (t ∷ path) q d d' h k =
-    let i = below_inside is_item (placed is_item act) t path q d d' h k in
-    record {
-      before = i.before;
-      later = i.later;
-      stood = i.stood;
-      stands = i.stands;
-      token = i.token;
-      rest = i.rest;
-      path_is = i.path_is;
-      acted = i.acted;
-    }
+at_path_inside is_item act (t ∷ path) q d d' h k = below_inside is_item (placed is_item act) t path q d d' h k
 
 -- whatever the container
-in_any : (is_item : Bool) (act : Act) (path q : Path) (d d' : Document) → ActedInside (placed is_item act) path q d d' → ActedInside act path q d d'
+in_any : (is_item : Bool) (act : Act) (path q : Path) (d d' : Document) → IsInside (placed is_item act) path q d d' → IsInside act path q d d'
 in_any is_item act path q d d' a =
     record {
       before = a.before;
@@ -73,51 +51,32 @@ in_any is_item act path q d d' a =
       acted = plainly is_item act (a.token ∷ a.rest) a.before a.later a.acted;
     }
 
-set_inside : (path q : Path) (v d d' : Document) → replaced path v d ≡ Ok d' → touch_path false path q ≡ Inside → ActedInside (set_child v) path q d d'
+set_inside : (path q : Path) (v d d' : Document) → replaced path v d ≡ Ok d' → touch_path false path q ≡ Inside → IsInside (set_child v) path q d d'
 set_inside [] q v d d' h k = cc
-set_inside (t ∷ path) q v d d' h k =
-    let i = below_inside false (set_child v) t path q d d' h k in
-    record { before = i.before; later = i.later; stood = i.stood; stands = i.stands; token = i.token; rest = i.rest; path_is = i.path_is; acted = i.acted }
+set_inside (t ∷ path) q v d d' h k = below_inside false (set_child v) t path q d d' h k
 
-insert_inside : (is_item : Bool) (path q : Path) (v d d' : Document) → inserted_at is_item path v d ≡ Ok d' → touch_path is_item path q ≡ Inside → ActedInside (placed is_item (insert_child v)) path q d d'
+insert_inside : (is_item : Bool) (path q : Path) (v d d' : Document) → inserted_at is_item path v d ≡ Ok d' → touch_path is_item path q ≡ Inside → IsInside (placed is_item (insert_child v)) path q d d'
 insert_inside true path q v d d' h k = at_path_inside true (insert_child v) path q d d' h k
 insert_inside false [] q v d d' h k = cc
 insert_inside false (t ∷ path) q v d d' h k = at_path_inside false (insert_child v) (t ∷ path) q d d' h k
 
-replace_there : (path q : Path) (v d d' : Document) → ActedInside (set_child v) path q d d' → ChangedInside q (Replace path v) d d'
-replace_there path q v d d' a =
-    record {
-      before = a.before;
-      later = a.later;
-      stood = a.stood;
-      stands = a.stands;
-      deep = subst Longer (sym a.path_is) tt;
-      acted = subst (λ r. replaced r v a.before ≡ Ok a.later) (sym a.path_is) a.acted;
-    }
+-- what an operation did that does an act there
+acted_there : (op : Op) (act : Act) (path q : Path) (d d' : Document) (a : IsInside act path q d d') → IsDeep (with_paths (drop (length q)) op) → effect a.before (with_paths (drop (length q)) op) ≡ Ok a.later → ChangedInside q op d d'
+acted_there op act path q d d' a deep acted = record { before = a.before; later = a.later; stood = a.stood; stands = a.stands; deep = deep; acted = acted }
 
-add_there : (is_item : Bool) (path q : Path) (v d d' : Document) → ActedInside (placed is_item (insert_child v)) path q d d' → ChangedInside q (Add path v) d d'
+replace_there : (path q : Path) (v d d' : Document) → IsInside (set_child v) path q d d' → ChangedInside q (Replace path v) d d'
+replace_there path q v d d' a =
+    acted_there (Replace path v) (set_child v) path q d d' a (subst Longer (sym a.path_is) tt) (subst (λ r. replaced r v a.before ≡ Ok a.later) (sym a.path_is) a.acted)
+
+add_there : (is_item : Bool) (path q : Path) (v d d' : Document) → IsInside (placed is_item (insert_child v)) path q d d' → ChangedInside q (Add path v) d d'
 add_there is_item path q v d d' p =
     let a = in_any is_item (insert_child v) path q d d' p in
-    record {
-      before = a.before;
-      later = a.later;
-      stood = a.stood;
-      stands = a.stands;
-      deep = subst Longer (sym a.path_is) tt;
-      acted = subst (λ r. added r v a.before ≡ Ok a.later) (sym a.path_is) a.acted;
-    }
+    acted_there (Add path v) (insert_child v) path q d d' a (subst Longer (sym a.path_is) tt) (subst (λ r. added r v a.before ≡ Ok a.later) (sym a.path_is) a.acted)
 
-remove_there : (is_item : Bool) (path q : Path) (d d' : Document) → ActedInside (placed is_item drop_child) path q d d' → ChangedInside q (Remove path) d d'
+remove_there : (is_item : Bool) (path q : Path) (d d' : Document) → IsInside (placed is_item drop_child) path q d d' → ChangedInside q (Remove path) d d'
 remove_there is_item path q d d' p =
     let a = in_any is_item drop_child path q d d' p in
-    record {
-      before = a.before;
-      later = a.later;
-      stood = a.stood;
-      stands = a.stands;
-      deep = subst Longer (sym a.path_is) tt;
-      acted = subst (λ r. at_path drop_child r a.before ≡ Ok a.later) (sym a.path_is) a.acted;
-    }
+    acted_there (Remove path) drop_child path q d d' a (subst Longer (sym a.path_is) tt) (subst (λ r. at_path drop_child r a.before ≡ Ok a.later) (sym a.path_is) a.acted)
 
 -- the same, from and to documents in which the pointer leads to the same
 changed_from : (q : Path) (op : Op) (d e d' : Document) → walk e q ≡ walk d q → ChangedInside q op e d' → ChangedInside q op d d'
@@ -160,23 +119,21 @@ walk_on (t ∷ q) (u ∷ path) d b p h =
 
 pub proper_prefix_on : (q f p : Path) → is_prefix q f ≡ true → is_prefix q p ≡ true → is_proper_prefix (drop (length q) f) (drop (length q) p) ≡ is_proper_prefix f p
 proper_prefix_on [] f p h k = refl
-proper_prefix_on (t ∷ q) [] p h k = cc
-proper_prefix_on (t ∷ q) (u ∷ f) [] h k = cc
 proper_prefix_on (t ∷ q) (u ∷ f) (w ∷ p) h k =
     let a = both (bytes_eq t u) (is_prefix q f) h in
     let b = both (bytes_eq t w) (is_prefix q p) k in
     let same : bytes_eq u w ≡ true = subst (λ x. bytes_eq x w ≡ true) (equal_bytes t u a.0) b.0 in
     rw same (proper_prefix_on q f p a.1 b.1)
+proper_prefix_on (t ∷ q) _ _ h k = cc
 
 pub same_path_on : (q f p : Path) → is_prefix q f ≡ true → is_prefix q p ≡ true → same_path (drop (length q) f) (drop (length q) p) ≡ same_path f p
 same_path_on [] f p h k = refl
-same_path_on (t ∷ q) [] p h k = cc
-same_path_on (t ∷ q) (u ∷ f) [] h k = cc
 same_path_on (t ∷ q) (u ∷ f) (w ∷ p) h k =
     let a = both (bytes_eq t u) (is_prefix q f) h in
     let b = both (bytes_eq t w) (is_prefix q p) k in
     let same : bytes_eq u w ≡ true = subst (λ x. bytes_eq x w ≡ true) (equal_bytes t u a.0) b.0 in
     rw same (same_path_on q f p a.1 b.1)
+same_path_on (t ∷ q) _ _ h k = cc
 
 -- a change that is apart
 
@@ -217,7 +174,7 @@ change_apart (change.Copy from to v) q d d' m k = insert_apart to.item to.path q
 
 -- a change inside
 
-moved_within : (from to : Place) (q : Path) (v d d' : Document) → (m : Moves d from to v d') → touch_place from q ≡ Inside → touch_place to q ≡ Inside → ActedInside (placed from.item drop_child) from.path q d m.between → ActedInside (placed to.item (insert_child v)) to.path q m.between d' → ChangedInside q (Move from.path to.path) d d'
+moved_within : (from to : Place) (q : Path) (v d d' : Document) → (m : Moves d from to v d') → touch_place from q ≡ Inside → touch_place to q ≡ Inside → IsInside (placed from.item drop_child) from.path q d m.between → IsInside (placed to.item (insert_child v)) to.path q m.between d' → ChangedInside q (Move from.path to.path) d d'
 unfolding in_any
 moved_within from to q v d d' m a b drop_in insert_in =
     let drops = in_any from.item drop_child from.path q d m.between drop_in in
@@ -256,23 +213,16 @@ move_inside Inside Apart from to q v d d' m e f k =
     changed_to q (Remove from.path) d m.between d' (insert_apart to.item to.path q v m.between d' m.came f) (remove_there from.item from.path q d m.between (at_path_inside from.item drop_child from.path q d m.between m.went e))
 move_inside Inside Inside from to q v d d' m e f k =
     moved_within from to q v d d' m e f (at_path_inside from.item drop_child from.path q d m.between m.went e) (insert_inside to.item to.path q v m.between d' m.came f)
-move_inside Inside Reset from to q v d d' m e f k = cc
-move_inside Reset b from to q v d d' m e f k = cc
+move_inside _ _ from to q v d d' m e f k = cc
 
-copied_within : (from : Path) (to : Place) (q : Path) (v d d' : Document) → walk d from ≡ Ok v → is_prefix q from ≡ true → ActedInside (placed to.item (insert_child v)) to.path q d d' → ChangedInside q (Copy from to.path) d d'
+copied_within : (from : Path) (to : Place) (q : Path) (v d d' : Document) → walk d from ≡ Ok v → is_prefix q from ≡ true → IsInside (placed to.item (insert_child v)) to.path q d d' → ChangedInside q (Copy from to.path) d d'
 copied_within from to q v d d' there p insert_in =
     let inserts = in_any to.item (insert_child v) to.path q d d' insert_in in
     let found : walk inserts.before (drop (length q) from) ≡ Ok v = walk_on q from d inserts.before p inserts.stood ∙ there in
-    record {
-      before = inserts.before;
-      later = inserts.later;
-      stood = inserts.stood;
-      stands = inserts.stands;
-      deep = subst Longer (sym inserts.path_is) tt;
-      acted = subst (λ s. effect inserts.before (Copy (drop (length q) from) s) ≡ Ok inserts.later) (sym inserts.path_is) (rw found inserts.acted);
-    }
+    acted_there (Copy from to.path) (insert_child v) to.path q d d' inserts (subst Longer (sym inserts.path_is) tt)
+    (subst (λ s. effect inserts.before (Copy (drop (length q) from) s) ≡ Ok inserts.later) (sym inserts.path_is) (rw found inserts.acted))
 
-copy_inside : (x : Bool) (from : Path) (to : Place) (q : Path) (v d d' : Document) → is_prefix q from ≡ x → walk d from ≡ Ok v → ActedInside (placed to.item (insert_child v)) to.path q d d' → ChangedInside q (if x then Copy from to.path else Add to.path v) d d'
+copy_inside : (x : Bool) (from : Path) (to : Place) (q : Path) (v d d' : Document) → is_prefix q from ≡ x → walk d from ≡ Ok v → IsInside (placed to.item (insert_child v)) to.path q d d' → ChangedInside q (if x then Copy from to.path else Add to.path v) d d'
 copy_inside true from to q v d d' p there inserts = copied_within from to q v d d' there p inserts
 copy_inside false from to q v d d' p there inserts = add_there to.item to.path q v d d' inserts
 

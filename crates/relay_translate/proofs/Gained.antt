@@ -31,10 +31,8 @@ any_either f g p (x ∷ xs) = ap (λ l. ((f x || g x) && p x) || l) (any_either 
     both false false c d = refl
 
     first : (a b c d : Bool) → (((a || false) && b) || (c || d)) ≡ (((a && b) || c) || d)
-    first true true c d = refl
     first true false c d = refl
-    first false true c d = refl
-    first false false c d = refl
+    first _ _ c d = refl
 
     go : (b : Bool) → (((f x || b) && p x) || (list_any (λ x. f x && p x) xs || list_any p (filter g xs))) ≡ (((f x && p x) || list_any (λ x. f x && p x) xs) || list_any p (if b then x ∷ filter g xs else filter g xs))
     go true = both (f x) (p x) (list_any (λ x. f x && p x) xs) (list_any p (filter g xs))

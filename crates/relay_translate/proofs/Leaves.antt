@@ -33,25 +33,17 @@ set_child_leaves v t b d d' h k =
     rw is (step-with_other d t b v (apart_other t b k))
 
 pub insert_in_object_leaves : (v : Document) → Leaves false (in_object (insert_child v))
-insert_in_object_leaves v t b null d' h k = cc
-insert_in_object_leaves v t b (truth x) d' h k = cc
-insert_in_object_leaves v t b (whole n) d' h k = cc
-insert_in_object_leaves v t b (text bs) d' h k = cc
-insert_in_object_leaves v t b (list ds) d' h k = cc
 insert_in_object_leaves v t b (object ms) d' h k =
     let is : d' ≡ object (put_member ms t v) = cc in
     rw (is, member_at-put_other ms t b v (apart_other t b k)) refl
+insert_in_object_leaves v t b _ d' h k = cc
 
 pub drop_in_object_leaves : Leaves false (in_object drop_child)
-drop_in_object_leaves t b null d' h k = cc
-drop_in_object_leaves t b (truth x) d' h k = cc
-drop_in_object_leaves t b (whole n) d' h k = cc
-drop_in_object_leaves t b (text bs) d' h k = cc
-drop_in_object_leaves t b (list ds) d' h k = cc
 drop_in_object_leaves t b (object ms) d' h k =
     let s = then_ok (ok_or (drop_member ms t) Missing) (λ ns. Ok (object ns)) d' h in
     let is : d' ≡ object s.0 = let e = s.2 in cc in
     rw (is, member_at-drop_other ms t b s.0 (apart_other t b k) (ok_or_some _ _ _ s.1)) refl
+drop_in_object_leaves t b _ d' h k = cc
 
 -- an index that is apart from i is below i
 below_shift : (i j : ℕ) → shifts (Some i) (Some j) ≡ Apart → j < i
@@ -66,10 +58,6 @@ same_element ds es b i None h same = refl
 same_element ds es b i (Some j) h same = let less = below_shift (min (2 ^ 64 - 1) i) (min (2 ^ 64 - 1) j) h in rw (same j (omega (arith, less))) refl
 
 pub insert_in_list_leaves : (v : Document) → Leaves true (in_list (insert_child v))
-insert_in_list_leaves v t b null d' h k = cc
-insert_in_list_leaves v t b (truth x) d' h k = cc
-insert_in_list_leaves v t b (whole n) d' h k = cc
-insert_in_list_leaves v t b (text bs) d' h k = cc
 insert_in_list_leaves v t b (list ds) d' h k =
     let a = at_index (insert_child v) t (list ds) d' (index_of t) h in
     let done : then_do (ok_or (insert_item ds a.0 v) PastEnd) (λ es. Ok (list es)) ≡ Ok d' = subst (λ o. insert_element v ds o ≡ Ok d') (place_in_at_index ds t a.0 a.1) a.2 in
@@ -77,13 +65,9 @@ insert_in_list_leaves v t b (list ds) d' h k =
     let apart : shifts (Some (min (2 ^ 64 - 1) a.0)) (number_of b) ≡ Apart = subst (λ o. shifts (option_map (min (2 ^ 64 - 1)) o) (number_of b) ≡ Apart) a.1 k in
     let is : d' ≡ list s.0 = let e = s.2 in cc in
     rw is (same_element ds s.0 b a.0 (index_of b) apart (λ j l. item_at-insert_below ds a.0 j v s.0 l (ok_or_some _ _ _ s.1)))
-insert_in_list_leaves v t b (object ms) d' h k = cc
+insert_in_list_leaves v t b _ d' h k = cc
 
 pub drop_in_list_leaves : Leaves true (in_list drop_child)
-drop_in_list_leaves t b null d' h k = cc
-drop_in_list_leaves t b (truth x) d' h k = cc
-drop_in_list_leaves t b (whole n) d' h k = cc
-drop_in_list_leaves t b (text bs) d' h k = cc
 drop_in_list_leaves t b (list ds) d' h k =
     let a = at_index drop_child t (list ds) d' (index_of t) h in
     let done : then_do (ok_or (drop_item ds a.0) Missing) (λ es. Ok (list es)) ≡ Ok d' = subst (λ o. drop_element ds t o ≡ Ok d') a.1 a.2 in
@@ -91,4 +75,4 @@ drop_in_list_leaves t b (list ds) d' h k =
     let apart : shifts (Some (min (2 ^ 64 - 1) a.0)) (number_of b) ≡ Apart = subst (λ o. shifts (option_map (min (2 ^ 64 - 1)) o) (number_of b) ≡ Apart) a.1 k in
     let is : d' ≡ list s.0 = let e = s.2 in cc in
     rw is (same_element ds s.0 b a.0 (index_of b) apart (λ j l. item_at-drop_below ds a.0 j s.0 l (ok_or_some _ _ _ s.1)))
-drop_in_list_leaves t b (object ms) d' h k = cc
+drop_in_list_leaves t b _ d' h k = cc

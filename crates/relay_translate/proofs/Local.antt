@@ -30,30 +30,22 @@ other_index j k differ = go (bytes_eq (index_text j) (index_text k)) refl
     go false e = e
 
 names_own : (k : ℕ) (q : Path) (op : Op) → names k (in_view k q op) ≡ true
-names_own k q (Add path v) = bytes_same (index_text k)
-names_own k q (Remove path) = bytes_same (index_text k)
-names_own k q (Replace path v) = bytes_same (index_text k)
 names_own k q (Move from path) = rw (bytes_same (index_text k)) refl
 names_own k q (Copy from path) = rw (bytes_same (index_text k)) refl
-names_own k q (Test path v) = bytes_same (index_text k)
+names_own k q _ = bytes_same (index_text k)
 
 names_other : (j k : ℕ) → j ≢ k → (q : Path) (op : Op) → names k (in_view j q op) ≡ false
-names_other j k differ q (Add path v) = other_index j k differ
-names_other j k differ q (Remove path) = other_index j k differ
-names_other j k differ q (Replace path v) = other_index j k differ
 names_other j k differ q (Move from path) = rw (other_index j k differ) refl
 names_other j k differ q (Copy from path) = rw (other_index j k differ) refl
-names_other j k differ q (Test path v) = other_index j k differ
+names_other j k differ q _ = other_index j k differ
 
 own_when : (k : ℕ) (q : Path) (t : Touch) (op : Op) → on_slot k (when_inside t (in_view k q op)) ≡ when_inside t (in_view k q op)
-own_when k q Apart op = refl
 own_when k q Inside op = rw (names_own k q op) refl
-own_when k q Reset op = refl
+own_when k q _ op = refl
 
 other_when : (j k : ℕ) → j ≢ k → (q : Path) (t : Touch) (op : Op) → on_slot k (when_inside t (in_view j q op)) ≡ []
-other_when j k differ q Apart op = refl
 other_when j k differ q Inside op = rw (names_other j k differ q op) refl
-other_when j k differ q Reset op = refl
+other_when j k differ q _ op = refl
 
 own_changes : (k : ℕ) (s : Slot) (changes : List Change) → on_slot k (flat_map (slot_op k s) changes) ≡ flat_map (slot_op k s) changes
 own_changes k s [] = refl
@@ -116,9 +108,8 @@ named changes now pointers k s is = at_slot 0 k k (omega arith) changes now poin
 -- the operations of one change before those of the others
 inside_op : (k : ℕ) (s : Slot) (c : Change) (cs : List Change) (t : Touch) → flat_map (slot_op k s) cs ≡ map (λ x. in_view k s.pointer (op_of s.pointer x)) (changes_inside s cs)
     → when_inside t (in_view k s.pointer (op_of s.pointer c)) ++ flat_map (slot_op k s) cs ≡ map (λ x. in_view k s.pointer (op_of s.pointer x)) (if is_inside t then c ∷ changes_inside s cs else changes_inside s cs)
-inside_op k s c cs Apart rest = rest
 inside_op k s c cs Inside rest = ap (λ ops. in_view k s.pointer (op_of s.pointer c) ∷ ops) rest
-inside_op k s c cs Reset rest = rest
+inside_op k s c cs _ rest = rest
 
 inside_ops : (k : ℕ) (s : Slot) (changes : List Change) → flat_map (slot_op k s) changes ≡ map (λ c. in_view k s.pointer (op_of s.pointer c)) (changes_inside s changes)
 inside_ops k s [] = refl

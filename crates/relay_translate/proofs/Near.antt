@@ -72,21 +72,18 @@ near_path false (t ∷ path) q h = near_meets (t ∷ path) q (meets_member t pat
 
 exchanged : (r : Touch) → is_apart (exchange_touch r) ≡ false → is_apart r ≡ false
 exchanged Apart h = h
-exchanged Inside h = refl
-exchanged Reset h = refl
+exchanged _ h = refl
 
 sized : (path q : Path) (r : Touch) → is_apart (size_touch path q r) ≡ false → is_apart r ≡ false
 sized path q Apart h = h
-sized path q Inside h = refl
-sized path q Reset h = refl
+sized path q _ h = refl
 
 near_size : (item : Bool) (path q : Path) → is_apart (size_touch path q (touch_path item path q)) ≡ false → is_near (scope item path) q ≡ true
 near_size item path q h = near_path item path q (sized path q (touch_path item path q) h)
 
 either_near : (a b : Touch) (x y : Bool) → (is_apart a ≡ false → x ≡ true) → (is_apart b ≡ false → y ≡ true) → is_apart (touch_either a b) ≡ false → (x || y) ≡ true
 either_near Apart b x y f g h = rw (g h) (or_true x)
-either_near Inside b x y f g h = rw (f refl) refl
-either_near Reset b x y f g h = rw (f refl) refl
+either_near _ b x y f g h = rw (f refl) refl
 
 -- the pointers near to where a change comes and goes
 abbrev pub near_places : Change → Path → Bool

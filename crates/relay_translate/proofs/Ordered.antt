@@ -36,11 +36,10 @@ ordered_drop (suc n) (e ∷ es) h = ordered_drop n es h.1
 
 -- none stands behind one at a later place
 in_order : (es : List Entry) (i j : ℕ) (d : Entry) → IsOrdered es → i ≤ j → j < length es → is_behind (get_or es i d) (get_or es j d) ≡ false
-in_order [] i j d h le less = absurd (omega arith)
 in_order (e ∷ es) zero zero d h le less = ap is_gt (tied_itself paths_total e.slot.pointer)
 in_order (e ∷ es) zero (suc j) d h le less = all_at (λ f. is_behind e f ≡ false) es j d h.0 (omega arith)
-in_order (e ∷ es) (suc i) zero d h le less = absurd (omega arith)
 in_order (e ∷ es) (suc i) (suc j) d h le less = in_order es i j d h.1 (omega arith) (omega arith)
+in_order _ _ _ d h le less = absurd (omega arith)
 
 -- ---- the entries that a path leads to
 

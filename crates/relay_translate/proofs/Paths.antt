@@ -12,8 +12,7 @@ paths_total = lists_total nat_list_cmp_total
 
 then_equal : (r s : Ordering) → is_eq (ordering_then r s) ≡ (is_eq r && is_eq s)
 then_equal Less s = refl
-then_equal Equal s = refl
-then_equal Greater s = refl
+then_equal _ s = refl
 
 -- paths are the same exactly where neither stands before the other
 pub same_path-cmp : (p q : Path) → same_path p q ≡ is_eq (path_cmp q p)

@@ -24,9 +24,8 @@ use Rattle.relay_translate.proofs.Changes.{both_apart}
 -- An exchange of a part, or what is done within one, leaves the number of parts.
 
 items_length-put_item : (ds : Items) (i : ℕ) (e : Document) → items_length (put_item ds i e) ≡ items_length ds
-items_length-put_item no_items i e = refl
-items_length-put_item (item d ds) zero e = refl
 items_length-put_item (item d ds) (suc i) e = ap suc (items_length-put_item ds i e)
+items_length-put_item _ _ e = refl
 
 members_length-set_member : (ms : Members) (name : List ℕ) (e : Document) → members_length (set_member ms name e) ≡ members_length ms
 members_length-set_member no_members name e = refl
@@ -37,16 +36,13 @@ members_length-set_member (member n d ms) name e = go (bytes_eq n name) (members
     go false rest = ap suc rest
 
 size-with_child : (d : Document) (t : Token) (c : Document) → size (with_child d t c) ≡ size d
-size-with_child null t c = refl
-size-with_child (truth b) t c = refl
-size-with_child (whole z) t c = refl
-size-with_child (text s) t c = refl
 size-with_child (list ds) t c = go (index_of t)
   where
     go : (o : Option ℕ) → size (list (put_element ds o c)) ≡ size (list ds)
     go None = refl
     go (Some i) = ap Some (items_length-put_item ds i c)
 size-with_child (object ms) t c = ap Some (members_length-set_member ms t c)
+size-with_child _ t c = refl
 
 size-inside : (change : Document → Result Document Cause) (t : Token) (d d' : Document) → inside change t d ≡ Ok d' → size d' ≡ size d
 size-inside change t d d' h = let w = was_inside change t d d' h in rw w.whole (size-with_child d t w.later)
@@ -125,18 +121,16 @@ change_keeps_size (change.Copy from to v) q d d' m k = insert_keeps to.item to.p
 -- No change is inside a size.
 
 never_inside : (path q : Path) (t : Touch) → size_touch path q t ≡ Inside → ⊥
-never_inside path q Apart h = cc
 never_inside path q Inside h = go (length path == length q + 1) h
   where
     go : (x : Bool) → (if x then Reset else Apart) ≡ Inside → ⊥
     go true k = cc
     go false k = cc
-never_inside path q Reset h = cc
+never_inside path q _ h = cc
 
 exchange_never : (t : Touch) → exchange_touch t ≡ Inside → ⊥
 exchange_never Apart h = cc
-exchange_never Inside h = cc
-exchange_never Reset h = cc
+exchange_never _ h = cc
 
 either_never : (a b : Touch) → (a ≡ Inside → ⊥) → (b ≡ Inside → ⊥) → touch_either a b ≡ Inside → ⊥
 either_never Apart b h k e = k e

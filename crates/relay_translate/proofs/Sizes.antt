@@ -27,24 +27,18 @@ All-append n m [] b h k = k
 All-append n m (op ∷ a) b h k = (h.0, All-append n m a b h.1 k)
 
 move_fits : (a b : Touch) (n m : ℕ) (from to : Path) (v : Document) → IsShort n from → IsShort n to → IsFlat m v → OpFits n m (move_op a b from to v)
-move_fits Apart b n m from to v h k l = (k, l)
-move_fits Reset b n m from to v h k l = (k, l)
-move_fits Inside Apart n m from to v h k l = h
 move_fits Inside Inside n m from to v h k l = (h, k)
-move_fits Inside Reset n m from to v h k l = h
+move_fits Inside _ n m from to v h k l = h
+move_fits _ b n m from to v h k l = (k, l)
 
 copy_fits : (x : Bool) (n m : ℕ) (from to : Path) (v : Document) → IsShort n from → IsShort n to → IsFlat m v → OpFits n m (if x then Copy from to else Add to v)
 copy_fits true n m from to v h k l = (h, k)
 copy_fits false n m from to v h k l = (k, l)
 
 op_fits : (n m : ℕ) (q : Path) (c : Change) → ChangeFits n m c → OpFits n m (op_of q c)
-op_fits n m q (change.Set path v) h = h
-op_fits n m q (change.AddMember path v) h = h
-op_fits n m q (change.AddItem path v) h = h
-op_fits n m q (change.DropMember path) h = h
-op_fits n m q (change.DropItem path) h = h
 op_fits n m q (change.Move from to v) h = move_fits (touch_place from q) (touch_place to q) n m from.path to.path v h.0 h.1 h.2
 op_fits n m q (change.Copy from to v) h = copy_fits (is_prefix q from) n m from to.path v h.0 h.1 h.2
+op_fits n m q _ h = h
 
 in_slot_short : (n k : ℕ) (q path : Path) → IsShort n path → IsShort (n + 2) (in_slot k q path)
 in_slot_short n k q path h = let e = length-drop (length q) path in omega (arith, e)
@@ -61,9 +55,8 @@ paths_fit n m k q (Copy from path) h = (in_slot_short n k q from h.0, in_slot_sh
 paths_fit n m k q (Test path v) h = (in_slot_short n k q path h.0, flatter m v h.1)
 
 when_fits : (n m : ℕ) (t : Touch) (op : Op) → OpFits n m op → AllByRecursion (OpFits n m) (when_inside t op)
-when_fits n m Apart op h = tt
 when_fits n m Inside op h = (h, tt)
-when_fits n m Reset op h = tt
+when_fits n m _ op h = tt
 
 changes_fit : (n m k : ℕ) (s : Slot) (changes : List Change) → AllByRecursion (ChangeFits n m) changes → AllByRecursion (OpFits (n + 2) (m + 1)) (flat_map (slot_op k s) changes)
 changes_fit n m k s [] h = tt

@@ -70,8 +70,7 @@ shifts_kept judge within keeps (Some i) (Some j) = go (nat_le i j)
     go : (x : Bool) → judge (if x then Reset else Apart) ≡ (if x then Reset else Apart)
     go true = keeps.reset
     go false = keeps.apart
-shifts_kept judge within keeps None p = keeps.apart
-shifts_kept judge within keeps (Some i) None = keeps.apart
+shifts_kept judge within keeps _ _ = keeps.apart
 
 aside_kept : (judge : Touch → Touch) (within : Touch) → Keeps judge within → (is_item : Bool) (t : Token) (path q : Path) → judge (not_inside is_item t path q) ≡ not_inside is_item t path q
 aside_kept judge within keeps true t path q = go (is_prefix (parent t path) q)

@@ -8,9 +8,8 @@ use Rattle.relay_patch.proofs.Tokens.{parent_end}
 use Rattle.relay_translate.specs.Entries.{container}
 
 pub path_of-drop : (n : ℕ) (ts : List (String Global)) → path_of (drop n ts) ≡ drop n (path_of ts)
-path_of-drop zero ts = refl
-path_of-drop (suc n) [] = refl
 path_of-drop (suc n) (t ∷ ts) = path_of-drop n ts
+path_of-drop _ _ = refl
 
 -- what lies past the end is nothing
 pub path_of-past : (n : ℕ) (ts : List (String Global)) → length ts ≤ n → drop n (path_of ts) ≡ []
@@ -30,9 +29,8 @@ path_of-range n ts h =
     ∙ path_of-drop n ts
 
 pub path_of-take : (n : ℕ) (ts : List (String Global)) → path_of (take n ts) ≡ take n (path_of ts)
-path_of-take zero ts = refl
-path_of-take (suc n) [] = refl
 path_of-take (suc n) (t ∷ ts) = ap (λ path. string_bytes t ∷ path) (path_of-take n ts)
+path_of-take _ _ = refl
 
 pub container_end : (before : Path) (t : Token) → container (before ++ t ∷ []) ≡ before
 container_end [] t = refl

@@ -31,9 +31,8 @@ IsDeep (Copy from path) = Longer path
 IsDeep (Test path v) = ⊥
 
 pub put_item-twice : (ds : Items) (i : ℕ) (a b : Document) → put_item (put_item ds i a) i b ≡ put_item ds i b
-put_item-twice no_items i a b = refl
-put_item-twice (item d ds) zero a b = refl
 put_item-twice (item d ds) (suc i) a b = ap (item d) (put_item-twice ds i a b)
+put_item-twice _ _ a b = refl
 
 -- the token names an element of the list, which is c
 pub record IsElement (ds : Items) (t : Token) (i : ℕ) (c : Document) : Type 0 where
@@ -71,34 +70,23 @@ move_under f from u r ds t i c c' e m =
     }
 
 pub effect_under : (op : Op) (ds : Items) (t : Token) (i : ℕ) (c c' : Document) → IsElement ds t i c → IsDeep op → effect c op ≡ Ok c' → effect (list ds) (with_paths (λ p. t ∷ p) op) ≡ Ok (list (put_item ds i c'))
-effect_under (Add [] v) ds t i c c' e deep h = absurd deep
 effect_under (Add (u ∷ r) v) ds t i c c' e deep h = below_under (insert_child v) ds t i c c' u r e h
-effect_under (Remove []) ds t i c c' e deep h = absurd deep
 effect_under (Remove (u ∷ r)) ds t i c c' e deep h = below_under drop_child ds t i c c' u r e h
-effect_under (Replace [] v) ds t i c c' e deep h = absurd deep
 effect_under (Replace (u ∷ r) v) ds t i c c' e deep h = below_under (set_child v) ds t i c c' u r e h
 effect_under (Move [] path) ds t i c c' e deep h = absurd deep.0
 effect_under (Move (f ∷ from) []) ds t i c c' e deep h = absurd deep.1
 effect_under (Move (f ∷ from) (u ∷ r)) ds t i c c' e deep h = from_moved t (f ∷ from) (t ∷ u ∷ r) (list ds) _ (move_under f from u r ds t i c c' e (did_move f from (u ∷ r) c c' h))
-effect_under (Copy from []) ds t i c c' e deep h = absurd deep
 effect_under (Copy from (u ∷ r)) ds t i c c' e deep h =
     let s = then_ok (walk c from) (λ v. added (u ∷ r) v c) c' h in
     let found : walk (list ds) (t ∷ from) ≡ Ok s.0 = rw (child_of ds t i c e) s.1 in
     rw found (below_under (insert_child s.0) ds t i c c' u r e s.2)
-effect_under (Test path v) ds t i c c' e deep h = absurd deep
+effect_under _ ds t i c c' e deep h = absurd deep
 
 pub with_paths-twice : (f g : Path → Path) (op : Op) → with_paths f (with_paths g op) ≡ with_paths (λ p. f (g p)) op
 with_paths-twice f g (Add path v) = refl
-with_paths-twice f g (Remove path) = refl
-with_paths-twice f g (Replace path v) = refl
-with_paths-twice f g (Move from path) = refl
-with_paths-twice f g (Copy from path) = refl
-with_paths-twice f g (Test path v) = refl
+with_paths-twice f g _ = refl
 
 pub deeper : (t : Token) (op : Op) → IsDeep op → IsDeep (with_paths (λ p. t ∷ p) op)
-deeper t (Add path v) h = tt
-deeper t (Remove path) h = tt
-deeper t (Replace path v) h = tt
 deeper t (Move from path) h = (tt, tt)
-deeper t (Copy from path) h = tt
 deeper t (Test path v) h = absurd h
+deeper t _ h = tt

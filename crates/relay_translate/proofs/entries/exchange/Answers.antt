@@ -11,22 +11,17 @@ loop-entry-init c =
     let left = c.leave.ensures in
     let long = c.args.fresh.ok.0 in
     let counted : into_iter_len c.into_iter-entry-iterator.result ≡ length (into_iter_items c.into_iter-entry-iterator.result) = given.1 ∙ long ∙ ap length (sym given.0) in
-    let same = ap length given.0 in
-    let shorter = left.len in
-    let kept = left.capacity in
     let room = c.requires.room in
     record {
       placed = rw (given.0, left.items) refl;
       ordered = rw left.items (ordered_filter (λ e. not (e.session == c.args.session)) c.args.entries.now.items c.requires.ordered);
       len = counted;
-      room = grind (arith, shorter, kept, room, same, long);
+      room = grind (arith, left.len, left.capacity, room, ap length given.0, long);
     }
 
 pub enter-requires-clause-room : goal.enter-requires-clause-room
 enter-requires-clause-room c =
-    let longer = ap length c.in-Some.ensures.steps.0 in
-    let room = c.loop-entry.invariant.room in
-    grind (arith, longer, room)
+    grind (arith, ap length c.in-Some.ensures.steps.0, c.loop-entry.invariant.room)
 
 pub enter-requires-clause-ordered : goal.enter-requires-clause-ordered
 enter-requires-clause-ordered c = c.loop-entry.invariant.ordered
@@ -40,13 +35,12 @@ loop-entry-preserved c =
     let longer = ap length steps.0 in
     let room = l.invariant.room in
     let len = entered.len in
-    let kept = entered.capacity in
     let over : into_iter_len c.next.new.self + 1 ≡ suc (length left) = steps.1 ∙ l.invariant.len ∙ longer in
     record {
       placed = rw entered.items (ap (λ fresh. with_entries fresh l.entries.items) (sym steps.0) ∙ l.invariant.placed);
       ordered = rw entered.items (ordered_with_entry c.in-Some.entry l.entries.items l.invariant.ordered);
       len = omega (arith, over);
-      room = grind (arith, longer, room, len, kept);
+      room = grind (arith, longer, room, len, entered.capacity);
     }
 
 pub returns : goal.returns

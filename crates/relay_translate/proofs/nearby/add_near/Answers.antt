@@ -33,8 +33,7 @@ returns c =
     let between = c.loop-depth.sessions in
     let new = c.add_told-2.new.sessions in
     let end = c.loop-depth-test.false in
-    let upto = c.loop-depth.auto.depth-end in
-    let all : c.loop-depth.depth ≡ length path = omega (arith, end, upto, path_of-length tokens) in
+    let all : c.loop-depth.depth ≡ length path = omega (arith, end, c.loop-depth.auto.depth-end, path_of-length tokens) in
     let above = subst (λ n. Gains (λ s e. is_above n path e.slot.pointer && tells c.args.change.now s e) es old between) all c.loop-depth.invariant in
     let run = c.led_by.ensures ∙ ap (λ n. filter (λ e. leads n path e.slot.pointer) es) (path_of-length tokens) in
     on_ok_weaker c.add_told-2.result
