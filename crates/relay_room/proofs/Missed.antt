@@ -1,5 +1,5 @@
 -- What leads the view of an earlier revision to the view of the present one.
-use Rattle.std.proofs.Common.{◌≡◌, ℕ, zero, suc, ◌-◌, List, [], ◌∷◌, ◌++◌, take, Bool, true, false, nat_lt, if◌then◌else◌, refl, arith}
+use Rattle.std.proofs.Common.{◌≡◌, ℕ, suc, ◌-◌, List, [], ◌∷◌, ◌++◌, take, Bool, true, false, nat_lt, if◌then◌else◌, refl, arith}
 use Rattle.std.proofs.lemmas.Bool.Decides.{nat_tests}
 use Rattle.std.specs.List.{AllByRecursion}
 use Rattle.relay_tree.specs.Document.{Document}
@@ -35,9 +35,8 @@ fit_append [] b h k = k
 fit_append (c ∷ a) b h k = (h.0, fit_append a b h.1 k)
 
 fit_since : (n : ℕ) (revisions : List (List Change)) → AllByRecursion Fit revisions → Fit (in_order (take n revisions))
-fit_since zero revisions h = tt
-fit_since (suc n) [] h = tt
 fit_since (suc n) (changes ∷ revisions) h = fit_append (in_order (take n revisions)) changes (fit_since n revisions h.1) h.0
+fit_since _ _ h = tt
 
 fit_patch : (ops : List Op) → AllByRecursion IsSent ops → Fits (patch_or_nothing ops)
 fit_patch [] h = tt

@@ -9,7 +9,7 @@ use Rattle.relay_patch.specs.Patch.{exceeds, within}
 use Rattle.relay_patch.specs.Change.{Leads}
 use Rattle.relay_patch.proofs.Made.{Leads-append}
 use Rattle.relay_history.specs.declared.history.TheConstants.{MOST_REVISIONS, LAST_REVISION}
-use Rattle.relay_history.specs.History.{Past, IsHistory, Reaches, in_order, with_revision, changes_since}
+use Rattle.relay_history.specs.History.{IsHistory, Reaches, in_order, with_revision, changes_since}
 use Rattle.relay_history.proofs.Growing.{held-with_revision, changes_since-newest, changes_since-with_revision}
 use Rattle.relay_room.specs.Room.{State, IsRoom, Fit, begun}
 
@@ -29,9 +29,8 @@ begun_is_room document rev limit flat light least most last = record {
 }
 
 fit_take : (n : ℕ) (revisions : List (List Change)) → AllByRecursion Fit revisions → AllByRecursion Fit (take n revisions)
-fit_take zero revisions h = tt
-fit_take (suc n) [] h = tt
 fit_take (suc n) (changes ∷ revisions) h = (h.0, fit_take n revisions h.1)
+fit_take _ _ h = tt
 
 pub edited_is_room : (room : State) (changes : List Change) (document : Document)
     → IsRoom room → IsHistory (with_revision changes room.history)
@@ -49,8 +48,7 @@ edited_is_room room changes document was is inside fit leads = record {
 
     from : (rev : ℕ) → Reaches next.history rev → (room.history.newest < rev) ⊎ (rev ≤ room.history.newest) → (d : Document) × Leads d (changes_since rev next.history) document
     from rev reaches (inl above) =
-        let made = reaches.made in
-        let newest : rev ≡ room.history.newest + 1 = omega (arith, above, made) in
+        let newest : rev ≡ room.history.newest + 1 = omega (arith, above, reaches.made) in
         (document, rw (newest, changes_since-newest next.history) refl)
     from rev reaches (inr below) =
         let back = reaches.back in
@@ -58,11 +56,3 @@ edited_is_room room changes document was is inside fit leads = record {
         let earlier : Reaches room.history rev = record { back = omega (arith, back, held, below); made = below } in
         let led = was.led rev earlier in
         (led.0, rw (changes_since-with_revision rev changes room.history below reaches) (Leads-append (changes_since rev room.history) changes led.0 room.document document led.1 leads))
-
--- from the revision before, a room that was edited reaches to the present one
-pub edited_reaches : (changes : List Change) (past : Past) → IsHistory past → Reaches (with_revision changes past) past.newest
-edited_reaches changes past is =
-    let held = held-with_revision changes past in
-    let limited = is.limited.0 in
-    let made = is.made in
-    record { back = omega (arith, held, limited, made); made = omega arith }
