@@ -1,6 +1,5 @@
 -- The numbers of a request that was read, and of a refusal, are counts.
-use Rattle.std.proofs.Common.{◌≡◌, ℕ, ◌≤◌, pos, List, length, Bool, true, false, Option, Some, None, Result, Ok, Err, nat_lt, nat_le, bytes_eq, option_map, option_and_then, if◌then◌else◌, refl, subst, arith}
-use Rattle.std.specs.Prelude.{IfOk, IfErr, IfSome, MatchResult, codes}
+use Rattle.std.proofs.Common.{◌≡◌, ℕ, ◌≤◌, pos, List, length, Bool, true, false, Option, Some, None, Result, Ok, Err, nat_lt, nat_le, bytes_eq, option_map, option_and_then, if◌then◌else◌, refl, subst, arith, IfOk, IfErr, IfSome, MatchResult, codes}
 use Rattle.std.proofs.lemmas.Bool.Decides.{nat_tests}
 use Rattle.serde_json.specs.Data.{Data}
 use Rattle.serde_json.specs.Read as json
@@ -108,11 +107,10 @@ below_is most (Some n) few h = omega (arith, few, h)
 -- Patches.
 
 patch_refused : (id : ℕ) (fault : PatchFault) → IsCount id → IsBelow REQUEST.ops (place fault) → IsRefusal (patch_refusal id fault)
-patch_refused id patch.TooManyOps counts h = (counts, tt, tt)
 patch_refused id (patch.Shape at) counts h = (counts, below_is REQUEST.ops at (omega arith) h, tt)
 patch_refused id (patch.UnknownOp at) counts h = (counts, below_is REQUEST.ops (Some at) (omega arith) h, tt)
 patch_refused id (patch.Pointer at) counts h = (counts, below_is REQUEST.ops (Some at) (omega arith) h, tt)
-patch_refused id patch.NoMemory counts h = (counts, tt, tt)
+patch_refused id _ counts h = (counts, tt, tt)
 
 patch_reads : (id : ℕ) (d : Document) → IsCount id → Reads (λ ops. length ops ≤ REQUEST.ops) (patch_in id d)
 patch_reads id d counts =
@@ -127,10 +125,9 @@ patch_reads id d counts =
 
 -- the pointer that a fault names, if it names one
 abbrev pointer_place : ViewFault → Option ℕ
-pointer_place view.TooMany = None
 pointer_place (view.Shape at) = at
 pointer_place (view.Pointer at) = Some at
-pointer_place view.NoMemory = None
+pointer_place _ = None
 
 spelled_names : (n : ℕ) (kind : SlotKind) (s : List ℕ) → IfErr (slot_spelled n kind s) (λ fault. pointer_place fault ≡ Some n)
 spelled_names n kind s = go (path_of_text s)
@@ -157,10 +154,9 @@ view_of_place (list ds) = few-place slot_at pointer_place slot_at_names SLOTS_MO
 view_of_place _ = tt
 
 view_refused : (id : ℕ) (fault : ViewFault) → IsCount id → IsBelow SLOTS_MOST (pointer_place fault) → IsRefusal (view_refusal id fault)
-view_refused id view.TooMany counts h = (counts, tt, tt)
 view_refused id (view.Shape at) counts h = (counts, below_is SLOTS_MOST at (omega arith) h, tt)
 view_refused id (view.Pointer at) counts h = (counts, below_is SLOTS_MOST (Some at) (omega arith) h, tt)
-view_refused id view.NoMemory counts h = (counts, tt, tt)
+view_refused id _ counts h = (counts, tt, tt)
 
 view_reads : (id : ℕ) (d : Document) → IsCount id → Reads Anything (view_in id d)
 view_reads id d counts =

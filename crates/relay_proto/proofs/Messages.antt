@@ -19,29 +19,11 @@ use Rattle.relay_proto.proofs.Patches.{patch_back}
 
 pub word_back : (w : Word) → word_of_text (word_text w) ≡ Some w
 word_back word.TooLong = refl
-word_back word.NotJson = refl
-word_back word.Number = refl
-word_back word.Shape = refl
-word_back word.TooMany = refl
-word_back word.UnknownOp = refl
-word_back word.Pointer = refl
-word_back word.Missing = refl
-word_back word.NotIndex = refl
-word_back word.PastEnd = refl
-word_back word.NoContainer = refl
-word_back word.Root = refl
-word_back word.IntoItself = refl
-word_back word.TestFailed = refl
-word_back word.TooDeep = refl
-word_back word.TooHeavy = refl
-word_back word.Exhausted = refl
-word_back word.Stale = refl
-word_back word.Future = refl
+word_back _ = refl
 
 pub how_back : (h : How) → how_of_text (how_text h) ≡ Some h
 how_back how.Nothing = refl
-how_back how.Patch = refl
-how_back how.Snapshot = refl
+how_back _ = refl
 
 count_back : (n : ℕ) → IsCount n → count_of (count n) ≡ Some n
 count_back n h = let test : nat_le n count_most ≡ true = grind (arith, nat_tests) in rw test refl

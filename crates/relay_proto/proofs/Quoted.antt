@@ -1,6 +1,5 @@
 -- The words that messages spell, in quotes: none has a character to escape.
-use Rattle.std.proofs.Common.{◌≡◌, ℕ, List, ◌∷◌, ◌++◌, Option, Some, None, refl, ap}
-use Rattle.std.specs.Prelude.{codes, decimal}
+use Rattle.std.proofs.Common.{◌≡◌, ℕ, List, ◌∷◌, ◌++◌, Option, Some, None, refl, ap, codes, decimal}
 use Rattle.json.specs.Print.{escape_byte}
 use Rattle.relay_tree.specs.Document.{text}
 use Rattle.relay_tree.specs.Text.{text_of}
@@ -15,30 +14,12 @@ use Rattle.relay_proto.specs.declared.word.Word.TheVariants as word
 text_of-word_text : (w : Word) (rest : List ℕ) → 34 ∷ (word_text w ++ (34 ∷ rest)) ≡ text_of (text (word_text w)) ++ rest
 unfolding escape_byte
 text_of-word_text word.TooLong rest = refl
-text_of-word_text word.NotJson rest = refl
-text_of-word_text word.Number rest = refl
-text_of-word_text word.Shape rest = refl
-text_of-word_text word.TooMany rest = refl
-text_of-word_text word.UnknownOp rest = refl
-text_of-word_text word.Pointer rest = refl
-text_of-word_text word.Missing rest = refl
-text_of-word_text word.NotIndex rest = refl
-text_of-word_text word.PastEnd rest = refl
-text_of-word_text word.NoContainer rest = refl
-text_of-word_text word.Root rest = refl
-text_of-word_text word.IntoItself rest = refl
-text_of-word_text word.TestFailed rest = refl
-text_of-word_text word.TooDeep rest = refl
-text_of-word_text word.TooHeavy rest = refl
-text_of-word_text word.Exhausted rest = refl
-text_of-word_text word.Stale rest = refl
-text_of-word_text word.Future rest = refl
+text_of-word_text _ rest = refl
 
 text_of-how_text : (h : How) (rest : List ℕ) → 34 ∷ (how_text h ++ (34 ∷ rest)) ≡ text_of (text (how_text h)) ++ rest
 unfolding escape_byte
 text_of-how_text how.Nothing rest = refl
-text_of-how_text how.Patch rest = refl
-text_of-how_text how.Snapshot rest = refl
+text_of-how_text _ rest = refl
 
 -- The texts of the replies that spell a word.
 

@@ -3,7 +3,7 @@ use Rattle.std.proofs.Common.{◌≡◌, ℕ, suc, ◌+◌, ◌≤◌, List, [],
 use Rattle.std.specs.List.{AllByRecursion}
 use Rattle.std.specs.Result.{result_ok}
 use Rattle.serde_json.specs.Data as seen
-use Rattle.relay_tree.specs.Document.{Document, null, truth, whole, text, list, object, Items, no_items, item, Members, no_members, member, depth, items_depth, members_depth}
+use Rattle.relay_tree.specs.Document.{Document, text, list, object, Items, no_items, item, Members, no_members, member, depth, items_depth, members_depth}
 use Rattle.relay_tree.specs.Text.{data_of, items_data, members_data}
 use Rattle.relay_pointer.specs.Path.{Path, at}
 use Rattle.relay_patch.specs.Form.{ops_items, op_members}
@@ -27,12 +27,9 @@ use Rattle.relay_proto.specs.declared.message.Message.TheVariants as message
 
 mutual
   nests : (d : Document) → seen.depth (data_of d) ≤ depth d
-  nests null = omega arith
-  nests (truth b) = omega arith
-  nests (whole z) = omega arith
-  nests (text s) = omega arith
   nests (list ds) = omega (arith, items_nest ds)
   nests (object ms) = omega (arith, members_nest ms)
+  nests _ = omega arith
 
   items_nest : (ds : Items) → seen.items_depth (items_data ds) ≤ items_depth ds
   items_nest no_items = omega arith
@@ -55,11 +52,9 @@ short_paths m (Test path v ∷ ops) h = (h.0.0, short_paths m ops h.1)
 
 op_nests : (m : ℕ) (o : Op) → OpFits RELAYED.tokens m o → seen.members_depth (members_data (op_members o)) ≤ m
 op_nests m (Add path v) h = omega (arith, nests v, h.1)
-op_nests m (Remove path) h = omega arith
 op_nests m (Replace path v) h = omega (arith, nests v, h.1)
-op_nests m (Move from path) h = omega arith
-op_nests m (Copy from path) h = omega arith
 op_nests m (Test path v) h = omega (arith, nests v, h.1)
+op_nests m _ h = omega arith
 
 ops_nest : (m : ℕ) (ops : List Op) → AllByRecursion (OpFits RELAYED.tokens m) ops → seen.items_depth (items_data (ops_items ops)) ≤ suc m
 ops_nest m [] h = omega arith

@@ -80,13 +80,9 @@ nullable_flat (Some n) = refl
 nullable_flat None = refl
 
 reply_flat : (r : Reply) → depth (data_of (reply_document r)) ≤ max_depth
-reply_flat (reply.Welcome epoch rev session) = lit≤ tt
-reply_flat (reply.Done id rev) = lit≤ tt
 reply_flat (reply.Refused id fault at None) = rw (nullable_flat id, nullable_flat at) (lit≤ tt)
 reply_flat (reply.Refused id fault at (Some rev)) = rw (nullable_flat id, nullable_flat at) (lit≤ tt)
-reply_flat (reply.Watching id) = lit≤ tt
-reply_flat (reply.Resumed id how) = lit≤ tt
-reply_flat (reply.Unwatched id) = lit≤ tt
+reply_flat _ = lit≤ tt
 
 -- a text that reads as the document of a message reads as the message
 back : (s : List ℕ) (d : Document) (m : Message) → message_of d ≡ Some m → tree_of_text s ≡ Some d → message_of_text s ≡ Some m

@@ -1,5 +1,4 @@
-use Rattle.std.proofs.Common.{◌≡◌, ◌≤◌, Ok, length, subst, arith}
-use Rattle.std.specs.Prelude.{IfOk, IfErr}
+use Rattle.std.proofs.Common.{◌≡◌, ◌≤◌, Ok, length, subst, arith, IfOk, IfErr}
 use Rattle.relay_proto.specs.Request.{IsRefusedAs}
 use Rattle.relay_proto.specs.declared.reading.TheConstants.{REQUEST_MOST}
 use Rattle.relay_proto.proofs.Requests.{asks_as_its_tree}
