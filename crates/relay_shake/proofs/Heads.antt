@@ -1,6 +1,5 @@
 -- Lemmas on the heads that bytes begin with, and on what is answered to them.
-use Rattle.std.proofs.Common.{◌≡◌, ℕ, ◌-◌, ◌*◌, ◌<◌, ◌≤◌, List, [], ◌∷◌, ◌++◌, length, drop, nat_lt, sym, ◌∙◌, ap, subst, arith, append-nil, length-append, length-take, length-drop, All, Bool, Option, None, Some, refl}
-use Rattle.std.specs.Prelude.{option_copied, IsSome}
+use Rattle.std.proofs.Common.{◌≡◌, ℕ, ◌-◌, ◌*◌, ◌<◌, ◌≤◌, List, [], ◌∷◌, ◌++◌, length, drop, nat_lt, sym, ◌∙◌, ap, subst, arith, append-nil, length-append, length-take, length-drop, All, Bool, Option, None, Some, refl, option_copied, IsSome}
 use denote.Ref.{Bor}
 use Rattle.std.proofs.lemmas.Bool.Decides.{nat_tests}
 use Rattle.std.specs.List.{flat_map}
@@ -39,8 +38,7 @@ length-fields : (fields : List Field) → All IsField fields → 3 * length fiel
 length-fields [] fit = omega arith
 length-fields (f ∷ fields) fit =
     let first = length-field f (All-head IsField f fields fit) in
-    let rest = length-fields fields (All-tail IsField f fields fit) in
-    omega (arith, rest, first, length-append (print_field f) (flat_map print_field fields))
+    omega (arith, length-fields fields (All-tail IsField f fields fit), first, length-append (print_field f) (flat_map print_field fields))
 
 -- a head is longer than its header fields
 length-head : (head : RequestHead) (rest : List ℕ) → All IsField head.fields → 3 * length head.fields < length (print_request head ++ rest)

@@ -1,6 +1,5 @@
 -- Lemmas on the statuses of refusals.
-use Rattle.std.proofs.Common.{◌≡◌, ℕ, ◌++◌, ◌∷◌, Bool, true, false, refl, sym, subst, eqb-true, unwrap_or, [], List, Option, Some, None, option_map, append_assoc, ap, ◌∙◌, Result, Ok, Err}
-use Rattle.std.specs.Prelude.{◌==◌, ◌||◌, IsTrue, IsSome}
+use Rattle.std.proofs.Common.{◌≡◌, ℕ, ◌++◌, ◌∷◌, Bool, true, false, refl, sym, subst, eqb-true, unwrap_or, [], List, Option, Some, None, option_map, append_assoc, ap, ◌∙◌, Result, Ok, Err, ◌==◌, ◌||◌, IsTrue, IsSome}
 use Rattle.std.specs.Result.{OkIff}
 use denote.Ref.{Bor}
 use Rattle.http.specs.StatusCode.{code_digits, reason_phrase}

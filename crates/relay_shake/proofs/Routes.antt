@@ -1,6 +1,5 @@
 -- What a router of one route, a prefix and then a parameter, finds.
-use Rattle.std.proofs.Common.{◌≡◌, ℕ, zero, suc, ◌+◌, ◌-◌, ◌<◌, ◌≤◌, Bool, true, false, not, cond, List, [], ◌∷◌, ◌++◌, length, take, drop, get_or, ltb, leb, codes, All, Option, Some, None, refl, sym, ◌∙◌, ap, subst, ne_eqb, eqb-true, add-zero, arith, lit<}
-use Rattle.std.specs.Prelude.{◌==◌, ◌&&◌, option_copied, MatchOption, IsUtf8, IsAscii}
+use Rattle.std.proofs.Common.{◌≡◌, ℕ, zero, suc, ◌+◌, ◌-◌, ◌<◌, ◌≤◌, Bool, true, false, not, cond, List, [], ◌∷◌, ◌++◌, length, take, drop, get_or, ltb, leb, codes, All, Option, Some, None, refl, sym, ◌∙◌, ap, subst, ne_eqb, eqb-true, add-zero, arith, lit<, ◌==◌, ◌&&◌, option_copied, MatchOption, IsUtf8, IsAscii}
 use denote.Ref.{Bor}
 use Rattle.std.proofs.lemmas.Bool.Decides.{nat_tests}
 use Rattle.std.proofs.lemmas.List.{take_all, length-drop}
@@ -13,7 +12,7 @@ use Rattle.matchit.specs.Seek.{seek, param_step, or_else, has_slash}
 use Rattle.matchit.specs.Params.{walk, wild_from, wild_stop, next_at, part_of, named, AllText}
 use Rattle.matchit.specs.Router.{RouteOf, Refused}
 use Rattle.matchit.specs.declared.error.InsertError.{InsertError}
-use Rattle.matchit.specs.declared.error.InsertError.TheVariants.{Conflict, InvalidParamSegment, InvalidParam, InvalidCatchAll, OutOfMemory}
+use Rattle.matchit.specs.declared.error.InsertError.TheVariants.{Conflict, OutOfMemory}
 use Rattle.relay_shake.specs.Head.{kept}
 use Rattle.relay_shake.specs.Route.{behind, is_segment, routed}
 
@@ -162,10 +161,8 @@ walked target room =
 -- an empty router refuses a route for want of memory alone
 pub only_memory : (pattern : List ℕ) (fault : InsertError) → Refused {T = Unit {0}} pattern [] fault → fault ≡ OutOfMemory
 only_memory pattern (Conflict with) (route, near, text) = absurd (cc)
-only_memory pattern InvalidParamSegment h = absurd h
-only_memory pattern InvalidParam h = absurd h
-only_memory pattern InvalidCatchAll h = absurd h
 only_memory pattern OutOfMemory h = refl
+only_memory pattern _ h = absurd h
 
 -- where the router finds its route, or finds none
 pub found-true : {K : Type 0} (k m : K) (test : Bool) → found k test ≡ Some m → (test ≡ true) × (k ≡ m)

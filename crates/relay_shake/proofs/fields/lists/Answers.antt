@@ -1,6 +1,5 @@
 -- The parts between the commas are tried in their order.
-use Rattle.std.proofs.Common.{rules, tests}
-use Rattle.std.specs.Prelude.{◌==◌}
+use Rattle.std.proofs.Common.{rules, tests, ◌==◌}
 use Rattle.std.specs.Str.{str_eq_ignore_ascii_case}
 use Rattle.std.proofs.lemmas.Iterator.Search.{any_from_yields_List}
 use Rattle.std.proofs.lemmas.Iterator.Splits.{YieldsList-from_slice_split}
