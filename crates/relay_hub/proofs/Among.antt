@@ -1,8 +1,7 @@
 -- Telling the sessions that a list of numbers names, one after the other.
-use Rattle.std.proofs.Common.{◌≡◌, ℕ, zero, suc, ◌+◌, ◌<◌, ◌==◌, Bool, true, false, ◌||◌, nat_eq, List, [], ◌∷◌, ◌++◌, length, take, get_or, Some, None, refl, sym, ◌∙◌, ap, subst, arith, inl, inr}
+use Rattle.std.proofs.Common.{◌≡◌, ℕ, zero, suc, ◌+◌, ◌<◌, ◌==◌, Bool, true, false, ◌||◌, nat_eq, List, [], ◌∷◌, ◌++◌, length, take, get_or, Some, None, refl, sym, ◌∙◌, ap, subst, arith, inl, inr, position, slice_set, if◌then◌else◌}
 use Rattle.std.specs.List.{list_any, position_or_len}
 use Rattle.std.specs.List.Sorted.{IsStrictlyIncreasing}
-use Rattle.std.specs.Prelude.{position, slice_set, if◌then◌else◌}
 use Rattle.std.proofs.lemmas.Bool.Decides.{eqb_tells, nat_tests}
 use Rattle.std.proofs.lemmas.List.{take_more}
 use Rattle.std.proofs.lemmas.List.Folds.{list_any-append}
@@ -112,10 +111,9 @@ module _ (d : Document) (changes : List Change) (room : Room) where
       subst (λ q. ToldIf (list_any (nat_eq q) (s ∷ [])) d changes room k.0 y z) same k.2 in
       let both = both_told (list_any (nat_eq x.number) ns) (list_any (nat_eq x.number) (s ∷ [])) h.0 k.0 x y z (never_both x.number s ns fresh) h.2 told in
       (both.0, h.1 + k.1, rw (list_any-append (nat_eq x.number) ns (s ∷ [])) both.1, omega (arith, h.3, k.3, both.2), more_among ns s fresh xs ys zs h.1 k.1 h.4 k.4)
-  more_among ns s fresh [] [] (z ∷ zs) n m h k = absurd k
   more_among ns s fresh [] (y ∷ ys) zs n m h k = absurd h
   more_among ns s fresh (x ∷ xs) [] zs n m h k = absurd h
-  more_among ns s fresh (x ∷ xs) (y ∷ ys) [] n m h k = absurd k
+  more_among ns s fresh _ _ _ n m h k = absurd k
 
   -- nobody is told of no number
   pub none_among : (xs : List Session) → ToldAmong [] d changes room xs xs 0

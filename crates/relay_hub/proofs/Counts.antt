@@ -1,6 +1,5 @@
 -- The reply to an edit that is refused holds counts.
-use Rattle.std.proofs.Common.{◌≡◌, ℕ, ◌≤◌, List, length, Option, Some, None, Err, arith}
-use Rattle.std.specs.Prelude.{option_map}
+use Rattle.std.proofs.Common.{◌≡◌, ℕ, ◌≤◌, List, length, Option, Some, None, Err, arith, option_map}
 use Rattle.relay_patch.specs.declared.bounds.TheConstants.Bounds.{DOCUMENT}
 use Rattle.relay_patch.specs.declared.limits.TheConstants.PatchLimits.{REQUEST}
 use Rattle.relay_patch.specs.declared.op.Op.{Op}

@@ -1,6 +1,5 @@
 -- The documents of a room as they become more, and what becomes of a room that has them.
-use Rattle.std.proofs.Common.{◌≡◌, ℕ, zero, suc, ◌+◌, ◌-◌, ◌<◌, ◌≤◌, List, [], ◌∷◌, ◌++◌, length, take, Some, refl, sym, ◌∙◌, ap, subst, arith, length-append, ◌⊎◌, inl, inr}
-use Rattle.std.specs.Prelude.{slice_get, min}
+use Rattle.std.proofs.Common.{◌≡◌, ℕ, zero, suc, ◌+◌, ◌-◌, ◌<◌, ◌≤◌, List, [], ◌∷◌, ◌++◌, length, take, Some, refl, sym, ◌∙◌, ap, subst, arith, length-append, ◌⊎◌, inl, inr, slice_get, min}
 use Rattle.std.proofs.lemmas.Bool.{cases_lt}
 use Rattle.std.proofs.lemmas.Option.{slice_get-get_or}
 use Rattle.relay_tree.specs.Document.{Document, null}
@@ -55,17 +54,15 @@ goes_on_led most ds room next changes d h document history leads rev before at r
         rw (last, changes_since-newest (with_revision changes past)) is
     go (inr below) =
         let back = reaches_with.back in
-        let held = held-with_revision changes past in
-        let earlier : Reaches past rev = record { back = omega (arith, back, held, below); made = below } in
+        let earlier : Reaches past rev = record { back = omega (arith, back, held-with_revision changes past, below); made = below } in
         let older : rev < length ds = omega (arith, below, h.made) in
         rw (changes_since-with_revision rev changes past below reaches_with)
         (Leads-append (changes_since rev past) changes before room.document d (h.led rev before (sym (slice_get-older ds d rev older) ∙ at) earlier) leads)
 
 slice_get-taken : {X : Type 0} (n : ℕ) (xs : List X) (i : ℕ) (x : X) → slice_get (take n xs) i ≡ Some x → slice_get xs i ≡ Some x
-slice_get-taken zero xs i x h = absurd (cc h)
-slice_get-taken (suc n) [] i x h = absurd (cc h)
 slice_get-taken (suc n) (y ∷ ys) zero x h = h
 slice_get-taken (suc n) (y ∷ ys) (suc i) x h = slice_get-taken n ys i x h
+slice_get-taken _ _ i x h = absurd (cc h)
 
 -- the changes of each revision that is still held lead from the document before it to its own
 goes_on_steps : (most : ℕ) (ds : List Document) (room next : Room) (changes : List Change) (d : Document) → RoomStands most ds room

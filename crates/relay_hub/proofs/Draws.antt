@@ -73,11 +73,9 @@ watch_drawn ds room number (Some v) [] [] true k (Some w) reads h =
     let m = snapshot_of room v in
     subst (λ after. WatchStands ds room (session_with number (Some v) (line [] [] false k)) after) (sym (heard_message w m reads)) (h.0, hears ds w m [] (rw same h.1))
 watch_drawn ds room number None [] [] true k (Some w) reads h = absurd (cc h.0)
-watch_drawn ds room number pointers [] [] false k (Some w) reads h = h
-watch_drawn ds room number pointers (r ∷ replies) patches due k None reads h = h
 watch_drawn ds room number pointers [] (p ∷ patches) due k None reads h = absurd (cc h.1)
 watch_drawn ds room number pointers [] [] true k None reads h = absurd (cc h.2)
-watch_drawn ds room number pointers [] [] false k None reads h = h
+watch_drawn ds room number pointers _ _ _ k _ reads h = h
 
 -- a draw of session s, which is at home
 pub draw_stands : (b : Beginning) (E : Log) (old : State) (s : ℕ) (mine : Home old s) (h : Group) (text : Option (List ℕ)) → StandsFor b E old

@@ -1,6 +1,5 @@
 -- Edits: an accepted one gives its room one more document, of which all sessions are told; a refused one is answered alone.
-use Rattle.std.proofs.Common.{◌≡◌, ℕ, ◌-◌, Bool, true, false, List, [], ◌∷◌, ◌++◌, length, Option, Some, None, Result, Ok, Err, refl, sym, ◌∙◌, ap, arith}
-use Rattle.std.specs.Prelude.{if◌then◌else◌}
+use Rattle.std.proofs.Common.{◌≡◌, ℕ, ◌-◌, Bool, true, false, List, [], ◌∷◌, ◌++◌, length, Option, Some, None, Result, Ok, Err, refl, sym, ◌∙◌, ap, arith, if◌then◌else◌}
 use Rattle.std.specs.Result.{result_ok}
 use Rattle.relay_patch.specs.Change.{all_changes}
 use Rattle.relay_patch.specs.declared.change.Change.{Change}
@@ -54,9 +53,8 @@ module _ (most k : ℕ) (ds : List Document) (d : Document) (room next : Room) (
   told_stands : (v : Option View) (short : Bool) (x y : Session) (w : Option Watching) → x.view ≡ v → ToldAs room.document changes next v short x y → LineStands k x → WatchStands ds room x w
       → LineStands k y × WatchStands (ds ++ d ∷ []) next y w
   told_stands (Some v) short x y (Some w) e told line watch = let same : v ≡ w.view = cc in told_view short x y w (rw same at told) line watch
-  told_stands (Some v) short x y None e told line watch = absurd (cc (e, watch.0))
-  told_stands None short x y (Some w) e told line watch = absurd (cc (e, watch.0))
   told_stands None short x y None e told line watch = rw told.0 (line, watch)
+  told_stands _ short x y _ e told line watch = absurd (cc (e, watch.0))
 
   told_session : (before later : List ℕ → List Document) (name : List ℕ) (o p : Option Session) (there : Option (List ℕ)) (w : Option Watching) → before name ≡ ds → later name ≡ ds ++ d ∷ []
       → IsTold room.document changes next o p → SessionStands k before name room o there w → SessionStands k later name next p there w
@@ -64,8 +62,7 @@ module _ (most k : ℕ) (ds : List Document) (d : Document) (room next : Room) (
       let s = told_stands x.view told.0 x y w refl told.1 h.1 (rw had at h.2) in
       (h.0, s.0, rw has s.1)
   told_session before later name None None there w had has told h = h
-  told_session before later name (Some x) None there w had has told h = absurd told
-  told_session before later name None (Some y) there w had has told h = absurd told
+  told_session before later name _ _ there w had has told h = absurd told
 
 -- An edit of session s, which is at home.
 

@@ -1,13 +1,12 @@
 -- What a client that follows a view holds, as messages come.
-use Rattle.std.proofs.Common.{◌≡◌, ℕ, ◌<◌, Bool, true, false, List, [], ◌∷◌, ◌++◌, Option, Some, None, Ok, refl, sym, ◌∙◌, ap, subst, arith, append_assoc, append-nil, length-append}
-use Rattle.std.specs.Prelude.{slice_get, option_map, nat_lt, map, if◌then◌else◌}
+use Rattle.std.proofs.Common.{◌≡◌, ℕ, ◌<◌, Bool, true, false, List, [], ◌∷◌, ◌++◌, Option, Some, None, Ok, refl, sym, ◌∙◌, ap, subst, arith, append_assoc, append-nil, length-append, slice_get, option_map, nat_lt, map, if◌then◌else◌}
 use Rattle.std.proofs.lemmas.Bool.Decides.{nat_tests}
 use Rattle.std.proofs.lemmas.List.{map-append}
 use Rattle.std.proofs.lemmas.Option.{slice_get_within}
 use Rattle.relay_outbox.specs.Outbox.{Line, line, folded, with_patch}
 use Rattle.relay_patch.specs.Patch.{after, free}
 use Rattle.relay_patch.specs.declared.op.Op.{Op}
-use Rattle.relay_proto.specs.Client.{Client, nothing, holds, lost, client, client_after}
+use Rattle.relay_proto.specs.Client.{Client, nothing, holds, client, client_after}
 use Rattle.relay_proto.specs.declared.message.Message.{Message}
 use Rattle.relay_proto.specs.declared.message.Message.TheVariants.{Reply, Patch, Snapshot}
 use Rattle.relay_proto.specs.declared.reply.Reply.{Reply as AnyReply}
@@ -47,8 +46,7 @@ document_newer ds d v r tree None e h = absurd cc
 
 HoldsRevision-newer : (ds : List Document) (d : Document) (v : View) (r : ℕ) (c : Client) → HoldsRevision ds v r c → HoldsRevision (ds ++ d ∷ []) v r c
 HoldsRevision-newer ds d v r (holds held tree) h = (h.0, document_newer ds d v r tree (slice_get ds r) refl h.1)
-HoldsRevision-newer ds d v r nothing h = h
-HoldsRevision-newer ds d v r lost h = h
+HoldsRevision-newer ds d v r _ h = h
 
 IsAtNamed-newer : (ds : List Document) (d : Document) (v : View) (m : Message) (c : Client) → IsAtNamed ds v m c → IsAtNamed (ds ++ d ∷ []) v m c
 IsAtNamed-newer ds d v (Reply r) c h = tt
@@ -94,8 +92,7 @@ module _ (most : ℕ) (ds : List Document) (d : Document) (w : Watching) (room n
       let same : tree ≡ view w.view room.document = present.1 ∙ ap (view w.view) (sym h.document) in
       let above : nat_lt rev (revision next) ≡ true = grind (arith, nat_tests, present.0, k.made, length-append ds (d ∷ [])) in
       rw (same, above, leads) refl
-  patch_leads nothing ops present leads = absurd present
-  patch_leads lost ops present leads = absurd present
+  patch_leads _ ops present leads = absurd present
 
   Follows-patch : (before : List Message) (ops : List Op) → Follows ds w before → after (view w.view room.document) ops free ≡ Ok (view w.view next.document)
       → Follows (ds ++ d ∷ []) w (before ++ Patch (revision next) ops ∷ [])
@@ -114,8 +111,7 @@ module _ (most : ℕ) (ds : List Document) (d : Document) (w : Watching) (room n
   stays_present : (c : Client) → HoldsPresent ds w.view c → view w.view room.document ≡ view w.view next.document → HoldsPresent (ds ++ d ∷ []) w.view c
   stays_present (holds rev tree) present same =
       (omega (arith, present.0, length-append ds (d ∷ [])), present.1 ∙ (ap (view w.view) (sym h.document) ∙ (same ∙ ap (view w.view) k.document)))
-  stays_present nothing present same = absurd present
-  stays_present lost present same = absurd present
+  stays_present _ present same = absurd present
 
   Follows-stays : (before : List Message) → Follows ds w before → view w.view room.document ≡ view w.view next.document → Follows (ds ++ d ∷ []) w before
   Follows-stays before follows same = record {

@@ -1,6 +1,5 @@
 -- What an entry changes in one room alone, or nowhere, keeps a hub standing for its log.
-use Rattle.std.proofs.Common.{◌≡◌, ◌≢◌, ℕ, ◌==◌, List, [], ◌∷◌, Option, Some, None, refl, sym, ◌∙◌, ap, subst, inl, inr}
-use Rattle.std.specs.Prelude.{slice_get, slice_set, is_some, if◌then◌else◌}
+use Rattle.std.proofs.Common.{◌≡◌, ◌≢◌, ℕ, ◌==◌, List, [], ◌∷◌, Option, Some, None, refl, sym, ◌∙◌, ap, subst, inl, inr, slice_get, slice_set, is_some, if◌then◌else◌}
 use Rattle.std.proofs.lemmas.Bool.Decides.{eqb_tells}
 use Rattle.relay_room.specs.Room.{State as Room}
 use Rattle.relay_tree.specs.Document.{Document, null}

@@ -1,6 +1,5 @@
 -- The index of what a room's sessions watch, as they change.
-use Rattle.std.proofs.Common.{◌≡◌, ℕ, ◌==◌, Bool, true, false, cond, List, [], ◌∷◌, ◌++◌, Option, Some, None, refl, sym, ◌∙◌, ap, nat_cmp, arith}
-use Rattle.std.specs.Prelude.{option_and_then, position, if◌then◌else◌}
+use Rattle.std.proofs.Common.{◌≡◌, ℕ, ◌==◌, Bool, true, false, cond, List, [], ◌∷◌, ◌++◌, Option, Some, None, refl, sym, ◌∙◌, ap, nat_cmp, arith, option_and_then, position, if◌then◌else◌}
 use Rattle.std.specs.Cmp.{nat_cmp_total, nat_eq_equiv, unsigned_ties}
 use Rattle.std.specs.FinMap as map
 use Rattle.std.specs.FinMap.{get-empty, get-insert, get-remove}
@@ -101,15 +100,13 @@ first_indexed x none = record {
 -- Telling changes no view.
 
 told_view : (d : Document) (changes : List Change) (room : Room) (v : Option View) (short : Bool) (x y : Session) → ToldAs d changes room v short x y → y.view ≡ x.view
-told_view d changes room None short x y h = ap (λ (z : Session). z.view) h.0
 told_view d changes room (Some v) true x y h = ap (λ (z : Session). z.view) h
-told_view d changes room (Some v) false x y h = ap (λ (z : Session). z.view) h.0
+told_view d changes room _ _ x y h = ap (λ (z : Session). z.view) h.0
 
 told_shown : (d : Document) (changes : List Change) (room : Room) (o p : Option Session) → IsTold d changes room o p → shown o ≡ shown p
 told_shown d changes room (Some x) (Some y) h = sym (told_view d changes room x.view h.0 x y h.1)
 told_shown d changes room None None h = refl
-told_shown d changes room (Some x) None h = absurd h
-told_shown d changes room None (Some y) h = absurd h
+told_shown d changes room _ _ h = absurd h
 
 pub told_indexed : (d : Document) (changes : List Change) (room : Room) (xs ys : List Session) (n : ℕ) → AllTold d changes room xs ys n → (w : Watches) → IsIndexed w xs → IsIndexed w ys
 told_indexed d changes room xs ys n told w h = record {

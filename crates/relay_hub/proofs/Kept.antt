@@ -1,6 +1,5 @@
 -- What the maps that the code keeps say of the hub that contracts see.
-use Rattle.std.proofs.Common.{◌≡◌, ℕ, ◌+◌, true, arith, List, [], ◌∷◌, Option, Some, None, refl, sym, ◌∙◌, ap, subst, map, length, zero, suc}
-use Rattle.std.specs.Prelude.{slice_get, slice_set, nat_lt, option_map, string_bytes, nat_eq, ◌==◌, if◌then◌else◌}
+use Rattle.std.proofs.Common.{◌≡◌, ℕ, ◌+◌, true, arith, List, [], ◌∷◌, Option, Some, None, refl, sym, ◌∙◌, ap, subst, map, length, zero, suc, slice_get, slice_set, nat_lt, option_map, string_bytes, nat_eq, ◌==◌, if◌then◌else◌}
 use Rattle.std.specs.Map.{lookup, values_of}
 use Rattle.std.specs.declared.string.String.{String}
 use Rattle.std.proofs.lemmas.Bool.Decides.{nat_tests}

@@ -1,6 +1,5 @@
 -- Each step keeps a hub one: its numbers are below the next one, and a session stands in its own room alone, and once.
-use Rattle.std.proofs.Common.{◌≡◌, ◌≢◌, ℕ, ◌≤◌, ◌==◌, ◌⊎◌, inl, inr, Bool, true, false, List, [], ◌∷◌, length, Option, Some, None, Result, Ok, Err, refl, sym, ◌∙◌, ap, subst, arith}
-use Rattle.std.specs.Prelude.{slice_get, slice_set, nat_le, IsSome, if◌then◌else◌}
+use Rattle.std.proofs.Common.{◌≡◌, ◌≢◌, ℕ, ◌≤◌, ◌==◌, ◌⊎◌, inl, inr, Bool, true, false, List, [], ◌∷◌, length, Option, Some, None, Result, Ok, Err, refl, sym, ◌∙◌, ap, subst, arith, slice_get, slice_set, nat_le, IsSome, if◌then◌else◌}
 use Rattle.std.proofs.lemmas.Bool.Decides.{eqb_tells, nat_tests}
 use Rattle.relay_patch.specs.Change.{all_changes}
 use Rattle.relay_patch.specs.declared.op.Op.{Op}
@@ -186,8 +185,7 @@ not_new old n t p h number at same = let none : place_of old t ≡ None = h.belo
 opens_stays : (old new : State) (n place t p : ℕ) → IsHub old → n ≡ old.next → ((t : ℕ) → place_of new t ≡ (if n == t then Some place else place_of old t))
     → place_of old t ≡ Some p → place_of new t ≡ Some p
 opens_stays old new n place t p h number home at =
-    let other = not_new old n t p h number at in
-    let test : (n == t) ≡ false = grind (arith, nat_tests, other) in
+    let test : (n == t) ≡ false = grind (arith, nat_tests, not_new old n t p h number at) in
     rw (home t, test) at
 
 opens_below : (old new : State) (name : List ℕ) (n : ℕ) → IsHub old → Opens old name n new → (t : ℕ) → new.next ≤ t → place_of new t ≡ None

@@ -1,6 +1,5 @@
 -- Finding by number and by place, in lists where one was changed or came.
-use Rattle.std.proofs.Common.{◌≡◌, ◌≢◌, ℕ, zero, suc, ◌+◌, ◌<◌, ◌==◌, ◌⊎◌, inl, inr, Bool, true, false, List, [], ◌∷◌, ◌++◌, length, get_or, not, length-append, Option, Some, None, refl, sym, ◌∙◌, ap, subst, arith}
-use Rattle.std.specs.Prelude.{slice_get, slice_set, position, nat_lt, if◌then◌else◌}
+use Rattle.std.proofs.Common.{◌≡◌, ◌≢◌, ℕ, zero, suc, ◌+◌, ◌<◌, ◌==◌, ◌⊎◌, inl, inr, Bool, true, false, List, [], ◌∷◌, ◌++◌, length, get_or, not, length-append, Option, Some, None, refl, sym, ◌∙◌, ap, subst, arith, slice_get, slice_set, position, nat_lt, if◌then◌else◌}
 use Rattle.std.specs.List.{position_or_len}
 use Rattle.std.proofs.lemmas.Bool.Decides.{nat_tests}
 use Rattle.std.proofs.lemmas.List.{length-set}
@@ -27,13 +26,12 @@ pub slice_set_cases : {X : Type 0} (xs : List X) (i p : ℕ) (v x : X) → slice
     → ((p ≡ i) × (x ≡ v)) ⊎ ((p ≢ i) × (slice_get xs p ≡ Some x))
 slice_set_cases [] i p v x h = absurd cc
 slice_set_cases (y ∷ ys) zero zero v x h = inl (refl, cc)
-slice_set_cases (y ∷ ys) zero (suc p) v x h = inr (λ e. omega (arith, e), h)
-slice_set_cases (y ∷ ys) (suc i) zero v x h = inr (λ e. omega (arith, e), h)
 slice_set_cases (y ∷ ys) (suc i) (suc p) v x h =
     elim (slice_set_cases ys i p v x h) [
       | inl k ↦ inl (omega (arith, k.0), k.1)
       | inr k ↦ inr (λ e. k.0 (omega (arith, e)), k.1)
     ]
+slice_set_cases (y ∷ ys) _ _ v x h = inr (λ e. omega (arith, e), h)
 
 -- where one was appended, it or an earlier one is found
 pub append_cases : {X : Type 0} (xs : List X) (p : ℕ) (v x : X) → slice_get (xs ++ v ∷ []) p ≡ Some x
@@ -53,11 +51,9 @@ slice_get-set (y ∷ ys) zero u v h = refl
 slice_get-set (y ∷ ys) (suc i) u v h = slice_get-set ys i u v h
 
 pub slice_get-set_other : {X : Type 0} (xs : List X) (i p : ℕ) (v : X) → p ≢ i → slice_get (slice_set xs i v) p ≡ slice_get xs p
-slice_get-set_other [] i p v h = refl
 slice_get-set_other (y ∷ ys) zero zero v h = absurd (h refl)
-slice_get-set_other (y ∷ ys) zero (suc p) v h = refl
-slice_get-set_other (y ∷ ys) (suc i) zero v h = refl
 slice_get-set_other (y ∷ ys) (suc i) (suc p) v h = slice_get-set_other ys i p v (λ e. h (omega (arith, e)))
+slice_get-set_other _ _ _ v h = refl
 
 pub slice_set_same : {X : Type 0} (xs : List X) (i : ℕ) (v : X) → slice_get xs i ≡ Some v → slice_set xs i v ≡ xs
 slice_set_same [] i v h = refl

@@ -1,8 +1,7 @@
 -- Sessions whose numbers rise: each stands there once, they go on rising as sessions change, come and go, and one is found by halves.
-use Rattle.std.proofs.Common.{◌≡◌, ◌≢◌, ℕ, zero, suc, ◌+◌, ◌<◌, ◌≤◌, ◌==◌, Bool, true, false, not, List, [], ◌∷◌, ◌++◌, length, get_or, Some, None, refl, sym, ap, subst, arith, inl, inr}
+use Rattle.std.proofs.Common.{◌≡◌, ◌≢◌, ℕ, zero, suc, ◌+◌, ◌<◌, ◌≤◌, ◌==◌, Bool, true, false, not, List, [], ◌∷◌, ◌++◌, length, get_or, Some, None, refl, sym, ap, subst, arith, inl, inr, filter, nat_lt, position, slice_set, if◌then◌else◌}
 use Rattle.std.specs.List.{position_or_len, AllPairs}
 use Rattle.std.specs.List.Sorted.{IsStrictlyIncreasing, IsPartitionPoint, IsPartitionedBy}
-use Rattle.std.specs.Prelude.{filter, nat_lt, position, slice_set, if◌then◌else◌}
 use Rattle.std.proofs.lemmas.Bool.{cases_lt}
 use Rattle.std.proofs.lemmas.Bool.Decides.{nat_tests}
 use Rattle.std.proofs.lemmas.List.{get_or_append_left, get_or_push, length_push, map-append}
@@ -57,12 +56,11 @@ set_keeps xs s i f keeps at d = (set_changes xs s i f keeps at d, numbers_set xs
 
 pub numbers_told : (d : Document) (changes : List Change) (room : Room) (xs ys : List Session) (n : ℕ) → AllTold d changes room xs ys n → numbers ys ≡ numbers xs
 numbers_told d changes room [] [] n h = refl
-numbers_told d changes room [] (y ∷ ys) n h = absurd h
-numbers_told d changes room (x ∷ xs) [] n h = absurd h
 numbers_told d changes room (x ∷ xs) (y ∷ ys) n h =
     let first : y.number ≡ x.number = told_number d changes room x.view h.0 x y h.2 in
     let rest : numbers ys ≡ numbers xs = numbers_told d changes room xs ys h.1 h.4 in
     λ i. first i ∷ rest i
+numbers_told d changes room _ _ n h = absurd h
 
 -- A session goes.
 
@@ -130,8 +128,7 @@ pub below_parted : (n : ℕ) (xs : List Session) → IsRising xs → IsPartition
 below_parted n xs h i j d le within below =
     elim (cases_lt i j) [
       | inl less ↦
-          let rises = pair_rises xs h i j d less within in
-          grind (arith, nat_tests, rises, below)
+          grind (arith, nat_tests, pair_rises xs h i j d less within, below)
       | inr same ↦ let e : j ≡ i = omega (arith, le, same) in subst (λ k. is_below n (get_or xs k d) ≡ true) e below
     ]
 
@@ -168,9 +165,8 @@ module _ (xs : List Session) (n i : ℕ) (d : Session) (point : IsPartitionPoint
   -- where the first of no lower number has the number, it is the place
   pub found_there : i < length xs → (get_or xs i d).number ≡ n → position (is_number n) xs ≡ Some i
   found_there within is =
-      let place = first_at xs n i d before within is in
       let inside : nat_lt i (length xs) ≡ true = grind (arith, nat_tests, within) in
-      rw (place, inside) refl
+      rw (first_at xs n i d before within is, inside) refl
 
   not_at : IsRising xs → (i < length xs → (get_or xs i d).number ≢ n) → (k : ℕ) → k < length xs → (get_or xs k d).number ≢ n
   not_at h other k within is =
@@ -179,9 +175,7 @@ module _ (xs : List Session) (n i : ℕ) (d : Session) (point : IsPartitionPoint
         | inr late ↦
             elim (cases_lt i k) [
               | inl less ↦
-                  let rises = pair_rises xs h i k d less within in
-                  let from = point.1 i d (omega arith) (omega (arith, less, within)) in
-                  omega (arith, rises, from, is)
+                  omega (arith, pair_rises xs h i k d less within, point.1 i d (omega arith) (omega (arith, less, within)), is)
               | inr same ↦
                   let e : k ≡ i = omega (arith, late, same) in
                   absurd (other (omega (arith, within, e)) (subst (λ j. (get_or xs j d).number ≡ n) e is))
@@ -191,9 +185,8 @@ module _ (xs : List Session) (n i : ℕ) (d : Session) (point : IsPartitionPoint
   -- and where it has another, or there is none, the number is nowhere
   pub found_nowhere : IsRising xs → (i < length xs → (get_or xs i d).number ≢ n) → position (is_number n) xs ≡ None
   found_nowhere h other =
-      let past = nowhere xs n d (not_at h other) in
       let outside : nat_lt (length xs) (length xs) ≡ false = grind (arith, nat_tests) in
-      rw (past, outside) refl
+      rw (nowhere xs n d (not_at h other), outside) refl
 
 pub found_past : (xs : List Session) (n i : ℕ) → IsPartitionPoint (λ x. x.number < n) (λ x. n ≤ x.number) xs i → IsRising xs → length xs ≤ i
     → position (is_number n) xs ≡ None

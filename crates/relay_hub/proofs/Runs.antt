@@ -1,6 +1,5 @@
 -- Runs: a run that goes on by one step.
-use Rattle.std.proofs.Common.{◌≡◌, List, [], ◌∷◌, ◌++◌, length, Some, subst}
-use Rattle.std.specs.Prelude.{slice_get}
+use Rattle.std.proofs.Common.{◌≡◌, List, [], ◌∷◌, ◌++◌, length, Some, subst, slice_get}
 use Rattle.relay_hub.specs.Call.{Runs, stops, steps}
 use Rattle.relay_hub.specs.State.{State}
 use Rattle.relay_hub.specs.Step.{Step}

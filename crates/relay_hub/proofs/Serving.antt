@@ -8,7 +8,7 @@ use Rattle.relay_proto.specs.declared.request.Request.{Request}
 use Rattle.relay_room.specs.CatchUp.{caught_up, LeadsOn, Fits}
 use Rattle.relay_room.specs.Room.{State as Room, revision}
 use Rattle.relay_room.specs.declared.catch_up.CatchUp.{CatchUp}
-use Rattle.relay_room.specs.declared.catch_up.CatchUp.TheVariants.{Nothing, Patch, Snapshot}
+use Rattle.relay_room.specs.declared.catch_up.CatchUp.TheVariants.{Nothing}
 use Rattle.relay_hub.proofs.Sessions.{session_there}
 use Rattle.relay_hub.specs.Call.{HasRoom}
 use Rattle.relay_hub.specs.Session.{Session, resumes}
@@ -29,14 +29,12 @@ answered epoch s i short text asked old new at space read serves =
 -- a session that resumes keeps its number
 pub resumes-number : (rev id : ℕ) (pointers : View) (how : CatchUp) (x : Session) → (resumes rev id pointers how x).number ≡ x.number
 resumes-number rev id pointers Nothing x = refl
-resumes-number rev id pointers (Patch ops) x = refl
-resumes-number rev id pointers Snapshot x = refl
+resumes-number rev id pointers _ x = refl
 
 -- and watches the view that it names
 pub resumes-view : (rev id : ℕ) (pointers : View) (how : CatchUp) (x : Session) → (resumes rev id pointers how x).view ≡ Some pointers
 resumes-view rev id pointers Nothing x = refl
-resumes-view rev id pointers (Patch ops) x = refl
-resumes-view rev id pointers Snapshot x = refl
+resumes-view rev id pointers _ x = refl
 
 -- a session resumes from a revision that there is
 pub resume_served : (room : Room) (s id rev : ℕ) (pointers : View) (how : CatchUp) (x : Session) (xs ys : List Session) →

@@ -1,9 +1,8 @@
 -- Finding a session by its number, in a list in which one was changed or taken away, or came.
-use Rattle.std.proofs.Common.{◌≡◌, ℕ, ◌<◌, ◌≤◌, ◌==◌, Bool, true, false, List, [], ◌∷◌, ◌++◌, length, Option, Some, None, refl, sym, ◌∙◌, ap, subst, arith, inl, inr, get_or, not, zero, suc}
+use Rattle.std.proofs.Common.{◌≡◌, ℕ, ◌<◌, ◌≤◌, ◌==◌, Bool, true, false, List, [], ◌∷◌, ◌++◌, length, Option, Some, None, refl, sym, ◌∙◌, ap, subst, arith, inl, inr, get_or, not, zero, suc, IsSome, slice_get, if◌then◌else◌, position, filter, nat_lt, nat_le, slice_set}
 use Rattle.std.specs.Bool.{MatchBool}
 use Rattle.std.specs.List.{position_or_len}
 use Rattle.std.specs.Option.{option_or}
-use Rattle.std.specs.Prelude.{IsSome, slice_get, if◌then◌else◌, position, filter, nat_lt, nat_le, slice_set}
 use Rattle.std.proofs.lemmas.Bool.Decides.{eqb_tells, leb_tells, nat_tests}
 use Rattle.std.proofs.lemmas.List.Folds.{find-set, find_past, find_at, find-append}
 use Rattle.std.proofs.lemmas.Option.{slice_get_past, slice_get-get_or}
@@ -130,13 +129,12 @@ others s xs = filter (λ x. not (is_number s x)) xs
 left_out : (a b c : Bool) → (a ≡ true → b ≡ c) → (b ≡ true → c ≡ true → a ≡ true) → (x : Session) (xs : List Session) (s t : ℕ) → b ≡ is_number t x →
     session_in (others s xs) t ≡ (if c then None else session_in xs t) →
     session_in (if not a then x ∷ others s xs else others s xs) t ≡ (if c then None else (if b then Some x else session_in xs t))
-left_out true true true h k x xs s t e g = g
-left_out true false false h k x xs s t e g = g
 left_out true true false h k x xs s t e g = absurd (cc (h refl))
 left_out true false true h k x xs s t e g = absurd (cc (h refl))
 left_out false true true h k x xs s t e g = absurd (cc (k refl refl))
 left_out false true false h k x xs s t e g = rw (← e) refl
 left_out false false c h k x xs s t e g = rw (← e) g
+left_out true _ _ h k x xs s t e g = g
 
 none_either : (b : Bool) → session_in [] 0 ≡ (if b then None else None)
 none_either true = refl
@@ -201,9 +199,6 @@ once_push (x ∷ xs) y none h =
     let other : (y.number == x.number) ≡ false = grind (arith, nat_tests, rest.0) in
     (rw (session_in-push xs y rest.1 x.number, other) h.0, once_push xs y rest.1 h.1)
 
+-- a session of a new number comes last, and no other differs
 pub push_last : (xs : List Session) (y : Session) → session_in xs y.number ≡ None → OnlyAt y.number (Some y) xs (xs ++ y ∷ [])
 push_last xs y none = record { found = session_in-push xs y none; once = once_push xs y none }
-
--- a session of a new number comes last, and no other differs
-pub push_only : (xs : List Session) (s : ℕ) (y : Session) → session_in xs s ≡ None → y.number ≡ s → OnlyAt s (Some y) xs (xs ++ y ∷ [])
-push_only xs s y none e = subst (λ n. session_in xs n ≡ None → OnlyAt n (Some y) xs (xs ++ y ∷ [])) e (push_last xs y) none

@@ -1,6 +1,5 @@
 -- Telling the sessions one after another.
-use Rattle.std.proofs.Common.{◌≡◌, ℕ, ◌+◌, ◌<◌, Bool, List, [], ◌∷◌, ◌++◌, length, refl, sym, ◌∙◌, ap, arith, get_or, take, drop}
-use Rattle.std.specs.Prelude.{slice_set, if◌then◌else◌}
+use Rattle.std.proofs.Common.{◌≡◌, ℕ, ◌+◌, ◌<◌, Bool, List, [], ◌∷◌, ◌++◌, length, refl, sym, ◌∙◌, ap, arith, get_or, take, drop, slice_set, if◌then◌else◌}
 use Rattle.std.proofs.lemmas.List.{take_more, take_more_set, drop-drop, drop-set-lt, get_or-drop}
 use Rattle.relay_patch.specs.declared.change.Change.{Change}
 use Rattle.relay_room.specs.Room.{State as Room}
@@ -23,10 +22,9 @@ module _ (d : Document) (changes : List Change) (room : Room) where
   told_last : (xs ys : List Session) (n : ℕ) (short : Bool) (x y : Session) → AllTold d changes room xs ys n → Told d changes room short x y →
       AllTold d changes room (xs ++ x ∷ []) (ys ++ y ∷ []) (n + (if short then 1 else 0))
   told_last [] [] n short x y h told = (short, 0, told, omega (arith, h), refl)
-  told_last [] (b ∷ ys) n short x y h told = absurd h
-  told_last (a ∷ xs) [] n short x y h told = absurd h
   told_last (a ∷ xs) (b ∷ ys) n short x y h told =
       (h.0, h.1 + (if short then 1 else 0), h.2, omega (arith, h.3), told_last xs ys h.1 short x y h.4 told)
+  told_last _ _ n short x y h told = absurd h
 
   -- the sessions before a place were told, and now the one at that place is
   pub tell_more : (xs ys : List Session) (i n : ℕ) (short : Bool) (z y : Session) → i < length xs → length ys ≡ length xs → drop i ys ≡ drop i xs →

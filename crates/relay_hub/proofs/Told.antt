@@ -17,25 +17,22 @@ IsTold d changes room (Some x) None = ⊥
 IsTold d changes room None (Some y) = ⊥
 
 pub told_number : (d : Document) (changes : List Change) (room : Room) (v : Option View) (short : Bool) (x y : Session) → ToldAs d changes room v short x y → y.number ≡ x.number
-told_number d changes room None short x y h = ap (λ (z : Session). z.number) h.0
 told_number d changes room (Some v) true x y h = ap (λ (z : Session). z.number) h
-told_number d changes room (Some v) false x y h = ap (λ (z : Session). z.number) h.0
+told_number d changes room _ _ x y h = ap (λ (z : Session). z.number) h.0
 
 first_told : (d : Document) (changes : List Change) (room : Room) (a b : Bool) (x y : Session) (o p : Option Session) (short : Bool) → a ≡ b → Told d changes room short x y → IsTold d changes room o p
     → IsTold d changes room (if a then Some x else o) (if b then Some y else p)
 first_told d changes room true true x y o p short e h k = (short, h)
 first_told d changes room false false x y o p short e h k = k
-first_told d changes room true false x y o p short e h k = absurd (cc e)
-first_told d changes room false true x y o p short e h k = absurd (cc e)
+first_told d changes room _ _ x y o p short e h k = absurd (cc e)
 
 pub each_told : (d : Document) (changes : List Change) (room : Room) (xs ys : List Session) (n : ℕ) → AllTold d changes room xs ys n
     → (t : ℕ) → IsTold d changes room (session_in xs t) (session_in ys t)
 each_told d changes room [] [] n h t = tt
-each_told d changes room [] (y ∷ ys) n h t = absurd h
-each_told d changes room (x ∷ xs) [] n h t = absurd h
 each_told d changes room (x ∷ xs) (y ∷ ys) n h t =
     first_told d changes room (x.number == t) (y.number == t) x y (session_in xs t) (session_in ys t) h.0
     (ap (λ k. k == t) (sym (told_number d changes room x.view h.0 x y h.2))) h.2 (each_told d changes room xs ys h.1 h.4 t)
+each_told d changes room _ _ n h t = absurd h
 
 pub none_told : (d : Document) (changes : List Change) (room : Room) (o p : Option Session) → IsTold d changes room o p → o ≡ None → p ≡ None
 none_told d changes room None None h e = refl
@@ -50,9 +47,8 @@ some_told d changes room (Some z) None x h e = absurd h
 -- whose numbers stay
 pub once_told : (d : Document) (changes : List Change) (room : Room) (xs ys : List Session) (n : ℕ) → AllTold d changes room xs ys n → EachOnce xs → EachOnce ys
 once_told d changes room [] [] n h once = tt
-once_told d changes room [] (y ∷ ys) n h once = absurd h
-once_told d changes room (x ∷ xs) [] n h once = absurd h
 once_told d changes room (x ∷ xs) (y ∷ ys) n h once = (
   rw (told_number d changes room x.view h.0 x y h.2) (none_told d changes room (session_in xs x.number) (session_in ys x.number) (each_told d changes room xs ys h.1 h.4 x.number) once.0),
   once_told d changes room xs ys h.1 h.4 once.1,
 )
+once_told d changes room _ _ n h once = absurd h

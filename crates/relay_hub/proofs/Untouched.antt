@@ -1,7 +1,6 @@
 -- Whom an edit does not touch is told nothing.
-use Rattle.std.proofs.Common.{◌≡◌, ℕ, ◌-◌, ◌<◌, ◌==◌, Bool, true, false, nat_eq, List, [], ◌∷◌, Option, Some, None, Ok, refl, ◌∙◌, subst, arith}
+use Rattle.std.proofs.Common.{◌≡◌, ℕ, ◌-◌, ◌<◌, ◌==◌, Bool, true, false, nat_eq, List, [], ◌∷◌, Option, Some, None, Ok, refl, ◌∙◌, subst, arith, nat_lt, if◌then◌else◌}
 use Rattle.std.specs.List.{list_any}
-use Rattle.std.specs.Prelude.{nat_lt, if◌then◌else◌}
 use Rattle.std.specs.FinMap as map
 use Rattle.std.proofs.lemmas.Bool.Decides.{nat_tests}
 use Rattle.relay_history.specs.History.{Reaches, oldest, changes_since}
@@ -76,8 +75,7 @@ module _ (room : Room) (d : Document) (changes : List Change) (edited : 0 < revi
     all_of_them [] [] n once has h = h
     all_of_them (x ∷ xs) (y ∷ ys) n once has h =
         (h.0, h.1, told_either (list_any (nat_eq x.number) numbers) h.0 x y refl (first_has x xs has) h.2, h.3, all_of_them xs ys h.1 once.1 (rest_have x xs once.0 has) h.4)
-    all_of_them [] (y ∷ ys) n once has h = absurd h
-    all_of_them (x ∷ xs) [] n once has h = absurd h
+    all_of_them _ _ n once has h = absurd h
 
     -- where those are told whom the index names, all are
     pub among_all : (xs ys : List Session) (n : ℕ) → IsIndexed w xs → ToldAmong numbers d changes room xs ys n → AllTold d changes room xs ys n

@@ -1,7 +1,6 @@
 -- What waits in a line that changes: cases, and that it fits.
-use Rattle.std.proofs.Common.{◌≡◌, ℕ, Bool, true, false, List, [], ◌∷◌, ◌++◌, length, Option, refl}
+use Rattle.std.proofs.Common.{◌≡◌, ℕ, Bool, true, false, List, [], ◌∷◌, ◌++◌, length, Option, refl, nat_lt, if◌then◌else◌}
 use Rattle.std.specs.List.{AllByRecursion}
-use Rattle.std.specs.Prelude.{nat_lt, if◌then◌else◌}
 use Rattle.relay_tree.proofs.Writing.{all_more}
 use Rattle.relay_outbox.specs.Outbox.{Line, line, folded, cleared, with_patch, rest_of}
 use Rattle.relay_patch.specs.declared.op.Op.{Op}

@@ -1,5 +1,4 @@
-use Rattle.std.proofs.Common.{◌≡◌, ◌+◌, true, false, rules, arith}
-use Rattle.std.specs.Prelude.{is_err, if◌then◌else◌}
+use Rattle.std.proofs.Common.{◌≡◌, ◌+◌, true, false, rules, arith, is_err, if◌then◌else◌}
 use Rattle.relay_hub.proofs.Telling.{tell_more, rest_more}
 use Rattle.relay_hub.proofs.tell.tell_all.Goals as goal
 use Rattle.relay_hub.proofs.tell.tell_all.Goals.{then-is_err, else-is_err}

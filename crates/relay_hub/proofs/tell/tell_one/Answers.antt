@@ -1,5 +1,4 @@
-use Rattle.std.proofs.Common.{sym, ◌∙◌}
-use Rattle.std.specs.Prelude.{is_err, slice_set}
+use Rattle.std.proofs.Common.{sym, ◌∙◌, is_err, slice_set}
 use Rattle.relay_hub.proofs.Among.{absent_among, place_among}
 use Rattle.relay_hub.proofs.Rising.{once_rising, same_rises, numbers_set}
 use Rattle.relay_hub.proofs.Sessions.{not_found}

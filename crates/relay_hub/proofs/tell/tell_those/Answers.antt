@@ -1,5 +1,4 @@
-use Rattle.std.proofs.Common.{◌≡◌, ◌+◌, ◌<◌, ℕ, length, true, false, rules, arith}
-use Rattle.std.specs.Prelude.{is_err, if◌then◌else◌}
+use Rattle.std.proofs.Common.{◌≡◌, ◌+◌, ◌<◌, ℕ, length, true, false, rules, arith, is_err, if◌then◌else◌}
 use Rattle.relay_hub.proofs.Among.{none_among, next_among}
 use Rattle.relay_hub.proofs.tell.tell_those.Goals as goal
 use Rattle.relay_hub.proofs.tell.tell_those.Goals.{then-is_err, else-is_err}
