@@ -6,7 +6,7 @@ use Rattle.relay_server.specs.Jobs.{Ends, LoopEnds, JobEnds}
 use Rattle.relay_server.specs.Respond.{Answering, AnswersAll, AnswersSome}
 use Rattle.relay_server.specs.Sockets as sockets
 use Rattle.relay_server.specs.declared.fault.ScriptFault.{ScriptFault}
-use Rattle.relay_server.specs.declared.fault.ScriptFault.TheVariants.{BadLimit, Input, Output, LineTooLong, TooManyLines, NoMemory}
+use Rattle.relay_server.specs.declared.fault.ScriptFault.TheVariants.{BadLimit, NoMemory}
 use Rattle.relay_server.specs.declared.fault.ServeFault.{ServeFault}
 use Rattle.relay_server.specs.declared.fault.ServeFault.TheVariants.{Ended, Listen}
 use Rattle.relay_server.specs.declared.status.Status.{Status}
@@ -24,11 +24,7 @@ module _ {S : Type 0} (answers : Answering S) (from : S) (input left old new : O
       → IfErr ended (λ fault. fault ≡ BadLimit → (left ≡ input) × (new ≡ old)) → Ends answers from ended input left old new
   Ends-limited (Ok u) all end some same = (all, end)
   Ends-limited (Err BadLimit) all end some same = same refl
-  Ends-limited (Err Input) all end some same = some (λ e. cc)
-  Ends-limited (Err Output) all end some same = some (λ e. cc)
-  Ends-limited (Err LineTooLong) all end some same = some (λ e. cc)
-  Ends-limited (Err TooManyLines) all end some same = some (λ e. cc)
-  Ends-limited (Err NoMemory) all end some same = some (λ e. cc)
+  Ends-limited _ all end some same = some (λ e. cc)
 
   -- a run with no limits
   pub Ends-free : (ended : Result (Unit {0}) ScriptFault) → OnOk ended (AnswersAll answers from input old new)
@@ -36,11 +32,7 @@ module _ {S : Type 0} (answers : Answering S) (from : S) (input left old new : O
       → IfErr ended (λ fault. fault ≢ BadLimit) → Ends answers from ended input left old new
   Ends-free (Ok u) all end some limits = (all, end)
   Ends-free (Err BadLimit) all end some limits = absurd (limits refl)
-  Ends-free (Err Input) all end some limits = some
-  Ends-free (Err Output) all end some limits = some
-  Ends-free (Err LineTooLong) all end some limits = some
-  Ends-free (Err TooManyLines) all end some limits = some
-  Ends-free (Err NoMemory) all end some limits = some
+  Ends-free _ all end some limits = some
 
 -- a run that has no limits finds none out of range
 pub no_limits : (ended : Result (Unit {0}) ScriptFault) → IfErr ended (λ fault. fault ≢ BadLimit) → IsErrOf ended BadLimit ↔ ⊥

@@ -10,10 +10,9 @@ use Rattle.relay_server.specs.Words.{unknown_text, opened_text, off_text, hear_w
 
 -- what ends a line ends it behind anything
 pub ends_behind : (front rest : List ℕ) → ends_line rest ≡ true → ends_line (front ++ rest) ≡ true
-ends_behind [] rest ends = ends
 ends_behind (b ∷ []) [] ends = cc
-ends_behind (b ∷ []) (c ∷ rest) ends = ends
 ends_behind (b ∷ c ∷ front) rest ends = ends_behind (c ∷ front) rest ends
+ends_behind _ _ ends = ends
 
 ends_view : (word : List ℕ) (held : Option (ℕ × Document)) → ends_line (view_text word held) ≡ true
 ends_view word None = ends_behind word (codes " nothing\n") refl
