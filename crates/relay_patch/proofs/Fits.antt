@@ -4,7 +4,7 @@ use Rattle.std.specs.Bool.{⊤}
 use Rattle.std.specs.List.{AllByRecursion}
 use Rattle.std.specs.Result.{result_ok}
 use Rattle.std.proofs.lemmas.Bool.Decides.{nat_tests}
-use Rattle.relay_tree.specs.Document.{Document, null, truth, whole, text, list, object, Items, depth, weight}
+use Rattle.relay_tree.specs.Document.{Document, list, object, Items, depth, weight}
 use Rattle.relay_tree.specs.Part.{insert_item, put_member}
 use Rattle.relay_tree.proofs.Members.{member_at-put_same}
 use Rattle.relay_pointer.specs.Index.{Token, index_of}
@@ -12,7 +12,7 @@ use Rattle.relay_pointer.specs.Path.{Path, at, same_path}
 use Rattle.relay_patch.specs.declared.change.Change.TheVariants as change
 use Rattle.relay_patch.specs.Walk.{PastEnd, TooDeep, TooHeavy, then_do, step, walk}
 use Rattle.relay_patch.specs.Place.{Place, parent, last, place_of}
-use Rattle.relay_patch.specs.Patch.{Bounds, Op, Add, Remove, Replace, Move, Copy, Test, at_path, insert_child, insert_element, drop_child, effect, exceeds, within, after_from}
+use Rattle.relay_patch.specs.Patch.{Bounds, Op, Move, Copy, at_path, insert_child, insert_element, drop_child, effect, exceeds, within, after_from}
 use Rattle.relay_patch.specs.Change.{Change, Makes, Leads, in_list, in_object, placed, inserted, inserted_at, moved_changes, copied_changes, changes_of, all_changes}
 use Rattle.relay_patch.specs.Sizes.{ChangeFits}
 use Rattle.relay_patch.proofs.Refusals.{then_ok, then_itself, ok_or_some, not_refused}

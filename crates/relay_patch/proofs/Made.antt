@@ -2,7 +2,7 @@
 use Rattle.std.proofs.Common.{◌≡◌, ℕ, suc, List, [], ◌∷◌, ◌++◌, Bool, true, false, Option, Some, None, Result, Ok, Err, refl, sym, ap, subst, ◌∙◌, bytes_eq, if◌then◌else◌, is_some}
 use Rattle.std.specs.Result.{result_ok}
 use Rattle.relay_patch.specs.declared.change.Change.TheVariants as change
-use Rattle.relay_tree.specs.Document.{Document, null, truth, whole, text, list, object, Items, Members, depth, weight}
+use Rattle.relay_tree.specs.Document.{Document, list, object, Items, Members, depth, weight}
 use Rattle.relay_tree.specs.Part.{items_length, member_at, set_member}
 use Rattle.relay_tree.specs.Same.{same}
 use Rattle.relay_pointer.specs.Index.{Token, index_of}

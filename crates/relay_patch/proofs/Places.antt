@@ -10,7 +10,7 @@ use Rattle.relay_patch.specs.Walk.{Cause, then_do}
 use Rattle.relay_patch.specs.declared.form.kind.Kind.{Kind}
 use Rattle.relay_patch.specs.declared.form.kind.Kind.TheVariants as kind
 use Rattle.relay_patch.specs.declared.limits.PatchFault.{PatchFault}
-use Rattle.relay_patch.specs.declared.limits.PatchFault.TheVariants.{TooManyOps, Shape, UnknownOp, Pointer, NoMemory}
+use Rattle.relay_patch.specs.declared.limits.PatchFault.TheVariants.{TooManyOps, Shape, UnknownOp, Pointer}
 use Rattle.relay_tree.proofs.Outcomes.{if_err}
 use Rattle.relay_tree.proofs.Each.{IsBelow, few-length, few-place}
 

@@ -1,6 +1,6 @@
 -- A value put where a member stands.
 use Rattle.std.proofs.Common.{◌≡◌, [], ◌∷◌, Bool, true, false, Option, Some, None, Ok, IsOk, refl, sym, subst, ◌∙◌, if◌then◌else◌, is_some}
-use Rattle.relay_tree.specs.Document.{Document, null, truth, whole, text, list, object}
+use Rattle.relay_tree.specs.Document.{Document, object}
 use Rattle.relay_tree.specs.Part.{set_member}
 use Rattle.relay_pointer.specs.Index.{Token}
 use Rattle.relay_pointer.specs.Path.{Path, at}

@@ -2,7 +2,7 @@
 use Rattle.std.specs.List.{insert}
 use Rattle.std.proofs.Common.{◌≡◌, ℕ, zero, suc, List, length, ◌≤◌, [], ◌∷◌, ◌++◌, Bool, true, false, Option, Some, None, Ok, refl, sym, ◌∙◌, ◌<◌, ◌^◌, IsOk, nat_lt, if◌then◌else◌, arith}
 use Rattle.std.proofs.lemmas.Bool.Decides.{nat_tests}
-use Rattle.relay_tree.specs.Document.{Document, null, truth, whole, text, list, object, Items, no_items, item, items_of}
+use Rattle.relay_tree.specs.Document.{Document, list, Items, no_items, item, items_of}
 use Rattle.relay_tree.specs.Part.{items_length, item_at, insert_item, drop_item}
 use Rattle.relay_tree.proofs.Elements.{items_length-items_of, insert_item-items_of, insert_item-past, drop_item-shorter}
 use Rattle.relay_pointer.specs.Index.{Token, index_of}

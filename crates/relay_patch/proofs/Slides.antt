@@ -1,5 +1,5 @@
 -- An element that slides within its list: what a turn of the part between both places makes, that this is the move, and that it slides back.
-use Rattle.std.proofs.Common.{◌≡◌, ℕ, zero, suc, List, length, take, drop, ◌≤◌, [], ◌∷◌, ◌++◌, Bool, true, false, ◌&&◌, Option, Some, None, option_map, ok_or, Ok, String, Global, refl, sym, ap, subst, ◌∙◌, ◌<◌, ◌+◌, ◌^◌, max, arith, option_and_then}
+use Rattle.std.proofs.Common.{◌≡◌, ℕ, zero, suc, List, length, take, drop, ◌≤◌, [], ◌∷◌, ◌++◌, Bool, true, ◌&&◌, Option, Some, None, option_map, ok_or, Ok, String, Global, refl, sym, ap, subst, ◌∙◌, ◌<◌, ◌+◌, ◌^◌, max, arith, option_and_then}
 use Rattle.std.proofs.lemmas.List.{append_assoc}
 use borrow.Rule.Slice.PartMut.{put_mid, mid_of}
 use Rattle.relay_tree.specs.Document.{Document, list, Items, item, items_of}

@@ -1,6 +1,6 @@
 -- What was put at a path stands there; of two values put at one place the last stands; the old value put back gives the old document.
 use Rattle.std.proofs.Common.{◌≡◌, ℕ, suc, [], ◌∷◌, Option, Some, None, refl, sym, ap, ◌∙◌, max, ◌≤◌, arith}
-use Rattle.relay_tree.specs.Document.{Document, null, truth, whole, text, list, object, Items, depth, items_depth}
+use Rattle.relay_tree.specs.Document.{Document, list, object, Items, depth, items_depth}
 use Rattle.relay_tree.specs.Part.{item_at, items_length}
 use Rattle.relay_tree.proofs.Elements.{item_at-put_same, put_item-twice, put_item-length}
 use Rattle.relay_tree.proofs.Members.{member_at-set_same, set_member-twice}

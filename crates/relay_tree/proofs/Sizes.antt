@@ -3,7 +3,7 @@ use Rattle.std.proofs.Common.{◌≡◌, ℕ, zero, suc, ◌+◌, ◌≤◌, max
 use Rattle.std.specs.Ordering.{match_ordering}
 use Rattle.std.specs.Cmp.Lexicographic.{slice_cmp}
 use Rattle.std.proofs.lemmas.Map.Text.{is_eq-slice_cmp}
-use Rattle.relay_tree.specs.Document.{Document, null, truth, whole, text, list, object, Items, no_items, item, Members, no_members, member, depth, items_depth, members_depth, weight, items_weight, members_weight}
+use Rattle.relay_tree.specs.Document.{Document, null, Items, no_items, item, Members, no_members, member, depth, items_depth, members_depth, weight, items_weight, members_weight}
 use Rattle.relay_tree.specs.Part.{item_at, put_item, insert_item, drop_item, member_at, set_member, add_member, put_member, drop_member}
 use Rattle.relay_tree.proofs.Names.{bytes_same, equal_bytes}
 

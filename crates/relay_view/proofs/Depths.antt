@@ -1,6 +1,6 @@
 -- What a slot shows of a value is no deeper than the value.
 use Rattle.std.proofs.Common.{◌≡◌, ◌≤◌, ℕ, Option, Some, None, option_map, ap, arith}
-use Rattle.relay_tree.specs.Document.{Document, null, truth, whole, text, list, object, depth}
+use Rattle.relay_tree.specs.Document.{Document, null, depth}
 use Rattle.relay_view.specs.View.{size, counted, shown}
 use Rattle.relay_view.specs.declared.slot.SlotKind.{SlotKind}
 use Rattle.relay_view.specs.declared.slot.SlotKind.TheVariants.{Value, Size}
