@@ -61,22 +61,26 @@ insert_inside false [] q v d d' h k = cc
 insert_inside false (t ∷ path) q v d d' h k = at_path_inside false (insert_child v) (t ∷ path) q d d' h k
 
 -- what an operation did that does an act there
-acted_there : (op : Op) (act : Act) (path q : Path) (d d' : Document) (a : IsInside act path q d d') → IsDeep (with_paths (drop (length q)) op) → effect a.before (with_paths (drop (length q)) op) ≡ Ok a.later → ChangedInside q op d d'
+acted_there : (op : Op) (act : Act) (path q : Path) (d d' : Document) (a : IsInside act path q d d')
+    → IsDeep (with_paths (drop (length q)) op) → effect a.before (with_paths (drop (length q)) op) ≡ Ok a.later → ChangedInside q op d d'
 acted_there op act path q d d' a deep acted = record { before = a.before; later = a.later; stood = a.stood; stands = a.stands; deep = deep; acted = acted }
 
 replace_there : (path q : Path) (v d d' : Document) → IsInside (set_child v) path q d d' → ChangedInside q (Replace path v) d d'
 replace_there path q v d d' a =
-    acted_there (Replace path v) (set_child v) path q d d' a (subst Longer (sym a.path_is) tt) (subst (λ r. replaced r v a.before ≡ Ok a.later) (sym a.path_is) a.acted)
+    acted_there (Replace path v) (set_child v) path q d d' a (subst Longer (sym a.path_is) tt)
+    (subst (λ r. replaced r v a.before ≡ Ok a.later) (sym a.path_is) a.acted)
 
 add_there : (is_item : Bool) (path q : Path) (v d d' : Document) → IsInside (placed is_item (insert_child v)) path q d d' → ChangedInside q (Add path v) d d'
 add_there is_item path q v d d' p =
     let a = in_any is_item (insert_child v) path q d d' p in
-    acted_there (Add path v) (insert_child v) path q d d' a (subst Longer (sym a.path_is) tt) (subst (λ r. added r v a.before ≡ Ok a.later) (sym a.path_is) a.acted)
+    acted_there (Add path v) (insert_child v) path q d d' a (subst Longer (sym a.path_is) tt)
+    (subst (λ r. added r v a.before ≡ Ok a.later) (sym a.path_is) a.acted)
 
 remove_there : (is_item : Bool) (path q : Path) (d d' : Document) → IsInside (placed is_item drop_child) path q d d' → ChangedInside q (Remove path) d d'
 remove_there is_item path q d d' p =
     let a = in_any is_item drop_child path q d d' p in
-    acted_there (Remove path) drop_child path q d d' a (subst Longer (sym a.path_is) tt) (subst (λ r. at_path drop_child r a.before ≡ Ok a.later) (sym a.path_is) a.acted)
+    acted_there (Remove path) drop_child path q d d' a (subst Longer (sym a.path_is) tt)
+    (subst (λ r. at_path drop_child r a.before ≡ Ok a.later) (sym a.path_is) a.acted)
 
 -- the same, from and to documents in which the pointer leads to the same
 changed_from : (q : Path) (op : Op) (d e d' : Document) → walk e q ≡ walk d q → ChangedInside q op e d' → ChangedInside q op d d'

@@ -1,6 +1,6 @@
 -- What an act leaves of a container's children that it doesn't touch.
 use Rattle.std.proofs.Common.{◌≡◌, ℕ, ◌<◌, Bool, true, false, Option, Some, None, Ok, refl, subst, bytes_eq, ok_or, arith, nat_le, ◌^◌, ◌-◌, min, option_map}
-use Rattle.relay_tree.specs.Document.{Document, null, truth, whole, text, list, object, Items}
+use Rattle.relay_tree.specs.Document.{Document, list, object, Items}
 use Rattle.relay_tree.specs.Part.{item_at, insert_item, drop_item, put_member, drop_member}
 use Rattle.relay_tree.proofs.Elements.{item_at-insert_below, item_at-drop_below}
 use Rattle.relay_tree.proofs.Members.{member_at-put_other, member_at-drop_other}

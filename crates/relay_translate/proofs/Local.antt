@@ -8,7 +8,7 @@ use Rattle.relay_pointer.specs.Index.{index_text, index_of}
 use Rattle.relay_pointer.specs.Path.{Path}
 use Rattle.relay_pointer.proofs.Indexes.{index_of-index_text}
 use Rattle.relay_patch.specs.declared.op.Op.{Op}
-use Rattle.relay_patch.specs.declared.op.Op.TheVariants.{Add, Remove, Replace, Move, Copy, Test}
+use Rattle.relay_patch.specs.declared.op.Op.TheVariants.{Move, Copy}
 use Rattle.relay_patch.specs.declared.change.Change.{Change}
 use Rattle.relay_view.specs.View.{View}
 use Rattle.relay_view.specs.declared.slot.Slot.{Slot}

@@ -10,7 +10,7 @@ use Rattle.relay_patch.specs.declared.change.Change.{Change}
 use Rattle.relay_patch.specs.declared.change.Change.TheVariants as change
 use Rattle.relay_view.specs.declared.slot.SlotKind.{SlotKind}
 use Rattle.relay_view.specs.declared.slot.SlotKind.TheVariants.{Value, Size}
-use Rattle.relay_translate.specs.Touch.{Touch, Apart, Inside, Reset, touch, touch_path, touch_below, touch_place, touch_place_size, touch_either, size_touch, exchange_touch}
+use Rattle.relay_translate.specs.Touch.{Touch, Apart, Reset, touch, touch_path, touch_below, touch_place, touch_place_size, touch_either, size_touch, exchange_touch}
 use Rattle.relay_translate.specs.Local.{is_apart}
 use Rattle.relay_translate.specs.Entries.{leads, container, scope, is_above, is_near}
 

@@ -1,8 +1,8 @@
 -- A change that is apart from the size of a value leaves it.
-use Rattle.std.proofs.Common.{◌≡◌, ℕ, zero, suc, ◌+◌, ◌==◌, List, [], ◌∷◌, length, drop, Bool, true, false, Option, Some, None, Result, Ok, option_map, option_and_then, refl, sym, ap, ◌∙◌, arith, bytes_eq, length-drop, if◌then◌else◌}
+use Rattle.std.proofs.Common.{◌≡◌, ℕ, suc, ◌+◌, ◌==◌, List, [], ◌∷◌, length, drop, Bool, true, false, Option, Some, None, Result, Ok, option_map, option_and_then, refl, sym, ap, ◌∙◌, arith, bytes_eq, length-drop, if◌then◌else◌}
 use Rattle.std.proofs.lemmas.Bool.Decides.{nat_tests}
 use Rattle.std.specs.Result.{result_ok}
-use Rattle.relay_tree.specs.Document.{Document, null, truth, whole, text, list, object, Items, no_items, item, Members, no_members, member}
+use Rattle.relay_tree.specs.Document.{Document, whole, list, object, Items, item, Members, no_members, member}
 use Rattle.relay_tree.specs.Part.{items_length, put_item, set_member}
 use Rattle.relay_pointer.specs.Index.{Token, index_of}
 use Rattle.relay_pointer.specs.Path.{Path, at, put_element, with_child}

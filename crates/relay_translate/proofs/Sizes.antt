@@ -18,7 +18,7 @@ use Rattle.relay_view.specs.View.{View, shown, slot, slot_of}
 use Rattle.relay_view.specs.declared.slot.Slot.{Slot}
 use Rattle.relay_view.specs.declared.slot.SlotKind.{SlotKind}
 use Rattle.relay_view.proofs.Depths.{shown_depth}
-use Rattle.relay_translate.specs.Touch.{Touch, Apart, Inside, Reset, touch_slot, touch_place}
+use Rattle.relay_translate.specs.Touch.{Touch, Inside, touch_slot, touch_place}
 use Rattle.relay_translate.specs.Translate.{is_reset, op_of, move_op, with_paths, in_slot, when_inside, slot_op, slot_ops, local_from}
 use Rattle.relay_translate.specs.Sizes.{FitsWithChanges}
 

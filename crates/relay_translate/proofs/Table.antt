@@ -1,5 +1,5 @@
 -- The table and the recursion agree.
-use Rattle.std.proofs.Common.{◌≡◌, ℕ, List, [], ◌∷◌, Bool, true, false, ◌&&◌, refl, sym, bytes_eq, length, drop, ap, ◌∙◌, nat_le, Option, Some, None, if◌then◌else◌}
+use Rattle.std.proofs.Common.{◌≡◌, ℕ, List, [], ◌∷◌, Bool, true, false, ◌&&◌, refl, sym, bytes_eq, length, drop, ap, ◌∙◌, nat_le, Option, Some, if◌then◌else◌}
 use Rattle.std.proofs.lemmas.Slice.Eq.{bytes_eq-Decides}
 use Rattle.relay_pointer.specs.Index.{Token, number_of}
 use Rattle.relay_pointer.specs.Path.{Path, is_prefix, is_proper_prefix}
