@@ -1,12 +1,11 @@
 -- The calls of a socket give errors of a socket.
-use Rattle.std.proofs.Common.{◌≡◌, ◌⊎◌, inl, inr, ℕ, List, Option, Result, Ok, Err, OnOk, IfErr, sym, subst}
+use Rattle.std.proofs.Common.{◌≡◌, inl, inr, ℕ, List, Option, Result, Ok, Err, IfErr, sym, subst}
 use Rattle.websocket.specs.Connection.{Connection, Effect}
 use Rattle.websocket.specs.declared.error.Error.{Error as FrameError}
 use Rattle.websocket.specs.declared.error.Error.TheVariants as frame
 use Rattle.tungstenite.specs.declared.error.Error.{Error}
 use Rattle.tungstenite.specs.declared.error.Error.TheVariants.{ConnectionClosed, AlreadyClosed, Io, Capacity, Protocol, WriteBufferFull, Utf8, AttackAttempt, Handshake, HandshakeIncomplete, JunkAfterRequest, CustomResponseSuccessful, Url, Http, Refused, OutOfMemory}
-use Rattle.tungstenite.specs.declared.message.Message.{Message}
-use Rattle.tungstenite.specs.Failure.{of_frame, IsOutside, IsIo, ReadFails, WriteFails}
+use Rattle.tungstenite.specs.Failure.{of_frame, IsOutside, ReadFails, WriteFails}
 use Rattle.tungstenite.specs.Socket.{Socket, Reads}
 use Rattle.relay_link.specs.SocketError.{IsOfSocket}
 

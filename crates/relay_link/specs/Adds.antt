@@ -2,8 +2,8 @@
 use Rattle.std.specs.Prelude.{ℕ, ◌+◌, ◌≤◌, Bool, true, false, List, length, count_by}
 use Rattle.relay_hub.specs.declared.event.Event.{Event}
 use Rattle.relay_hub.specs.declared.event.Event.TheVariants.{Receive, Draw}
-use Rattle.relay_link.specs.declared.hears.Hears.{Hears}
-use Rattle.relay_link.specs.declared.hears.Hears.TheVariants.{Text, Nothing}
+use Rattle.relay_link.specs.declared.part.Part.{Part}
+use Rattle.relay_link.specs.declared.part.Part.TheVariants.{Hear, Tell, Both}
 
 abbrev pub is_receive : Event → Bool
 is_receive (Receive s text) = true
@@ -21,9 +21,10 @@ abbrev pub draws : List Event → ℕ
 draws made = count_by is_draw made
 
 -- how many texts a turn hands over at most
-abbrev pub texts_of : Hears → ℕ
-texts_of Text = 1
-texts_of Nothing = 0
+abbrev pub texts_of : Part → ℕ
+texts_of Hear = 1
+texts_of Tell = 0
+texts_of Both = 1
 
 -- at most so many events joined, with at most so many receives and draws among them
 pub record Adds (all in_of out_of : ℕ) (before after : List Event) : Type 0 where

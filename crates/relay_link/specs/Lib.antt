@@ -2,3 +2,4 @@ pub mod Follows
 pub mod Adds
 pub mod Stage
 pub mod SocketError
+pub mod Turns

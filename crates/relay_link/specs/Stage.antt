@@ -1,5 +1,6 @@
 -- The stage and the session of a link.
-use Rattle.std.specs.Prelude.{ℕ, ◌≤◌, Bool, true, false, not, Option, Some, None}
+use Rattle.std.specs.Prelude.{ℕ, ◌≤◌, ◌&&◌, ◌==◌, length, Bool, true, false, not, Option, Some, None}
+use Rattle.std.specs.Io.Buffered.{writer_buffer, writer_inner}
 use Rattle.relay_link.specs.declared.cause.Cause.{Cause}
 use Rattle.relay_link.specs.declared.cause.Cause.TheVariants as cause
 use Rattle.relay_link.specs.declared.reply.Verdict.{Verdict}
@@ -29,11 +30,16 @@ module _ {S : Type 0} where
 
   -- nothing is left to go on with until the stream is ready or a message waits
   abbrev pub rests : State S → Bool
-  rests (Head stream bytes) = not stream.restless
-  rests (Replying stream reply) = not stream.restless
-  rests (Open socket s) = not socket.stream.restless
-  rests (Closing socket turns) = not socket.stream.restless
+  rests (Head stream bytes) = not (writer_inner stream.writer).restless
+  rests (Replying stream reply) = not (writer_inner stream.writer).restless
+  rests (Open socket s) = not (writer_inner socket.stream.writer).restless
+  rests (Closing socket turns) = not (writer_inner socket.stream.writer).restless
   rests Gone = true
+
+  -- something was said that is held back
+  abbrev pub has_held : State S → Bool
+  has_held (Open socket s) = socket.stream.holds && not (length (writer_buffer socket.stream.writer) == 0)
+  has_held _ = false
 
 -- the order of the stages
 abbrev pub place : Stage → ℕ

@@ -5,7 +5,7 @@ ghost use Rattle.relay_link.specs.declared.stage.Stage.TheVariants.{Closing};
 
 use crate::cause::Cause;
 use crate::next::Next;
-use crate::socket::{Socket, read};
+use crate::socket::{Socket, flush, read};
 use crate::state::State;
 use std::io::{Read, Write};
 
@@ -19,7 +19,7 @@ pub(crate) fn turn<S: Read + Write + Drop>(mut socket: Socket<S>, turns: u64) ->
     ensures forward { IsForward Closing (stage_of result.state) }
 {
     socket.get_mut().renew();
-    if let Err(cause) = read(&mut socket) {
+    if let Err(cause) = let_go(&mut socket) {
         return Next::gone(cause);
     }
     if turns > 1 {
@@ -30,4 +30,13 @@ pub(crate) fn turn<S: Read + Write + Drop>(mut socket: Socket<S>, turns: u64) ->
     } else {
         Next::gone(Cause::Silent)
     }
+}
+
+/// Sends what waits, and reads one message that nobody hears.
+fn let_go<S: Read + Write + Drop>(socket: &mut Socket<S>) -> Result<(), Cause> {
+    if socket.get_ref().has_output() {
+        flush(socket)?;
+    }
+    read(socket)?;
+    Ok(())
 }

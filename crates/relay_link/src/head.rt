@@ -8,9 +8,10 @@ ghost use Rattle.relay_link.specs.declared.stage.Stage.TheVariants.{Head};
 
 use crate::cause::Cause;
 use crate::events;
+use crate::held::Held;
 use crate::made::Made;
 use crate::next::Next;
-use crate::polled::{Polled, is_nothing_now};
+use crate::polled::is_nothing_now;
 use crate::reply::{Reply, Verdict};
 use crate::socket::{READ_MOST, socket_on};
 use crate::state::State;
@@ -23,7 +24,7 @@ use std::io::{Read, Write};
 #[tactic(auto, using(crate::proofs::Following::follows_same))]
 pub(crate) fn listen<S: Read + Write + Drop>(
     alloc: Global,
-    mut stream: Polled<S>,
+    mut stream: Held<S>,
     mut bytes: Vec<u8>,
     hub: &mut Hub,
     made: &mut Made,
@@ -59,7 +60,7 @@ pub(crate) fn listen<S: Read + Write + Drop>(
 #[tactic(auto, using(crate::proofs::Following::follows_same, crate::proofs::Following::follows_then))]
 fn admit<S: Read + Write + Drop>(
     alloc: Global,
-    stream: Polled<S>,
+    stream: Held<S>,
     room: String,
     accepted: Vec<u8>,
     hub: &mut Hub,
@@ -89,7 +90,7 @@ fn admit<S: Read + Write + Drop>(
 /// Begins to write a reply.
 fn answer<S: Read + Write + Drop>(
     alloc: Global,
-    stream: Polled<S>,
+    stream: Held<S>,
     rest: Vec<u8>,
     verdict: Verdict,
     hub: &mut Hub,
@@ -107,7 +108,7 @@ fn answer<S: Read + Write + Drop>(
 #[tactic(auto, using(crate::proofs::Following::follows_same))]
 pub(crate) fn reply<S: Read + Write + Drop>(
     alloc: Global,
-    mut stream: Polled<S>,
+    mut stream: Held<S>,
     mut reply: Reply,
     hub: &mut Hub,
     made: &mut Made,

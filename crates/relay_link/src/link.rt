@@ -1,19 +1,17 @@
 //! A link: the turns of one socket.
-ghost use Rattle.std.specs.Prelude.{◌≡◌, ℕ, ◌+◌, ◌≤◌, [], None, Some, true, min, is_some, IfOk, OnOk, OnErr, length};
-ghost use Rattle.std.specs.List.{Contains};
-ghost use Rattle.relay_hub.specs.declared.event.Event.TheVariants.{Close};
-ghost use Rattle.relay_link.specs.Adds.{Adds, receives, draws as draws_of, texts_of};
+ghost use Rattle.std.specs.Prelude.{◌≡◌, ◌+◌, ◌≤◌, [], None, is_some, IfOk, OnOk, OnErr, length};
+ghost use Rattle.relay_link.specs.Adds.{Adds, texts_of};
 ghost use Rattle.relay_link.specs.Follows.{Follows, at, closing_of};
-ghost use Rattle.relay_link.specs.Stage.{stage_of, session_of, rests, leaves, is_over, ended, IsForward};
-ghost use Rattle.relay_link.specs.declared.link.TheConstants.{DRAWS_MOST};
+ghost use Rattle.relay_link.specs.Stage.{stage_of, session_of, has_held, rests, leaves, ended, IsForward};
+ghost use Rattle.relay_link.specs.Turns.{Turns};
 ghost use Rattle.relay_link.specs.declared.made.TheConstants.{EVENTS_MOST};
 ghost use Rattle.relay_link.specs.declared.stage.Stage.TheVariants.{Head, Gone};
 
 use crate::cause::Cause;
-use crate::hears::Hears;
+use crate::held::Held;
 use crate::made::Made;
 use crate::next::Next;
-use crate::polled::Polled;
+use crate::part::Part;
 use crate::socket::close;
 use crate::stage::Stage;
 use crate::state::State;
@@ -34,11 +32,11 @@ const HEAD_ROOM: usize = 512;
 
 /// A stream and its place in the hub. Contracts see its state, and of that its stage and its session.
 #[derive(Drop)]
-pub struct Link<S> {
+pub struct Link<S: Write + Drop> {
     state: State<S>,
 }
 
-impl<S> Model for Link<S> {
+impl<S: Write + Drop> Model for Link<S> {
     ghost use Rattle.relay_link.specs.declared.state.State.{State};
 
     ghost Value = { State S };
@@ -54,7 +52,7 @@ impl<S: Read + Write + Drop> Link<S> {
     {
         Ok(Link {
             state: State::Head {
-                stream: Polled::new(stream),
+                stream: Held::new(alloc, stream)?,
                 bytes: Vec::with_capacity(alloc, HEAD_ROOM)?,
             },
         })
@@ -83,6 +81,13 @@ impl<S: Read + Write + Drop> Link<S> {
         self.state.rests()
     }
 
+    /// Whether something was said in [`Link::hear`] that is held back. No memory is taken.
+    pub fn has_held(&self) -> bool
+        ensures { result ≡ has_held self.now }
+    {
+        self.state.has_held()
+    }
+
     /// One turn. It reads a little, changes the hub by the events that it reports, and writes until output waits; at most
     /// `draws` messages are drawn, and at most 32. `AllocError` comes before anything was read, written or changed.
     ///
@@ -101,58 +106,35 @@ impl<S: Read + Write + Drop> Link<S> {
     /// A cause is there exactly where the turn ended Head without Open, left Open, or ended Closing. [`Cause::Stream`] comes
     /// only where, in this very turn, a call on the stream failed or a write took no byte.
     pub fn turn(&mut self, alloc: Global, hub: &mut Hub, draws: u64) -> Result<Turn, AllocError>
-        ensures follows { IfOk result (λ turn. Follows (at hub.old (session_of self.old) []) (at hub.new (session_of self.new) turn.made.items)) }
-        ensures few { IfOk result (λ turn. length turn.made.items ≤ EVENTS_MOST) }
-        ensures receives { IfOk result (λ turn. receives turn.made.items ≤ 1) }
-        ensures draws { IfOk result (λ turn. draws_of turn.made.items ≤ min draws DRAWS_MOST) }
-        ensures closed { IfOk result (λ turn. (s : ℕ) → session_of self.old ≡ Some s → session_of self.new ≡ None → Contains turn.made.items (Close s)) }
-        ensures over { OnOk result (is_over (stage_of self.new) ≡ true → session_of self.new ≡ None) }
-        ensures stage { IfOk result (λ turn. turn.stage ≡ stage_of self.new) }
+        ensures turns { IfOk result (Turns 1 draws hub.old self.old hub.new self.new) }
         ensures forward { IsForward (stage_of self.old) (stage_of self.new) }
-        ensures cause { IfOk result (λ turn. is_some turn.cause ≡ leaves (stage_of self.old) (stage_of self.new)) }
-        ensures gone { IfOk result (λ turn. stage_of self.old ≡ Gone → (turn.made.items ≡ []) × (self.new ≡ self.old)) }
         ensures unchanged { OnErr result (self.new ≡ self.old) }
         ensures hub_unchanged { OnErr result (hub.new ≡ hub.old) }
     {
-        let mut made = Made::new(alloc)?;
-        let state = mem::replace(&mut self.state, State::Gone);
-        let draws = draws.min(DRAWS_MOST);
-        let next = advance(alloc, state, Hears::Text, draws, hub, &mut made);
-        self.state = next.state;
-        Ok(Turn {
-            made: made.into_events(),
-            stage: self.stage(),
-            cause: next.cause,
-        })
+        self.take(alloc, Part::Both, hub, draws)
     }
 
-    /// A turn in which nothing is read, for a link whose peer was heard enough: a reply that is not out yet is written on, and
-    /// an open link sends what waits, and then draws and sends as in [`Link::turn`]. All else is left as it is. `AllocError`
-    /// comes before anything was written or changed.
-    pub fn tell(&mut self, alloc: Global, hub: &mut Hub, draws: u64) -> Result<Turn, AllocError>
-        ensures follows { IfOk result (λ turn. Follows (at hub.old (session_of self.old) []) (at hub.new (session_of self.new) turn.made.items)) }
-        ensures few { IfOk result (λ turn. length turn.made.items ≤ EVENTS_MOST) }
-        ensures receives { IfOk result (λ turn. receives turn.made.items ≡ 0) }
-        ensures draws { IfOk result (λ turn. draws_of turn.made.items ≤ min draws DRAWS_MOST) }
-        ensures closed { IfOk result (λ turn. (s : ℕ) → session_of self.old ≡ Some s → session_of self.new ≡ None → Contains turn.made.items (Close s)) }
-        ensures over { OnOk result (is_over (stage_of self.new) ≡ true → session_of self.new ≡ None) }
-        ensures stage { IfOk result (λ turn. turn.stage ≡ stage_of self.new) }
+    /// The first part of a turn, for a link that is heard more than once before it is told: as [`Link::turn`], but what an open
+    /// link says, up to 8 KiB, is held back for [`Link::tell`]. A link that parts sends it first.
+    pub fn hear(&mut self, alloc: Global, hub: &mut Hub, draws: u64) -> Result<Turn, AllocError>
+        ensures turns { IfOk result (Turns 1 draws hub.old self.old hub.new self.new) }
         ensures forward { IsForward (stage_of self.old) (stage_of self.new) }
-        ensures cause { IfOk result (λ turn. is_some turn.cause ≡ leaves (stage_of self.old) (stage_of self.new)) }
-        ensures gone { IfOk result (λ turn. stage_of self.old ≡ Gone → (turn.made.items ≡ []) × (self.new ≡ self.old)) }
         ensures unchanged { OnErr result (self.new ≡ self.old) }
         ensures hub_unchanged { OnErr result (hub.new ≡ hub.old) }
     {
-        let mut made = Made::new(alloc)?;
-        let state = mem::replace(&mut self.state, State::Gone);
-        let draws = draws.min(DRAWS_MOST);
-        let next = advance(alloc, state, Hears::Nothing, draws, hub, &mut made);
-        self.state = next.state;
-        Ok(Turn {
-            made: made.into_events(),
-            stage: self.stage(),
-            cause: next.cause,
-        })
+        self.take(alloc, Part::Hear, hub, draws)
+    }
+
+    /// The other part of a turn, in which nothing is read: a reply that is not out yet is written on, and an open link draws, and
+    /// sends what was held back and what it drew as in [`Link::turn`]. All else is left as it is. `AllocError` comes before
+    /// anything was written or changed.
+    pub fn tell(&mut self, alloc: Global, hub: &mut Hub, draws: u64) -> Result<Turn, AllocError>
+        ensures turns { IfOk result (Turns 0 draws hub.old self.old hub.new self.new) }
+        ensures forward { IsForward (stage_of self.old) (stage_of self.new) }
+        ensures unchanged { OnErr result (self.new ≡ self.old) }
+        ensures hub_unchanged { OnErr result (hub.new ≡ hub.old) }
+    {
+        self.take(alloc, Part::Tell, hub, draws)
     }
 
     /// Ends the link: its session is closed, if it has one, and it is Gone with [`Cause::Ended`]. An open link tries once to
@@ -173,6 +155,7 @@ impl<S: Read + Write + Drop> Link<S> {
         let cause = match mem::replace(&mut self.state, State::Gone) {
             State::Gone => None,
             State::Open { mut socket, .. } => {
+                socket.get_mut().hold(false);
                 let _ = close(&mut socket, CloseCode::Away);
                 Some(Cause::Ended)
             }
@@ -186,6 +169,31 @@ impl<S: Read + Write + Drop> Link<S> {
             cause,
         })
     }
+
+    /// A turn, or a part of one.
+    fn take(
+        &mut self,
+        alloc: Global,
+        part: Part,
+        hub: &mut Hub,
+        draws: u64,
+    ) -> Result<Turn, AllocError>
+        ensures turns { IfOk result (Turns (texts_of part) draws hub.old self.old hub.new self.new) }
+        ensures forward { IsForward (stage_of self.old) (stage_of self.new) }
+        ensures unchanged { OnErr result (self.new ≡ self.old) }
+        ensures hub_unchanged { OnErr result (hub.new ≡ hub.old) }
+    {
+        let mut made = Made::new(alloc)?;
+        let state = mem::replace(&mut self.state, State::Gone);
+        let draws = draws.min(DRAWS_MOST);
+        let next = advance(alloc, state, part, draws, hub, &mut made);
+        self.state = next.state;
+        Ok(Turn {
+            made: made.into_events(),
+            stage: self.stage(),
+            cause: next.cause,
+        })
+    }
 }
 
 /// A turn, by the stage of the link. Where nothing is read a link that has nothing to say stays as it is.
@@ -193,14 +201,14 @@ impl<S: Read + Write + Drop> Link<S> {
 fn advance<S: Read + Write + Drop>(
     alloc: Global,
     state: State<S>,
-    hears: Hears,
+    part: Part,
     draws: u64,
     hub: &mut Hub,
     made: &mut Made,
 ) -> Next<S>
     requires { length made.old + draws + 2 ≤ EVENTS_MOST }
     ensures follows { Follows (at hub.old (session_of state) made.old) (at hub.new (session_of result.state) made.new) }
-    ensures adds { Adds (draws + 2) (texts_of hears) draws made.old made.new }
+    ensures adds { Adds (draws + 2) (texts_of part) draws made.old made.new }
     ensures cause { is_some result.cause ≡ leaves (stage_of state) (stage_of result.state) }
     ensures forward { IsForward (stage_of state) (stage_of result.state) }
     ensures gone { stage_of state ≡ Gone → (made.new ≡ made.old) × (result.state ≡ state) }
@@ -208,12 +216,12 @@ fn advance<S: Read + Write + Drop>(
     match state {
         State::Replying { stream, reply } => head::reply(alloc, stream, reply, hub, made),
         State::Open { socket, session } => {
-            opened::turn(alloc, socket, session, hears, draws, hub, made)
+            opened::turn(alloc, socket, session, part, draws, hub, made)
         }
-        State::Head { stream, bytes } if hears == Hears::Text => {
+        State::Head { stream, bytes } if part != Part::Tell => {
             head::listen(alloc, stream, bytes, hub, made)
         }
-        State::Closing { socket, turns } if hears == Hears::Text => closing::turn(socket, turns),
+        State::Closing { socket, turns } if part != Part::Tell => closing::turn(socket, turns),
         State::Head { .. } | State::Closing { .. } | State::Gone => Next::on(state),
     }
 }

@@ -3,15 +3,16 @@ use crate::cause::Cause;
 use crate::closing::TURNS_MOST;
 use crate::socket::Socket;
 use crate::state::State;
+use std::io::Write;
 
 /// The link's state after a turn, and why it left the stage that it was in, where it has to say so.
 #[derive(Drop)]
-pub(crate) struct Next<S> {
+pub(crate) struct Next<S: Write + Drop> {
     pub state: State<S>,
     pub cause: Option<Cause>,
 }
 
-impl<S> Next<S> {
+impl<S: Write + Drop> Next<S> {
     ghost use Rattle.std.specs.Prelude.{◌≡◌, Some, None};
     ghost use Rattle.relay_link.specs.Stage.{stage_of, session_of};
     ghost use Rattle.relay_link.specs.declared.stage.Stage.TheVariants.{Closing, Gone};

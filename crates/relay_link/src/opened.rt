@@ -8,9 +8,9 @@ ghost use Rattle.relay_link.specs.declared.stage.Stage.TheVariants.{Open};
 
 use crate::cause::Cause;
 use crate::events;
-use crate::hears::Hears;
 use crate::made::Made;
 use crate::next::Next;
+use crate::part::Part;
 use crate::socket::{Socket, close, flush, read, write};
 use crate::state::State;
 use relay_hub::Hub;
@@ -19,6 +19,7 @@ use std::io::{Read, Write};
 use tungstenite::{CloseCode, Message, Utf8Bytes};
 
 /// How the link is no longer open.
+#[derive(Clone, Copy)]
 enum Parting {
     /// The closing handshake goes on.
     Closing(Cause),
@@ -41,21 +42,21 @@ pub(crate) fn turn<S: Read + Write + Drop>(
     alloc: Global,
     mut socket: Socket<S>,
     session: u64,
-    hears: Hears,
+    part: Part,
     draws: u64,
     hub: &mut Hub,
     made: &mut Made,
 ) -> Next<S>
     requires { length made.old + draws + 2 ≤ EVENTS_MOST }
     ensures follows { Follows (at hub.old (Some session) made.old) (at hub.new (session_of result.state) made.new) }
-    ensures adds { Adds (draws + 2) (texts_of hears) draws made.old made.new }
+    ensures adds { Adds (draws + 2) (texts_of part) draws made.old made.new }
     ensures cause { is_some result.cause ≡ leaves Open (stage_of result.state) }
     ensures forward { IsForward Open (stage_of result.state) }
 {
-    if hears == Hears::Text {
+    if part != Part::Tell {
         socket.get_mut().renew();
     }
-    let talked = talk(alloc, &mut socket, session, hears, draws, hub, made);
+    let talked = talk(alloc, &mut socket, session, part, draws, hub, made);
     settle(talked, socket, session, hub, made)
 }
 
@@ -86,28 +87,57 @@ fn settle<S: Read + Write + Drop>(
     }
 }
 
-/// Sends what waits. Where nothing waits any more a message may be heard, and messages are drawn and sent.
+/// Sends what waits and is not held back. Where nothing waits any more a message may be heard and messages are drawn, and what
+/// comes of it is sent, or held back for a turn that tells.
 #[tactic(auto, using(crate::proofs::Following::follows_same, crate::proofs::Following::follows_then))]
 fn talk<S: Read + Write + Drop>(
     alloc: Global,
     socket: &mut Socket<S>,
     session: u64,
-    hears: Hears,
+    part: Part,
     draws: u64,
     hub: &mut Hub,
     made: &mut Made,
 ) -> Result<(), Parting>
     requires { length made.old + draws + 1 ≤ EVENTS_MOST }
     ensures follows { Follows (at hub.old (Some session) made.old) (at hub.new (Some session) made.new) }
-    ensures adds { Adds (draws + 1) (texts_of hears) draws made.old made.new }
+    ensures adds { Adds (draws + 1) (texts_of part) draws made.old made.new }
 {
     if !flush(socket)? {
         return Ok(());
     }
-    if hears == Hears::Text && hub.may_hear(session) {
+    let exchanged = exchange(alloc, socket, session, part, draws, hub, made);
+    // What was framed before a link parts goes out as well.
+    socket
+        .get_mut()
+        .hold(part == Part::Hear && exchanged.is_ok());
+    let sent = flush(socket);
+    if !matches!(exchanged, Err(Parting::Gone(_))) {
+        sent?;
+    }
+    exchanged
+}
+
+/// Hears a message, where that is to be done and the hub has room for an answer, and frames what waits.
+#[tactic(auto, using(crate::proofs::Following::follows_same, crate::proofs::Following::follows_then))]
+fn exchange<S: Read + Write + Drop>(
+    alloc: Global,
+    socket: &mut Socket<S>,
+    session: u64,
+    part: Part,
+    draws: u64,
+    hub: &mut Hub,
+    made: &mut Made,
+) -> Result<(), Parting>
+    requires { length made.old + draws + 1 ≤ EVENTS_MOST }
+    ensures follows { Follows (at hub.old (Some session) made.old) (at hub.new (Some session) made.new) }
+    ensures adds { Adds (draws + 1) (texts_of part) draws made.old made.new }
+{
+    if part != Part::Tell && hub.may_hear(session) {
         hear(alloc, socket, session, hub, made)?;
     }
-    send_drawn(alloc, socket, session, draws, hub, made)
+    gather(alloc, socket, session, draws, hub, made)?;
+    Ok(())
 }
 
 /// Reads one message, and hands a text to the hub.
@@ -140,34 +170,9 @@ fn hear<S: Read + Write + Drop>(
             close(socket, CloseCode::Unsupported)?;
             Err(Parting::Closing(Cause::Binary))
         }
-        Message::Close(_) => {
-            flush(socket)?;
-            Err(Parting::Closing(Cause::Peer))
-        }
+        Message::Close(_) => Err(Parting::Closing(Cause::Peer)),
         Message::Ping(_) | Message::Pong(_) => Ok(()),
     }
-}
-
-/// Draws up to so many messages, and sends them together.
-#[tactic(auto, using(crate::proofs::Following::follows_same, crate::proofs::Following::follows_then))]
-fn send_drawn<S: Read + Write + Drop>(
-    alloc: Global,
-    socket: &mut Socket<S>,
-    session: u64,
-    draws: u64,
-    hub: &mut Hub,
-    made: &mut Made,
-) -> Result<(), Parting>
-    requires { length made.old + draws ≤ EVENTS_MOST }
-    ensures follows { Follows (at hub.old (Some session) made.old) (at hub.new (Some session) made.new) }
-    ensures adds { Adds draws 0 draws made.old made.new }
-{
-    let gathered = gather(alloc, socket, session, draws, hub, made);
-    // What was framed before a message found no memory goes out as well.
-    let sent = flush(socket);
-    gathered?;
-    sent?;
-    Ok(())
 }
 
 /// Draws up to so many messages and frames each, until output waits. Where a draw finds no memory it ends the turn.

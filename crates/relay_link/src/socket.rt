@@ -3,7 +3,8 @@ ghost use Rattle.std.specs.Prelude.{IfErr};
 ghost use Rattle.relay_link.specs.SocketError.{IsOfSocket};
 
 use crate::cause::Cause;
-use crate::polled::{Polled, is_nothing_now};
+use crate::held::Held;
+use crate::polled::is_nothing_now;
 use std::alloc::Global;
 use std::io::{Read, Write};
 use tungstenite::{
@@ -11,7 +12,7 @@ use tungstenite::{
 };
 
 /// A WebSocket of the relay's side, whose frames have no mask.
-pub(crate) type Socket<S> = WebSocket<Polled<S>, NoMask>;
+pub(crate) type Socket<S> = WebSocket<Held<S>, NoMask>;
 
 /// How many bytes one read asks for. The crate's own 128 KiB are much for sockets of which many are held.
 pub(crate) const READ_MOST: usize = 4_096;
@@ -20,7 +21,7 @@ pub(crate) const READ_MOST: usize = 4_096;
 const GATHERED_MOST: usize = 65_536;
 
 /// The socket of a stream whose handshake is done.
-pub(crate) fn socket_on<S: Read + Write + Drop>(alloc: Global, stream: Polled<S>) -> Socket<S> {
+pub(crate) fn socket_on<S: Read + Write + Drop>(alloc: Global, stream: Held<S>) -> Socket<S> {
     let config = WebSocketConfig::default()
         .read_buffer_size(READ_MOST)
         .write_buffer_size(GATHERED_MOST);

@@ -20,7 +20,7 @@ pub struct Door<'n, N: Net> {
 
 /// Both ends of one socket.
 #[derive(Drop)]
-pub struct Connection<S> {
+pub struct Connection<S: Write + Drop> {
     pub session: u64,
     link: Link<S>,
     client: Client<S>,
@@ -28,7 +28,7 @@ pub struct Connection<S> {
 
 /// What came of an opening.
 #[derive(Drop)]
-pub enum Entering<S> {
+pub enum Entering<S: Write + Drop> {
     Opened(Connection<S>),
     /// The handshake was refused with this status.
     Refused(u16),

@@ -25,7 +25,7 @@ use std::net::{Net, OpenStream};
 
 /// A name of the script.
 #[derive(Drop)]
-struct Peer<S> {
+struct Peer<S: Write + Drop> {
     ear: Ear,
     /// Where a session is open.
     connection: Option<Connection<S>>,
@@ -264,7 +264,11 @@ fn said(alloc: Global, name: &str, saying: Saying) -> Result<String, AllocError>
 }
 
 /// What came of an opening.
-fn entered<S>(alloc: Global, name: &str, entering: &Entering<S>) -> Result<String, AllocError>
+fn entered<S: Write + Drop>(
+    alloc: Global,
+    name: &str,
+    entering: &Entering<S>,
+) -> Result<String, AllocError>
     ensures { IfOk result (λ answer. SpeaksOf name.now (string_bytes answer)) }
 {
     match entering {

@@ -12,7 +12,7 @@ use std::io::{Read, Write};
 
 /// A link with what its server knows of it.
 #[derive(Drop)]
-pub(crate) struct Seat<S> {
+pub(crate) struct Seat<S: Write + Drop> {
     pub link: Link<Watched<S>>,
     pub known: Known,
     /// Whether something became ready since the link was heard last.
@@ -61,13 +61,13 @@ impl<S: Read + Write + Drop> Seat<S> {
         }
     }
 
-    /// Whether a message waits that could be sent.
+    /// Whether a message waits, or was held back, that could be sent.
     pub(crate) fn may_be_told(&self, hub: &Hub) -> bool {
         if !self.known.is_writable() {
             return false;
         }
         match self.link.session() {
-            Some(session) => matches!(hub.waiting(session), Some(1..)),
+            Some(session) => self.link.has_held() || matches!(hub.waiting(session), Some(1..)),
             None => false,
         }
     }

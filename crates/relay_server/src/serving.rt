@@ -28,7 +28,7 @@ const WAIT: u64 = 100;
 
 /// A hub and the links to it, by the keys of a slab, and what says which of them are ready.
 #[derive(Drop)]
-pub struct Serving<S, R> {
+pub struct Serving<S: Write + Drop, R> {
     hub: Hub,
     seats: Slab<Seat<S>>,
     readiness: R,
@@ -80,10 +80,10 @@ impl<S: Read + Write + OpenStream + Drop, R: Readiness<S>> Serving<S, R> {
     /// - up to 8 connections that wait are accepted. Where 320 are held already, the one that came first of those without a
     ///   session makes room. A connection that cannot be accepted or held is let go;
     /// - it hears: each link that has something to say, beginning behind the one that was heard last, has a turn, in which one
-    ///   text is heard and up to 32 messages are sent, and so round and round until nobody says more, or half as many texts were
-    ///   heard as patches may wait, 16 at most;
-    /// - it tells: each link for which messages wait, and whose stream takes more, has a turn in which nothing is heard and up to
-    ///   32 messages are sent, by rising key.
+    ///   text is heard and up to 32 messages are drawn, which are held back, and so round and round until nobody says more, or
+    ///   half as many texts were heard as patches may wait, 16 at most;
+    /// - it tells: each link for which messages wait or were held back, and whose stream takes more, has a turn in which nothing
+    ///   is heard and up to 32 messages more are sent, by rising key.
     ///
     /// A turn without memory waits for the next round. Links that are gone are let go. Where it is not known what is ready,
     /// everything is taken as ready.
@@ -335,7 +335,7 @@ impl<S: Read + Write + OpenStream + Drop, R: Readiness<S>> Serving<S, R> {
             return false;
         };
         let before = seat.link.stage();
-        let Ok(turn) = seat.link.turn(alloc, &mut self.hub, DRAWS_MOST) else {
+        let Ok(turn) = seat.link.hear(alloc, &mut self.hub, DRAWS_MOST) else {
             return false;
         };
         seat.woken = false;

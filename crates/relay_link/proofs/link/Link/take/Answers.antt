@@ -1,0 +1,20 @@
+-- What followed closed the session, if it is there no longer.
+use Rattle.std.proofs.Common.{◌≡◌, ◌∙◌, Some, ap, rules}
+use Rattle.relay_link.specs.Stage.{session_of}
+use Rattle.relay_link.proofs.Closed.{closed}
+use Rattle.relay_link.proofs.link.Link.take.Goals as goal
+
+pub returns-clause-turns : goal.returns-clause-turns
+returns-clause-turns g c = record {
+  follows = search rules;
+  few = search rules;
+  heard = search rules;
+  drew = search rules;
+  closed = λ s had gone.
+      let was : session_of c.replace-state.result ≡ Some s = ap session_of (c.replace-state.ensures.value ∙ c.self.view_is) ∙ had in
+      rw c.into_events.ensures (closed c.advance-next.ensures.follows s was gone);
+  over = search rules;
+  stage = search rules;
+  cause = search rules;
+  gone = search rules;
+}
