@@ -6,10 +6,11 @@
 //!
 //! Nothing here waits. A stream that has "nothing now", or that interrupts, ends a turn early and is asked again in the next.
 //!
-//! A link costs, besides its stream, about 13 KB while it is quiet: 4 KiB that one read fills, up to twice as much for bytes
-//! that are no whole message yet, and a few hundred bytes of state; a handshake takes 90 KB more while it is judged. What is
-//! longer comes on top while it is there, and its room is kept: a message that comes in (64 MiB at most, in frames of 16 MiB
-//! at most), and what goes out: texts up to 64 KiB together, and one more, since a link draws no further text while output waits.
+//! A link costs, besides its stream, about 21 KB while it is quiet: 4 KiB that one read fills, up to twice as much for bytes
+//! that are no whole message yet, 8 KiB for what goes out, and a few hundred bytes of state; a handshake takes 90 KB more while
+//! it is judged. What is longer comes on top while it is there, and its room is kept: a message that comes in (64 MiB at most,
+//! in frames of 16 MiB at most), and what goes out: texts up to 64 KiB together, and one more, since a link draws no further
+//! text while output waits.
 #![tactic(auto)]
 
 mod cause;

@@ -5,8 +5,8 @@ use std::io::{Error, ErrorKind, Read, Write};
 /// How many reads of 4 KiB a turn makes at most, so that a side which never stops sending cannot hold the others up.
 const READS_MOST: u64 = 1_024;
 
-/// A stream that tells an interruption as "nothing now", since a socket would try again at once and for ever, and that has
-/// nothing more to read once a turn has read often.
+/// A stream that tells an interruption as "nothing now", since a socket would try again at once and for ever, that has nothing
+/// more to read once a turn has read often, and that is not written to again once a write failed.
 #[derive(Drop)]
 pub(crate) struct Polled<S> {
     stream: S,
@@ -14,6 +14,8 @@ pub(crate) struct Polled<S> {
     reads: u64,
     /// Whether another turn may find something to do although nothing new is ready.
     restless: bool,
+    /// Whether a write failed, or took no byte.
+    broken: bool,
 }
 
 impl<S> Polled<S> {
@@ -24,6 +26,7 @@ impl<S> Polled<S> {
             stream,
             reads: READS_MOST,
             restless: false,
+            broken: false,
         }
     }
 
@@ -79,13 +82,25 @@ impl<S: Read> Read for Polled<S> {
 
 impl<S: Write> Write for Polled<S> {
     fn write(&mut self, buf: &[u8]) -> io::Result<usize> {
+        if self.broken {
+            return Err(Error::from(ErrorKind::BrokenPipe));
+        }
         let written = self.stream.write(buf);
+        self.broken = is_break(&written);
         self.noted(written)
     }
 
     fn flush(&mut self) -> io::Result<()> {
         let flushed = self.stream.flush();
         self.noted(flushed)
+    }
+}
+
+/// Whether a write failed for good.
+fn is_break(written: &io::Result<usize>) -> bool {
+    match written {
+        Ok(len) => *len == 0,
+        Err(error) => !matches!(error.kind(), ErrorKind::WouldBlock | ErrorKind::Interrupted),
     }
 }
 
