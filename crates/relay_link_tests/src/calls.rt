@@ -6,10 +6,11 @@ use crate::side::Act::{Comes, Says};
 use crate::side::{Act, SAMPLE, Side};
 use crate::written::words;
 use relay_hub::{Event, Hub};
-use relay_link::{DRAWS_MOST, Stage, Turn};
+use relay_link::{Stage, Turn};
 use relay_wire::{Trick, Wire};
 use std::alloc::{AllocGlobal, Global};
 use std::cell::RefCell;
+use std::mem;
 use std::process::Abort;
 use std::test::Fail;
 
@@ -107,12 +108,18 @@ impl<'a> Run<'a> {
     fn turn(&mut self) -> Result<(), Fail> {
         let failures = self.failures()?;
         let session = self.side.link.session();
-        let turn = self.side.link.turn(self.alloc, &mut self.hub, DRAWS_MOST)?;
+        let turn = self.side.turned(&mut self.hub)?;
         self.judge_events(&turn, session);
         self.tell_cause(&turn, self.failures()? > failures)?;
-        let done = self.twin.run(self.alloc, turn.made.as_slice());
-        drop(done.ok().ok_or("no memory in a twin")?);
-        Ok(())
+        self.repeat(&turn)
+    }
+
+    /// Hands the twin the events of a turn.
+    fn repeat(&mut self, turn: &Turn) -> Result<(), Fail> {
+        match self.twin.run(self.alloc, turn.made.as_slice()) {
+            Ok(_) => Ok(()),
+            Err(_) => Err(Fail::from("no memory in a twin")),
+        }
     }
 
     fn failures(&self) -> Result<u64, Fail> {
@@ -149,14 +156,25 @@ impl<'a> Run<'a> {
         self.must(is_left == is_closed);
     }
 
-    /// All turns, and what is left behind them.
-    fn all(&mut self) -> Result<(), Fail> {
+    /// All turns, and what is told of them.
+    fn all(&mut self) -> Result<String, Fail> {
+        self.turns()?;
+        self.tell_rest()?;
+        Ok(mem::replace(&mut self.told, String::new(self.alloc)))
+    }
+
+    fn turns(&mut self) -> Result<(), Fail> {
         watch(self.alloc, &mut self.hub)?;
         watch(self.alloc, &mut self.twin)?;
         for _ in 0..TURNS {
             self.feed()?;
             self.turn()?;
         }
+        Ok(())
+    }
+
+    /// Tells what is left behind the turns.
+    fn tell_rest(&mut self) -> Result<(), Fail> {
         let texts = self.texts_of_other()?;
         self.tell_end()?;
         self.told.push_str(texts.as_str())?;
@@ -191,8 +209,7 @@ impl<'a> Run<'a> {
 /// What is told of a run over a wire.
 fn told_of(alloc: Global, wire: &RefCell<Wire>) -> Result<String, Fail> {
     let mut run = Run::new(alloc, wire)?;
-    run.all()?;
-    Ok(run.told)
+    run.all()
 }
 
 /// What is told of a run in which one call goes wrong.
@@ -205,6 +222,11 @@ fn told_at(alloc: Global, call: u64, trick: Trick) -> Result<String, Fail> {
 /// The causes of a run in which no call goes wrong, what session 1 draws, and what is written.
 const WHOLE: &str =
     "Peer Peer Gone, 0 wrong\n{\"kind\":\"patch\",\"patch\":[{\"op\":\"replace\",\"path\":\"/0\",\"value\":[{\"x\":1}]}],\"rev\":1}\n{\"kind\":\"patch\",\"patch\":[{\"op\":\"replace\",\"path\":\"/0/0/x\",\"value\":2}],\"rev\":2}\n > switched > {\"epoch\":1,\"kind\":\"welcome\",\"rev\":0,\"session\":2} > {\"id\":1,\"kind\":\"watching\"} > {\"kind\":\"snapshot\",\"rev\":0,\"view\":[[null]]} > {\"id\":2,\"kind\":\"done\",\"rev\":1} > {\"kind\":\"patch\",\"patch\":[{\"op\":\"replace\",\"path\":\"/0\",\"value\":[{\"x\":1}]}],\"rev\":1} > {\"id\":3,\"kind\":\"done\",\"rev\":2} > {\"kind\":\"patch\",\"patch\":[{\"op\":\"replace\",\"path\":\"/0/0/x\",\"value\":2}],\"rev\":2} > close 1000\n";
+
+/// How a run is told in which the stream ends the link: by a call that takes nothing, or by one that fails.
+const ENDED: &str = "Stream Gone, 0 wrong\n";
+
+const FAILED: &str = "Stream ! Gone, 0 wrong\n";
 
 /// How many calls a run makes of each kind.
 #[derive(Clone, Copy)]
@@ -263,34 +285,34 @@ fn ends_of(alloc: Global, calls: Calls, trick: Trick, stream: &str) -> Result<En
     Ok(ends)
 }
 
+/// So many runs with a trick end by the peer, so many by the stream, and the others as where no call goes wrong.
+fn goes_wrong(
+    rt: &(impl Abort + AllocGlobal),
+    calls: Calls,
+    trick: Trick,
+    words: &str,
+    peer: u64,
+    stream: u64,
+) -> Result<(), Fail> {
+    let ends = ends_of(rt.alloc(), calls, trick, words)?;
+    let whole = calls.all.saturating_sub(peer).saturating_sub(stream);
+    let wanted = Ends {
+        whole,
+        peer,
+        stream,
+    };
+    assert_eq!(rt; ends, wanted, "{trick:?}");
+    Ok(())
+}
+
 /// A call that moves nothing, or little, changes nothing; one that fails ends the link. A read that gives nothing is the
 /// end, a write that takes nothing ends the link as one that fails, and a flush moves nothing anyway.
 #[test]
 fn each_call_goes_wrong_in_each_way(rt: HostRuntime) -> Result<(), Fail> {
     let calls = whole_run(&rt)?;
-    for (trick, stream_words, peer, stream) in [
-        (Trick::Nothing, "Stream Gone, 0 wrong\n", 0, 0),
-        (Trick::Interrupt, "Stream Gone, 0 wrong\n", 0, 0),
-        (Trick::OneByte, "Stream Gone, 0 wrong\n", 0, 0),
-        (Trick::Fail, "Stream ! Gone, 0 wrong\n", 0, calls.all),
-        (
-            Trick::End,
-            "Stream Gone, 0 wrong\n",
-            calls.reads,
-            calls.writes,
-        ),
-    ] {
-        let ends = ends_of(rt.alloc(), calls, trick, stream_words)?;
-        let whole = calls.all.saturating_sub(peer).saturating_sub(stream);
-        assert_eq!(rt;
-            ends,
-            Ends {
-                whole,
-                peer,
-                stream
-            },
-            "{trick:?}"
-        );
-    }
-    Ok(())
+    goes_wrong(&rt, calls, Trick::Nothing, ENDED, 0, 0)?;
+    goes_wrong(&rt, calls, Trick::Interrupt, ENDED, 0, 0)?;
+    goes_wrong(&rt, calls, Trick::OneByte, ENDED, 0, 0)?;
+    goes_wrong(&rt, calls, Trick::Fail, FAILED, 0, calls.all)?;
+    goes_wrong(&rt, calls, Trick::End, ENDED, calls.reads, calls.writes)
 }

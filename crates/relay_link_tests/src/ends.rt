@@ -3,6 +3,8 @@ use crate::frames::BINARY;
 use crate::side::Act::{Comes, Draws, End, Ends, Idle, Reads, Says, Writes};
 use crate::side::{Row, SAMPLE, play, play_after};
 use relay_wire::Trick::{End as Ending, Fail as Failing, Nothing};
+use std::alloc::AllocGlobal;
+use std::process::Abort;
 use std::test::Fail;
 
 const ENTERS: Row = (1, Comes(SAMPLE), "open a; Open as 1 > switched");
@@ -37,7 +39,7 @@ const IN_CLOSING: &[Row] = &[
 ];
 
 /// What comes then ends the link, and nothing more happens to it.
-const ENDINGS: [(&[Row], Row); 18] = [
+const ENDINGS: &[(&[Row], Row)] = &[
     (NEW, (1, End, "Gone by Ended")),
     (NEW, (1, Ends(b""), "Gone by Peer")),
     (NEW, (1, Reads(Some(Failing)), "Gone by Stream")),
@@ -73,19 +75,28 @@ const ENDINGS: [(&[Row], Row); 18] = [
 
 #[test]
 fn ends_in_each_stage(rt: HostRuntime) -> Result<(), Fail> {
-    for (beginning, ending) in ENDINGS {
-        play_after(
-            &rt,
-            beginning,
-            &[
-                ending,
-                (1, Writes(None), "Gone"),
-                (1, End, "Gone"),
-                (1, Idle, "Gone"),
-            ],
-        )?;
+    end_all(&rt, ENDINGS)
+}
+
+fn end_all(rt: &(impl Abort + AllocGlobal), endings: &[(&[Row], Row)]) -> Result<(), Fail> {
+    for (beginning, ending) in endings {
+        end(rt, *beginning, *ending)?;
     }
     Ok(())
+}
+
+/// A link that is ended stays so.
+fn end(rt: &(impl Abort + AllocGlobal), beginning: &[Row], ending: Row) -> Result<(), Fail> {
+    play_after(
+        rt,
+        beginning,
+        &[
+            ending,
+            (1, Writes(None), "Gone"),
+            (1, End, "Gone"),
+            (1, Idle, "Gone"),
+        ],
+    )
 }
 
 /// What came before the end is answered.

@@ -1,8 +1,9 @@
 //! From the first byte to the reply: the head may come in pieces, and the reply may go out in pieces.
 use crate::side::Act::{Comes, End, Idle, Look, Reads};
-use crate::side::{SAMPLE, play, play_on};
+use crate::side::{SAMPLE, new_hub, play, play_on};
 use relay_hub::{Hub, SESSIONS_MOST};
 use relay_wire::Trick;
+use std::alloc::Global;
 use std::test::Fail;
 
 const OLD_VERSION: &[u8] =
@@ -10,7 +11,7 @@ const OLD_VERSION: &[u8] =
 
 #[test]
 fn opens_and_ends(rt: HostRuntime) -> Result<(), Fail> {
-    let mut hub = Hub::new(rt.alloc(), 1, 1, 64, 32)?;
+    let mut hub = new_hub(&rt);
     play_on(
         &rt,
         &mut hub,
@@ -29,12 +30,18 @@ fn opens_and_ends(rt: HostRuntime) -> Result<(), Fail> {
     Ok(())
 }
 
+/// A hub with as many sessions as it may have.
+fn full_hub(alloc: Global) -> Result<Hub, Fail> {
+    let mut hub = Hub::new(alloc, 1, 1, 64, 1)?;
+    for _ in 0..SESSIONS_MOST {
+        hub.open(alloc, "a")?;
+    }
+    Ok(hub)
+}
+
 #[test]
 fn refuses_where_the_hub_is_full(rt: HostRuntime) -> Result<(), Fail> {
-    let mut hub = Hub::new(rt.alloc(), 1, 1, 64, 1)?;
-    for _ in 0..SESSIONS_MOST {
-        hub.open(rt.alloc(), "a")?;
-    }
+    let mut hub = full_hub(rt.alloc())?;
     play_on(
         &rt,
         &mut hub,

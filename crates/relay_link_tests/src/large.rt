@@ -1,6 +1,6 @@
 //! Messages of more than 65,535 bytes, whose frames tell their length in eight bytes (RFC 6455, section 5.2).
-use crate::side::Act::{Comes, Draws, Idle};
-use crate::side::{SAMPLE, Side};
+use crate::side::Act::Draws;
+use crate::side::{Side, answer_to, joined, new_hub};
 use relay_hub::Hub;
 use relay_wire::Wire;
 use std::alloc::{AllocError, Global};
@@ -14,36 +14,22 @@ const UNWATCH: &str = r#"{"do":"unwatch","id":7}"#;
 
 /// A frame with a text and an eight-byte length: `second` is its second byte, behind which the length and the mask stand.
 fn frame(alloc: Global, second: u8, mask: &[u8], text: &str) -> Result<Vec<u8>, AllocError> {
-    let mut frame = Vec::new(alloc);
-    frame.extend_from_slice(&[0x81, second])?;
-    frame.extend_from_slice(&(text.len() as u64).to_be_bytes())?;
-    frame.extend_from_slice(mask)?;
-    frame.extend_from_slice(text.as_bytes())?;
-    Ok(frame)
-}
-
-/// A link with session 1, which draws nothing unless it is told to.
-fn entered<'a>(alloc: Global, wire: &'a RefCell<Wire>, hub: &mut Hub) -> Result<Side<'a>, Fail> {
-    let mut side = Side::new(alloc, wire)?;
-    side.act(hub, Draws(0))?;
-    side.act(hub, Comes(SAMPLE))?;
-    Ok(side)
+    let len = (text.len() as u64).to_be_bytes();
+    joined(alloc, &[&[0x81, second], &len, mask, text.as_bytes()])
 }
 
 /// What a link's turn does with a request that blanks make as long as `LEN`.
 fn told_of_blanks(alloc: Global, hub: &mut Hub) -> Result<String, Fail> {
-    let wire = Wire::new(alloc);
-    let mut side = entered(alloc, &wire, hub)?;
     let blanks = " ".repeat(alloc, LEN.saturating_sub(UNWATCH.len()))?;
     let text = format!(in alloc; "{UNWATCH}{blanks}")?;
     let frame = frame(alloc, 0xff, &[0; 4], text.as_str())?;
-    wire.try_borrow_mut()?.feed(frame.as_slice())?;
-    side.act(hub, Idle)
+    let (told, _) = answer_to(alloc, hub, frame.as_slice())?;
+    Ok(told)
 }
 
 #[test]
 fn hears_65536_bytes(rt: HostRuntime) -> Result<(), Fail> {
-    let mut hub = Hub::new(rt.alloc(), 1, 1, 64, 32)?;
+    let mut hub = new_hub(&rt);
     let told = told_of_blanks(rt.alloc(), &mut hub)?;
     assert_eq!(rt; told.as_str(), "receive 1; Open as 1");
     hub.draw(rt.alloc(), 1)?;
@@ -66,20 +52,33 @@ fn edit(alloc: Global, hub: &mut Hub, letters: &str) -> Result<(), Fail> {
     Ok(())
 }
 
-/// What the next turn writes, which draws one message.
+/// What a turn writes that draws one message, behind the edit.
 fn written(alloc: Global, hub: &mut Hub, letters: &str) -> Result<Vec<u8>, Fail> {
     let wire = Wire::new(alloc);
-    let mut side = entered(alloc, &wire, hub)?;
+    written_over(alloc, &wire, hub, letters)
+}
+
+fn written_over(
+    alloc: Global,
+    wire: &RefCell<Wire>,
+    hub: &mut Hub,
+    letters: &str,
+) -> Result<Vec<u8>, Fail> {
+    let mut side = Side::new(alloc, wire)?;
+    side.enter(hub)?;
     edit(alloc, hub, letters)?;
-    let from = wire.try_borrow()?.output.len();
+    written_by(&mut side, hub)
+}
+
+fn written_by(side: &mut Side<'_>, hub: &mut Hub) -> Result<Vec<u8>, Fail> {
+    let from = side.written_len()?;
     side.act(hub, Draws(1))?;
-    let wire = wire.try_borrow()?;
-    Ok(wire.output.get(from..).unwrap_or(&[]).to_vec(alloc)?)
+    side.written_from(from)
 }
 
 #[test]
 fn sends_more_than_65535_bytes(rt: HostRuntime) -> Result<(), Fail> {
-    let mut hub = Hub::new(rt.alloc(), 1, 1, 64, 32)?;
+    let mut hub = new_hub(&rt);
     let letters = "a".repeat(rt.alloc(), LEN / 2)?;
     let written = written(rt.alloc(), &mut hub, letters.as_str())?;
     let text = format!(in rt.alloc();

@@ -1,6 +1,6 @@
 //! A link beside others of the same hub.
 use crate::side::Act::{Comes, Draws, Idle, Says, Writes};
-use crate::side::{Act, Row, SAMPLE, Side};
+use crate::side::{Act, Row, SAMPLE, Side, new_hub, says};
 use relay_hub::Hub;
 use relay_link::DRAWS_MOST;
 use relay_outbox::REPLIES;
@@ -13,74 +13,77 @@ use std::test::Fail;
 /// How many patches may wait for a session.
 const PATCHES: u64 = 4;
 
-/// A link with session 1 and, beside it, session 2 of the same room, which is driven directly.
-#[derive(Drop)]
-struct Beside<'a> {
-    alloc: Global,
-    hub: Hub,
-    side: Side<'a>,
+/// What session 2 edits.
+const EDIT: &str = r#"{"do":"edit","id":2,"patch":[{"op":"add","path":"","value":[1]}]}"#;
+
+/// Plays rows to a link with session 1 and, beside it, session 2 of the same room, which is driven directly.
+fn play_beside(rt: &(impl Abort + AllocGlobal), rows: &[Row]) -> Result<(), Fail> {
+    let wire = Wire::new(rt.alloc());
+    let mut hub = Hub::new(rt.alloc(), 1, 1, 64, PATCHES)?;
+    play_beside_on(rt, &wire, &mut hub, rows)
 }
 
-impl<'a> Beside<'a> {
-    fn new(alloc: Global, wire: &'a RefCell<Wire>) -> Result<Beside<'a>, Fail> {
-        Ok(Beside {
-            alloc,
-            hub: Hub::new(alloc, 1, 1, 64, PATCHES)?,
-            side: Side::new(alloc, wire)?,
-        })
-    }
-
-    /// Both sessions are opened.
-    fn begin(&mut self) -> Result<(), Fail> {
-        self.side.act(&mut self.hub, Comes(SAMPLE))?;
-        self.hub.open(self.alloc, "a")?;
-        self.hub.draw(self.alloc, 2)?;
-        Ok(())
-    }
-
-    /// The link does an act, and session 2 edits: what the link's turn did, how the edit was answered, and whether no more
-    /// waits for session 1 than may.
-    fn act(&mut self, act: Act) -> Result<String, Fail> {
-        let mut told = self.side.act(&mut self.hub, act)?;
-        self.hub.receive(
-            self.alloc,
-            2,
-            r#"{"do":"edit","id":2,"patch":[{"op":"add","path":"","value":[1]}]}"#,
-        )?;
-        let answer = self.hub.draw(self.alloc, 2)?.ok_or("an answer")?;
-        let is_done = answer.contains(r#"{"id":2,"kind":"done","rev":"#);
-        let few_wait = self.hub.waiting(1).ok_or("a session")? <= PATCHES + REPLIES;
-        write!(told, ", done: {is_done}, few wait: {few_wait}")?;
-        Ok(told)
-    }
-
-    fn play(&mut self, rt: &impl Abort, rows: &[Row]) -> Result<(), Fail> {
-        for (times, act, wanted) in rows {
-            for _ in 0..*times {
-                assert_eq!(rt; self.act(*act)?.as_str(), *wanted, "at {act:?}");
-            }
-        }
-        Ok(())
-    }
-}
-
-fn play_beside(
+fn play_beside_on(
     rt: &(impl Abort + AllocGlobal),
     wire: &RefCell<Wire>,
+    hub: &mut Hub,
     rows: &[Row],
 ) -> Result<(), Fail> {
-    let mut beside = Beside::new(rt.alloc(), wire)?;
-    beside.begin()?;
-    beside.play(rt, rows)
+    let mut side = Side::new(rt.alloc(), wire)?;
+    play_both(rt, &mut side, hub, rows)
+}
+
+/// Both sessions are opened, and each row's act is done.
+fn play_both(
+    rt: &(impl Abort + AllocGlobal),
+    side: &mut Side<'_>,
+    hub: &mut Hub,
+    rows: &[Row],
+) -> Result<(), Fail> {
+    side.act(hub, Comes(SAMPLE))?;
+    hub.open(rt.alloc(), "a")?;
+    hub.draw(rt.alloc(), 2)?;
+    for row in rows {
+        play_row(rt, side, hub, *row)?;
+    }
+    Ok(())
+}
+
+/// The link does an act, and session 2 edits, as often as the row says.
+fn play_row(
+    rt: &(impl Abort + AllocGlobal),
+    side: &mut Side<'_>,
+    hub: &mut Hub,
+    row: Row,
+) -> Result<(), Fail> {
+    let (times, act, wanted) = row;
+    for _ in 0..times {
+        let mut told = side.act(hub, act)?;
+        edit(rt.alloc(), hub, &mut told)?;
+        says(rt, told, wanted, act);
+    }
+    Ok(())
+}
+
+/// Session 2 edits: how that was answered, and whether no more waits for session 1 than may.
+fn edit(alloc: Global, hub: &mut Hub, told: &mut String) -> Result<(), Fail> {
+    hub.receive(alloc, 2, EDIT)?;
+    let is_done = is_done(alloc, hub)?;
+    let few_wait = hub.waiting(1).ok_or("a session")? <= PATCHES + REPLIES;
+    Ok(write!(told, ", done: {is_done}, few wait: {few_wait}")?)
+}
+
+/// Whether the next answer to session 2 is that its edit is done.
+fn is_done(alloc: Global, hub: &mut Hub) -> Result<bool, Fail> {
+    let answer = hub.draw(alloc, 2)?.ok_or("an answer")?;
+    Ok(answer.contains(r#"{"id":2,"kind":"done","rev":"#))
 }
 
 /// A watcher that never reads: what waits for it stays bounded, and the other session goes on.
 #[test]
 fn a_full_stream_stops_the_draws(rt: HostRuntime) -> Result<(), Fail> {
-    let wire = Wire::new(rt.alloc());
     play_beside(
         &rt,
-        &wire,
         &[
             (1, Draws(0), "Open as 1, done: true, few wait: true"),
             (
@@ -112,50 +115,44 @@ enum Who {
 
 use Who::{Dying, Living};
 
-/// Two links of one hub.
-#[derive(Drop)]
-struct Pair<'a> {
-    hub: Hub,
-    dying: Side<'a>,
-    living: Side<'a>,
-}
-
-impl<'a> Pair<'a> {
-    fn new(
-        alloc: Global,
-        one: &'a RefCell<Wire>,
-        two: &'a RefCell<Wire>,
-    ) -> Result<Pair<'a>, Fail> {
-        Ok(Pair {
-            hub: Hub::new(alloc, 1, 1, 64, 32)?,
-            dying: Side::new(alloc, one)?,
-            living: Side::new(alloc, two)?,
-        })
-    }
-
-    fn act(&mut self, who: Who, act: Act) -> Result<String, Fail> {
-        match who {
-            Dying => self.dying.act(&mut self.hub, act),
-            Living => self.living.act(&mut self.hub, act),
-        }
-    }
-
-    fn play(&mut self, rt: &impl Abort, rows: &[(Who, Act, &str)]) -> Result<(), Fail> {
-        for (who, act, wanted) in rows {
-            assert_eq!(rt; self.act(*who, *act)?.as_str(), *wanted, "at {act:?}");
-        }
-        Ok(())
-    }
-}
-
+/// Plays rows to two links of one hub.
 fn play_pair(
     rt: &(impl Abort + AllocGlobal),
     one: &RefCell<Wire>,
     two: &RefCell<Wire>,
     rows: &[(Who, Act, &str)],
 ) -> Result<(), Fail> {
-    let mut pair = Pair::new(rt.alloc(), one, two)?;
-    pair.play(rt, rows)
+    let mut dying = Side::new(rt.alloc(), one)?;
+    play_with(rt, &mut dying, two, rows)
+}
+
+/// Plays rows to a link, and to another one of the same hub.
+fn play_with(
+    rt: &(impl Abort + AllocGlobal),
+    dying: &mut Side<'_>,
+    two: &RefCell<Wire>,
+    rows: &[(Who, Act, &str)],
+) -> Result<(), Fail> {
+    let mut living = Side::new(rt.alloc(), two)?;
+    let mut hub = new_hub(rt);
+    play_in_turn(rt, &mut hub, dying, &mut living, rows)
+}
+
+fn play_in_turn(
+    rt: &impl Abort,
+    hub: &mut Hub,
+    dying: &mut Side<'_>,
+    living: &mut Side<'_>,
+    rows: &[(Who, Act, &str)],
+) -> Result<(), Fail> {
+    for (who, act, wanted) in rows {
+        let said = match *who {
+            Dying => dying.act(hub, *act)?,
+            Living => living.act(hub, *act)?,
+        };
+        says(rt, said, *wanted, *act);
+    }
+    Ok(())
 }
 
 #[test]

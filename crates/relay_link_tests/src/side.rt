@@ -63,8 +63,13 @@ pub(crate) fn play_after(
     beginning: &[Row],
     rows: &[Row],
 ) -> Result<(), Fail> {
-    let mut hub = Hub::new(rt.alloc(), 1, 1, 64, 32)?;
+    let mut hub = new_hub(rt);
     play_on(rt, &mut hub, beginning, rows)
+}
+
+/// A hub with no rooms, which numbers sessions from 1 on.
+pub(crate) fn new_hub(rt: &(impl Abort + AllocGlobal)) -> Hub {
+    Hub::new(rt.alloc(), 1, 1, 64, 32).expect(rt, "a hub")
 }
 
 /// Plays rows to a new link on that hub, those of a beginning first.
@@ -90,6 +95,36 @@ fn play_by(
     side.play(rt, hub, rows)
 }
 
+/// What the turn of a link that is just open does with bytes, and behind it what it writes then.
+pub(crate) fn answer_to(
+    alloc: Global,
+    hub: &mut Hub,
+    bytes: &[u8],
+) -> Result<(String, Vec<u8>), Fail> {
+    let wire = Wire::new(alloc);
+    answer_over(alloc, &wire, hub, bytes)
+}
+
+fn answer_over(
+    alloc: Global,
+    wire: &RefCell<Wire>,
+    hub: &mut Hub,
+    bytes: &[u8],
+) -> Result<(String, Vec<u8>), Fail> {
+    let mut side = Side::new(alloc, wire)?;
+    side.answer(hub, bytes)
+}
+
+/// Asserts what an act's turn said.
+pub(crate) fn says(rt: &impl Abort, said: String, wanted: &str, act: Act) {
+    assert_eq!(rt; said.as_str(), wanted, "at {act:?}");
+}
+
+/// Bytes one behind the other.
+pub(crate) fn joined(alloc: Global, parts: &[&[u8]]) -> Result<Vec<u8>, AllocError> {
+    parts.concat(alloc)
+}
+
 /// A link and its wire.
 #[derive(Drop)]
 pub(crate) struct Side<'a> {
@@ -110,17 +145,55 @@ impl<'a> Side<'a> {
     }
 
     pub fn play(&mut self, rt: &impl Abort, hub: &mut Hub, rows: &[Row]) -> Result<(), Fail> {
-        for (times, act, wanted) in rows {
-            for _ in 0..*times {
-                assert_eq!(rt; self.act(hub, *act)?.as_str(), *wanted, "at {act:?}");
-            }
+        for row in rows {
+            self.play_row(rt, hub, *row)?;
         }
         Ok(())
     }
 
+    fn play_row(&mut self, rt: &impl Abort, hub: &mut Hub, row: Row) -> Result<(), Fail> {
+        let (times, act, wanted) = row;
+        for _ in 0..times {
+            says(rt, self.act(hub, act)?, wanted, act);
+        }
+        Ok(())
+    }
+
+    /// A turn that draws as much as it may now.
+    pub fn turned(&mut self, hub: &mut Hub) -> Result<Turn, AllocError> {
+        self.link.turn(self.alloc, hub, self.draws)
+    }
+
+    /// Opens the link, which draws nothing then.
+    pub fn enter(&mut self, hub: &mut Hub) -> Result<(), Fail> {
+        self.act(hub, Act::Draws(0))?;
+        self.act(hub, Act::Comes(SAMPLE))?;
+        Ok(())
+    }
+
+    /// Opens the link, and says what its turn does with bytes, and what it writes then.
+    fn answer(&mut self, hub: &mut Hub, bytes: &[u8]) -> Result<(String, Vec<u8>), Fail> {
+        self.enter(hub)?;
+        let from = self.written_len()?;
+        self.wire.try_borrow_mut()?.feed(bytes)?;
+        let told = self.act(hub, Act::Idle)?;
+        Ok((told, self.written_from(from)?))
+    }
+
+    /// How many bytes were written.
+    pub fn written_len(&self) -> Result<usize, Fail> {
+        Ok(self.wire.try_borrow()?.output.len())
+    }
+
+    /// The bytes that were written from that place on.
+    pub fn written_from(&self, from: usize) -> Result<Vec<u8>, Fail> {
+        let wire = self.wire.try_borrow()?;
+        Ok(wire.output.get(from..).unwrap_or(&[]).to_vec(self.alloc)?)
+    }
+
     /// Does an act, and says what its turn did.
     pub fn act(&mut self, hub: &mut Hub, act: Act) -> Result<String, Fail> {
-        let from = self.wire.try_borrow()?.output.len();
+        let from = self.written_len()?;
         self.prepare(act)?;
         let mut told = String::new(self.alloc);
         self.turn(hub, act, &mut told)?;
@@ -154,7 +227,7 @@ impl<'a> Side<'a> {
                 return Ok(tell_session(told, self.link.session())?);
             }
             Act::End => self.link.end(self.alloc, hub)?,
-            _ => self.link.turn(self.alloc, hub, self.draws)?,
+            _ => self.turned(hub)?,
         };
         tell_turn(told, &turn, self.link.session())?;
         Ok(())
