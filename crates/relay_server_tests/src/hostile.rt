@@ -147,6 +147,12 @@ impl Long {
     }
 }
 
+/// Goes on with a story: the session says a long text, which has one reply.
+fn ask_long(alloc: Global, story: &mut String, long: Long, reply: &str) -> Result<(), AllocError> {
+    let text = long.text(alloc)?;
+    ask(alloc, story, text.as_str(), reply)
+}
+
 /// Adds a part to a text, `count` times.
 fn add(text: &mut String, part: &str, count: u64) -> Result<(), AllocError> {
     for _ in 0..count {
@@ -198,7 +204,7 @@ fn removal(count: u64) -> Long {
 }
 
 /// Long texts of one session, each with its one reply.
-fn long_texts(alloc: Global) -> Result<String, Fail> {
+fn long_texts(alloc: Global) -> Result<String, AllocError> {
     let mut story = String::from_str(alloc, ENTERED)?;
     for (long, reply) in [
         (nested(128), NOT_JSON),
@@ -225,7 +231,7 @@ fn long_texts(alloc: Global) -> Result<String, Fail> {
             r#"{"at":0,"fault":"not-index","id":1,"kind":"refused"}"#,
         ),
     ] {
-        ask(alloc, &mut story, long.text(alloc)?.as_str(), reply)?;
+        ask_long(alloc, &mut story, long, reply)?;
     }
     Ok(story)
 }
@@ -250,8 +256,7 @@ fn an_edit_has_64_operations_at_most(rt: HostRuntime) -> Result<(), Fail> {
             r#"{"at":null,"fault":"too-many","id":1,"kind":"refused"}"#,
         ),
     ] {
-        let text = null_tests(count).text(rt.alloc())?;
-        ask(rt.alloc(), &mut story, text.as_str(), reply)?;
+        ask_long(rt.alloc(), &mut story, null_tests(count), reply)?;
     }
     plays(&rt, 64, 32, story.as_str())
 }

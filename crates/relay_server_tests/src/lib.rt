@@ -4,19 +4,13 @@
 #![tactic(auto)]
 
 #[cfg(test)]
-mod desk;
-#[cfg(test)]
 mod hostile;
 #[cfg(test)]
 mod lines;
 #[cfg(test)]
-mod nets;
-#[cfg(test)]
 mod options;
 #[cfg(test)]
 mod program;
-#[cfg(test)]
-mod rounds;
 #[cfg(test)]
 mod sessions;
 #[cfg(test)]

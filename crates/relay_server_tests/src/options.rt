@@ -1,6 +1,7 @@
 //! What the words of a command line ask for.
 use relay_options::{Job, Settings, Stop, job_of};
-use std::alloc::{AllocError, Global};
+use std::alloc::{AllocError, AllocGlobal, Global};
+use std::process::Abort;
 use std::test::Fail;
 
 /// The words of a line, the first of which is the program's name.
@@ -41,6 +42,20 @@ fn is_misuse(alloc: Global, line: &str) -> Result<bool, AllocError> {
     }
 }
 
+/// A line asks for a job.
+fn asks_for(rt: &(impl Abort + AllocGlobal), line: &str, wanted: Job) -> Result<(), Fail> {
+    assert_eq!(rt; job(rt.alloc(), line)?, wanted, "{line}");
+    Ok(())
+}
+
+/// Each line is refused.
+fn refuses(rt: &(impl Abort + AllocGlobal), lines: &[&str]) -> Result<(), Fail> {
+    for line in lines {
+        assert!(rt; is_misuse(rt.alloc(), line)?, "{line}");
+    }
+    Ok(())
+}
+
 fn settings(history: u64, outbox: u64, epoch: u64) -> Settings {
     Settings {
         history,
@@ -64,7 +79,7 @@ fn reads_scripts(rt: HostRuntime) -> Result<(), Fail> {
             settings(1_024, 1, 9_007_199_254_740_991),
         ),
     ] {
-        assert_eq!(rt; job(rt.alloc(), line)?, Job::Script(wanted), "{line}");
+        asks_for(&rt, line, Job::Script(wanted))?;
     }
     Ok(())
 }
@@ -95,43 +110,43 @@ fn reads_the_other_jobs(rt: HostRuntime) -> Result<(), Fail> {
             serve(65_535, 1_000_000_000_000, false),
         ),
     ] {
-        assert_eq!(rt; job(rt.alloc(), line)?, wanted, "{line}");
+        asks_for(&rt, line, wanted)?;
     }
     Ok(())
 }
 
 #[test]
 fn refuses_what_is_out_of_range(rt: HostRuntime) -> Result<(), Fail> {
-    for line in [
-        "relay script --outbox 0",
-        "relay script --outbox 257",
-        "relay script --history 0",
-        "relay script --history 1025",
-        "relay script --epoch 9007199254740992",
-        "relay script --epoch -1",
-        "relay loop --outbox 257",
-        "relay serve --port 65536 --turns 1",
-        "relay serve --port 0 --turns 0",
-        "relay serve --port 0 --turns 1000000000001",
-    ] {
-        assert!(rt; is_misuse(rt.alloc(), line)?, "{line}");
-    }
-    Ok(())
+    refuses(
+        &rt,
+        &[
+            "relay script --outbox 0",
+            "relay script --outbox 257",
+            "relay script --history 0",
+            "relay script --history 1025",
+            "relay script --epoch 9007199254740992",
+            "relay script --epoch -1",
+            "relay loop --outbox 257",
+            "relay serve --port 65536 --turns 1",
+            "relay serve --port 0 --turns 0",
+            "relay serve --port 0 --turns 1000000000001",
+        ],
+    )
 }
 
 #[test]
 fn refuses_words_that_belong_to_no_job(rt: HostRuntime) -> Result<(), Fail> {
-    for line in [
-        "relay frob",
-        "relay follow --epoch 1",
-        "relay script --port 0",
-        "relay serve --turns 1",
-        "relay serve --port 0 --log 1",
-        "relay loop --log",
-    ] {
-        assert!(rt; is_misuse(rt.alloc(), line)?, "{line}");
-    }
-    Ok(())
+    refuses(
+        &rt,
+        &[
+            "relay frob",
+            "relay follow --epoch 1",
+            "relay script --port 0",
+            "relay serve --turns 1",
+            "relay serve --port 0 --log 1",
+            "relay loop --log",
+        ],
+    )
 }
 
 /// The version of the program, and of the kit that proves it (`rt version`).

@@ -72,10 +72,13 @@ fn refuses_words_that_cannot_be_read(rt: HostRuntime) -> Result<(), Fail> {
 
 /// What a follower says of texts, one a line, and behind it the fault that ended it, if there was one.
 fn followed(alloc: Global, texts: &str) -> Result<String, Fail> {
-    let mut input = texts.as_bytes();
     let mut output = Vec::new(alloc);
-    let ended = run_follow(alloc, &mut input, &mut output);
+    let ended = follow(alloc, texts.as_bytes(), &mut output);
     with_end(alloc, output.as_slice(), ended)
+}
+
+fn follow(alloc: Global, mut input: &[u8], output: &mut Vec<u8>) -> Result<(), ScriptFault> {
+    run_follow(alloc, &mut input, output)
 }
 
 /// Messages, each with what the follower says of it: of an empty line nothing. The last has no line feed.
@@ -120,15 +123,19 @@ impl Ran {
     /// Does what a line of words asks for, over an input.
     pub fn of(rt: &(impl AllocGlobal + Net), line: &str, input: &str) -> Result<Ran, Fail> {
         let words = words_of(rt.alloc(), line)?;
-        let mut input = input.as_bytes();
-        let mut output = Vec::new(rt.alloc());
-        let mut errors = Vec::new(rt.alloc());
-        let status = start(rt, words.as_slice(), &mut input, &mut output, &mut errors);
-        Ok(Ran {
-            status,
-            output,
-            errors,
-        })
+        let mut ran = Ran {
+            status: 0,
+            output: Vec::new(rt.alloc()),
+            errors: Vec::new(rt.alloc()),
+        };
+        ran.status = started(
+            rt,
+            words.as_slice(),
+            input.as_bytes(),
+            &mut ran.output,
+            &mut ran.errors,
+        );
+        Ok(ran)
     }
 
     /// What it wrote.
@@ -140,6 +147,16 @@ impl Ran {
     pub fn errors(&self) -> Result<&str, Fail> {
         Ok(str::from_utf8(self.errors.as_slice())?)
     }
+}
+
+fn started(
+    rt: &(impl AllocGlobal + Net),
+    words: &[String],
+    mut input: &[u8],
+    output: &mut Vec<u8>,
+    errors: &mut Vec<u8>,
+) -> u8 {
+    start(rt, words, &mut input, output, errors)
 }
 
 /// What the program writes, whether it complains, and its status.

@@ -40,10 +40,19 @@ fn add_line(text: &mut String, line: &str) -> Result<(), AllocError> {
 
 /// What a script writes, and behind it the fault that ended it, if there was one.
 pub fn played(alloc: Global, history: u64, outbox: u64, script: &[u8]) -> Result<String, Fail> {
-    let mut input = script;
     let mut output = Vec::new(alloc);
-    let ended = run_script(alloc, &mut input, &mut output, 1, history, outbox);
+    let ended = run(alloc, history, outbox, script, &mut output);
     with_end(alloc, output.as_slice(), ended)
+}
+
+fn run(
+    alloc: Global,
+    history: u64,
+    outbox: u64,
+    mut script: &[u8],
+    output: &mut Vec<u8>,
+) -> Result<(), ScriptFault> {
+    run_script(alloc, &mut script, output, 1, history, outbox)
 }
 
 /// What was written, and behind it the fault, if there was one.

@@ -1,6 +1,6 @@
 //! A reader and a writer that interrupt or fail at a chosen call.
 use crate::story::with_end;
-use relay_server::run_script;
+use relay_server::{ScriptFault, run_script};
 use std::alloc::Global;
 use std::io;
 use std::io::{ErrorKind, Read, Write};
@@ -84,6 +84,10 @@ impl Write for FailingWriter {
 /// Two lines of names that are not open.
 const TWO_LINES: &[u8] = b"x draw\ny draw";
 
+fn run<R: Read, W: Write>(alloc: Global, input: &mut R, output: &mut W) -> Result<(), ScriptFault> {
+    run_script(alloc, input, output, 1, 64, 32)
+}
+
 /// What a script writes that is read with faults, and behind it the one that ended it.
 fn read_with(alloc: Global, faults: Faults) -> Result<String, Fail> {
     let mut input = FailingReader {
@@ -91,7 +95,7 @@ fn read_with(alloc: Global, faults: Faults) -> Result<String, Fail> {
         faults,
     };
     let mut output = Vec::new(alloc);
-    let ended = run_script(alloc, &mut input, &mut output, 1, 64, 32);
+    let ended = run(alloc, &mut input, &mut output);
     with_end(alloc, output.as_slice(), ended)
 }
 
@@ -116,7 +120,7 @@ fn written_with(alloc: Global, faults: Faults) -> Result<String, Fail> {
         bytes: Vec::new(alloc),
         faults,
     };
-    let ended = run_script(alloc, &mut input, &mut output, 1, 64, 32);
+    let ended = run(alloc, &mut input, &mut output);
     with_end(alloc, output.bytes.as_slice(), ended)
 }
 

@@ -77,14 +77,23 @@ impl AsRawFd for Lame {
 
 /// What a job prints on a network, what it complains of, and its status.
 fn done(alloc: Global, lacks: Lacks, job: Job) -> Result<String, Fail> {
-    let mut input = "a open r\n".as_bytes();
     let mut output = Vec::new(alloc);
     let mut errors = Vec::new(alloc);
-    let net = Lame { lacks };
-    let status = carry_out(alloc, &net, job, &mut input, &mut output, &mut errors).code();
+    let status = status_of(alloc, lacks, job, &mut output, &mut errors);
     let printed = str::from_utf8(output.as_slice())?;
     let complaint = str::from_utf8(errors.as_slice())?;
     Ok(format!(in alloc; "{printed}{complaint}status {status}")?)
+}
+
+fn status_of(
+    alloc: Global,
+    lacks: Lacks,
+    job: Job,
+    output: &mut Vec<u8>,
+    errors: &mut Vec<u8>,
+) -> u8 {
+    let mut input = "a open r\n".as_bytes();
+    carry_out(alloc, &Lame { lacks }, job, &mut input, output, errors).code()
 }
 
 /// Before it listens, and before it can ask the system which sockets are ready, a server prints nothing.

@@ -100,7 +100,7 @@ pub(crate) struct Desk<'a> {
     alloc: Global,
     door: Door<'a>,
     sayings: &'a RefCell<Sayings>,
-    pub serving: Serving<End<'a>, Told<'a>>,
+    serving: Serving<End<'a>, Told<'a>>,
     /// What it told of its links.
     pub log: Vec<u8>,
 }
@@ -125,32 +125,68 @@ impl<'a> Desk<'a> {
     }
 
     /// A connection waits at the door, and the next round hears of it.
-    pub fn knock(&mut self, wire: &'a RefCell<Wire>) -> Result<(), Fail> {
-        self.door.waiting.try_borrow_mut()?.push(wire)?;
+    pub fn knock(&self, wire: &'a RefCell<Wire>) -> Result<(), Fail> {
+        wait_at(&self.door, wire)?;
         self.news(News::Knock)
     }
 
     /// The next round hears this.
-    pub fn news(&mut self, news: News) -> Result<(), Fail> {
-        Ok(self.sayings.try_borrow_mut()?.next.push(news)?)
+    pub fn news(&self, news: News) -> Result<(), Fail> {
+        say_next(self.sayings, news)
     }
 
     /// The next round has room for so much of the news that waits.
-    pub fn room(&mut self, room: usize) -> Result<(), Fail> {
+    pub fn room(&self, room: usize) -> Result<(), Fail> {
         self.sayings.try_borrow_mut()?.room = room;
         Ok(())
     }
 
     /// The next round cannot be told what is ready.
-    pub fn fail(&mut self) -> Result<(), Fail> {
+    pub fn fail(&self) -> Result<(), Fail> {
         self.sayings.try_borrow_mut()?.fails = true;
+        Ok(())
+    }
+
+    /// How many connections it holds.
+    pub fn links(&self) -> usize {
+        self.serving.links()
+    }
+
+    /// Makes so many rounds.
+    pub fn rounds(&mut self, count: u64) -> Result<(), Fail> {
+        for _ in 0..count {
+            self.round()?;
+        }
         Ok(())
     }
 
     /// Makes a round. How long it could have waited, in milliseconds.
     pub fn round(&mut self) -> Result<u64, Fail> {
-        self.serving
-            .round(self.alloc, &self.door, &mut Lines::to(&mut self.log));
-        Ok(self.sayings.try_borrow()?.waited)
+        make_round(self.alloc, &mut self.serving, &self.door, &mut self.log);
+        waited(self.sayings)
     }
+}
+
+fn wait_at<'a>(door: &Door<'a>, wire: &'a RefCell<Wire>) -> Result<(), Fail> {
+    let mut waiting = door.waiting.try_borrow_mut()?;
+    Ok(waiting.push(wire)?)
+}
+
+fn say_next(sayings: &RefCell<Sayings>, news: News) -> Result<(), Fail> {
+    let mut sayings = sayings.try_borrow_mut()?;
+    Ok(sayings.next.push(news)?)
+}
+
+fn make_round<'a>(
+    alloc: Global,
+    serving: &mut Serving<End<'a>, Told<'a>>,
+    door: &Door<'a>,
+    log: &mut Vec<u8>,
+) {
+    serving.round(alloc, door, &mut Lines::to(log));
+}
+
+fn waited(sayings: &RefCell<Sayings>) -> Result<u64, Fail> {
+    let sayings = sayings.try_borrow()?;
+    Ok(sayings.waited)
 }
