@@ -3,14 +3,15 @@ use Rattle.std.proofs.Common.{◌≡◌, ◌≢◌, ◌↔◌, ◌⊎◌, inl, i
 use Rattle.std.specs.Io.KnownBytes.{IsAtEnd}
 use Rattle.relay_options.specs.declared.job.Job.{Job}
 use Rattle.relay_server.specs.Jobs.{Ends, LoopEnds, JobEnds}
-use Rattle.relay_server.specs.Respond.{Answering, AnswersAll, AnswersSome}
-use Rattle.relay_server.specs.Sockets as sockets
-use Rattle.relay_server.specs.declared.fault.ScriptFault.{ScriptFault}
-use Rattle.relay_server.specs.declared.fault.ScriptFault.TheVariants.{BadLimit, NoMemory}
-use Rattle.relay_server.specs.declared.fault.ServeFault.{ServeFault}
-use Rattle.relay_server.specs.declared.fault.ServeFault.TheVariants.{Ended, Listen}
+use Rattle.relay_lines.specs.Respond.{Answering, AnswersAll, AnswersSome}
+use Rattle.relay_lines.specs.Sockets as sockets
+use Rattle.relay_lines.specs.declared.fault.ScriptFault.{ScriptFault}
+use Rattle.relay_lines.specs.declared.fault.ScriptFault.TheVariants.{BadLimit, NoMemory}
+use Rattle.relay_lines.specs.declared.fault.ServeFault.{ServeFault}
+use Rattle.relay_lines.specs.declared.fault.ServeFault.TheVariants.{Ended, Listen}
 use Rattle.relay_server.specs.declared.status.Status.{Status}
-use Rattle.relay_server.proofs.RunLemmas.{on_success, if_fault, AnswersSome-none, AnswersAll-seen, AnswersSome-seen}
+pub use Rattle.relay_lines.proofs.Limits.{limits_kept}
+use Rattle.relay_lines.proofs.RunLemmas.{on_success, if_fault, AnswersSome-none, AnswersAll-seen, AnswersSome-seen}
 
 -- the job is known
 pub JobEnds-at : (todo known : Job) (status : Status) (input left old new : Option (List ℕ)) → todo ≡ known → JobEnds known status input left old new
@@ -65,8 +66,3 @@ loop_ran answers from input left old new ended same all end some limits =
     end
     (if_fault ended (λ fault. AnswersSome-seen answers sockets.Answers (λ _. tt) same fault from input old new) some)
     limits
-
--- where a job was begun, and no such fault came later, no limit is out of range
-pub limits_kept : {A B E F : Type 0} (begun : A) (ended : Result B F) (early : E) (late : F) (bad : Type 0) → (IsErrOf (Ok begun) early ↔ bad)
-    → (ended ≡ Err late → ⊥) → IsErrOf ended late ↔ bad
-limits_kept begun ended early late bad limits none = (λ e. absurd (none e), λ b. absurd (let e : Ok begun ≡ Err early = limits.1 b in cc))

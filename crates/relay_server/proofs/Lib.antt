@@ -1,10 +1,3 @@
-pub mod Hearing
 pub mod JobLemmas
-pub mod LineLemmas
-pub mod Players
-pub mod RunLemmas
-pub mod ScriptLemmas
 pub mod ServeLemmas
 pub mod SettingsFit
-pub mod Speaking
-pub mod WordLemmas

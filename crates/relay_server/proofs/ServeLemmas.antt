@@ -6,12 +6,13 @@ use Rattle.std.specs.Io.KnownBytes.{Appends}
 use Rattle.std.proofs.KnownBytes.{Appends-nil, Appends-trans, Keeps-refl}
 use Rattle.relay_hub.specs.declared.fault.HubNewFault.{HubNewFault}
 use Rattle.relay_hub.specs.declared.fault.HubNewFault.TheVariants as made
-use Rattle.relay_server.specs.Jobs.{Listens, ServeEnds, not_made}
-use Rattle.relay_server.specs.Lines.{AppendsPart}
-use Rattle.relay_server.specs.Words.{served_text}
-use Rattle.relay_server.specs.declared.fault.ScriptFault.TheVariants.{Output, NoMemory}
-use Rattle.relay_server.specs.declared.fault.ServeFault.{ServeFault}
-use Rattle.relay_server.specs.declared.fault.ServeFault.TheVariants.{Ended}
+use Rattle.relay_lines.specs.Faults.{not_made}
+use Rattle.relay_lines.specs.Lines.{AppendsPart}
+use Rattle.relay_lines.specs.Words.{served_text}
+use Rattle.relay_lines.specs.declared.fault.ScriptFault.TheVariants.{Output, NoMemory}
+use Rattle.relay_lines.specs.declared.fault.ServeFault.{ServeFault}
+use Rattle.relay_lines.specs.declared.fault.ServeFault.TheVariants.{Ended}
+use Rattle.relay_server.specs.Jobs.{Listens, ServeEnds}
 
 -- nothing is a part
 pub part_none : (old : Option (List ℕ)) (bs : List ℕ) → AppendsPart old old bs

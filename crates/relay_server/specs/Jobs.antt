@@ -4,26 +4,24 @@ use Rattle.std.specs.Io.KnownBytes.{IsAtEnd, Appends, Keeps}
 use Rattle.std.specs.declared.io.ErrorKind.{ErrorKind}
 use Rattle.std.specs.declared.io.ErrorKind.TheVariants as kind
 use Rattle.relay_hub.specs.Telling.{BadLimits}
-use Rattle.relay_hub.specs.declared.fault.HubNewFault.{HubNewFault}
-use Rattle.relay_hub.specs.declared.fault.HubNewFault.TheVariants as hub
 use Rattle.relay_options.specs.declared.job.Job.{Job}
 use Rattle.relay_options.specs.declared.job.Job.TheVariants as job
 use Rattle.relay_options.specs.declared.job.Stop.{Stop}
 use Rattle.relay_options.specs.declared.job.Stop.TheVariants as stop
 use Rattle.relay_options.specs.declared.settings.Settings.{Settings}
 use Rattle.relay_options.specs.Ranges.{IsPossible}
-use Rattle.relay_server.specs.Follow as follow
-use Rattle.relay_server.specs.Lines.{AppendsPart}
-use Rattle.relay_server.specs.Respond.{Answering, AnswersAll, AnswersSome}
-use Rattle.relay_server.specs.Script as script
-use Rattle.relay_server.specs.Script.{new_stage}
-use Rattle.relay_server.specs.Sockets as sockets
-use Rattle.relay_server.specs.Words.{listening_text, served_text}
-use Rattle.relay_server.specs.declared.serve.TheConstants.{FIRST}
-use Rattle.relay_server.specs.declared.fault.ScriptFault.{ScriptFault}
-use Rattle.relay_server.specs.declared.fault.ScriptFault.TheVariants.{BadLimit, NoMemory}
-use Rattle.relay_server.specs.declared.fault.ServeFault.{ServeFault}
-use Rattle.relay_server.specs.declared.fault.ServeFault.TheVariants as serve
+use Rattle.relay_lines.specs.Follow as follow
+use Rattle.relay_lines.specs.Lines.{AppendsPart}
+use Rattle.relay_lines.specs.Respond.{Answering, AnswersAll, AnswersSome}
+use Rattle.relay_lines.specs.Script as script
+use Rattle.relay_lines.specs.Script.{new_stage}
+use Rattle.relay_lines.specs.Sockets as sockets
+use Rattle.relay_lines.specs.Words.{listening_text, served_text}
+use Rattle.relay_lines.specs.declared.sockets.TheConstants.{FIRST}
+use Rattle.relay_lines.specs.declared.fault.ScriptFault.{ScriptFault}
+use Rattle.relay_lines.specs.declared.fault.ScriptFault.TheVariants.{BadLimit, NoMemory}
+use Rattle.relay_lines.specs.declared.fault.ServeFault.{ServeFault}
+use Rattle.relay_lines.specs.declared.fault.ServeFault.TheVariants as serve
 use Rattle.relay_server.specs.declared.status.Status.{Status}
 use Rattle.relay_server.specs.declared.status.Status.TheVariants as is
 
@@ -32,11 +30,6 @@ code_of is.Done = 0
 code_of is.Failed = 1
 code_of is.Misused = 2
 code_of is.NoMemory = 3
-
--- a hub that was not made ends a script early
-abbrev pub not_made : HubNewFault → ScriptFault
-not_made hub.BadLimit = BadLimit
-not_made hub.NoMemory = NoMemory
 
 abbrev pub status_of : Result (Unit {0}) ScriptFault → Status
 status_of (Ok u) = is.Done

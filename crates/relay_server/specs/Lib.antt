@@ -1,10 +1,1 @@
-pub mod Lines
-pub mod Line
-pub mod Respond
-pub mod Words
-pub mod Script
-pub mod Follow
-pub mod Sockets
-pub mod Kept
 pub mod Jobs
-pub mod Seats

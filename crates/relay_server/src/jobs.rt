@@ -2,17 +2,15 @@
 ghost use Rattle.std.specs.Prelude.{◌≡◌, ◌↔◌, IsErrOf};
 ghost use Rattle.relay_hub.specs.Telling.{BadLimits};
 ghost use Rattle.relay_server.specs.Jobs.{JobEnds, LoopEnds, Starts, StopEnds, code_of, sockets_status, unread_status};
-ghost use Rattle.relay_server.specs.declared.fault.ScriptFault.TheVariants.{BadLimit};
-ghost use Rattle.relay_server.specs.declared.fault.ServeFault.TheVariants.{Ended};
-ghost use Rattle.relay_server.specs.declared.serve.TheConstants.{FIRST};
+ghost use Rattle.relay_lines.specs.declared.fault.ScriptFault.TheVariants.{BadLimit};
+ghost use Rattle.relay_lines.specs.declared.fault.ServeFault.TheVariants.{Ended};
+ghost use Rattle.relay_lines.specs.declared.sockets.TheConstants.{FIRST};
 
-use crate::fault::{ScriptFault, ServeFault};
-use crate::looped::Looped;
-use crate::output::write_whole;
-use crate::run::run_lines;
 use crate::serve::{Served, serve};
 use crate::status::{Status, report, say};
-use crate::whole::{run_follow, run_script};
+use relay_lines::{
+    Looped, ScriptFault, ServeFault, run_follow, run_lines, run_script, write_whole,
+};
 use relay_options::{Job, Settings, Stop, job_of};
 use std::alloc::{AllocGlobal, Global};
 use std::io::{ErrorKind, Read, Write};

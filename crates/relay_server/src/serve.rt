@@ -3,25 +3,19 @@ ghost use Rattle.std.specs.Prelude.{◌≡◌, ◌≢◌, ◌↔◌, ◌⊎◌, 
 ghost use Rattle.std.specs.Io.KnownBytes.{Appends};
 ghost use Rattle.relay_hub.specs.Telling.{BadLimits};
 ghost use Rattle.relay_server.specs.Jobs.{Listens, ServeEnds};
-ghost use Rattle.relay_server.specs.Lines.{AppendsPart};
-ghost use Rattle.relay_server.specs.Words.{served_text};
-ghost use Rattle.relay_server.specs.declared.fault.ScriptFault.TheVariants.{BadLimit, NoMemory, Output};
-ghost use Rattle.relay_server.specs.declared.fault.ServeFault.TheVariants.{Ended, Listen};
-ghost use Rattle.relay_server.specs.declared.serve.TheConstants.{FIRST};
+ghost use Rattle.relay_lines.specs.Lines.{AppendsPart};
+ghost use Rattle.relay_lines.specs.Words.{served_text};
+ghost use Rattle.relay_lines.specs.declared.fault.ScriptFault.TheVariants.{BadLimit, NoMemory, Output};
+ghost use Rattle.relay_lines.specs.declared.fault.ServeFault.TheVariants.{Ended, Listen};
+ghost use Rattle.relay_lines.specs.declared.sockets.TheConstants.{FIRST};
 
-use crate::fault::{ScriptFault, ServeFault};
-use crate::journal::{Journal, Lines, NoJournal};
-use crate::output::write_whole;
-use crate::readiness::{Polling, Readiness};
-use crate::serving::Serving;
 use relay_hub::Hub;
+use relay_lines::{FIRST, ScriptFault, ServeFault, listen, write_whole};
 use relay_options::Settings;
+use relay_serving::{Journal, Lines, NoJournal, Polling, Readiness, Serving};
 use std::alloc::Global;
 use std::io::{Read, Write};
-use std::net::{Ipv4Addr, Net, OpenListener, OpenStream, SocketAddr};
-
-/// The number of the first session.
-pub const FIRST: u64 = 1;
+use std::net::{Net, OpenListener, OpenStream};
 
 /// How a server listens and ends.
 #[derive(Clone, Copy, Debug, PartialEq, Eq)]
@@ -133,19 +127,6 @@ where
     }
     serving.end(alloc, journal);
     print(writer, format!(in alloc; "turns {turns}\n")?.as_str())
-}
-
-/// A listener that never waits.
-pub fn listen<N: Net>(net: &N, port: u16) -> Result<N::Listener, ServeFault>
-    ensures { IfErr result (λ fault. fault ≡ Listen) }
-{
-    let Ok(listener) = net.bind(SocketAddr::from((Ipv4Addr::LOCALHOST, port))) else {
-        return Err(ServeFault::Listen);
-    };
-    match listener.set_nonblocking(true) {
-        Ok(()) => Ok(listener),
-        Err(_) => Err(ServeFault::Listen),
-    }
 }
 
 /// Writes a line at once.

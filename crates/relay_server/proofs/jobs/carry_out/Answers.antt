@@ -1,8 +1,8 @@
 -- What each job was ended by.
 use Rattle.std.proofs.Common.{None, refl}
-use Rattle.relay_server.specs.Follow as follow
-use Rattle.relay_server.specs.Script as script
-use Rattle.relay_server.specs.Script.{new_stage}
+use Rattle.relay_lines.specs.Follow as follow
+use Rattle.relay_lines.specs.Script as script
+use Rattle.relay_lines.specs.Script.{new_stage}
 use Rattle.relay_server.proofs.JobLemmas.{JobEnds-at, Ends-limited, Ends-free, no_limits, untouched}
 use Rattle.relay_server.proofs.jobs.carry_out.Goals as goal
 

@@ -3,9 +3,9 @@ use Rattle.std.proofs.Common.{◌≡◌, ℕ, refl, sym, subst, List, Option, Re
 use Rattle.std.specs.Io.KnownBytes.{Appends}
 use Rattle.relay_options.specs.declared.job.Stop.{Stop}
 use Rattle.relay_server.specs.Jobs.{StopEnds, Shows, status_of}
-use Rattle.relay_server.specs.Lines.{AppendsPart}
-use Rattle.relay_server.specs.declared.fault.ScriptFault.{ScriptFault}
-use Rattle.relay_server.specs.declared.fault.ScriptFault.TheVariants.{Output}
+use Rattle.relay_lines.specs.Lines.{AppendsPart}
+use Rattle.relay_lines.specs.declared.fault.ScriptFault.{ScriptFault}
+use Rattle.relay_lines.specs.declared.fault.ScriptFault.TheVariants.{Output}
 use Rattle.relay_server.specs.declared.status.Status.{Status}
 use Rattle.relay_server.proofs.jobs.explain.Goals as goal
 

@@ -1,0 +1,107 @@
+//! The lines of a script: `NAME WORD` or `NAME WORD REST`, with single spaces.
+ghost use Rattle.std.specs.Prelude.{◌≡◌, option_map};
+ghost use Rattle.relay_lines.specs.Line.{LineIs, form_of, with_rest, alone, act_in, act_of, named_form, is_name, shown};
+
+use std::str;
+
+/// What one line asks for.
+#[derive(Clone, Copy, Debug, PartialEq, Eq)]
+pub enum Line<'a> {
+    /// Nothing: the line is empty, or a comment that begins with `#`.
+    Blank,
+    /// It is of no known form, or no UTF-8.
+    Unknown,
+    Named { name: &'a str, asks: Asks<'a> },
+}
+
+/// What a name is to do.
+#[derive(Clone, Copy, Debug, PartialEq, Eq)]
+pub enum Asks<'a> {
+    /// Opens a session in a room.
+    Open(&'a str),
+    /// Sends a text.
+    Say(&'a str),
+    /// Draws the next text that waits for it; its follower hears it.
+    Draw,
+    /// Ends its session.
+    Close,
+    /// Shows what its follower holds.
+    Held,
+    /// Shows what its follower should hold.
+    Truth,
+}
+
+/// How many bytes a name has at most.
+const NAME_MOST: usize = 16;
+
+/// What a line asks for. Its bytes are those before the line feed.
+pub fn line_of(bytes: &[u8]) -> Line<'_>
+    ensures { LineIs bytes.now (shown result) }
+{
+    match bytes.first() {
+        None | Some(b'#') => return Line::Blank,
+        Some(_) => {}
+    }
+    match str::from_utf8(bytes) {
+        Ok(text) => text_line(text),
+        Err(_) => Line::Unknown,
+    }
+}
+
+fn text_line(text: &str) -> Line<'_>
+    ensures { shown result ≡ form_of text.now }
+{
+    match text.split_once(' ') {
+        Some((name, words)) if is_name(name) => words_of(name, words),
+        _ => Line::Unknown,
+    }
+}
+
+fn words_of<'a>(name: &'a str, words: &'a str) -> Line<'a>
+    ensures { shown result ≡ named_form name.now (act_in words.now) }
+{
+    let asks = match words.split_once(' ') {
+        Some((word, rest)) => with_rest(word, rest),
+        None => alone(words),
+    };
+    match asks {
+        Some(asks) => Line::Named { name, asks },
+        None => Line::Unknown,
+    }
+}
+
+/// What a word with more behind it asks for.
+fn with_rest<'a>(word: &str, rest: &'a str) -> Option<Asks<'a>>
+    ensures { option_map act_of result ≡ with_rest word.now rest.now }
+{
+    match word {
+        "open" => Some(Asks::Open(rest)),
+        "say" => Some(Asks::Say(rest)),
+        _ => None,
+    }
+}
+
+/// What a word that stands alone asks for.
+fn alone<'a>(word: &str) -> Option<Asks<'a>>
+    ensures { option_map act_of result ≡ alone word.now }
+{
+    match word {
+        "draw" => Some(Asks::Draw),
+        "close" => Some(Asks::Close),
+        "held" => Some(Asks::Held),
+        "truth" => Some(Asks::Truth),
+        _ => None,
+    }
+}
+
+/// 1 to 16 ASCII letters or digits.
+fn is_name(name: &str) -> bool
+    ensures { result ≡ is_name name.now }
+{
+    if name.is_empty() || name.len() > NAME_MOST {
+        return false;
+    }
+    name.as_bytes()
+        .iter()
+        .all(|byte| byte.is_ascii_alphanumeric())
+}
