@@ -101,16 +101,24 @@ def replaced(key, value="ijklmnop"):
     return {"op": "replace", "path": f"/members/k{key}", "value": value}
 
 
-KINDS = {
-    "replace a member": [edit(replaced(3))],
-    "insert into a list, then remove": [
-        edit({"op": "add", "path": "/list/3", "value": "ijklmnop"}),
-        edit({"op": "remove", "path": "/list/3"}),
-    ],
-    "move in a list": [edit({"op": "move", "from": "/list/0", "path": "/list/9"})],
-    "ten operations": [edit(*(replaced(key) for key in range(10)))],
-    "refused at its second operation": [edit(replaced(3), {"op": "test", "path": "/members/k4", "value": 0})],
-}
+def inserted(place):
+    return [
+        edit({"op": "add", "path": f"/list/{place}", "value": "ijklmnop"}),
+        edit({"op": "remove", "path": f"/list/{place}"}),
+    ]
+
+
+def kinds(kibibytes):
+    """The frames of each kind of edit, on a document of so many KiB."""
+    middle = len(document(kibibytes)["list"]) // 2
+    return {
+        "replace a member": [edit(replaced(3))],
+        "insert at the front of a list, then remove": inserted(3),
+        "insert in the middle of a list, then remove": inserted(middle),
+        "move in a list": [edit({"op": "move", "from": "/list/0", "path": "/list/9"})],
+        "ten operations": [edit(*(replaced(key) for key in range(10)))],
+        "refused at its second operation": [edit(replaced(3), {"op": "test", "path": "/members/k4", "value": 0})],
+    }
 
 
 def processor_seconds(pid):
@@ -131,7 +139,7 @@ def measure(serve, port, kibibytes, pointers, edits):
     client.edit([edit({"op": "add", "path": "", "value": document(kibibytes)})], b'"kind":"done"')
     for pointer in pointers:
         watch(port, "bench", pointer)
-    for kind, frames in KINDS.items():
+    for kind, frames in kinds(kibibytes).items():
         word = b'"kind":"refused"' if kind.startswith("refused") else b'"kind":"done"'
         many = (frames * edits)[:edits]
         client.edit(many[:200], word)
@@ -158,7 +166,7 @@ def main(edits=2000, *sizes):
         print(f"\nMicroseconds of the server's processor an edit, {who}\n")
         print("| Edit | " + " | ".join(f"{size} KiB" for size in sizes) + " |")
         print("|---|" + "---|" * len(sizes))
-        for kind in KINDS:
+        for kind in columns[0]:
             print(f"| {kind} | " + " | ".join(f"{column[kind]:.0f}" for column in columns) + " |")
 
 
