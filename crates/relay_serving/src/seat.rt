@@ -61,6 +61,11 @@ impl<S: Read + Write + Drop> Seat<S> {
         }
     }
 
+    /// Whether something was held back that could be sent.
+    pub(crate) fn may_answer(&self) -> bool {
+        self.known.is_writable() && self.link.has_held()
+    }
+
     /// Whether a message waits, or was held back, that could be sent.
     pub(crate) fn may_be_told(&self, hub: &Hub) -> bool {
         if !self.known.is_writable() {

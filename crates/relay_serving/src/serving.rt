@@ -83,7 +83,7 @@ impl<S: Read + Write + OpenStream + Drop, R: Readiness<S>> Serving<S, R> {
     ///   text is heard and up to 32 messages are drawn, which are held back, and so round and round until nobody says more, or
     ///   half as many texts were heard as patches may wait, 16 at most;
     /// - it tells: each link for which messages wait or were held back, and whose stream takes more, has a turn in which nothing
-    ///   is heard and up to 32 messages more are sent, by rising key.
+    ///   is heard and up to 32 messages more are sent: those first that were heard, and then all, by rising key.
     ///
     /// A turn without memory waits for the next round. Links that are gone are let go. Where it is not known what is ready,
     /// everything is taken as ready.
@@ -165,6 +165,13 @@ impl<S: Read + Write + OpenStream + Drop, R: Readiness<S>> Serving<S, R> {
     fn may_be_told(&self, key: usize) -> bool {
         match self.seats.get(key) {
             Some(seat) => seat.may_be_told(&self.hub),
+            None => false,
+        }
+    }
+
+    fn may_answer(&self, key: usize) -> bool {
+        match self.seats.get(key) {
+            Some(seat) => seat.may_answer(),
             None => false,
         }
     }
@@ -353,8 +360,20 @@ impl<S: Read + Write + OpenStream + Drop, R: Readiness<S>> Serving<S, R> {
             return;
         }
         self.untold = false;
+        self.answer(alloc, journal);
         for key in 0..self.keys() {
             if self.may_be_told(key) {
+                self.tell_link(alloc, key, journal);
+            }
+        }
+    }
+
+    /// Tells the links whose answers are held back, so that an answer does not wait until all others were looked at.
+    fn answer<J: Journal>(&mut self, alloc: Global, journal: &mut J)
+        ensures { links_of self.new ≤ links_of self.old }
+    {
+        for key in 0..self.keys() {
+            if self.may_answer(key) {
                 self.tell_link(alloc, key, journal);
             }
         }
