@@ -78,19 +78,43 @@ fn runs_the_first_script(rt: HostRuntime) -> Result<(), Fail> {
     are_the_first(&rt, answers.as_slice())
 }
 
+/// Runs events, as far as there is memory: how many were done, whose answers are as they should be.
+fn does(rt: &(impl Abort + AllocGlobal), hub: &mut Hub, events: &[Event]) -> Result<usize, Fail> {
+    let run = hub.run(rt.alloc(), events);
+    let answers = run.unwrap_or_else(|fault| fault.answers);
+    are_the_first(rt, answers.as_slice())?;
+    Ok(answers.len())
+}
+
+/// Runs as many of the events.
+fn does_again(alloc: Global, twin: &mut Hub, events: &[Event], count: usize) -> Result<(), Fail> {
+    let done = events.get(..count).unwrap_or(&[]);
+    twin.run(alloc, done).ok().ok_or("no memory")?;
+    Ok(())
+}
+
+fn are_alike(rt: &(impl Abort + AllocGlobal), hub: &Hub, twin: &Hub) -> Result<(), Fail> {
+    let state_of_twin = state(rt.alloc(), twin)?;
+    assert_eq!(rt; state(rt.alloc(), hub)?.as_str(), state_of_twin.as_str());
+    Ok(())
+}
+
+fn twin_follows(
+    rt: &(impl Abort + AllocGlobal),
+    hub: &mut Hub,
+    twin: &mut Hub,
+) -> Result<(), Fail> {
+    let events = events(rt.alloc())?;
+    let done = does(rt, hub, events.as_slice())?;
+    does_again(rt.alloc(), twin, events.as_slice(), done)?;
+    are_alike(rt, hub, twin)
+}
+
 /// A run that finds no memory stops: its answers are those of the events that were done, and another hub that does as many of
 /// them comes to the same. `tests/refuse-allocations` refuses each allocation in turn.
 #[test]
 fn a_run_did_what_its_answers_say(rt: HostRuntime) -> Result<(), Fail> {
-    let events = events(rt.alloc())?;
     let mut hub = Hub::new(rt.alloc(), 1, 1, 64, 32)?;
     let mut twin = Hub::new(rt.alloc(), 1, 1, 64, 32)?;
-    let run = hub.run(rt.alloc(), events.as_slice());
-    let answers = run.unwrap_or_else(|fault| fault.answers);
-    are_the_first(&rt, answers.as_slice())?;
-    let done = events.get(..answers.len()).unwrap_or(&[]);
-    twin.run(rt.alloc(), done).ok().ok_or("no memory")?;
-    let (state_of_hub, state_of_twin) = (state(rt.alloc(), &hub)?, state(rt.alloc(), &twin)?);
-    assert_eq!(rt; state_of_hub.as_str(), state_of_twin.as_str());
-    Ok(())
+    twin_follows(&rt, &mut hub, &mut twin)
 }

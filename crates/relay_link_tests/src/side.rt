@@ -128,7 +128,7 @@ pub(crate) fn joined(alloc: Global, parts: &[&[u8]]) -> Result<Vec<u8>, AllocErr
 /// A link and its wire.
 #[derive(Drop)]
 pub(crate) struct Side<'a> {
-    alloc: Global,
+    pub alloc: Global,
     pub wire: &'a RefCell<Wire>,
     pub link: Link<End<'a>>,
     draws: u64,
@@ -162,6 +162,16 @@ impl<'a> Side<'a> {
     /// A turn that draws as much as it may now.
     pub fn turned(&mut self, hub: &mut Hub) -> Result<Turn, AllocError> {
         self.link.turn(self.alloc, hub, self.draws)
+    }
+
+    /// The part of such a turn that hears: how many events it made.
+    pub fn heard(&mut self, hub: &mut Hub) -> Result<usize, AllocError> {
+        Ok(self.link.hear(self.alloc, hub, self.draws)?.made.len())
+    }
+
+    /// The part of such a turn that tells: how many events it made.
+    pub fn told(&mut self, hub: &mut Hub) -> Result<usize, AllocError> {
+        Ok(self.link.tell(self.alloc, hub, self.draws)?.made.len())
     }
 
     /// Opens the link, which draws nothing then.

@@ -1,12 +1,13 @@
 //! Turns that hear without telling and that tell without hearing, and whether a link may rest behind a turn.
 use crate::frames::{BINARY, CLOSE};
 use crate::side::Act::{Comes, Draws, Ends, Idle, Reads, Says, Writes};
-use crate::side::{Act, SAMPLE, Side};
+use crate::side::{Act, SAMPLE, Side, new_hub};
 use crate::written::words;
 use relay_hub::{Event, Hub};
 use relay_link::Turn;
 use relay_wire::{Trick, Wire};
 use std::alloc::{AllocError, AllocGlobal, Global};
+use std::cell::RefCell;
 use std::process::Abort;
 use std::test::Fail;
 
@@ -34,7 +35,7 @@ fn tells(rt: &(impl Abort + AllocGlobal), side: &mut Side<'_>, hub: &mut Hub) ->
         let turn = side.link.tell(rt.alloc(), hub, draws)?;
         assert_eq!(rt; kinds(rt.alloc(), &turn)?.as_str(), wanted);
     }
-    let turn = side.link.turn(rt.alloc(), hub, 32)?;
+    let turn = side.turned(hub)?;
     assert_eq!(rt; kinds(rt.alloc(), &turn)?.as_str(), "receive draw draw ");
     Ok(())
 }
@@ -43,64 +44,114 @@ fn tells(rt: &(impl Abort + AllocGlobal), side: &mut Side<'_>, hub: &mut Hub) ->
 fn tells_and_hears_nothing(rt: HostRuntime) -> Result<(), Fail> {
     let wire = Wire::new(rt.alloc());
     let mut side = Side::new(rt.alloc(), &wire)?;
-    let mut hub = Hub::new(rt.alloc(), 1, 1, 64, 32)?;
+    let mut hub = new_hub(&rt);
     tells(&rt, &mut side, &mut hub)
 }
 
-/// Acts, and whether the link may rest behind each.
-const RESTS: [(Act, bool); 10] = [
-    (Idle, true),
-    (Comes(b""), true),
-    (Idle, true),
-    (Comes(SAMPLE), false),
-    (Draws(0), true),
-    (Says(UNWATCH), false),
-    (Idle, true),
-    (Draws(9), true),
-    (Idle, true),
-    (Reads(Some(Trick::Interrupt)), false),
-];
+/// Whether the link may rest behind an act.
+fn rests(side: &mut Side<'_>, hub: &mut Hub, act: Act) -> Result<bool, Fail> {
+    side.act(hub, act)?;
+    Ok(side.link.may_rest())
+}
+
+fn rests_as_rows_say(
+    rt: &impl Abort,
+    side: &mut Side<'_>,
+    hub: &mut Hub,
+    rows: &[(Act, bool)],
+) -> Result<(), Fail> {
+    for (act, may_rest) in rows {
+        assert_eq!(rt; rests(side, hub, *act)?, *may_rest, "behind {act:?}");
+    }
+    Ok(())
+}
 
 /// A link goes on where its turn read a byte or was interrupted.
 #[test]
 fn rests_where_nothing_is_left(rt: HostRuntime) -> Result<(), Fail> {
     let wire = Wire::new(rt.alloc());
     let mut side = Side::new(rt.alloc(), &wire)?;
-    let mut hub = Hub::new(rt.alloc(), 1, 1, 64, 32)?;
-    for (act, may_rest) in RESTS {
-        side.act(&mut hub, act)?;
-        assert_eq!(rt; side.link.may_rest(), may_rest, "behind {act:?}");
-    }
-    Ok(())
+    let mut hub = new_hub(&rt);
+    rests_as_rows_say(
+        &rt,
+        &mut side,
+        &mut hub,
+        &[
+            (Idle, true),
+            (Comes(b""), true),
+            (Idle, true),
+            (Comes(SAMPLE), false),
+            (Draws(0), true),
+            (Says(UNWATCH), false),
+            (Idle, true),
+            (Draws(9), true),
+            (Idle, true),
+            (Reads(Some(Trick::Interrupt)), false),
+        ],
+    )
 }
 
 /// A frame with no mask.
 const BROKEN: &[u8] = b"\x81\x01x";
 
-/// A link that is open, and has told its welcome.
+/// Opens the link, which tells its welcome; what was written so far is forgotten.
 fn opens(side: &mut Side<'_>, hub: &mut Hub) -> Result<(), Fail> {
     side.act(hub, Comes(SAMPLE))?;
     side.act(hub, Idle)?;
-    let mut wire = side.wire.try_borrow_mut()?;
+    forget_written(side.wire)
+}
+
+fn forget_written(wire: &RefCell<Wire>) -> Result<(), Fail> {
+    let mut wire = wire.try_borrow_mut()?;
     wire.output.clear();
     wire.write_calls = 0;
     Ok(())
 }
 
 /// What was written since the link opened.
-fn written(alloc: Global, side: &Side<'_>) -> Result<String, Fail> {
-    Ok(words(alloc, side.wire.try_borrow()?.output.as_slice(), 0)?)
+fn written(side: &Side<'_>) -> Result<String, Fail> {
+    let wire = side.wire.try_borrow()?;
+    Ok(words(side.alloc, wire.output.as_slice(), 0)?)
 }
 
 /// The link hears what comes, in turns that tell nothing.
-fn hears(alloc: Global, side: &mut Side<'_>, hub: &mut Hub, acts: [Act; 2]) -> Result<(), Fail> {
+fn hears(side: &mut Side<'_>, hub: &mut Hub, acts: [Act; 2]) -> Result<(), Fail> {
     for act in acts {
         side.prepare(act)?;
     }
     for _ in acts {
-        side.link.hear(alloc, hub, 32)?;
+        side.heard(hub)?;
     }
     Ok(())
+}
+
+/// Asserts that nothing was written yet of what was heard.
+fn holds_back(rt: &impl Abort, side: &Side<'_>) -> Result<(), Fail> {
+    assert!(rt; side.link.has_held());
+    assert_eq!(rt; written(side)?.as_str(), "");
+    Ok(())
+}
+
+/// Asserts that the answers to two requests were written, and that nothing is held back any more.
+fn has_answered(rt: &impl Abort, side: &Side<'_>) -> Result<(), Fail> {
+    assert!(rt; !side.link.has_held());
+    assert_eq!(rt; written(side)?.as_str(), ANSWERS);
+    Ok(())
+}
+
+/// How often something was written.
+fn writes(side: &Side<'_>) -> Result<u64, Fail> {
+    Ok(side.wire.try_borrow()?.write_calls)
+}
+
+/// Two texts come, and then the link tells.
+fn tells_of_two(rt: &impl Abort, side: &mut Side<'_>, hub: &mut Hub) -> Result<(), Fail> {
+    opens(side, hub)?;
+    hears(side, hub, [Says(UNWATCH), Says(UNWATCH)])?;
+    holds_back(rt, side)?;
+    side.told(hub)?;
+    assert_eq!(rt; writes(side)?, 1);
+    has_answered(rt, side)
 }
 
 /// What two texts come to goes out by one write, in the turn that tells.
@@ -108,56 +159,57 @@ fn hears(alloc: Global, side: &mut Side<'_>, hub: &mut Hub, acts: [Act; 2]) -> R
 fn holds_back_until_it_tells(rt: HostRuntime) -> Result<(), Fail> {
     let wire = Wire::new(rt.alloc());
     let mut side = Side::new(rt.alloc(), &wire)?;
-    let mut hub = Hub::new(rt.alloc(), 1, 1, 64, 32)?;
-    opens(&mut side, &mut hub)?;
-    hears(
-        rt.alloc(),
-        &mut side,
-        &mut hub,
-        [Says(UNWATCH), Says(UNWATCH)],
-    )?;
-    assert!(rt; side.link.has_held());
-    assert_eq!(rt; written(rt.alloc(), &side)?.as_str(), "");
-    side.link.tell(rt.alloc(), &mut hub, 32)?;
-    assert!(rt; !side.link.has_held());
-    assert_eq!(rt; written(rt.alloc(), &side)?.as_str(), ANSWERS);
-    assert_eq!(rt; side.wire.try_borrow()?.write_calls, 1);
-    Ok(())
+    let mut hub = new_hub(&rt);
+    tells_of_two(&rt, &mut side, &mut hub)
 }
 
-/// What two requests are answered.
+/// What a request is answered.
+const ANSWER: &str = r#" > {"id":7,"kind":"unwatched"}"#;
+
+/// What two are.
 const ANSWERS: &str = r#" > {"id":7,"kind":"unwatched"} > {"id":7,"kind":"unwatched"}"#;
 
-/// What comes behind a text, and what was written then although nobody told.
-const PARTINGS: [(Act, &str); 4] = [
-    (
-        Comes(CLOSE),
-        r#" > {"id":7,"kind":"unwatched"} > close 1000"#,
-    ),
-    (
-        Comes(BINARY),
-        r#" > {"id":7,"kind":"unwatched"} > close 1003"#,
-    ),
-    (Comes(BROKEN), r#" > {"id":7,"kind":"unwatched"}"#),
-    (Ends(b""), r#" > {"id":7,"kind":"unwatched"}"#),
-];
+/// What was written of a text when that came behind it.
+fn parts(side: &mut Side<'_>, hub: &mut Hub, parting: Act) -> Result<String, Fail> {
+    opens(side, hub)?;
+    hears(side, hub, [Says(UNWATCH), parting])?;
+    written(side)
+}
+
+/// The same of a new link.
+fn parting_of(alloc: Global, hub: &mut Hub, parting: Act) -> Result<String, Fail> {
+    let wire = Wire::new(alloc);
+    let mut side = Side::new(alloc, &wire)?;
+    parts(&mut side, hub, parting)
+}
 
 /// A link that parts says first what it held back.
 #[test]
 fn parts_with_what_it_held_back(rt: HostRuntime) -> Result<(), Fail> {
-    for (parting, wanted) in PARTINGS {
-        let wire = Wire::new(rt.alloc());
-        let mut side = Side::new(rt.alloc(), &wire)?;
-        let mut hub = Hub::new(rt.alloc(), 1, 1, 64, 32)?;
-        opens(&mut side, &mut hub)?;
-        hears(rt.alloc(), &mut side, &mut hub, [Says(UNWATCH), parting])?;
-        assert_eq!(rt;
-            written(rt.alloc(), &side)?.as_str(),
-            wanted,
-            "behind {parting:?}"
-        );
+    let mut hub = new_hub(&rt);
+    for (parting, wanted) in [
+        (Comes(CLOSE), " > close 1000"),
+        (Comes(BINARY), " > close 1003"),
+        (Comes(BROKEN), ""),
+        (Ends(b""), ""),
+    ] {
+        let told = parting_of(rt.alloc(), &mut hub, parting)?;
+        let behind = told.as_str().strip_prefix(ANSWER);
+        assert_eq!(rt; behind, Some(wanted), "behind {parting:?}");
     }
     Ok(())
+}
+
+/// A text comes, and another one that is heard only once the stream takes what the first came to.
+fn tells_late(rt: &impl Abort, side: &mut Side<'_>, hub: &mut Hub) -> Result<(), Fail> {
+    opens(side, hub)?;
+    hears(side, hub, [Says(UNWATCH), Writes(Some(Trick::Nothing))])?;
+    side.told(hub)?;
+    side.prepare(Says(UNWATCH))?;
+    assert_eq!(rt; side.heard(hub)?, 0);
+    hears(side, hub, [Writes(None), Idle])?;
+    side.told(hub)?;
+    has_answered(rt, side)
 }
 
 /// Where the stream takes nothing what was held back waits as other output does, and nothing more is heard.
@@ -165,20 +217,6 @@ fn parts_with_what_it_held_back(rt: HostRuntime) -> Result<(), Fail> {
 fn holds_back_what_finds_no_room(rt: HostRuntime) -> Result<(), Fail> {
     let wire = Wire::new(rt.alloc());
     let mut side = Side::new(rt.alloc(), &wire)?;
-    let mut hub = Hub::new(rt.alloc(), 1, 1, 64, 32)?;
-    opens(&mut side, &mut hub)?;
-    hears(
-        rt.alloc(),
-        &mut side,
-        &mut hub,
-        [Says(UNWATCH), Writes(Some(Trick::Nothing))],
-    )?;
-    side.link.tell(rt.alloc(), &mut hub, 32)?;
-    side.prepare(Says(UNWATCH))?;
-    let turn = side.link.hear(rt.alloc(), &mut hub, 32)?;
-    assert_eq!(rt; kinds(rt.alloc(), &turn)?.as_str(), "");
-    hears(rt.alloc(), &mut side, &mut hub, [Writes(None), Idle])?;
-    side.link.tell(rt.alloc(), &mut hub, 32)?;
-    assert_eq!(rt; written(rt.alloc(), &side)?.as_str(), ANSWERS);
-    Ok(())
+    let mut hub = new_hub(&rt);
+    tells_late(&rt, &mut side, &mut hub)
 }
