@@ -3,7 +3,7 @@ use relay_history::{LAST_REVISION, MOST_REVISIONS};
 use relay_patch::{DEPTH_MOST, Patch, PatchLimits, WEIGHT_MOST};
 use relay_room::{CatchUp, Room, RoomFault};
 use relay_translate::WatchIndex;
-use relay_tree::{Node, Tree, read};
+use relay_tree::{Element, Node, Tree, read};
 use relay_view::View;
 use std::alloc::{AllocError, AllocGlobal, Global};
 use std::process::Abort;
@@ -89,7 +89,7 @@ fn nested(alloc: Global, levels: usize) -> Result<Tree, AllocError> {
     let mut tree = Tree::from(Node::List(Vec::new(alloc)));
     for _ in 1..levels {
         let mut items = Vec::new(alloc);
-        items.push(tree)?;
+        items.push(Element::new(alloc, tree)?)?;
         tree = Tree::from(Node::List(items));
     }
     Ok(tree)

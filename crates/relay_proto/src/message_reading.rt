@@ -10,7 +10,7 @@ use crate::optional::optional_count_at;
 use crate::reply::{How, Reply};
 use crate::word::Word;
 use relay_patch::{Patch, PatchFault, PatchLimits};
-use relay_tree::{Node, Tree, TreeFault};
+use relay_tree::{Element, Node, Tree, TreeFault};
 use std::alloc::Global;
 use thiserror::Error;
 
@@ -100,10 +100,10 @@ fn is_view(tree: &Tree) -> bool
     }
 }
 
-fn are_slots(slots: &[Tree]) -> bool
+fn are_slots(slots: &[Element]) -> bool
     ensures { result ≡ list_all is_slot slots.now }
 {
-    slots.iter().all(|slot| is_slot(slot))
+    slots.iter().all(|slot| is_slot(slot.tree()))
 }
 
 #[tactic(auto, using(crate::proofs::Slots::few_values))]

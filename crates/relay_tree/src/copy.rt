@@ -2,6 +2,7 @@
 ghost use Rattle.std.specs.Prelude.{◌≡◌, IfOk};
 ghost use Rattle.relay_tree.specs.Seen.{members_of};
 
+use crate::element::Element;
 use crate::tree::{Node, Tree};
 use std::alloc::{AllocError, Global};
 use std::collections::BTreeMap;
@@ -31,12 +32,12 @@ fn copy_tree(alloc: Global, tree: &Tree) -> Result<Tree, AllocError>
 }
 
 #[cycle(copy)]
-fn copy_items(alloc: Global, items: &Vec<Tree>) -> Result<Vec<Tree>, AllocError>
+fn copy_items(alloc: Global, items: &Vec<Element>) -> Result<Vec<Element>, AllocError>
     ensures { IfOk result (λ copies. copies.items ≡ items.now.items) }
 {
     let mut copies = Vec::with_capacity(alloc, items.len())?;
     for item in items {
-        copies.push(copy_tree(alloc, item)?)?;
+        copies.push(Element::new(alloc, copy_tree(alloc, item.tree())?)?)?;
     }
     Ok(copies)
 }

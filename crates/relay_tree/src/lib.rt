@@ -8,6 +8,7 @@
 
 mod copy;
 mod count;
+mod element;
 mod measure;
 mod member;
 mod part;
@@ -18,6 +19,7 @@ mod tree;
 mod write;
 
 pub use count::COUNT_MOST;
+pub use element::Element;
 pub use member::insert_member;
 pub use reading::{TreeFault, read};
 pub use text::{begin_text, end_text};

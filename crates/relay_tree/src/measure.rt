@@ -3,6 +3,7 @@ ghost use Rattle.std.specs.Prelude.{◌≡◌, min, ◌-◌, ◌^◌};
 ghost use Rattle.relay_tree.specs.Document.{depth, weight, items_of, items_depth, members_depth, items_weight, members_weight, saturated};
 ghost use Rattle.relay_tree.specs.Seen.{members_of};
 
+use crate::element::Element;
 use crate::tree::{Node, Tree};
 use std::collections::BTreeMap;
 
@@ -39,12 +40,12 @@ fn depth_of(tree: &Tree) -> u64
 
 #[cycle(depth)]
 #[tactic(auto, using(crate::proofs::Weights::item_weighs, crate::proofs::Weights::depth_of_more))]
-fn depth_of_items(items: &Vec<Tree>) -> u64
+fn depth_of_items(items: &Vec<Element>) -> u64
     ensures { result ≡ saturated (items_depth (items_of items.now.items)) }
 {
     let mut deepest = 0;
     for item in items {
-        deepest = depth_of(item).max(deepest);
+        deepest = depth_of(item.tree()).max(deepest);
     }
     deepest
 }
@@ -76,12 +77,12 @@ fn weight_of(tree: &Tree) -> u64
 
 #[cycle(weight)]
 #[tactic(auto, using(crate::proofs::Weights::item_weighs, crate::proofs::Weights::weight_of_more))]
-fn weight_of_items(items: &Vec<Tree>) -> u64
+fn weight_of_items(items: &Vec<Element>) -> u64
     ensures { result ≡ saturated (items_weight (items_of items.now.items)) }
 {
     let mut sum = 0u64;
     for item in items {
-        sum = sum.saturating_add(weight_of(item));
+        sum = sum.saturating_add(weight_of(item.tree()));
     }
     sum
 }

@@ -9,6 +9,7 @@ ghost use Rattle.relay_tree.specs.declared.tree.Node.TheVariants.{List, Members}
 ghost use Rattle.relay_tree.specs.contracts.tree.Node as node;
 ghost use Rattle.relay_tree.specs.Lending.{LendsItem, LendsMember};
 
+use crate::element::Element;
 use crate::tree::{Node, Tree};
 use std::collections::BTreeMap;
 
@@ -18,7 +19,7 @@ impl Tree {
         ensures { option_copied result ≡ list_item self.now index }
     {
         match &self.node {
-            Node::List(items) => items.get(index),
+            Node::List(items) => Some(items.get(index)?.tree()),
             _ => None,
         }
     }
@@ -75,7 +76,7 @@ impl Node {
         ensures value { option_copied_mut result ≡ list_item (document_of self.old) index }
     {
         match self.items_mut() {
-            Some(items) => items.get_mut(index),
+            Some(items) => Some(items.get_mut(index)?.tree_mut()),
             None => None,
         }
     }
@@ -91,7 +92,7 @@ impl Node {
         }
     }
 
-    fn items_mut(&mut self) -> Option<&mut Vec<Tree>>
+    fn items_mut(&mut self) -> Option<&mut Vec<Element>>
         ensures* writes_back { sem 𝓛 (LendsIf node.the_row list_row self.entry result List self.old) }
         ensures value { option_copied_mut result ≡ node_items self.old }
     {

@@ -7,6 +7,7 @@ ghost use Rattle.relay_tree.specs.Seen.{members_of};
 ghost use Rattle.relay_tree.specs.Text.{tree_of_text, IsNumberFault, tree_of, items_tree, members_tree};
 ghost use Rattle.relay_tree.specs.declared.reading.TreeFault.TheVariants.{NotJson, Number, NoMemory};
 
+use crate::element::Element;
 use crate::tree::{Node, Tree};
 use serde_json::{Map, Value};
 use std::alloc::{AllocError, Global};
@@ -78,7 +79,7 @@ fn tree_from(alloc: Global, value: Value) -> Result<Tree, TreeFault>
 }
 
 #[cycle(tree_from)]
-fn list_from(alloc: Global, items: Vec<Value>) -> Result<Vec<Tree>, TreeFault>
+fn list_from(alloc: Global, items: Vec<Value>) -> Result<Vec<Element>, TreeFault>
     ensures ok { IfOk result (λ trees. items_tree (items_view items.items) ≡ Some (items_of trees.items)) }
     ensures number { IfErr result (λ fault. fault ≡ Number → items_tree (items_view items.items) ≡ None) }
     ensures other { IfErr result (λ fault. fault ≢ NotJson) }
@@ -89,7 +90,11 @@ fn list_from(alloc: Global, items: Vec<Value>) -> Result<Vec<Tree>, TreeFault>
             Ok(tree) => tree,
             Err(fault) => return Err(fault),
         };
-        match trees.push(tree) {
+        let element = match Element::new(alloc, tree) {
+            Ok(element) => element,
+            Err(_) => return Err(TreeFault::NoMemory),
+        };
+        match trees.push(element) {
             Ok(()) => {}
             Err(refused) => {
                 drop(refused);

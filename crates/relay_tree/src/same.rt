@@ -2,6 +2,7 @@
 ghost use Rattle.std.specs.Prelude.{◌≡◌, ◌↔◌, IsTrue};
 ghost use Rattle.relay_tree.specs.Seen.{members_of};
 
+use crate::element::Element;
 use crate::tree::{Node, Tree};
 use std::collections::BTreeMap;
 
@@ -47,14 +48,14 @@ fn same_tree(tree: &Tree, other: &Tree) -> bool
 
 #[cycle(same)]
 #[tactic(auto, using(crate::proofs::Weights::item_weighs, crate::proofs::Weights::same_items_of))]
-fn same_items(items: &Vec<Tree>, others: &Vec<Tree>) -> bool
+fn same_items(items: &Vec<Element>, others: &Vec<Element>) -> bool
     ensures { IsTrue result ↔ (items.now.items ≡ others.now.items) }
 {
     if items.len() != others.len() {
         return false;
     }
     for (i, item) in items.iter().enumerate() {
-        if !same_tree(item, &others[i]) {
+        if !same_tree(item.tree(), others[i].tree()) {
             return false;
         }
     }

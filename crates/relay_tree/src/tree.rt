@@ -1,6 +1,7 @@
 //! A JSON value.
 ghost use Rattle.std.specs.Prelude.{◌≡◌};
 
+use crate::element::Element;
 use std::collections::BTreeMap;
 use std::marker::Model;
 
@@ -21,7 +22,7 @@ pub enum Node {
     Truth(bool),
     Whole(i64),
     Text(String),
-    List(Vec<Tree>),
+    List(Vec<Element>),
     Members(BTreeMap<String, Tree>),
 }
 

@@ -4,6 +4,7 @@ ghost use Rattle.relay_tree.specs.Document.{list, object, items_of};
 ghost use Rattle.relay_tree.specs.Seen.{members_of};
 ghost use Rattle.relay_tree.specs.Text.{tokens_of, ReadsBack};
 
+use crate::element::Element;
 use crate::tree::{Node, Tree};
 use json::Writer;
 use std::alloc::AllocError;
@@ -38,14 +39,14 @@ fn write_tree(tree: &Tree, out: &mut Writer) -> Result<(), AllocError>
 }
 
 #[cycle(write)]
-fn write_list(items: &Vec<Tree>, out: &mut Writer) -> Result<(), AllocError>
+fn write_list(items: &Vec<Element>, out: &mut Writer) -> Result<(), AllocError>
     ensures tokens { OnOk result (out.new.tokens ≡ out.old.tokens ++ tokens_of (list (items_of items.now.items))) }
     ensures before { out.new.before ≡ out.old.before }
     ensures reads_back { OnOk result (ReadsBack (list (items_of items.now.items))) }
 {
     out.begin_array()?;
     for item in items {
-        write_tree(item, out)?;
+        write_tree(item.tree(), out)?;
     }
     out.end_array()
 }

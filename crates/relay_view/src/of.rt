@@ -3,7 +3,7 @@ ghost use Rattle.std.specs.Prelude.{◌≡◌, IfOk};
 ghost use Rattle.relay_view.specs.View.{view};
 
 use crate::view::View;
-use relay_tree::{Node, Tree};
+use relay_tree::{Element, Node, Tree};
 use std::alloc::{AllocError, Global};
 
 impl View {
@@ -13,7 +13,7 @@ impl View {
     {
         let mut slots = Vec::with_capacity(alloc, self.slots().len())?;
         for slot in self.slots() {
-            slots.push(slot.of(alloc, document)?)?;
+            slots.push(Element::new(alloc, slot.of(alloc, document)?)?)?;
         }
         Ok(Tree::from(Node::List(slots)))
     }

@@ -9,7 +9,7 @@ use crate::fault::ViewFault;
 use crate::slot::{Slot, SlotKind};
 use crate::view::{SLOTS_MOST, View};
 use relay_pointer::{Pointer, PointerFault, TOKENS_MOST};
-use relay_tree::{Node, Tree};
+use relay_tree::{Element, Node, Tree};
 use std::alloc::Global;
 
 impl View {
@@ -34,7 +34,7 @@ impl View {
     }
 }
 
-fn slots_of(alloc: Global, items: &[Tree]) -> Result<Vec<Slot>, ViewFault>
+fn slots_of(alloc: Global, items: &[Element]) -> Result<Vec<Slot>, ViewFault>
     ensures ok { IfOk result (λ slots. each_from slot_at 0 (items_of items.now) ≡ Ok slots.items) }
     ensures err { IfErr result (λ fault. fault ≢ NoMemory → each_from slot_at 0 (items_of items.now) ≡ Err fault) }
 {
@@ -42,7 +42,7 @@ fn slots_of(alloc: Global, items: &[Tree]) -> Result<Vec<Slot>, ViewFault>
         return Err(ViewFault::NoMemory);
     };
     for (k, item) in items.iter().enumerate() {
-        match slot_at(alloc, k as u64, item) {
+        match slot_at(alloc, k as u64, item.tree()) {
             Ok(slot) => slots.push_reserved(slot),
             Err(fault) => return Err(fault),
         }

@@ -7,7 +7,7 @@ ghost use Rattle.relay_view.specs.Written.{shown_tokens};
 
 use json::Writer;
 use relay_pointer::{Pointer, resolve};
-use relay_tree::{Node, Tree};
+use relay_tree::{Element, Node, Tree};
 use std::alloc::{AllocError, Global};
 
 /// What a slot shows.
@@ -34,7 +34,7 @@ impl Slot {
     {
         let mut slot = Vec::new(alloc);
         if let Some(value) = self.value(alloc, document)? {
-            slot.push(value)?;
+            slot.push(Element::new(alloc, value)?)?;
         }
         Ok(Tree::from(Node::List(slot)))
     }

@@ -6,7 +6,7 @@ ghost use Rattle.relay_patch.specs.Patch.{insert_child, drop_child};
 
 use super::spot::insertion_index;
 use relay_pointer::index_of;
-use relay_tree::{Node, Tree, insert_member};
+use relay_tree::{Element, Node, Tree, insert_member};
 use std::alloc::{AllocError, Global};
 
 /// Inserts a value where the token says. Want of memory leaves the container as it was.
@@ -21,19 +21,24 @@ pub(crate) fn insert_child(
     ensures err { OnErr result (container.new ≡ container.old) }
 {
     match &mut container.node {
-        Node::List(items) => insert_item(items, token, value),
+        Node::List(items) => insert_item(alloc, items, token, value),
         Node::Members(members) => insert_member(alloc, members, token, value),
         _ => unreachable!(),
     }
 }
 
-fn insert_item(items: &mut Vec<Tree>, token: &str, value: Tree) -> Result<(), AllocError>
+fn insert_item(
+    alloc: Global,
+    items: &mut Vec<Element>,
+    token: &str,
+    value: Tree,
+) -> Result<(), AllocError>
     requires { IsOk (insert_child value token.now (list (items_of items.old.items))) }
     ensures ok { OnOk result (insert_child value token.now (list (items_of items.old.items)) ≡ Ok (list (items_of items.new.items))) }
     ensures err { OnErr result (items.new.items ≡ items.old.items) }
 {
     match insertion_index(items.len(), token) {
-        Ok(index) => Ok(items.insert(index, value)?),
+        Ok(index) => Ok(items.insert(index, Element::new(alloc, value)?)?),
         Err(_) => unreachable!(),
     }
 }
@@ -51,11 +56,11 @@ pub(crate) fn drop_child(container: &mut Tree, token: &str) -> Tree
     }
 }
 
-fn drop_item(items: &mut Vec<Tree>, token: &str) -> Tree
+fn drop_item(items: &mut Vec<Element>, token: &str) -> Tree
     requires { IsOk (step (list (items_of items.old.items)) token.now) }
     ensures value { step (list (items_of items.old.items)) token.now ≡ Ok result }
     ensures rest { drop_child token.now (list (items_of items.old.items)) ≡ Ok (list (items_of items.new.items)) }
 {
     let index = index_of(token).unwrap() as usize;
-    items.remove(index)
+    items.remove(index).into_tree()
 }

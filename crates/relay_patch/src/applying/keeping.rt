@@ -19,7 +19,7 @@ use super::undo::{Kept, brought};
 use super::walk::walk;
 use crate::change::{Change, Place};
 use relay_pointer::{Pointer, copy_tokens, index_of};
-use relay_tree::Tree;
+use relay_tree::{Element, Node, Tree};
 use std::alloc::{AllocError, Global};
 
 /// Makes a change that is kept. Where memory is refused, what is kept takes back what has been done of it.
@@ -143,9 +143,10 @@ fn take_item(
     };
     let list = Pointer::from_tokens(copy_tokens(alloc, before)?);
     let room = Vec::with_capacity(alloc, length_at(tree, before))?;
+    let place = Element::new(alloc, Tree::from(Node::Null))?;
     kept.reserve(1)?;
     let index = position(last.as_str());
-    let element = remove_at(tree, path);
+    let element = place.with_tree(remove_at(tree, path));
     kept.push_reserved(Kept::Element {
         list,
         index,

@@ -13,7 +13,7 @@ use super::keeping::position;
 use super::undo::Kept;
 use crate::change::Place;
 use relay_pointer::{Pointer, copy_tokens, resolve_mut, same_path};
-use relay_tree::{Node, Tree};
+use relay_tree::{Element, Node, Tree};
 use std::alloc::{AllocError, Global};
 
 /// Whether both places are items of one list.
@@ -100,7 +100,7 @@ fn slide_in(node: &mut Node, from: usize, to: usize)
     }
 }
 
-fn slide_item(items: &mut [Tree], from: usize, to: usize)
+fn slide_item(items: &mut [Element], from: usize, to: usize)
     ensures slid { items_of items.new ≡ slid_items from to (items_of items.old) }
     ensures len { length items.new ≡ length items.old }
     ensures few { length items.old < 2 ^ 64 }

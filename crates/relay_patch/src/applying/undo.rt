@@ -10,7 +10,7 @@ use super::making::remove_at;
 use super::sliding::slide_at;
 use super::spot::stand;
 use relay_pointer::{Pointer, exchange, resolve_mut};
-use relay_tree::{Node, Tree};
+use relay_tree::{Element, Node, Tree};
 
 /// What takes a change back.
 #[derive(Drop)]
@@ -29,8 +29,8 @@ pub enum Kept {
     Element {
         list: Pointer,
         index: usize,
-        element: Tree,
-        room: Vec<Tree>,
+        element: Element,
+        room: Vec<Element>,
     },
     /// An element slid within its list: it goes from this index back to the other.
     Slid {
@@ -90,7 +90,7 @@ fn drop_again(tree: &mut Tree, path: &[String])
     }
 }
 
-fn refill_at(tree: &mut Tree, path: &Pointer, index: usize, element: Tree, room: Vec<Tree>)
+fn refill_at(tree: &mut Tree, path: &Pointer, index: usize, element: Element, room: Vec<Element>)
     ensures { tree.new ≡ with_part (refilled (vec_capacity room) index element) path.now (at tree.old path.now) tree.old }
 {
     if let Some(node) = resolve_mut(tree, path) {
@@ -98,7 +98,7 @@ fn refill_at(tree: &mut Tree, path: &Pointer, index: usize, element: Tree, room:
     }
 }
 
-fn refill(node: &mut Node, index: usize, element: Tree, room: Vec<Tree>)
+fn refill(node: &mut Node, index: usize, element: Element, room: Vec<Element>)
     ensures { document_of node.new ≡ refilled (vec_capacity room) index element (document_of node.old) }
 {
     if let Node::List(items) = node {
@@ -107,7 +107,7 @@ fn refill(node: &mut Node, index: usize, element: Tree, room: Vec<Tree>)
 }
 
 // Moves the elements into the room, if that is large enough for one more.
-fn insert_with_room(items: &mut Vec<Tree>, index: usize, element: Tree, room: Vec<Tree>)
+fn insert_with_room(items: &mut Vec<Element>, index: usize, element: Element, room: Vec<Element>)
     ensures { items_of items.new.items ≡ refilled_items (vec_capacity room) index element (items_of items.old.items) }
 {
     if items.len() >= room.capacity() || index > items.len() {

@@ -13,7 +13,7 @@ use crate::limits::{PatchFault, PatchLimits};
 use crate::op::Op;
 use crate::patch::Patch;
 use relay_pointer::{Pointer, PointerFault};
-use relay_tree::{Node, Tree};
+use relay_tree::{Element, Node, Tree};
 use std::alloc::Global;
 
 impl Patch {
@@ -55,7 +55,7 @@ impl Patch {
     }
 }
 
-fn ops_of(alloc: Global, items: Vec<Tree>, tokens: u64) -> Result<Vec<Op>, PatchFault>
+fn ops_of(alloc: Global, items: Vec<Element>, tokens: u64) -> Result<Vec<Op>, PatchFault>
     ensures ok { IfOk result (λ ops. each_from (op_at tokens) 0 (items_of items.items) ≡ Ok ops.items) }
     ensures err { IfErr result (λ fault. fault ≢ NoMemory → each_from (op_at tokens) 0 (items_of items.items) ≡ Err fault) }
 {
@@ -63,7 +63,7 @@ fn ops_of(alloc: Global, items: Vec<Tree>, tokens: u64) -> Result<Vec<Op>, Patch
         return Err(PatchFault::NoMemory);
     };
     for item in items {
-        match op_at(alloc, ops.len() as u64, item, tokens) {
+        match op_at(alloc, ops.len() as u64, item.into_tree(), tokens) {
             Ok(op) => ops.push_reserved(op),
             Err(fault) => return Err(fault),
         }

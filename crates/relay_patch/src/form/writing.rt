@@ -11,7 +11,7 @@ ghost use Rattle.relay_patch.specs.Sizes.{OpFits};
 use crate::op::Op;
 use crate::patch::Patch;
 use relay_pointer::Pointer;
-use relay_tree::{Node, Tree, insert_member};
+use relay_tree::{Element, Node, Tree, insert_member};
 use std::alloc::{AllocError, Global};
 use std::collections::BTreeMap;
 
@@ -23,7 +23,7 @@ impl Patch {
     {
         let mut items = Vec::with_capacity(alloc, self.ops().len())?;
         for op in self.ops() {
-            items.push(op_tree(alloc, op)?)?;
+            items.push(Element::new(alloc, op_tree(alloc, op)?)?)?;
         }
         Ok(Tree::from(Node::List(items)))
     }

@@ -13,7 +13,7 @@ pub returns-in-Err-clause-err : goal.returns-in-Err-clause-err
 returns-in-Err-clause-err c is_refused =
     let items = c.args.items.now in
     let within : c.loop-k.k < length items = grind arith in
-    sym c.loop-k.invariant.paths ∙ refused_here slot_at items c.loop-k.k c.index-items-k.result c.loop-k.slots.items c.in-Err.fault within c.index-items-k.is (c.in-Err.ensures.err is_refused)
+    sym c.loop-k.invariant.paths ∙ refused_here slot_at items c.loop-k.k c.index-items-k.result c.loop-k.slots.items c.in-Err.fault within c.index-items-k.is (sym (ap (slot_at c.loop-k.k) c.tree.ensures) ∙ c.in-Err.ensures.err is_refused)
 
 pub loop-k-preserved : goal.loop-k-preserved
 loop-k-preserved c =
@@ -21,7 +21,7 @@ loop-k-preserved c =
     let l = c.loop-k in
     let pushed = c.push_reserved.ensures in
     let within : l.k < length items = grind arith in
-    let more = one_more slot_at items l.k c.index-items-k.result l.slots.items c.in-Ok-slot_at.slot within c.index-items-k.is c.in-Ok-slot_at.ensures.ok in
+    let more = one_more slot_at items l.k c.index-items-k.result l.slots.items c.in-Ok-slot_at.slot within c.index-items-k.is (sym (ap (slot_at l.k) c.tree.ensures) ∙ c.in-Ok-slot_at.ensures.ok) in
     record { paths = ap (λ ps. behind ps (rest_from slot_at (l.k + 1) items)) pushed.items ∙ more ∙ l.invariant.paths; len = grind arith; room = grind arith }
 
 pub returns-clause-ok : goal.returns-clause-ok

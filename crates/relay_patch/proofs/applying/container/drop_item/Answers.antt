@@ -1,4 +1,4 @@
-use Rattle.std.proofs.Common.{sym, ◌∙◌, arith}
+use Rattle.std.proofs.Common.{Ok, sym, ap, ◌∙◌, arith}
 use Rattle.relay_patch.proofs.Contained.{named, element_taken, element_drops}
 use Rattle.relay_patch.proofs.applying.container.drop_item.Goals as goal
 use Rattle.relay_pointer.proofs.Indexes.{index_is}
@@ -19,7 +19,7 @@ returns-clause-value c =
     let small = v.small in
     let m = named v.items c.args.token.now c.requires in
     let same = index_is v.items c.args.token.now c.unwrap-index.result (omega arith) (sym c.unwrap-index.ensures ∙ c.index_of.ensures) m in
-    element_taken v.items c.args.token.now c.unwrap-index.result c.remove.result m same c.remove.ensures.value
+    element_taken v.items c.args.token.now c.unwrap-index.result c.remove.result m same c.remove.ensures.value ∙ ap Ok (sym c.into_tree.ensures)
 
 pub returns-clause-rest : goal.returns-clause-rest
 returns-clause-rest c =

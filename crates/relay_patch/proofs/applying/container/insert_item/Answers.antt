@@ -12,7 +12,7 @@ returns-clause-ok c =
     let v = c.args.items.now in
     let ok = v.ok in
     let long : c.len.result ≡ length v.items = c.len.ensures ∙ ok.0 in
-    rw c.in_ok-insert-in-Ok.ensures.items (inserts v.items c.args.token.now c.args.value c.len.result c.in-Ok.index long c.in-Ok.ensures.is)
+    rw c.in_ok-insert-in-Ok.ensures.items (rw c.in_ok-new-in-Ok.ensures (inserts v.items c.args.token.now c.args.value c.len.result c.in-Ok.index long c.in-Ok.ensures.is))
 
 pub unreachable-requires : goal.unreachable-requires
 unreachable-requires c =

@@ -1,4 +1,4 @@
-use Rattle.std.proofs.Common.{◌++◌, true, [], ◌∷◌, ap, ◌∙◌, vec_capacity}
+use Rattle.std.proofs.Common.{◌++◌, true, Ok, [], ◌∷◌, sym, ap, ◌∙◌, vec_capacity}
 use Rattle.relay_pointer.specs.Path.{path_of}
 use Rattle.relay_pointer.proofs.Tokens.{tokens_back}
 use Rattle.relay_patch.specs.declared.applying.undo.Kept.{Kept}
@@ -8,11 +8,11 @@ use Rattle.relay_patch.proofs.Regained.{item_again}
 use Rattle.relay_patch.proofs.Undone.{kept_back}
 use Rattle.relay_patch.proofs.applying.keeping.take_item.Goals as goal
 
-pub remove_at-element-requires : goal.remove_at-element-requires
-remove_at-element-requires c = drops_plainly true (path_of c.args.path.now) c.args.tree.now c.requires
+pub remove_at-requires : goal.remove_at-requires
+remove_at-requires c = drops_plainly true (path_of c.args.path.now) c.args.tree.now c.requires
 
 pub returns-clause-made : goal.returns-clause-made
-returns-clause-made c = drops_so true (path_of c.args.path.now) c.args.tree.now c.remove_at-element.new.tree c.requires c.remove_at-element.ensures.rest
+returns-clause-made c = drops_so true (path_of c.args.path.now) c.args.tree.now c.remove_at.new.tree c.requires c.remove_at.ensures.rest
 
 pub returns-clause-back : goal.returns-clause-back
 returns-clause-back c =
@@ -20,10 +20,10 @@ returns-clause-back c =
     let path = c.args.path.now in
     let is = tokens_back path c.last-item.result c.in-len1-up.len_at_least c.last-item.is in
     let here = c.from_tokens-list.ensures ∙ c.in_ok-copy_tokens.ensures in
-    let gone = c.remove_at-element.new.tree in
-    let element = c.remove_at-element.result in
+    let gone = c.remove_at.new.tree in
+    let element = c.with_tree-element.result in
     let k : Kept = kept.Element c.from_tokens-list.result c.position-index.result element c.in_ok-room.room in
     let at_it = rw c.as_str.ensures.value at c.position-index.ensures in
     kept_back d gone c.args.kept.now.items c.push_reserved.new.self.items k
-    (rw here (item_again (path_of path) _ _ d gone element c.length_at.result c.position-index.result (vec_capacity c.in_ok-room.room) is (returns-clause-made c) c.remove_at-element.ensures.value c.length_at.type_inv c.length_at.ensures c.in_ok-room.ensures.exact at_it))
+    (rw here (item_again (path_of path) _ _ d gone element c.length_at.result c.position-index.result (vec_capacity c.in_ok-room.room) is (returns-clause-made c) (c.remove_at.ensures.value ∙ ap Ok (sym c.with_tree-element.ensures)) c.length_at.type_inv c.length_at.ensures c.in_ok-room.ensures.exact at_it))
     (c.push_reserved.ensures.items ∙ ap (λ xs. xs ++ k ∷ []) c.in_ok-reserve.ensures.items)

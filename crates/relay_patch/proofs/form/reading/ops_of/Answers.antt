@@ -25,7 +25,7 @@ push_reserved-requires c =
 pub returns-in-Err-clause-err : goal.returns-in-Err-clause-err
 returns-in-Err-clause-err c is_refused =
     let l = c.loop-item in
-    let refused = subst (λ n. op_at c.args.tokens n c.in-Some.item ≡ Err c.in-Err.fault) c.len-in-loop-item.ensures (c.in-Err.ensures.err is_refused) in
+    let refused = subst (λ n. op_at c.args.tokens n c.in-Some.item ≡ Err c.in-Err.fault) c.len-in-loop-item.ensures (sym (ap (op_at c.args.tokens c.len-in-loop-item.result) c.into_tree.ensures) ∙ c.in-Err.ensures.err is_refused) in
     let here = ap (λ xs. behind l.ops.items (each_from (op_at c.args.tokens) (vec_len l.ops) (items_of xs))) c.in-Some.ensures.steps.0 in
     sym l.invariant.read ∙ here ∙ rw refused refl
 
@@ -35,7 +35,7 @@ loop-item-preserved c =
     let steps = c.in-Some.ensures.steps in
     let pushed = c.push_reserved.ensures in
     let left = into_iter_items c.next.new.self in
-    let found = subst (λ n. op_at c.args.tokens n c.in-Some.item ≡ Ok c.in-Ok-op_at.op) c.len-in-loop-item.ensures c.in-Ok-op_at.ensures.ok in
+    let found = subst (λ n. op_at c.args.tokens n c.in-Some.item ≡ Ok c.in-Ok-op_at.op) c.len-in-loop-item.ensures (sym (ap (op_at c.args.tokens c.len-in-loop-item.result) c.into_tree.ensures) ∙ c.in-Ok-op_at.ensures.ok) in
     let more = read_more (op_at c.args.tokens) (vec_len l.ops) c.in-Some.item (items_of left) l.ops.items c.in-Ok-op_at.op found in
     let here = ap (λ xs. behind l.ops.items (each_from (op_at c.args.tokens) (vec_len l.ops) (items_of xs))) steps.0 in
     let longer = ap length steps.0 in
