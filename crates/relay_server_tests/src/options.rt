@@ -154,7 +154,7 @@ fn refuses_words_that_belong_to_no_job(rt: HostRuntime) -> Result<(), Fail> {
 fn says_its_version(rt: HostRuntime) -> Result<(), Fail> {
     for line in ["relay --version", "relay -V"] {
         let told = help(rt.alloc(), line)?;
-        let wanted = "relay 0.1.0\nrattle-kit-13b logic dac8208d650f15bf\n";
+        let wanted = "relay 0.1.0\nrattle-kit-13f logic dac8208d650f15bf\n";
         assert_eq!(rt; told.as_str(), wanted, "{line}");
     }
     Ok(())
