@@ -6,6 +6,7 @@ use relay_translate::WatchIndex;
 use relay_tree::{Element, Node, Tree, read};
 use relay_view::View;
 use std::alloc::{AllocError, AllocGlobal, Global};
+use std::collections::VecDeque;
 use std::process::Abort;
 use std::test::Fail;
 
@@ -86,10 +87,10 @@ fn start(alloc: Global, tree: Tree, rev: u64, h: u64) -> Result<u64, RoomFault> 
 
 /// Lists, each in the next.
 fn nested(alloc: Global, levels: usize) -> Result<Tree, AllocError> {
-    let mut tree = Tree::from(Node::List(Vec::new(alloc)));
+    let mut tree = Tree::from(Node::List(VecDeque::new(alloc)));
     for _ in 1..levels {
-        let mut items = Vec::new(alloc);
-        items.push(Element::new(alloc, tree)?)?;
+        let mut items = VecDeque::new(alloc);
+        items.push_back(Element::new(alloc, tree)?)?;
         tree = Tree::from(Node::List(items));
     }
     Ok(tree)

@@ -1,7 +1,7 @@
 -- What a change makes of a document, carried out.
 use Rattle.std.proofs.Common.{◌≡◌, [], ◌∷◌, Bool, true, false, not, ◌&&◌, Option, Some, None, if◌then◌else◌, Result, Ok, IsOk, refl, sym, ap, subst, ◌∙◌, option_and_then}
 use Rattle.std.specs.Result.{result_ok}
-use Rattle.relay_tree.specs.Document.{Document, whole, list, object}
+use Rattle.relay_tree.specs.Document.{Document, list, object}
 use Rattle.relay_pointer.specs.Index.{Token, index_of}
 use Rattle.relay_pointer.specs.Path.{Path, at}
 use Rattle.relay_patch.specs.Walk.{Cause, then_do}

@@ -1,5 +1,6 @@
 -- Insertions and removals in a vector of documents, and in a map's entries.
-use Rattle.std.proofs.Common.{◌≡◌, ℕ, ◌<◌, ◌≤◌, List, length, get_or, Bool, true, false, Option, Some, None, Ok, Err, IsOk, ok_or, String, Global, Vec, BTreeMap, string_bytes, refl, sym, ap, ◌∙◌, nat_le, nat_cmp, arith, slice_get}
+use Rattle.std.proofs.Common.{◌≡◌, ℕ, ◌<◌, ◌≤◌, List, length, get_or, Bool, true, false, Option, Some, None, Ok, Err, IsOk, ok_or, String, Global, BTreeMap, string_bytes, refl, sym, ap, ◌∙◌, nat_le, nat_cmp, arith, slice_get}
+use Rattle.std.specs.declared.collections.VecDeque.{VecDeque}
 use Rattle.std.specs.List.{insert, remove}
 use Rattle.std.specs.Map.{lookup, remove_entry}
 use Rattle.std.specs.BTreeMap.{is_at}
@@ -89,7 +90,7 @@ pub member_drops : (es : List Entry) (k : List ℕ) (v : Document) → member_at
 member_drops es k v there = rw (dropped_member es k v there) refl
 
 -- a node that holds nothing has no part
-pub no_parts : (n : Node) (t : Token) → ((x : Vec Document Global) → n ≡ node.List x → ⊥) → ((x : BTreeMap (String Global) Document) → n ≡ node.Members x → ⊥) → IsOk (step (document_of n) t) → ⊥
+pub no_parts : (n : Node) (t : Token) → ((x : VecDeque Document Global) → n ≡ node.List x → ⊥) → ((x : BTreeMap (String Global) Document) → n ≡ node.Members x → ⊥) → IsOk (step (document_of n) t) → ⊥
 no_parts (node.List v) t l m h = l v refl
 no_parts (node.Members x) t l m h = m x refl
 no_parts _ t l m h = cc

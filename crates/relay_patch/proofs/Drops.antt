@@ -1,7 +1,7 @@
 -- A container that loses a part.
 use Rattle.std.proofs.Common.{◌≡◌, ℕ, suc, ◌+◌, ◌-◌, ◌<◌, ◌≤◌, Bool, true, false, Option, Some, None, Ok, refl, sym, ap, ◌∙◌, bytes_eq, nat_le, nat_lt, ok_or, arith}
 use Rattle.std.proofs.lemmas.Bool.Decides.{nat_tests}
-use Rattle.relay_tree.specs.Document.{Document, whole, list, object, Items, Members}
+use Rattle.relay_tree.specs.Document.{Document, list, object, Items, Members}
 use Rattle.relay_tree.specs.Part.{items_length, item_at, drop_item, drop_member, list_len, list_item}
 use Rattle.relay_tree.proofs.Elements.{item_at-past, item_at-drop_below, drop_item-shorter, item_at-drop_behind}
 use Rattle.relay_tree.proofs.Members.{member_at-drop_other}

@@ -1,6 +1,6 @@
 -- Where an insertion goes in a document that lost a part.
 use Rattle.std.proofs.Common.{◌≡◌, [], ◌∷◌, Bool, true, false, Result, Ok, Err, refl, sym, ap, ◌∙◌, bytes_eq}
-use Rattle.relay_tree.specs.Document.{Document, whole, list, object}
+use Rattle.relay_tree.specs.Document.{Document, list, object}
 use Rattle.relay_tree.proofs.Names.{equal_bytes}
 use Rattle.relay_pointer.specs.Index.{Token, index_of}
 use Rattle.relay_pointer.specs.Path.{Path, with_child}

@@ -1,6 +1,6 @@
 -- How deep and how heavy a document is after a change, from what the change brought and took.
 use Rattle.std.proofs.Common.{◌≡◌, ℕ, suc, ◌+◌, ◌-◌, ◌^◌, ◌<◌, ◌≤◌, max, List, [], ◌∷◌, ◌++◌, length, Bool, true, false, Option, Some, None, Result, Ok, Err, ok_or, refl, sym, ap, subst, ◌∙◌, bytes_eq, if◌then◌else◌, nat_lt, IsOk, String, Global, string_bytes, get_or, take, OnOk, arith, IfOk}
-use Rattle.relay_tree.specs.Document.{Document, null, whole, list, object, Items, Members, no_members, member, depth, weight, items_weight, members_weight}
+use Rattle.relay_tree.specs.Document.{Document, null, list, object, Items, Members, no_members, member, depth, weight, items_weight, members_weight}
 use Rattle.relay_tree.specs.Part.{insert_item, drop_item, member_at, set_member, put_member, drop_member}
 use Rattle.relay_pointer.specs.Index.{Token, index_of}
 use Rattle.relay_pointer.specs.Path.{Path, path_of, at, put, put_element, with_child}

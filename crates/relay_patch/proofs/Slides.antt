@@ -1,10 +1,10 @@
 -- An element that slides within its list: what a turn of the part between both places makes, that this is the move, and that it slides back.
-use Rattle.std.proofs.Common.{◌≡◌, ℕ, zero, suc, List, length, take, drop, ◌≤◌, [], ◌∷◌, ◌++◌, Bool, true, ◌&&◌, Option, Some, None, option_map, ok_or, Ok, String, Global, refl, sym, ap, subst, ◌∙◌, ◌<◌, ◌+◌, ◌^◌, max, arith, option_and_then}
-use Rattle.std.proofs.lemmas.List.{append_assoc}
-use borrow.Rule.Slice.PartMut.{put_mid, mid_of}
-use Rattle.relay_tree.specs.Document.{Document, list, Items, item, items_of}
+use Rattle.std.proofs.Common.{◌≡◌, ℕ, List, length, get_or, ◌≤◌, [], ◌∷◌, ◌++◌, Bool, true, ◌&&◌, Option, Some, None, ok_or, Ok, String, Global, refl, sym, ap, subst, ◌∙◌, ◌<◌, ◌^◌, max, arith, option_and_then}
+use Rattle.std.specs.List.{insert, remove}
+use Rattle.std.proofs.lemmas.Option.{slice_get_read}
+use Rattle.relay_tree.specs.Document.{Document, list, Items, items_of}
 use Rattle.relay_tree.specs.Part.{items_length, item_at, insert_item, drop_item}
-use Rattle.relay_tree.proofs.Elements.{insert_item-items_of, drop_item-items_of, insert_item-none, drop_item-shorter, drop_item-insert, item_at-insert_same}
+use Rattle.relay_tree.proofs.Elements.{slice_get-items_of, insert_item-items_of, drop_item-items_of, insert_item-none, drop_item-shorter, drop_item-insert, item_at-insert_same}
 use Rattle.relay_pointer.specs.Index.{Token, index_of}
 use Rattle.relay_pointer.specs.Path.{Path, path_of, at, put}
 use Rattle.relay_pointer.proofs.Prefixes.{equal_paths}
@@ -38,51 +38,11 @@ slides_nowhere ds i j h = go (item_at ds i) (drop_item ds i) refl
 slides_there : (ds es fs : Items) (i j : ℕ) (e : Document) → item_at ds i ≡ Some e → drop_item ds i ≡ Some es → insert_item es j e ≡ Some fs → slid_items i j ds ≡ fs
 slides_there ds es fs i j e there rest came = rw (there, rest, came) refl
 
--- behind an element that stays
-slid_items-behind : (d : Document) (ds : Items) (i j : ℕ) → slid_items (suc i) (suc j) (item d ds) ≡ item d (slid_items i j ds)
-slid_items-behind d ds i j = go (item_at ds i) (drop_item ds i)
-  where
-    last : (o : Option Items) → or_items (option_map (item d) o) (item d ds) ≡ item d (or_items o ds)
-    last (Some es) = refl
-    last None = refl
-
-    go : (o : Option Document) (r : Option Items) → or_items (option_and_then (λ e. option_and_then (λ es. insert_item es (suc j) e) (option_map (item d) r)) o) (item d ds) ≡ item d (or_items (option_and_then (λ e. option_and_then (λ es. insert_item es j e) r) o) ds)
-    go (Some e) (Some es) = last (insert_item es j e)
-    go _ _ = refl
-
--- Up, to a later place.
-
-first_goes : (xs : List Document) (x : Document) (j : ℕ) → j ≤ length xs → items_of (take j xs ++ x ∷ [] ++ drop j xs) ≡ slid_items 0 j (item x (items_of xs))
-first_goes xs x j h = rw (insert_item-items_of xs j x h, append_assoc (take j xs) (x ∷ []) (drop j xs)) refl
-
-pub slides_up : (xs : List Document) (i k j : ℕ) → j < length xs → suc j ≡ i + k → i ≤ j → items_of (put_mid i k xs (drop 1 (mid_of i k xs) ++ take 1 (mid_of i k xs))) ≡ slid_items i j (items_of xs)
-slides_up (x ∷ xs) zero k j h e l = let is : k ≡ suc j = omega arith in rw is (first_goes xs x j (omega arith))
-slides_up (x ∷ xs) (suc i) k (suc j) h e l = ap (item x) (slides_up xs i k j (omega arith) (omega arith) (omega arith)) ∙ sym (slid_items-behind x (items_of xs) i j)
-slides_up _ _ k _ h e l = absurd (omega arith)
-
--- Down, to an earlier place.
-
-take_less : (xs : List Document) (i : ℕ) → take i (take (suc i) xs) ≡ take i xs
-take_less (x ∷ xs) (suc i) = ap (λ ys. x ∷ ys) (take_less xs i)
-take_less _ _ = refl
-
-last_part : (xs : List Document) (i : ℕ) → i < length xs → (x : Document) × (drop i (take (suc i) xs) ≡ x ∷ []) × (item_at (items_of xs) i ≡ Some x)
-last_part [] i h = absurd (omega arith)
-last_part (x ∷ xs) zero h = (x, refl, refl)
-last_part (x ∷ xs) (suc i) h = last_part xs i (omega arith)
-
-last_comes : (xs : List Document) (i : ℕ) → i < length xs → items_of (drop i (take (suc i) xs) ++ take i (take (suc i) xs) ++ drop (suc i) xs) ≡ slid_items i 0 (items_of xs)
-last_comes xs i h =
-    let p = last_part xs i h in
-    rw (p.1, take_less xs i, p.2, drop_item-items_of xs i h) refl
-
-pub slides_down : (xs : List Document) (i k j n : ℕ) → i < length xs → suc i ≡ j + k → suc n ≡ k → items_of (put_mid j k xs (drop n (mid_of j k xs) ++ take n (mid_of j k xs))) ≡ slid_items i j (items_of xs)
-slides_down (x ∷ xs) i k zero n h e l =
-    let is : k ≡ suc i = omega arith in
-    let at_end : n ≡ i = omega arith in
-    rw (is, at_end) (last_comes (x ∷ xs) i h)
-slides_down (x ∷ xs) (suc i) k (suc j) n h e l = ap (item x) (slides_down xs i k j n (omega arith) (omega arith) l) ∙ sym (slid_items-behind x (items_of xs) i j)
-slides_down _ _ k _ n h e l = absurd (omega arith)
+-- what a removal and an insertion make
+pub slides : (xs : List Document) (i j : ℕ) (e : Document) → i < length xs → j ≤ length (remove xs i) → e ≡ get_or xs i e → items_of (insert (remove xs i) j e) ≡ slid_items i j (items_of xs)
+slides xs i j e there within is =
+    let stands : item_at (items_of xs) i ≡ Some e = sym (slice_get-items_of xs i) ∙ slice_get_read xs (length xs) i e refl there is in
+    sym (slides_there (items_of xs) (items_of (remove xs i)) (items_of (insert (remove xs i) j e)) i j e stands (drop_item-items_of xs i there) (insert_item-items_of (remove xs i) j e within))
 
 -- A move within one list.
 

@@ -1,7 +1,7 @@
 -- Whether a part comes to the place that it had.
 use Rattle.std.proofs.Common.{◌≡◌, ℕ, suc, [], ◌∷◌, ◌++◌, Bool, true, false, ◌&&◌, ◌||◌, Some, Result, Ok, refl, sym, ap, ◌∙◌, bytes_eq, nat_eq, ◌==◌, ◌<◌, ◌-◌, ◌+◌, ◌^◌, min, List, length, if◌then◌else◌, arith}
 use Rattle.std.proofs.lemmas.Bool.Decides.{nat_tests}
-use Rattle.relay_tree.specs.Document.{Document, null, whole, list, object, Items, items_of}
+use Rattle.relay_tree.specs.Document.{Document, null, list, object, Items, items_of}
 use Rattle.relay_tree.specs.Part.{items_length}
 use Rattle.relay_tree.proofs.Elements.{items_length-items_of, drop_item-shorter}
 use Rattle.relay_tree.proofs.Names.{equal_bytes}

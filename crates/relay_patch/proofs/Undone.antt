@@ -1,7 +1,7 @@
 -- A change that is kept leaves what taking back gives.
 use Rattle.std.proofs.Common.{◌≡◌, ℕ, List, [], ◌∷◌, ◌++◌, Bool, true, false, Option, Some, None, Result, Ok, Err, ok_or, is_ok, IsOk, refl, sym, ap, subst, ◌∙◌, if◌then◌else◌, IsNone, IfSome, option_to_list}
 use Rattle.std.specs.Result.{result_ok}
-use Rattle.relay_tree.specs.Document.{Document, whole, list, object, Items}
+use Rattle.relay_tree.specs.Document.{Document, list, object, Items}
 use Rattle.relay_tree.specs.Part.{insert_item, member_at, add_member}
 use Rattle.relay_tree.proofs.Elements.{drop_item-insert}
 use Rattle.relay_tree.proofs.Members.{drop_member-add}

@@ -1,6 +1,7 @@
 -- How changes are taken back: what was exchanged is put back, what came is dropped, what was taken out of a list stands there again, and
 -- what slid within its list slides back.
-use Rattle.std.specs.Prelude.{ℕ, List, [], ◌∷◌, Option, Some, None, option_and_then, Result, Ok, Err, nat_lt, if◌then◌else◌, vec_capacity}
+use Rattle.std.specs.Prelude.{ℕ, List, [], ◌∷◌, Option, Some, None, option_and_then, Result, Ok, Err, nat_lt, if◌then◌else◌}
+use Rattle.std.specs.VecDeque.{deque_capacity}
 use Rattle.relay_tree.specs.Document.{Document, list, Items}
 use Rattle.relay_tree.specs.Part.{items_length, item_at, insert_item, drop_item}
 use Rattle.relay_pointer.specs.Path.{Path, at, put}
@@ -59,7 +60,7 @@ with_part change path None d = d
 abbrev pub undone : Kept → Document → Document
 undone (kept.Part path part) d = put d path part
 undone (kept.Inserted path) d = or_same (at_path drop_child path d) d
-undone (kept.Element path i e room) d = with_part (refilled (vec_capacity room) i e) path (at d path) d
+undone (kept.Element path i e room) d = with_part (refilled (deque_capacity room) i e) path (at d path) d
 undone (kept.Slid path i j) d = with_part (slid i j) path (at d path) d
 
 -- the document before changes of which this is kept: the last one is taken back first

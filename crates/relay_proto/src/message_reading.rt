@@ -12,6 +12,7 @@ use crate::word::Word;
 use relay_patch::{Patch, PatchFault, PatchLimits};
 use relay_tree::{Element, Node, Tree, TreeFault};
 use std::alloc::Global;
+use std::collections::VecDeque;
 use thiserror::Error;
 
 /// Why no message was read.
@@ -95,13 +96,13 @@ fn is_view(tree: &Tree) -> bool
     ensures { result ≡ is_view tree.now }
 {
     match &tree.node {
-        Node::List(slots) => are_slots(slots.as_slice()),
+        Node::List(slots) => are_slots(slots),
         _ => false,
     }
 }
 
-fn are_slots(slots: &[Element]) -> bool
-    ensures { result ≡ list_all is_slot slots.now }
+fn are_slots(slots: &VecDeque<Element>) -> bool
+    ensures { result ≡ list_all is_slot slots.now.items }
 {
     slots.iter().all(|slot| is_slot(slot.tree()))
 }

@@ -1,8 +1,6 @@
 -- Elements that are read one by one: those that were read, before the ones that are left.
-use Rattle.std.proofs.Common.{◌≡◌, ℕ, suc, ◌+◌, ◌<◌, ◌≤◌, List, [], ◌∷◌, ◌++◌, length, get_or, drop, Result, Ok, Err, refl, ap, add-one, append_assoc, append-nil, Option, Some, None, Bool, true, false, nat_lt, if◌then◌else◌, arith, IfOk, IfErr}
-use Rattle.std.proofs.Math.Seq.{drop-cons}
-use Rattle.std.proofs.lemmas.List.{drop_all}
-use Rattle.relay_tree.specs.Document.{Document, items_of, Items, no_items, item}
+use Rattle.std.proofs.Common.{◌≡◌, ℕ, suc, ◌+◌, ◌<◌, ◌≤◌, List, [], ◌∷◌, ◌++◌, length, Result, Ok, Err, refl, ap, add-one, append_assoc, Option, Some, None, Bool, true, false, nat_lt, if◌then◌else◌, arith, IfOk, IfErr}
+use Rattle.relay_tree.specs.Document.{Document, Items, no_items, item}
 use Rattle.relay_tree.specs.Each.{onto, each_from}
 use Rattle.relay_tree.proofs.Outcomes.{if_err}
 use Rattle.std.proofs.lemmas.Bool.Decides.{nat_tests}
@@ -24,21 +22,6 @@ behind_onto done x (Err fault) = refl
 pub read_more : {A E : Type 0} (reads : ℕ → Document → Result A E) (n : ℕ) (d : Document) (ds : Items) (done : List A) (x : A) → reads n d ≡ Ok x
     → behind (done ++ x ∷ []) (each_from reads (n + 1) ds) ≡ behind done (each_from reads n (item d ds))
 read_more reads n d ds done x found = rw (add-one, found) (behind_onto done x (each_from reads (suc n) ds))
-
--- what is left to read from place n on
-abbrev pub rest_from : {A E : Type 0} → (ℕ → Document → Result A E) → ℕ → List Document → Result (List A) E
-rest_from reads n items = each_from reads n (items_of (drop n items))
-
-pub one_more : {A E : Type 0} (reads : ℕ → Document → Result A E) (items : List Document) (n : ℕ) (d : Document) (done : List A) (x : A) → n < length items → d ≡ get_or items n d → reads n d ≡ Ok x
-    → behind (done ++ x ∷ []) (rest_from reads (n + 1) items) ≡ behind done (rest_from reads n items)
-one_more reads items n d done x h is found = rw (add-one, drop-cons items n d h, ← is, found) (behind_onto done x (rest_from reads (suc n) items))
-
-pub refused_here : {A E : Type 0} (reads : ℕ → Document → Result A E) (items : List Document) (n : ℕ) (d : Document) (done : List A) (fault : E) → n < length items → d ≡ get_or items n d → reads n d ≡ Err fault
-    → behind done (rest_from reads n items) ≡ Err fault
-refused_here reads items n d done fault h is found = rw (drop-cons items n d h, ← is, found) refl
-
-pub all_read : {A E : Type 0} (reads : ℕ → Document → Result A E) (items : List Document) (n : ℕ) (done : List A) → length items ≤ n → behind done (rest_from reads n items) ≡ Ok done
-all_read reads items n done h = rw (drop_all n items h) (ap Ok (append-nil done))
 
 -- How many elements were read, and which of them a fault names.
 

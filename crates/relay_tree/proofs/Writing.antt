@@ -23,7 +23,7 @@ pub record WritesEach (ds : List Document) (old new : List Token) : Type 0 where
   pub tokens : new ≡ old ++ flat_map tokens_of ds
   pub back : AllByRecursion ReadsBack ds
 
-writes_more : {old mid new : List Token} (ds : List Document) (d : Document) → WritesEach ds old mid → new ≡ mid ++ tokens_of d → ReadsBack d → WritesEach (ds ++ d ∷ []) old new
+pub writes_more : {old mid new : List Token} (ds : List Document) (d : Document) → WritesEach ds old mid → new ≡ mid ++ tokens_of d → ReadsBack d → WritesEach (ds ++ d ∷ []) old new
 writes_more {old = old} ds d before here back = record {
   tokens = here ∙ ap (λ ts. ts ++ tokens_of d) before.tokens ∙ flat_map_more tokens_of old ds d;
   back = all_more ReadsBack ds d before.back back;

@@ -5,7 +5,7 @@ ghost use Rattle.relay_tree.specs.Seen.{members_of};
 use crate::element::Element;
 use crate::tree::{Node, Tree};
 use std::alloc::{AllocError, Global};
-use std::collections::BTreeMap;
+use std::collections::{BTreeMap, VecDeque};
 
 impl Tree {
     /// An equal tree. It costs the tree's weight in time and memory; want of memory leaves nothing behind.
@@ -32,12 +32,12 @@ fn copy_tree(alloc: Global, tree: &Tree) -> Result<Tree, AllocError>
 }
 
 #[cycle(copy)]
-fn copy_items(alloc: Global, items: &Vec<Element>) -> Result<Vec<Element>, AllocError>
+fn copy_items(alloc: Global, items: &VecDeque<Element>) -> Result<VecDeque<Element>, AllocError>
     ensures { IfOk result (λ copies. copies.items ≡ items.now.items) }
 {
-    let mut copies = Vec::with_capacity(alloc, items.len())?;
+    let mut copies = VecDeque::with_capacity(alloc, items.len())?;
     for item in items {
-        copies.push(Element::new(alloc, copy_tree(alloc, item.tree())?)?)?;
+        copies.push_back(Element::new(alloc, copy_tree(alloc, item.tree())?)?)?;
     }
     Ok(copies)
 }

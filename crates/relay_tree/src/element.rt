@@ -8,8 +8,8 @@ use crate::tree::Tree;
 use std::alloc::{AllocError, Global};
 use std::marker::Model;
 
-/// A tree behind a pointer. What comes to a list, or goes from it, moves the elements behind it: a pointer for each, and not a
-/// tree, which takes four times as much.
+/// A tree behind a pointer. What comes to a list, or goes from it, moves the elements on its shorter side: a pointer for each, and not
+/// a whole tree.
 #[cycle(tree)]
 #[derive(Drop)]
 pub struct Element {

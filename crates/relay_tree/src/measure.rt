@@ -5,7 +5,7 @@ ghost use Rattle.relay_tree.specs.Seen.{members_of};
 
 use crate::element::Element;
 use crate::tree::{Node, Tree};
-use std::collections::BTreeMap;
+use std::collections::{BTreeMap, VecDeque};
 
 /// What each value weighs, whatever it holds.
 const VALUE_WEIGHT: u64 = 8;
@@ -27,7 +27,6 @@ impl Tree {
 }
 
 #[cycle(depth)]
-#[tactic(auto, using(crate::proofs::Weights::item_weighs, crate::proofs::Weights::depth_of_more))]
 fn depth_of(tree: &Tree) -> u64
     ensures { result ≡ saturated (depth tree.now) }
 {
@@ -39,8 +38,7 @@ fn depth_of(tree: &Tree) -> u64
 }
 
 #[cycle(depth)]
-#[tactic(auto, using(crate::proofs::Weights::item_weighs, crate::proofs::Weights::depth_of_more))]
-fn depth_of_items(items: &Vec<Element>) -> u64
+fn depth_of_items(items: &VecDeque<Element>) -> u64
     ensures { result ≡ saturated (items_depth (items_of items.now.items)) }
 {
     let mut deepest = 0;
@@ -51,7 +49,6 @@ fn depth_of_items(items: &Vec<Element>) -> u64
 }
 
 #[cycle(depth)]
-#[tactic(auto, using(crate::proofs::Weights::item_weighs, crate::proofs::Weights::depth_of_more))]
 fn depth_of_members(members: &BTreeMap<String, Tree>) -> u64
     ensures { result ≡ saturated (members_depth (members_of members.now.entries)) }
 {
@@ -63,7 +60,6 @@ fn depth_of_members(members: &BTreeMap<String, Tree>) -> u64
 }
 
 #[cycle(weight)]
-#[tactic(auto, using(crate::proofs::Weights::item_weighs, crate::proofs::Weights::weight_of_more))]
 fn weight_of(tree: &Tree) -> u64
     ensures { result ≡ saturated (weight tree.now) }
 {
@@ -76,8 +72,7 @@ fn weight_of(tree: &Tree) -> u64
 }
 
 #[cycle(weight)]
-#[tactic(auto, using(crate::proofs::Weights::item_weighs, crate::proofs::Weights::weight_of_more))]
-fn weight_of_items(items: &Vec<Element>) -> u64
+fn weight_of_items(items: &VecDeque<Element>) -> u64
     ensures { result ≡ saturated (items_weight (items_of items.now.items)) }
 {
     let mut sum = 0u64;
@@ -88,7 +83,6 @@ fn weight_of_items(items: &Vec<Element>) -> u64
 }
 
 #[cycle(weight)]
-#[tactic(auto, using(crate::proofs::Weights::item_weighs, crate::proofs::Weights::weight_of_more))]
 fn weight_of_members(members: &BTreeMap<String, Tree>) -> u64
     ensures { result ≡ saturated (members_weight (members_of members.now.entries)) }
 {

@@ -11,7 +11,7 @@ ghost use Rattle.relay_tree.specs.Lending.{LendsItem, LendsMember};
 
 use crate::element::Element;
 use crate::tree::{Node, Tree};
-use std::collections::BTreeMap;
+use std::collections::{BTreeMap, VecDeque};
 
 impl Tree {
     /// The element at `index`, counted from 0; None past the end and where the tree is no list.
@@ -92,7 +92,7 @@ impl Node {
         }
     }
 
-    fn items_mut(&mut self) -> Option<&mut Vec<Element>>
+    fn items_mut(&mut self) -> Option<&mut VecDeque<Element>>
         ensures* writes_back { sem 𝓛 (LendsIf node.the_row list_row self.entry result List self.old) }
         ensures value { option_copied_mut result ≡ node_items self.old }
     {

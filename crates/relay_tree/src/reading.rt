@@ -11,7 +11,7 @@ use crate::element::Element;
 use crate::tree::{Node, Tree};
 use serde_json::{Map, Value};
 use std::alloc::{AllocError, Global};
-use std::collections::BTreeMap;
+use std::collections::{BTreeMap, VecDeque};
 use thiserror::Error;
 
 /// Why a text gives no tree, in the order of the checks.
@@ -79,12 +79,12 @@ fn tree_from(alloc: Global, value: Value) -> Result<Tree, TreeFault>
 }
 
 #[cycle(tree_from)]
-fn list_from(alloc: Global, items: Vec<Value>) -> Result<Vec<Element>, TreeFault>
+fn list_from(alloc: Global, items: Vec<Value>) -> Result<VecDeque<Element>, TreeFault>
     ensures ok { IfOk result (λ trees. items_tree (items_view items.items) ≡ Some (items_of trees.items)) }
     ensures number { IfErr result (λ fault. fault ≡ Number → items_tree (items_view items.items) ≡ None) }
     ensures other { IfErr result (λ fault. fault ≢ NotJson) }
 {
-    let mut trees = Vec::with_capacity(alloc, items.len())?;
+    let mut trees = VecDeque::with_capacity(alloc, items.len())?;
     for item in items {
         let tree = match tree_from(alloc, item) {
             Ok(tree) => tree,
@@ -94,7 +94,7 @@ fn list_from(alloc: Global, items: Vec<Value>) -> Result<Vec<Element>, TreeFault
             Ok(element) => element,
             Err(_) => return Err(TreeFault::NoMemory),
         };
-        match trees.push(element) {
+        match trees.push_back(element) {
             Ok(()) => {}
             Err(refused) => {
                 drop(refused);

@@ -4,7 +4,7 @@ ghost use Rattle.relay_tree.specs.Seen.{members_of};
 
 use crate::element::Element;
 use crate::tree::{Node, Tree};
-use std::collections::BTreeMap;
+use std::collections::{BTreeMap, VecDeque};
 
 impl Tree {
     /// Whether both are the same document: the order in which members were written has no meaning, and texts are equal
@@ -17,7 +17,7 @@ impl Tree {
 }
 
 #[cycle(same)]
-#[tactic(auto, using(crate::proofs::Weights::item_weighs, crate::proofs::Weights::same_items_of))]
+#[tactic(auto, using(crate::proofs::Weights::same_items_of))]
 fn same_tree(tree: &Tree, other: &Tree) -> bool
     ensures { IsTrue result ↔ (tree.now ≡ other.now) }
 {
@@ -47,23 +47,27 @@ fn same_tree(tree: &Tree, other: &Tree) -> bool
 }
 
 #[cycle(same)]
-#[tactic(auto, using(crate::proofs::Weights::item_weighs, crate::proofs::Weights::same_items_of))]
-fn same_items(items: &Vec<Element>, others: &Vec<Element>) -> bool
+#[tactic(auto, using(crate::proofs::Weights::same_items_of))]
+fn same_items(items: &VecDeque<Element>, others: &VecDeque<Element>) -> bool
     ensures { IsTrue result ↔ (items.now.items ≡ others.now.items) }
 {
     if items.len() != others.len() {
         return false;
     }
-    for (i, item) in items.iter().enumerate() {
-        if !same_tree(item.tree(), others[i].tree()) {
+    let mut rest = others.iter();
+    for item in items {
+        let Some(other) = rest.next() else {
+            return false;
+        };
+        if !same_tree(item.tree(), other.tree()) {
             return false;
         }
     }
-    true
+    rest.next().is_none()
 }
 
 #[cycle(same)]
-#[tactic(auto, using(crate::proofs::Weights::item_weighs, crate::proofs::Weights::same_items_of))]
+#[tactic(auto, using(crate::proofs::Weights::same_items_of))]
 fn same_members(members: &BTreeMap<String, Tree>, others: &BTreeMap<String, Tree>) -> bool
     ensures { IsTrue result ↔ (members_of members.now.entries ≡ members_of others.now.entries) }
 {

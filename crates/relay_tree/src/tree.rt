@@ -2,7 +2,7 @@
 ghost use Rattle.std.specs.Prelude.{◌≡◌};
 
 use crate::element::Element;
-use std::collections::BTreeMap;
+use std::collections::{BTreeMap, VecDeque};
 use std::marker::Model;
 
 /// A JSON value whose numbers are whole. Contracts see it as a `Document`, and code matches on `&tree.node`.
@@ -22,7 +22,7 @@ pub enum Node {
     Truth(bool),
     Whole(i64),
     Text(String),
-    List(Vec<Element>),
+    List(VecDeque<Element>),
     Members(BTreeMap<String, Tree>),
 }
 

@@ -8,7 +8,7 @@ use crate::element::Element;
 use crate::tree::{Node, Tree};
 use json::Writer;
 use std::alloc::AllocError;
-use std::collections::BTreeMap;
+use std::collections::{BTreeMap, VecDeque};
 
 impl Tree {
     /// Writes the tree after what was written: member names in byte order, whole numbers in decimal. It costs the length of
@@ -39,7 +39,7 @@ fn write_tree(tree: &Tree, out: &mut Writer) -> Result<(), AllocError>
 }
 
 #[cycle(write)]
-fn write_list(items: &Vec<Element>, out: &mut Writer) -> Result<(), AllocError>
+fn write_list(items: &VecDeque<Element>, out: &mut Writer) -> Result<(), AllocError>
     ensures tokens { OnOk result (out.new.tokens ≡ out.old.tokens ++ tokens_of (list (items_of items.now.items))) }
     ensures before { out.new.before ≡ out.old.before }
     ensures reads_back { OnOk result (ReadsBack (list (items_of items.now.items))) }

@@ -5,15 +5,16 @@ ghost use Rattle.relay_view.specs.View.{view};
 use crate::view::View;
 use relay_tree::{Element, Node, Tree};
 use std::alloc::{AllocError, Global};
+use std::collections::VecDeque;
 
 impl View {
     /// The list of slots. It costs the parts that the pointers lead to, each copied.
     pub fn of(&self, alloc: Global, document: &Tree) -> Result<Tree, AllocError>
         ensures { IfOk result (λ seen. seen ≡ view self.now document.now) }
     {
-        let mut slots = Vec::with_capacity(alloc, self.slots().len())?;
+        let mut slots = VecDeque::with_capacity(alloc, self.slots().len())?;
         for slot in self.slots() {
-            slots.push(Element::new(alloc, slot.of(alloc, document)?)?)?;
+            slots.push_back(Element::new(alloc, slot.of(alloc, document)?)?)?;
         }
         Ok(Tree::from(Node::List(slots)))
     }

@@ -11,6 +11,7 @@ use crate::view::{SLOTS_MOST, View};
 use relay_pointer::{Pointer, PointerFault, TOKENS_MOST};
 use relay_tree::{Element, Node, Tree};
 use std::alloc::Global;
+use std::collections::VecDeque;
 
 impl View {
     /// The view that a tree is: a list of at most [`SLOTS_MOST`] slots, each a pointer text of at most [`TOKENS_MOST`] tokens, or an
@@ -27,16 +28,16 @@ impl View {
         if items.len() as u64 > SLOTS_MOST {
             return Err(ViewFault::TooMany);
         }
-        match slots_of(alloc, items.as_slice()) {
+        match slots_of(alloc, items) {
             Ok(slots) => Ok(View::of_slots(slots)),
             Err(fault) => Err(fault),
         }
     }
 }
 
-fn slots_of(alloc: Global, items: &[Element]) -> Result<Vec<Slot>, ViewFault>
-    ensures ok { IfOk result (λ slots. each_from slot_at 0 (items_of items.now) ≡ Ok slots.items) }
-    ensures err { IfErr result (λ fault. fault ≢ NoMemory → each_from slot_at 0 (items_of items.now) ≡ Err fault) }
+fn slots_of(alloc: Global, items: &VecDeque<Element>) -> Result<Vec<Slot>, ViewFault>
+    ensures ok { IfOk result (λ slots. each_from slot_at 0 (items_of items.now.items) ≡ Ok slots.items) }
+    ensures err { IfErr result (λ fault. fault ≢ NoMemory → each_from slot_at 0 (items_of items.now.items) ≡ Err fault) }
 {
     let Ok(mut slots) = Vec::with_capacity(alloc, items.len()) else {
         return Err(ViewFault::NoMemory);

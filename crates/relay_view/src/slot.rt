@@ -9,6 +9,7 @@ use json::Writer;
 use relay_pointer::{Pointer, resolve};
 use relay_tree::{Element, Node, Tree};
 use std::alloc::{AllocError, Global};
+use std::collections::VecDeque;
 
 /// What a slot shows.
 #[derive(Clone, Copy, Debug, PartialEq, Eq)]
@@ -32,9 +33,9 @@ impl Slot {
     pub fn of(&self, alloc: Global, document: &Tree) -> Result<Tree, AllocError>
         ensures { IfOk result (λ seen. seen ≡ slot self.now document.now) }
     {
-        let mut slot = Vec::new(alloc);
+        let mut slot = VecDeque::new(alloc);
         if let Some(value) = self.value(alloc, document)? {
-            slot.push(Element::new(alloc, value)?)?;
+            slot.push_back(Element::new(alloc, value)?)?;
         }
         Ok(Tree::from(Node::List(slot)))
     }

@@ -8,6 +8,7 @@ use super::spot::insertion_index;
 use relay_pointer::index_of;
 use relay_tree::{Element, Node, Tree, insert_member};
 use std::alloc::{AllocError, Global};
+use std::collections::VecDeque;
 
 /// Inserts a value where the token says. Want of memory leaves the container as it was.
 pub(crate) fn insert_child(
@@ -29,7 +30,7 @@ pub(crate) fn insert_child(
 
 fn insert_item(
     alloc: Global,
-    items: &mut Vec<Element>,
+    items: &mut VecDeque<Element>,
     token: &str,
     value: Tree,
 ) -> Result<(), AllocError>
@@ -56,11 +57,11 @@ pub(crate) fn drop_child(container: &mut Tree, token: &str) -> Tree
     }
 }
 
-fn drop_item(items: &mut Vec<Element>, token: &str) -> Tree
+fn drop_item(items: &mut VecDeque<Element>, token: &str) -> Tree
     requires { IsOk (step (list (items_of items.old.items)) token.now) }
     ensures value { step (list (items_of items.old.items)) token.now ≡ Ok result }
     ensures rest { drop_child token.now (list (items_of items.old.items)) ≡ Ok (list (items_of items.new.items)) }
 {
     let index = index_of(token).unwrap() as usize;
-    items.remove(index).into_tree()
+    items.remove(index).unwrap().into_tree()
 }

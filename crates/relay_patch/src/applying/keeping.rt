@@ -21,6 +21,7 @@ use crate::change::{Change, Place};
 use relay_pointer::{Pointer, copy_tokens, index_of};
 use relay_tree::{Element, Node, Tree};
 use std::alloc::{AllocError, Global};
+use std::collections::VecDeque;
 
 /// Makes a change that is kept. Where memory is refused, what is kept takes back what has been done of it.
 pub(crate) fn make_keeping(
@@ -142,7 +143,7 @@ fn take_item(
         unreachable!()
     };
     let list = Pointer::from_tokens(copy_tokens(alloc, before)?);
-    let room = Vec::with_capacity(alloc, length_at(tree, before))?;
+    let room = VecDeque::with_capacity(alloc, length_at(tree, before))?;
     let place = Element::new(alloc, Tree::from(Node::Null))?;
     kept.reserve(1)?;
     let index = position(last.as_str());

@@ -1,4 +1,5 @@
-//! Moves within one list: an element slides past those between its two places. Nothing else is moved, and nothing is copied.
+//! Moves within one list: an element slides from its place to another. No tree is moved or copied: of the pointers to the elements those
+//! on the shorter side of each place move.
 ghost use Rattle.std.specs.Prelude.{◌≡◌, ◌<◌, ◌^◌, ℕ, true, Some, length, OnOk, OnErr, IfOk};
 ghost use Rattle.relay_tree.specs.Document.{Document, list, Items, items_of};
 ghost use Rattle.relay_tree.specs.Part.{items_length};
@@ -15,6 +16,7 @@ use crate::change::Place;
 use relay_pointer::{Pointer, copy_tokens, resolve_mut, same_path};
 use relay_tree::{Element, Node, Tree};
 use std::alloc::{AllocError, Global};
+use std::collections::VecDeque;
 
 /// Whether both places are items of one list.
 pub(crate) fn in_one_list(from: &Place, to: &Place) -> bool
@@ -100,17 +102,14 @@ fn slide_in(node: &mut Node, from: usize, to: usize)
     }
 }
 
-fn slide_item(items: &mut [Element], from: usize, to: usize)
-    ensures slid { items_of items.new ≡ slid_items from to (items_of items.old) }
-    ensures len { length items.new ≡ length items.old }
-    ensures few { length items.old < 2 ^ 64 }
+// A removal leaves room for an insertion.
+fn slide_item(items: &mut VecDeque<Element>, from: usize, to: usize)
+    ensures slid { items_of items.new.items ≡ slid_items from to (items_of items.old.items) }
+    ensures few { length items.old.items < 2 ^ 64 }
 {
     if from.max(to) >= items.len() {
         return;
     }
-    if from <= to {
-        items[from..to + 1].rotate_left(1);
-    } else {
-        items[to..from + 1].rotate_right(1);
-    }
+    let element = items.remove(from).unwrap();
+    items.insert(to, element).unwrap();
 }

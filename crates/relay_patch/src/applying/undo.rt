@@ -1,5 +1,6 @@
 //! What is kept of changes, so that they can be taken back without taking memory.
-ghost use Rattle.std.specs.Prelude.{◌≡◌, vec_capacity};
+ghost use Rattle.std.specs.Prelude.{◌≡◌};
+ghost use Rattle.std.specs.VecDeque.{deque_capacity};
 ghost use Rattle.relay_tree.specs.Document.{items_of};
 ghost use Rattle.relay_tree.specs.Seen.{document_of};
 ghost use Rattle.relay_pointer.specs.Path.{path_of, at, put};
@@ -11,6 +12,7 @@ use super::sliding::slide_at;
 use super::spot::stand;
 use relay_pointer::{Pointer, exchange, resolve_mut};
 use relay_tree::{Element, Node, Tree};
+use std::collections::VecDeque;
 
 /// What takes a change back.
 #[derive(Drop)]
@@ -24,13 +26,13 @@ pub enum Kept {
     Inserted {
         path: Pointer,
     },
-    /// The element went from the index of a list. The room holds as many elements as the list had: only a vector with
+    /// The element went from the index of a list. The room holds as many elements as the list had: only a queue with
     /// spare room takes one more without growing, and what room the list itself keeps is not seen through a tree.
     Element {
         list: Pointer,
         index: usize,
         element: Element,
-        room: Vec<Element>,
+        room: VecDeque<Element>,
     },
     /// An element slid within its list: it goes from this index back to the other.
     Slid {
@@ -90,16 +92,22 @@ fn drop_again(tree: &mut Tree, path: &[String])
     }
 }
 
-fn refill_at(tree: &mut Tree, path: &Pointer, index: usize, element: Element, room: Vec<Element>)
-    ensures { tree.new ≡ with_part (refilled (vec_capacity room) index element) path.now (at tree.old path.now) tree.old }
+fn refill_at(
+    tree: &mut Tree,
+    path: &Pointer,
+    index: usize,
+    element: Element,
+    room: VecDeque<Element>,
+)
+    ensures { tree.new ≡ with_part (refilled (deque_capacity room) index element) path.now (at tree.old path.now) tree.old }
 {
     if let Some(node) = resolve_mut(tree, path) {
         refill(node, index, element, room);
     }
 }
 
-fn refill(node: &mut Node, index: usize, element: Element, room: Vec<Element>)
-    ensures { document_of node.new ≡ refilled (vec_capacity room) index element (document_of node.old) }
+fn refill(node: &mut Node, index: usize, element: Element, room: VecDeque<Element>)
+    ensures { document_of node.new ≡ refilled (deque_capacity room) index element (document_of node.old) }
 {
     if let Node::List(items) = node {
         insert_with_room(items, index, element, room);
@@ -107,8 +115,13 @@ fn refill(node: &mut Node, index: usize, element: Element, room: Vec<Element>)
 }
 
 // Moves the elements into the room, if that is large enough for one more.
-fn insert_with_room(items: &mut Vec<Element>, index: usize, element: Element, room: Vec<Element>)
-    ensures { items_of items.new.items ≡ refilled_items (vec_capacity room) index element (items_of items.old.items) }
+fn insert_with_room(
+    items: &mut VecDeque<Element>,
+    index: usize,
+    element: Element,
+    room: VecDeque<Element>,
+)
+    ensures { items_of items.new.items ≡ refilled_items (deque_capacity room) index element (items_of items.old.items) }
 {
     if items.len() >= room.capacity() || index > items.len() {
         return;

@@ -13,7 +13,7 @@ use crate::patch::Patch;
 use relay_pointer::Pointer;
 use relay_tree::{Element, Node, Tree, insert_member};
 use std::alloc::{AllocError, Global};
-use std::collections::BTreeMap;
+use std::collections::{BTreeMap, VecDeque};
 
 impl Patch {
     /// The patch as a tree. It costs a copy of its values, and reads back as the patch under limits that it keeps.
@@ -21,9 +21,9 @@ impl Patch {
         ensures form { IfOk result (λ tree. tree ≡ patch_document self.now) }
         ensures reads_back { IfOk result (λ tree. (ops tokens deepest : ℕ) → length self.now ≤ ops → AllByRecursion (OpFits tokens deepest) self.now → patch_of ops tokens tree ≡ Ok self.now) }
     {
-        let mut items = Vec::with_capacity(alloc, self.ops().len())?;
+        let mut items = VecDeque::with_capacity(alloc, self.ops().len())?;
         for op in self.ops() {
-            items.push(Element::new(alloc, op_tree(alloc, op)?)?)?;
+            items.push_back(Element::new(alloc, op_tree(alloc, op)?)?)?;
         }
         Ok(Tree::from(Node::List(items)))
     }

@@ -1,7 +1,8 @@
 use Rattle.std.proofs.Common.{◌≡◌, [], ◌∷◌, ◌++◌, string_bytes, string_cmp, sym, ap, ◌∙◌, subst, append_assoc, arith}
+use Rattle.std.specs.VecDeque.Iter.{deque_iter_rest}
 use Rattle.std.specs.List.Sorted.{IsStrictlySortedBy}
 use Rattle.std.specs.Map.{keys_of}
-use Rattle.relay_tree.specs.Document.{members_weight}
+use Rattle.relay_tree.specs.Document.{weight, items_of, items_weight, members_weight}
 use Rattle.relay_tree.specs.Seen.{members_of}
 use Rattle.relay_tree.proofs.Weights.{item_weighs, member_weighs}
 use Rattle.relay_tree.proofs.Members.{Entry, members_of-insert_entry, add_member-last}
@@ -9,7 +10,11 @@ use Rattle.relay_tree.proofs.copy.+copy.Goals as goal
 
 pub copy_items-copy_tree-requires : goal.copy_items-copy_tree-requires
 copy_items-copy_tree-requires t c =
-    (grind (arith, item_weighs c.args.items.now.items c.loop-item.item-index c.item-item.result), tt)
+    let x = c.in-Some.item.now in
+    let left = deque_iter_rest c.next.new.self in
+    let all : c.args.items.now.items ≡ c.loop-item.copies.items ++ x ∷ left = c.loop-item.invariant ∙ ap (λ ds. c.loop-item.copies.items ++ ds) c.in-Some.ensures.steps in
+    let whole = ap (λ ds. items_weight (items_of ds)) all in
+    (omega (arith, item_weighs c.loop-item.copies.items x left, whole, ap weight c.tree.ensures), tt)
 
 pub copy_members-copy_tree-requires : goal.copy_members-copy_tree-requires
 copy_members-copy_tree-requires t c =

@@ -1,14 +1,15 @@
-use Rattle.std.proofs.Common.{◌≡◌, ◌≤◌, [], ◌∷◌, ◌++◌, length, string_bytes, sym, ap, ◌∙◌, subst, append_assoc, append-nil, arith, rules}
-use Rattle.std.proofs.lemmas.List.{take_all}
+use Rattle.std.proofs.Common.{◌≡◌, [], ◌∷◌, ◌++◌, string_bytes, sym, ap, ◌∙◌, subst, append_assoc, append-nil, arith, rules}
+use Rattle.std.proofs.lemmas.List.{nil_from_length}
 use Rattle.std.proofs.lemmas.Result.{on_ok_weaker}
+use Rattle.std.specs.VecDeque.Iter.{deque_iter_rest}
 use Rattle.json.specs.Token.{begin_array, begin_object, key}
-use Rattle.relay_tree.specs.Document.{members_weight}
+use Rattle.relay_tree.specs.Document.{weight, items_of, items_weight, members_weight}
 use Rattle.relay_tree.specs.Seen.{members_of}
 use Rattle.relay_tree.specs.Text.{ReadsBack}
 use Rattle.relay_tree.proofs.Members.{Entry}
 use Rattle.relay_tree.proofs.Texts.{whole_back, list_back, object_back}
 use Rattle.relay_tree.proofs.Weights.{item_weighs, member_weighs}
-use Rattle.relay_tree.proofs.Writing.{WritesEach, WritesMembers, list_ends, writes_member, object_ends}
+use Rattle.relay_tree.proofs.Writing.{WritesEach, WritesMembers, writes_more, list_ends, writes_member, object_ends}
 use Rattle.relay_tree.proofs.write.+write.Goals as goal
 
 pub write_tree-returns-in-Whole-clause-reads_back : goal.write_tree-returns-in-Whole-clause-reads_back
@@ -18,22 +19,40 @@ write_tree-returns-in-Whole-clause-reads_back t c =
 
 pub write_list-write_tree-requires : goal.write_list-write_tree-requires
 write_list-write_tree-requires t c =
-    (grind (arith, item_weighs c.args.items.now.items c.loop-item.item-index c.item-item.result), tt)
+    let done = c.loop-item.invariant.done in
+    let x = c.in-Some.item.now in
+    let left = deque_iter_rest c.next.new.self in
+    let all : c.args.items.now.items ≡ done ++ x ∷ left = c.loop-item.invariant.all ∙ ap (λ ds. done ++ ds) c.in-Some.ensures.steps in
+    let whole = ap (λ ds. items_weight (items_of ds)) all in
+    (omega (arith, item_weighs done x left, whole, ap weight c.tree.ensures), tt)
+
+pub write_list-loop-item-preserved : goal.write_list-loop-item-preserved
+write_list-loop-item-preserved t c =
+    let l = c.loop-item in
+    let x = c.in-Some.item.now in
+    let left = deque_iter_rest c.next.new.self in
+    let written = c.in_ok-write_tree.ensures in
+    record {
+      before = search rules;
+      done = l.invariant.done ++ x ∷ [];
+      all = l.invariant.all ∙ ap (λ ds. l.invariant.done ++ ds) c.in-Some.ensures.steps ∙ sym (append_assoc l.invariant.done (x ∷ []) left);
+      each = writes_more l.invariant.done x l.invariant.each (rw c.tree.ensures at written.tokens) (rw c.tree.ensures at written.reads_back);
+    }
 
 pub write_list-returns-clause-tokens : goal.write_list-returns-clause-tokens
 write_list-returns-clause-tokens t c =
-    let items = c.args.items.now.items in
-    let past : length items ≤ c.loop-item.item-index = grind arith in
+    let done = c.loop-item.invariant.done in
+    let all : done ≡ c.args.items.now.items = sym (c.loop-item.invariant.all ∙ ap (λ ds. done ++ ds) (nil_from_length (deque_iter_rest c.loop-item.item-iterator) c.in-None.ensures.steps.0) ∙ append-nil done) in
     let start : c.begin_array.new.self.tokens ≡ c.args.out.now.tokens ++ begin_array ∷ [] = search rules in
-    let each = subst (λ ds. WritesEach ds c.begin_array.new.self.tokens c.loop-item.out.tokens) (take_all c.loop-item.item-index items past) c.loop-item.invariant.each in
-    on_ok_weaker c.end_array.result (λ e. list_ends items c.args.out.now.tokens start each e) c.end_array.ensures.ok
+    let each = subst (λ ds. WritesEach ds c.begin_array.new.self.tokens c.loop-item.out.tokens) all c.loop-item.invariant.each in
+    on_ok_weaker c.end_array.result (λ e. list_ends c.args.items.now.items c.args.out.now.tokens start each e) c.end_array.ensures.ok
 
 pub write_list-returns-clause-reads_back : goal.write_list-returns-clause-reads_back
 write_list-returns-clause-reads_back t c =
-    let items = c.args.items.now.items in
-    let past : length items ≤ c.loop-item.item-index = grind arith in
-    let each = subst (λ ds. WritesEach ds c.begin_array.new.self.tokens c.loop-item.out.tokens) (take_all c.loop-item.item-index items past) c.loop-item.invariant.each in
-    on_ok_weaker c.end_array.result (λ e. list_back items each.back) c.end_array.ensures.ok
+    let done = c.loop-item.invariant.done in
+    let all : done ≡ c.args.items.now.items = sym (c.loop-item.invariant.all ∙ ap (λ ds. done ++ ds) (nil_from_length (deque_iter_rest c.loop-item.item-iterator) c.in-None.ensures.steps.0) ∙ append-nil done) in
+    let each = subst (λ ds. WritesEach ds c.begin_array.new.self.tokens c.loop-item.out.tokens) all c.loop-item.invariant.each in
+    on_ok_weaker c.end_array.result (λ e. list_back c.args.items.now.items each.back) c.end_array.ensures.ok
 
 pub write_object-write_tree-requires : goal.write_object-write_tree-requires
 write_object-write_tree-requires t c =

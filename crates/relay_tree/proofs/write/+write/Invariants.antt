@@ -1,5 +1,6 @@
-use Rattle.std.proofs.Common.{◌≡◌, ◌+◌, List, ◌++◌, take}
-use Rattle.relay_tree.specs.Document.{weight, items_of, items_weight, members_weight}
+use Rattle.std.proofs.Common.{◌≡◌, ◌+◌, List, ◌++◌}
+use Rattle.std.specs.VecDeque.Iter.{deque_iter_rest}
+use Rattle.relay_tree.specs.Document.{Document, weight, items_of, items_weight, members_weight}
 use Rattle.relay_tree.specs.Seen.{members_of}
 use Rattle.relay_tree.proofs.Members.{Entry}
 use Rattle.relay_tree.proofs.Writing.{WritesEach, WritesMembers}
@@ -17,7 +18,9 @@ decreases-write_object l = 1 + members_weight (members_of l.members.now.entries)
 abbrev pub invariant-write_list-loop-item : goal.invariant-write_list-loop-item
 invariant-write_list-loop-item l = record {
   before : l.out.before ≡ l.initial.out.before;
-  each : WritesEach (take l.item-index l.items.items) l.initial.out.tokens l.out.tokens;
+  done : List Document;
+  all : l.items.items ≡ done ++ deque_iter_rest l.item-iterator;
+  each : WritesEach done l.initial.out.tokens l.out.tokens;
 }
 
 abbrev pub invariant-write_object-loop-name : goal.invariant-write_object-loop-name

@@ -1,16 +1,17 @@
-use Rattle.std.proofs.Common.{Ok, sym, ap, ◌∙◌, arith}
+use Rattle.std.proofs.Common.{◌≡◌, Some, Ok, get_or, refl, sym, ap, ◌∙◌, arith}
 use Rattle.relay_patch.proofs.Contained.{named, element_taken, element_drops}
 use Rattle.relay_patch.proofs.applying.container.drop_item.Goals as goal
 use Rattle.relay_pointer.proofs.Indexes.{index_is}
 
-pub remove-requires : goal.remove-requires
-remove-requires c =
+pub unwrap-requires : goal.unwrap-requires
+unwrap-requires c =
     let v = c.args.items.now in
     let ok = v.ok in
     let small = v.small in
     let m = named v.items c.args.token.now c.requires in
-    let same = index_is v.items c.args.token.now c.unwrap-index.result (omega arith) (sym c.unwrap-index.ensures ∙ c.index_of.ensures) m in
-    omega (arith, ok.0, same, m.within)
+    let i = c.unwrap-index.result in
+    let same = index_is v.items c.args.token.now i (omega arith) (sym c.unwrap-index.ensures ∙ c.index_of.ensures) m in
+    rw (c.remove.ensures.succeeds m.value (omega (arith, ok.0, same, m.within))) refl
 
 pub returns-clause-value : goal.returns-clause-value
 returns-clause-value c =
@@ -18,8 +19,12 @@ returns-clause-value c =
     let ok = v.ok in
     let small = v.small in
     let m = named v.items c.args.token.now c.requires in
-    let same = index_is v.items c.args.token.now c.unwrap-index.result (omega arith) (sym c.unwrap-index.ensures ∙ c.index_of.ensures) m in
-    element_taken v.items c.args.token.now c.unwrap-index.result c.remove.result m same c.remove.ensures.value ∙ ap Ok (sym c.into_tree.ensures)
+    let i = c.unwrap-index.result in
+    let same = index_is v.items c.args.token.now i (omega arith) (sym c.unwrap-index.ensures ∙ c.index_of.ensures) m in
+    let e = c.unwrap.result in
+    let taken : Some e ≡ Some (get_or v.items i e) = sym c.unwrap.ensures ∙ c.remove.ensures.succeeds e (omega (arith, ok.0, same, m.within)) in
+    let is : e ≡ get_or v.items i e = cc in
+    element_taken v.items c.args.token.now i e m same is ∙ ap Ok (sym c.into_tree.ensures)
 
 pub returns-clause-rest : goal.returns-clause-rest
 returns-clause-rest c =
@@ -27,5 +32,7 @@ returns-clause-rest c =
     let ok = v.ok in
     let small = v.small in
     let m = named v.items c.args.token.now c.requires in
-    let same = index_is v.items c.args.token.now c.unwrap-index.result (omega arith) (sym c.unwrap-index.ensures ∙ c.index_of.ensures) m in
-    rw (c.remove.ensures.items, same) (element_drops v.items c.args.token.now m)
+    let i = c.unwrap-index.result in
+    let same = index_is v.items c.args.token.now i (omega arith) (sym c.unwrap-index.ensures ∙ c.index_of.ensures) m in
+    let left = rw c.unwrap.ensures at c.remove.ensures.items in
+    rw (left, same) (element_drops v.items c.args.token.now m)

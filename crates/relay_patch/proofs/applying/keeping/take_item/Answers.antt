@@ -1,4 +1,5 @@
-use Rattle.std.proofs.Common.{◌++◌, true, Ok, [], ◌∷◌, sym, ap, ◌∙◌, vec_capacity}
+use Rattle.std.proofs.Common.{◌++◌, true, Ok, [], ◌∷◌, sym, ap, ◌∙◌}
+use Rattle.std.specs.VecDeque.{deque_capacity}
 use Rattle.relay_pointer.specs.Path.{path_of}
 use Rattle.relay_pointer.proofs.Tokens.{tokens_back}
 use Rattle.relay_patch.specs.declared.applying.undo.Kept.{Kept}
@@ -25,5 +26,5 @@ returns-clause-back c =
     let k : Kept = kept.Element c.from_tokens-list.result c.position-index.result element c.in_ok-room.room in
     let at_it = rw c.as_str.ensures.value at c.position-index.ensures in
     kept_back d gone c.args.kept.now.items c.push_reserved.new.self.items k
-    (rw here (item_again (path_of path) _ _ d gone element c.length_at.result c.position-index.result (vec_capacity c.in_ok-room.room) is (returns-clause-made c) (c.remove_at.ensures.value ∙ ap Ok (sym c.with_tree-element.ensures)) c.length_at.type_inv c.length_at.ensures c.in_ok-room.ensures.exact at_it))
+    (rw here (item_again (path_of path) _ _ d gone element c.length_at.result c.position-index.result (deque_capacity c.in_ok-room.room) is (returns-clause-made c) (c.remove_at.ensures.value ∙ ap Ok (sym c.with_tree-element.ensures)) c.length_at.type_inv c.length_at.ensures c.in_ok-room.ensures.exact at_it))
     (c.push_reserved.ensures.items ∙ ap (λ xs. xs ++ k ∷ []) c.in_ok-reserve.ensures.items)

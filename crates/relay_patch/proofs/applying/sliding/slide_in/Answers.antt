@@ -8,5 +8,4 @@ returns-in-List-clause-few c = λ ds here.
     let v = c.in-List.items in
     let whole : list (items_of v.items) ≡ list ds = rw c.in-List.is at here in
     let same : items_of v.items ≡ ds = cc in
-    let few = rw c.deref_mut.ensures.value at c.slide_item.ensures.few in
-    rw (← same) (omega (arith, items_length-items_of v.items, few))
+    rw (← same) (omega (arith, items_length-items_of v.items, c.slide_item.ensures.few))

@@ -1,32 +1,31 @@
-use Rattle.std.proofs.Common.{◌≡◌, ◌+◌, ◌-◌, length, drop, take, sym, arith}
-use Rattle.std.proofs.lemmas.List.{length-take-le, length-drop}
+use Rattle.std.proofs.Common.{◌≡◌, ◌<◌, ◌≤◌, Some, length, get_or, sym, ◌∙◌, arith}
+use Rattle.std.specs.List.{insert, remove}
+use Rattle.std.specs.VecDeque.{deque_len}
 use Rattle.relay_tree.specs.Document.{items_of}
 use Rattle.relay_tree.proofs.Elements.{items_length-items_of}
-use Rattle.relay_patch.proofs.Slides.{slides_nowhere, slides_up, slides_down}
+use Rattle.relay_patch.proofs.Slides.{slides_nowhere, slides}
 use Rattle.relay_patch.proofs.applying.sliding.slide_item.Goals as goal
 
-pub returns-then-max-items-clause-slid : goal.returns-then-max-items-clause-slid
-returns-then-max-items-clause-slid c =
-    let long = items_length-items_of c.args.items.now in
-    sym (slides_nowhere (items_of c.args.items.now) c.args.from c.args.to (omega (arith, long, c.if-max-items.true, c.max.ensures)))
+pub returns-then-max-len-clause-slid : goal.returns-then-max-len-clause-slid
+returns-then-max-len-clause-slid c =
+    let v = c.args.items.now in
+    let ok = v.ok in
+    let long = items_length-items_of v.items in
+    sym (slides_nowhere (items_of v.items) c.args.from c.args.to (omega (arith, long, ok.0, c.len.ensures, c.if-max-len.true, c.max.ensures)))
 
-pub returns-then-from-to-clause-slid : goal.returns-then-from-to-clause-slid
-returns-then-from-to-clause-slid c =
-    let inside = c.if-max-items.false in
-    let most = c.max.ensures in
-    let up = c.if-from-to.true in
-    rw c.rotate_left.ensures.after
-    (slides_up c.args.items.now c.args.from (c.args.to + 1 - c.args.from) c.args.to (omega (arith, inside, most)) (omega (arith, up)) up)
-
-pub returns-else-from-to-clause-slid : goal.returns-else-from-to-clause-slid
-returns-else-from-to-clause-slid c =
-    let xs = c.args.items.now in
+pub returns-clause-slid : goal.returns-clause-slid
+returns-clause-slid c =
+    let v = c.args.items.now in
+    let ok = v.ok in
+    let left = c.remove.new.self.ok in
     let from = c.args.from in
-    let to = c.args.to in
-    let inside = c.if-max-items.false in
-    let most = c.max.ensures in
-    let down = c.if-from-to.false in
-    let behind = length-drop to xs in
-    let part : length (take (from + 1 - to) (drop to xs)) ≡ from + 1 - to = length-take-le (from + 1 - to) (drop to xs) (omega (arith, inside, most, down, behind)) in
-    rw c.rotate_right.ensures.after
-    (slides_down xs from (from + 1 - to) to (length (take (from + 1 - to) (drop to xs)) - 1) (omega (arith, inside, most)) (omega (arith, down)) (omega (arith, part, down)))
+    let e = c.unwrap-element.result in
+    let there : from < deque_len v = omega (arith, c.len.ensures, c.if-max-len.false, c.max.ensures) in
+    let taken : Some e ≡ Some (get_or v.items from e) = sym c.unwrap-element.ensures ∙ c.remove.ensures.succeeds e there in
+    let is : e ≡ get_or v.items from e = cc in
+    let without : c.remove.new.self.items ≡ remove v.items from = rw c.unwrap-element.ensures at c.remove.ensures.items in
+    let shorter = rw c.unwrap-element.ensures at c.remove.ensures.len in
+    let whole : c.insert.new.self.items ≡ insert c.remove.new.self.items c.args.to e = rw c.unwrap.ensures at c.insert.ensures.items in
+    let room : c.args.to ≤ length c.remove.new.self.items = omega (arith, left.0, shorter, c.len.ensures, c.if-max-len.false, c.max.ensures) in
+    let within : c.args.to ≤ length (remove v.items from) = rw without at room in
+    rw (whole, without) (slides v.items from c.args.to e (omega (arith, ok.0, there)) within is)

@@ -7,8 +7,7 @@ use Rattle.relay_tree.proofs.tree.Tree.item.Goals.{After-get}
 
 found : (c : After-get) → option_copied c.get.result ≡ list_item c.args.self.now c.args.index
 found c =
-    let there = rw c.deref.ensures.value at (got c.deref.result.now c.args.index c.get.result c.get.ensures.lookup.0 c.get.ensures.lookup.1) in
-    rw (← c.self.view_is, c.in-List.is, ← slice_get-items_of) there
+    rw (← c.self.view_is, c.in-List.is, ← slice_get-items_of) (got c.in-List.items.items c.args.index c.get.result c.get.ensures.item.0 c.get.ensures.item.1)
 
 pub returns-in_ok-get-in-List : goal.returns-in_ok-get-in-List
 returns-in_ok-get-in-List c = ap Some c.tree.ensures ∙ ap option_copied (sym c.in_ok-get-in-List.was) ∙ found c.before.before.before

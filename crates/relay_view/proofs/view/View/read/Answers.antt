@@ -1,7 +1,4 @@
 use Rattle.std.proofs.Common.{◌<◌, ◌≤◌, Ok, length, sym, ap, ◌∙◌, arith}
-use Rattle.relay_tree.specs.Document.{items_of}
-use Rattle.relay_tree.specs.Each.{each_from}
-use Rattle.relay_view.specs.Form.{slot_at}
 use Rattle.relay_view.specs.declared.view.TheConstants.{SLOTS_MOST}
 use Rattle.relay_view.proofs.Reading.{few, many, short}
 use Rattle.relay_view.proofs.view.View.read.Goals as goal
@@ -18,14 +15,14 @@ returns-in-Ok-clause-ok c =
     let items = c.in-List.items in
     let ok = items.ok in
     let short : length items.items ≤ SLOTS_MOST = omega (arith, ok.0, c.len.ensures, c.if-len-gt-SLOTS_MOST.false) in
-    rw (← c.tree.view_is, c.in-List.is) (few items.items short ∙ ap (λ xs. each_from slot_at 0 (items_of xs)) (sym c.as_slice.ensures.value) ∙ c.in-Ok.ensures.ok ∙ ap Ok (sym c.of_slots.ensures))
+    rw (← c.tree.view_is, c.in-List.is) (few items.items short ∙ c.in-Ok.ensures.ok ∙ ap Ok (sym c.of_slots.ensures))
 
 pub returns-in-Err-clause-err : goal.returns-in-Err-clause-err
 returns-in-Err-clause-err c is_refused =
     let items = c.in-List.items in
     let ok = items.ok in
     let short : length items.items ≤ SLOTS_MOST = omega (arith, ok.0, c.len.ensures, c.if-len-gt-SLOTS_MOST.false) in
-    rw (← c.tree.view_is, c.in-List.is) (few items.items short ∙ ap (λ xs. each_from slot_at 0 (items_of xs)) (sym c.as_slice.ensures.value) ∙ c.in-Err.ensures.err is_refused)
+    rw (← c.tree.view_is, c.in-List.is) (few items.items short ∙ c.in-Err.ensures.err is_refused)
 
 pub returns-in-Err-clause-no_memory : goal.returns-in-Err-clause-no_memory
 returns-in-Err-clause-no_memory c is_no_memory =
