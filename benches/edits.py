@@ -1,17 +1,20 @@
 #!/usr/bin/env python3
 """What an edit costs the server's processor, by the size of the document.
 
-    python3 benches/edits.py [EDITS] [KIB..]        (2,000 of each kind, on 1, 8, 64 and 256 KiB)
+    python3 benches/edits.py [--edits N] [--rounds N] [KIB..]       (2,000 of each kind, one round, on 1, 8, 64 and 256 KiB)
 
 Starts `./relay serve` (or the program that RELAY names), fills rooms with documents that weigh so many KiB, and has one client make
 edits of each kind, of which it keeps some on the way, so that the server is never idle. Frames are made beforehand and replies are
-counted and not read, so the client is not what is measured. It wants nothing but Python.
+counted and not read, so the client is not what is measured. Of several rounds, each of which goes over all sizes, it prints the
+median: what else the machine does meets all sizes alike. It wants nothing but Python.
 """
+import argparse
 import base64
 import json
 import os
 import pathlib
 import socket
+import statistics
 import struct
 import subprocess
 import sys
@@ -116,6 +119,7 @@ def kinds(kibibytes):
         "insert at the front of a list, then remove": inserted(3),
         "insert in the middle of a list, then remove": inserted(middle),
         "move in a list": [edit({"op": "move", "from": "/list/0", "path": "/list/9"})],
+        "move in the middle of a list": [edit({"op": "move", "from": f"/list/{middle}", "path": f"/list/{middle + 9}"})],
         "ten operations": [edit(*(replaced(key) for key in range(10)))],
         "refused at its second operation": [edit(replaced(3), {"op": "test", "path": "/members/k4", "value": 0})],
     }
@@ -159,16 +163,28 @@ def measured(kibibytes, pointers, edits):
         serve.kill()
 
 
-def main(edits=2000, *sizes):
-    sizes = [int(size) for size in sizes] or KIBIBYTES
+def medians(rounds):
+    """Of each kind the median of the rounds."""
+    return {kind: statistics.median(each[kind] for each in rounds) for kind in rounds[0]}
+
+
+def main():
+    words = argparse.ArgumentParser(description="What an edit costs the server's processor, by the size of the document.")
+    words.add_argument("--edits", type=int, default=2000, help="of each kind")
+    words.add_argument("--rounds", type=int, default=1)
+    words.add_argument("kibibytes", metavar="KIB", type=int, nargs="*", default=KIBIBYTES)
+    given = words.parse_args()
+    sizes = given.kibibytes
     for who, pointers in WATCHERS.items():
-        columns = [measured(size, pointers, int(edits)) for size in sizes]
+        rounds = [[measured(size, pointers, given.edits) for size in sizes] for _ in range(given.rounds)]
+        columns = [medians(of_size) for of_size in zip(*rounds)]
         print(f"\nMicroseconds of the server's processor an edit, {who}\n")
-        print("| Edit | " + " | ".join(f"{size} KiB" for size in sizes) + " |")
-        print("|---|" + "---|" * len(sizes))
+        print("| Edit | " + " | ".join(f"{size} KiB" for size in sizes) + f" | {sizes[-1]} against {sizes[0]} KiB |")
+        print("|---|" + "---|" * (len(sizes) + 1))
         for kind in columns[0]:
-            print(f"| {kind} | " + " | ".join(f"{column[kind]:.0f}" for column in columns) + " |")
+            costs = " | ".join(f"{column[kind]:.1f}" for column in columns)
+            print(f"| {kind} | {costs} | {columns[-1][kind] / columns[0][kind]:.2f} |", flush=True)
 
 
 if __name__ == "__main__":
-    main(*sys.argv[1:])
+    main()
