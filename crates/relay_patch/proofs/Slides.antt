@@ -1,8 +1,10 @@
 -- An element that slides within its list: what a turn of the part between both places makes, that this is the move, and that it slides back.
-use Rattle.std.proofs.Common.{◌≡◌, ℕ, List, length, get_or, ◌≤◌, [], ◌∷◌, ◌++◌, Bool, true, ◌&&◌, Option, Some, None, ok_or, Ok, String, Global, refl, sym, ap, subst, ◌∙◌, ◌<◌, ◌^◌, max, arith, option_and_then}
-use Rattle.std.specs.List.{insert, remove}
+use Rattle.std.proofs.Common.{◌≡◌, ℕ, zero, suc, List, length, get_or, set, ◌≤◌, [], ◌∷◌, ◌++◌, Bool, true, ◌&&◌, Option, Some, None, ok_or, Ok, String, Global, refl, sym, ap, subst, ◌∙◌, ◌<◌, ◌^◌, max, arith, option_and_then}
+use Rattle.std.specs.List.{insert, remove, swap}
+use Rattle.std.proofs.lemmas.List.{get_or_default}
+use Rattle.std.proofs.lemmas.List.Edits.{swap_is, length-insert, length-remove}
 use Rattle.std.proofs.lemmas.Option.{slice_get_read}
-use Rattle.relay_tree.specs.Document.{Document, list, Items, items_of}
+use Rattle.relay_tree.specs.Document.{Document, null, list, Items, items_of}
 use Rattle.relay_tree.specs.Part.{items_length, item_at, insert_item, drop_item}
 use Rattle.relay_tree.proofs.Elements.{slice_get-items_of, insert_item-items_of, drop_item-items_of, insert_item-none, drop_item-shorter, drop_item-insert, item_at-insert_same}
 use Rattle.relay_pointer.specs.Index.{Token, index_of}
@@ -38,11 +40,56 @@ slides_nowhere ds i j h = go (item_at ds i) (drop_item ds i) refl
 slides_there : (ds es fs : Items) (i j : ℕ) (e : Document) → item_at ds i ≡ Some e → drop_item ds i ≡ Some es → insert_item es j e ≡ Some fs → slid_items i j ds ≡ fs
 slides_there ds es fs i j e there rest came = rw (there, rest, came) refl
 
--- what a removal and an insertion make
-pub slides : (xs : List Document) (i j : ℕ) (e : Document) → i < length xs → j ≤ length (remove xs i) → e ≡ get_or xs i e → items_of (insert (remove xs i) j e) ≡ slid_items i j (items_of xs)
-slides xs i j e there within is =
-    let stands : item_at (items_of xs) i ≡ Some e = sym (slice_get-items_of xs i) ∙ slice_get_read xs (length xs) i e refl there is in
-    sym (slides_there (items_of xs) (items_of (remove xs i)) (items_of (insert (remove xs i) j e)) i j e stands (drop_item-items_of xs i there) (insert_item-items_of (remove xs i) j e within))
+-- the elements when the i-th has come to the place j
+abbrev pub moved : List Document → ℕ → ℕ → List Document
+moved xs i j = insert (remove xs i) j (get_or xs i null)
+
+pub slides : (xs : List Document) (i j : ℕ) → i < length xs → j < length xs → items_of (moved xs i j) ≡ slid_items i j (items_of xs)
+slides xs i j there within =
+    let e = get_or xs i null in
+    let stands : item_at (items_of xs) i ≡ Some e = sym (slice_get-items_of xs i) ∙ slice_get_read xs (length xs) i e refl there (get_or_default xs i null e there) in
+    let room : j ≤ length (remove xs i) = omega (arith, length-remove xs i there) in
+    sym (slides_there (items_of xs) (items_of (remove xs i)) (items_of (moved xs i j)) i j e stands (drop_item-items_of xs i there) (insert_item-items_of (remove xs i) j e room))
+
+-- Places changed with a neighbour.
+
+-- the k-th element and the next in each other's place
+abbrev crossed : List Document → ℕ → List Document
+crossed xs k = set (set xs k (get_or xs (suc k) null)) (suc k) (get_or xs k null)
+
+crossed_up : (xs : List Document) (k : ℕ) (e : Document) → k < length xs → crossed (insert xs k e) k ≡ insert xs (suc k) e
+crossed_up [] k e h = absurd (omega arith)
+crossed_up (x ∷ xs) zero e h = refl
+crossed_up (x ∷ xs) (suc k) e h = ap (λ ys. x ∷ ys) (crossed_up xs k e (omega arith))
+
+crossed_down : (xs : List Document) (k : ℕ) (e : Document) → k < length xs → crossed (insert xs (suc k) e) k ≡ insert xs k e
+crossed_down [] k e h = absurd (omega arith)
+crossed_down (x ∷ xs) zero e h = refl
+crossed_down (x ∷ xs) (suc k) e h = ap (λ ys. x ∷ ys) (crossed_down xs k e (omega arith))
+
+length-moved : (xs : List Document) (i j : ℕ) → i < length xs → j < length xs → length (moved xs i j) ≡ length xs
+length-moved xs i j there within =
+    let left = length-remove xs i there in
+    let whole = length-insert (remove xs i) j (get_or xs i null) (omega (arith, left)) in
+    omega (arith, left, whole)
+
+pub moved_nowhere : (xs : List Document) (i : ℕ) → i < length xs → xs ≡ moved xs i i
+moved_nowhere [] i h = absurd (omega arith)
+moved_nowhere (x ∷ xs) zero h = refl
+moved_nowhere (x ∷ xs) (suc i) h = ap (λ ys. x ∷ ys) (moved_nowhere xs i (omega arith))
+
+module _ (xs : List Document) (i k : ℕ) (there : i < length xs) (within : suc k < length xs) where
+  pub moved_up : swap (moved xs i k) k (suc k) ≡ moved xs i (suc k)
+  moved_up =
+      let long = length-moved xs i k there (omega arith) in
+      let left = length-remove xs i there in
+      sym (swap_is (moved xs i k) k (suc k) null (omega (arith, long)) (omega (arith, long))) ∙ crossed_up (remove xs i) k (get_or xs i null) (omega (arith, left))
+
+  pub moved_down : swap (moved xs i (suc k)) k (suc k) ≡ moved xs i k
+  moved_down =
+      let long = length-moved xs i (suc k) there within in
+      let left = length-remove xs i there in
+      sym (swap_is (moved xs i (suc k)) k (suc k) null (omega (arith, long)) (omega (arith, long))) ∙ crossed_down (remove xs i) k (get_or xs i null) (omega (arith, left))
 
 -- A move within one list.
 

@@ -42,10 +42,11 @@ use std::alloc::Global;
 /// document keeps, no path of a change has more tokens and no value is deeper.
 ///
 /// The tree itself is changed, at the cost of an operation's paths, of what it takes away and of three times its value; what
-/// comes to a list, or goes from it, moves pointers to the elements on its shorter side, and a move within one list does both. What it
-/// did is taken back where a later operation is refused. A member that leaves its object is the one case that costs more:
-/// where another operation follows, and for a move, the object is copied without it. The document is measured once, as far
-/// as there are bounds; from then on what an operation changed tells.
+/// comes to a list, or goes from it, moves pointers to the elements on its shorter side, and so does each half of a far
+/// move within one list, where a near one exchanges neighbours. What it did is taken back where a later operation is
+/// refused. A member that leaves its object is the one case that costs more: where another operation follows, and for a
+/// move, the object is copied without it. The document is measured once, as far as there are bounds; from then on what an
+/// operation changed tells.
 pub fn apply(
     alloc: Global,
     tree: &mut Tree,

@@ -1,6 +1,7 @@
-//! Moves within one list: an element slides from its place to another. No tree is moved or copied: of the pointers to the elements those
-//! on the shorter side of each place move.
+//! Moves within one list: an element slides from its place to another. No tree is moved or copied, only pointers to elements: over a few
+//! places it changes places with its neighbours, and over more those on the shorter side of each place move.
 ghost use Rattle.std.specs.Prelude.{◌≡◌, ◌<◌, ◌^◌, ℕ, true, Some, length, OnOk, OnErr, IfOk};
+ghost use Rattle.std.specs.VecDeque.{deque_len};
 ghost use Rattle.relay_tree.specs.Document.{Document, list, Items, items_of};
 ghost use Rattle.relay_tree.specs.Part.{items_length};
 ghost use Rattle.relay_tree.specs.Seen.{document_of};
@@ -17,6 +18,9 @@ use relay_pointer::{Pointer, copy_tokens, resolve_mut, same_path};
 use relay_tree::{Element, Node, Tree};
 use std::alloc::{AllocError, Global};
 use std::collections::VecDeque;
+
+// How many places an element goes at most by changing places with its neighbours.
+const NEAR: usize = 64;
 
 /// Whether both places are items of one list.
 pub(crate) fn in_one_list(from: &Place, to: &Place) -> bool
@@ -110,6 +114,23 @@ fn slide_item(items: &mut VecDeque<Element>, from: usize, to: usize)
     if from.max(to) >= items.len() {
         return;
     }
+    if from.abs_diff(to) <= NEAR {
+        return slide_near(items, from, to);
+    }
     let element = items.remove(from).unwrap();
     items.insert(to, element).unwrap();
+}
+
+// Neighbours change places, one after another. One of the two loops is empty.
+fn slide_near(items: &mut VecDeque<Element>, from: usize, to: usize)
+    requires from_in_bounds { from < deque_len items.old }
+    requires to_in_bounds { to < deque_len items.old }
+    ensures { items_of items.new.items ≡ slid_items from to (items_of items.old.items) }
+{
+    for place in from..to {
+        items.swap(place, place + 1);
+    }
+    for place in (to..from).rev() {
+        items.swap(place, place + 1);
+    }
 }
