@@ -1,12 +1,16 @@
 #!/usr/bin/env python3
 """What an edit costs the server's processor, by the size of the document.
 
-    python3 benches/edits.py [--edits N] [--rounds N] [KIB..]       (2,000 of each kind, one round, on 1, 8, 64 and 256 KiB)
+    python3 benches/edits.py [--edits N] [--rounds N] [--instructions] [KIB..]
+                                          (2,000 of each kind, one round, on 1, 8, 64 and 256 KiB)
 
 Starts `./relay serve` (or the program that RELAY names), fills rooms with documents that weigh so many KiB, and has one client make
 edits of each kind, of which it keeps some on the way, so that the server is never idle. Frames are made beforehand and replies are
 counted and not read, so the client is not what is measured. Of several rounds, each of which goes over all sizes, it prints the
 median: what else the machine does meets all sizes alike. It wants nothing but Python.
+
+With --instructions it counts the server's own instructions by valgrind's callgrind, which are the same whatever else the machine
+does; those of the kernel are not among them, and what a cache miss costs does not show. 400 edits of each kind are enough there.
 """
 import argparse
 import base64
@@ -18,6 +22,7 @@ import statistics
 import struct
 import subprocess
 import sys
+import tempfile
 import threading
 
 ROOT = os.path.dirname(os.path.dirname(os.path.abspath(__file__)))
@@ -125,9 +130,34 @@ def kinds(kibibytes):
     }
 
 
-def processor_seconds(pid):
-    """Of all threads of a process."""
-    return sum(int(thread.read_text().split()[0]) for thread in pathlib.Path(f"/proc/{pid}/task").glob("*/schedstat")) / 1e9
+class Microseconds:
+    """Of the processor, of all threads of a process so far."""
+
+    TITLE = "Microseconds of the server's processor"
+    DIGITS = 1
+    words = []
+
+    def spent(self, pid):
+        return sum(int(thread.read_text().split()[0]) for thread in pathlib.Path(f"/proc/{pid}/task").glob("*/schedstat")) / 1e3
+
+
+class Instructions:
+    """Those of a process so far, which callgrind counts: each of its dumps has those since the one before."""
+
+    TITLE = "Instructions of the server"
+    DIGITS = 0
+
+    def __init__(self):
+        self.folder = tempfile.TemporaryDirectory()
+        self.words = ["valgrind", "--tool=callgrind", f"--callgrind-out-file={self.folder.name}/dump"]
+        self.count = 0
+
+    def spent(self, pid):
+        subprocess.run(["callgrind_control", "--dump", str(pid)], check=True, stdout=subprocess.DEVNULL, stderr=subprocess.DEVNULL)
+        for dump in pathlib.Path(self.folder.name).iterdir():
+            self.count += sum(int(line.split()[1]) for line in dump.read_text().splitlines() if line.startswith("totals:"))
+            dump.unlink()
+        return self.count
 
 
 # Who watches, as pointers: each edit touches the whole document, and none of them touches the others' members.
@@ -138,7 +168,7 @@ WATCHERS = {
 }
 
 
-def measure(serve, port, kibibytes, pointers, edits):
+def measure(serve, port, kibibytes, pointers, edits, cost):
     client = Client(port, "bench")
     client.edit([edit({"op": "add", "path": "", "value": document(kibibytes)})], b'"kind":"done"')
     for pointer in pointers:
@@ -147,20 +177,29 @@ def measure(serve, port, kibibytes, pointers, edits):
         word = b'"kind":"refused"' if kind.startswith("refused") else b'"kind":"done"'
         many = (frames * edits)[:edits]
         client.edit(many[:200], word)
-        before = processor_seconds(serve.pid)
+        before = cost.spent(serve.pid)
         client.edit(many, word)
-        yield kind, (processor_seconds(serve.pid) - before) / edits * 1e6
+        yield kind, (cost.spent(serve.pid) - before) / edits
 
 
-def measured(kibibytes, pointers, edits):
+def measured(program, kibibytes, pointers, edits, cost):
     """A server of its own for each column."""
-    words = [os.environ.get("RELAY", f"{ROOT}/relay"), "serve", "--port", "0", "--turns", "1000000000000"]
+    words = [*cost.words, program, "serve", "--port", "0", "--turns", "1000000000000"]
     serve = subprocess.Popen(words, stdout=subprocess.PIPE, stderr=subprocess.DEVNULL, text=True)
     try:
         port = int(serve.stdout.readline().split()[1])
-        return dict(measure(serve, port, kibibytes, pointers, edits))
+        return dict(measure(serve, port, kibibytes, pointers, edits, cost))
     finally:
         serve.kill()
+        serve.wait()
+
+
+def program():
+    """The one that RELAY names, or that `./relay` builds."""
+    if "RELAY" in os.environ:
+        return os.environ["RELAY"]
+    subprocess.run([f"{ROOT}/relay"], stdin=subprocess.DEVNULL, check=True)
+    return f"{ROOT}/crates/relay/out/relay"
 
 
 def medians(rounds):
@@ -172,17 +211,18 @@ def main():
     words = argparse.ArgumentParser(description="What an edit costs the server's processor, by the size of the document.")
     words.add_argument("--edits", type=int, default=2000, help="of each kind")
     words.add_argument("--rounds", type=int, default=1)
+    words.add_argument("--instructions", action="store_true", help="in place of microseconds")
     words.add_argument("kibibytes", metavar="KIB", type=int, nargs="*", default=KIBIBYTES)
     given = words.parse_args()
-    sizes = given.kibibytes
+    sizes, of, cost = given.kibibytes, program(), Instructions if given.instructions else Microseconds
     for who, pointers in WATCHERS.items():
-        rounds = [[measured(size, pointers, given.edits) for size in sizes] for _ in range(given.rounds)]
+        rounds = [[measured(of, size, pointers, given.edits, cost()) for size in sizes] for _ in range(given.rounds)]
         columns = [medians(of_size) for of_size in zip(*rounds)]
-        print(f"\nMicroseconds of the server's processor an edit, {who}\n")
+        print(f"\n{cost.TITLE} an edit, {who}\n")
         print("| Edit | " + " | ".join(f"{size} KiB" for size in sizes) + f" | {sizes[-1]} against {sizes[0]} KiB |")
         print("|---|" + "---|" * (len(sizes) + 1))
         for kind in columns[0]:
-            costs = " | ".join(f"{column[kind]:.1f}" for column in columns)
+            costs = " | ".join(f"{column[kind]:,.{cost.DIGITS}f}" for column in columns)
             print(f"| {kind} | {costs} | {columns[-1][kind] / columns[0][kind]:.2f} |", flush=True)
 
 
