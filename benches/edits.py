@@ -9,8 +9,8 @@ edits of each kind, of which it keeps some on the way, so that the server is nev
 counted and not read, so the client is not what is measured. Of several rounds, each of which goes over all sizes, it prints the
 median: what else the machine does meets all sizes alike. It wants nothing but Python.
 
-With --instructions it counts the server's own instructions by valgrind's callgrind, which are the same whatever else the machine
-does; those of the kernel are not among them, and what a cache miss costs does not show. 400 edits of each kind are enough there.
+With --instructions it counts the server's own instructions by valgrind's callgrind, which come to nearly the same whatever else the
+machine does; those of the kernel are not among them, and what a cache miss costs does not show. 400 edits of each kind are enough there.
 """
 import argparse
 import base64
