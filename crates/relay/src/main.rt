@@ -1,4 +1,4 @@
-//! The program: hands its words and its streams to `relay_server`.
+//! The program `relay`: it passes its arguments and standard streams to `relay_server`.
 #![tactic(auto)]
 
 use relay_server::{refuse_words, start};

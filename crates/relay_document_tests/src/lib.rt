@@ -1,9 +1,8 @@
 //! Tests of what documents are made of and changed by: trees, pointers, patches, views, and their translation.
 //!
-//! They stand in a crate of their own, over the public calls alone: a crate with tests is proved twice. Most are a table,
-//! and a function that asserts each of its rows: so the loop is proved once, and a table of constants costs next to
-//! nothing. These functions expect each answer by the runtime's handle, since an error that is handed on is one more
-//! exit to prove.
+//! They call each public function once with success, and show what no script can: limits that a caller chooses, and calls that only other
+//! crates make. How edits change documents, and what views show of it, is data in `tests/scripts`. Each test is a table, and a function
+//! that asserts each of its rows. These functions unwrap each result with `expect`, since a returned error is one more exit to prove.
 #![tactic(auto)]
 
 #[cfg(test)]
@@ -18,5 +17,3 @@ mod translate;
 mod tree;
 #[cfg(test)]
 mod view;
-#[cfg(test)]
-mod watch_index;

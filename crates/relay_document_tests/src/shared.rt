@@ -1,6 +1,6 @@
-//! Assertions, and what texts read as.
+//! Assertions, and reading of texts.
 use relay_patch::{Patch, PatchLimits};
-use relay_pointer::{Pointer, TOKENS_MOST};
+use relay_pointer::{MAX_TOKENS, Pointer};
 use relay_tree::{Tree, read};
 use relay_view::View;
 use std::alloc::AllocGlobal;
@@ -22,7 +22,7 @@ pub(crate) fn tree_of(rt: &(impl Abort + AllocGlobal), text: &str) -> Tree {
 }
 
 pub(crate) fn pointer_of(rt: &(impl Abort + AllocGlobal), text: &str) -> Pointer {
-    Pointer::read(rt.alloc(), text, TOKENS_MOST).expect(rt, "a pointer")
+    Pointer::read(rt.alloc(), text, MAX_TOKENS).expect(rt, "a pointer")
 }
 
 pub(crate) fn view_of(rt: &(impl Abort + AllocGlobal), text: &str) -> View {
@@ -37,7 +37,7 @@ pub(crate) fn text_of(rt: &(impl Abort + AllocGlobal), tree: &Tree) -> String {
     tree.text(rt.alloc()).expect(rt, "memory")
 }
 
-/// The text of a part of a document, or that there is none.
+/// The text of a part of a document, or `nothing` if there is no such part.
 pub(crate) fn part_text(rt: &(impl Abort + AllocGlobal), part: Option<&Tree>) -> String {
     match part {
         Some(part) => text_of(rt, part),

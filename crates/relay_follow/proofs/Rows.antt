@@ -1,4 +1,4 @@
--- What messages make of a client, by computation.
+-- The client after messages, by computation.
 use Rattle.std.proofs.Common.{◌≡◌, pos, [], ◌∷◌, codes, refl}
 use Rattle.relay_tree.specs.Document.{Document, whole, list, items_of}
 use Rattle.relay_pointer.specs.Index.{index_of}

@@ -1,4 +1,4 @@
--- How a follower hears a text: a client that is never lost, since it refuses what would leave it so.
+-- The effect of a text on a follower: a client that is never lost, since it refuses every text that would leave it lost.
 use Rattle.std.specs.Prelude.{◌≡◌, ℕ, List, Option, Some, None, option_map, Result, Ok, Err, nat_lt, if◌then◌else◌}
 use Rattle.relay_tree.specs.Document.{Document}
 use Rattle.relay_patch.specs.Patch.{after, free}
@@ -11,21 +11,21 @@ use Rattle.relay_proto.specs.Client.{Client, nothing, holds, lost, client}
 use Rattle.relay_follow.specs.declared.fault.HearFault.{HearFault}
 use Rattle.relay_follow.specs.declared.fault.HearFault.TheVariants.{NotMessage, NoView, Order, Apply}
 
--- the client that a follower is, by the revision and the tree that it holds
+-- the client with the revision and the tree that a follower holds, if any
 abbrev pub as_client : Option (ℕ × Document) → Client
 as_client None = nothing
 as_client (Some held) = holds held.0 held.1
 
--- what a text makes of a client; None where it is no message
+-- the client after a text; None if the text is no message
 abbrev pub told : Client → List ℕ → Option Client
 told c s = option_map (client c) (message_of_text s)
 
--- the text is no message, or the client is lost by it
+-- the text is no message, or it leaves the client lost
 abbrev pub IsLost : Option Client → Type 0
 IsLost None = Unit {0}
 IsLost (Some c) = c ≡ lost
 
--- Why a text is not taken: the first that holds.
+-- The first fault of a text, if it has one.
 
 abbrev pub apply_fault : Result Document ApplyFault → Option HearFault
 apply_fault (Ok tree) = None

@@ -1,18 +1,18 @@
-//! Why a follower does not take a text.
+//! The errors of applying a text to a follower.
 use thiserror::Error;
 
-/// Why a text is not taken, in the order of the checks. The follower is as it was.
+/// The reason why a text is refused, in the order of the checks. The follower is unchanged.
 #[derive(Clone, Copy, Debug, PartialEq, Eq, Error)]
 pub enum HearFault {
     #[error("not a message")]
     NotMessage,
-    /// A patch, while no view is held.
+    /// A patch came while no view is held.
     #[error("no view to patch")]
     NoView,
-    /// A patch whose revision is not above the one that is held.
+    /// The revision of a patch is not above the one held.
     #[error("a patch of an older revision")]
     Order,
-    /// A patch that the view does not accept.
+    /// A patch does not apply to the view.
     #[error("a patch that does not apply")]
     Apply,
     #[error("out of memory")]

@@ -1,8 +1,8 @@
-//! What a client holds.
+//! The state of a client.
 use relay_tree::Tree;
 use std::marker::Model;
 
-/// A client's view: nothing, or a revision and the view of that revision. Contracts see what is held.
+/// A client's view: nothing, or a revision and the view of that revision. Contracts see it as that option.
 #[derive(Drop)]
 pub struct Follower {
     pub(crate) held: Option<(u64, Tree)>,
@@ -25,14 +25,14 @@ impl Model for Follower {
 impl Follower {
     ghost use Rattle.std.specs.Prelude.{◌≡◌, None, Some, option_map, option_copied};
 
-    /// A follower that holds nothing. No memory is taken.
+    /// Creates a follower that holds nothing. Allocates nothing.
     pub fn new() -> Follower
         ensures { result ≡ None }
     {
         Follower { held: None }
     }
 
-    /// A follower that holds the view of a revision: how a client that resumes begins. No memory is taken.
+    /// Creates a follower that holds the view of a revision, as a client does that resumes. Allocates nothing.
     pub fn from_view(rev: u64, tree: Tree) -> Follower
         ensures { result ≡ Some (rev, tree) }
     {
@@ -41,14 +41,14 @@ impl Follower {
         }
     }
 
-    /// The view that is held: the list of its slots. No memory is taken.
+    /// Returns the held view, the list of its slots, or `None` if none is held. Allocates nothing.
     pub fn view(&self) -> Option<&Tree>
         ensures { option_copied result ≡ option_map (λ held. held.1) self.now }
     {
         self.held.as_ref().map(|held| &held.1)
     }
 
-    /// The revision of the view that is held. No memory is taken.
+    /// Returns the revision of the held view, or `None` if none is held. Allocates nothing.
     pub fn rev(&self) -> Option<u64>
         ensures { result ≡ option_map (λ held. held.0) self.now }
     {

@@ -1,4 +1,4 @@
-//! What a follower makes of the texts that it hears.
+//! Applying received texts to a follower.
 ghost use Rattle.std.specs.Prelude.{◌≡◌, ◌≢◌, Some, OnOk, IfErr, OnErr};
 ghost use Rattle.relay_proto.specs.Client.{client, patched, lost};
 ghost use Rattle.relay_follow.specs.Hearing.{as_client, told, IsLost, hear_fault, message_fault, patch_fault};
@@ -12,9 +12,9 @@ use relay_tree::Tree;
 use std::alloc::Global;
 
 impl Follower {
-    /// Hears the text of a message. A snapshot sets the view and its revision, a patch leads the view to its revision, and
-    /// a reply changes nothing. The first fault that holds is the answer, and the follower is then as it was. A patch
-    /// costs what `relay_patch::apply` costs on the view.
+    /// Applies the text of a message. A snapshot replaces the view and its revision, a patch brings the view to its revision, and a
+    /// reply changes nothing. Returns the first fault in the order of [`HearFault`], or `NoMemory` if memory runs out; either leaves the
+    /// follower unchanged. A patch costs what `relay_patch::apply` costs on the view. See `docs/PROTOCOL.md`, "What a client does".
     pub fn hear(&mut self, alloc: Global, text: &str) -> Result<(), HearFault>
         ensures ok { OnOk result (told (as_client self.old) text.now ≡ Some (as_client self.new)) }
         ensures lost { IfErr result (λ fault. fault ≢ NoMemory → IsLost (told (as_client self.old) text.now)) }
@@ -45,7 +45,7 @@ fn follow(alloc: Global, held: &mut Option<(u64, Tree)>, message: Message) -> Re
     }
 }
 
-/// Leads the view that is held to the patch's revision.
+/// Applies a patch to the held view and raises its revision.
 fn lead(
     alloc: Global,
     held: &mut Option<(u64, Tree)>,

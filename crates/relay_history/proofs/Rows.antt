@@ -1,4 +1,4 @@
--- What the definitions give for five revisions, of which two may be held.
+-- The definitions computed for five revisions, of which two may be held.
 use Rattle.std.specs.Prelude.{◌≡◌, List, ◌++◌, refl}
 use Rattle.relay_patch.specs.declared.change.Change.{Change}
 use Rattle.relay_history.specs.History.{Past, begun, with_revision, oldest, changes_since}

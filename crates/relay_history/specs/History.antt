@@ -2,18 +2,18 @@
 use Rattle.std.specs.Prelude.{ℕ, ◌+◌, ◌-◌, ◌≤◌, List, [], ◌∷◌, ◌++◌, take, length, refl}
 use Rattle.std.specs.Coded.{Coded, code_by, coded×, coded_list, coded_ℕ}
 use Rattle.relay_patch.specs.declared.change.Change.{Change}
-use Rattle.relay_history.specs.declared.history.TheConstants.{MOST_REVISIONS, LAST_REVISION}
+use Rattle.relay_history.specs.declared.history.TheConstants.{MAX_REVISIONS, LAST_REVISION}
 
--- the newest revision, how many revisions are held at most, and what each held one changed, the newest first
+-- the newest revision, the most revisions that are held, and the changes of each held one, newest first
 pub record Past : Type 0 where
   pub newest : ℕ
   pub limit : ℕ
   pub changes : List (List Change)
 
--- what holds of each history: its limit is one that may be asked for, and no more revisions are held than that, nor than
--- there are
+-- the invariant of a history: its limit is 1 to MAX_REVISIONS, it holds at most that many revisions and at most as many as there
+-- are, and the newest is at most LAST_REVISION
 pub record IsHistory (past : Past) : Type 0 where
-  pub limited : (1 ≤ past.limit) × (past.limit ≤ MOST_REVISIONS)
+  pub limited : (1 ≤ past.limit) × (past.limit ≤ MAX_REVISIONS)
   pub within : length past.changes ≤ past.limit
   pub made : length past.changes ≤ past.newest
   pub last : past.newest ≤ LAST_REVISION
@@ -22,7 +22,7 @@ pub record IsHistory (past : Past) : Type 0 where
 abbrev pub begun : ℕ → ℕ → Past
 begun limit start = record { newest = start; limit = limit; changes = [] }
 
--- one revision more: where the limit is reached, the oldest goes
+-- the history with one more revision; if the limit is reached, the oldest is forgotten
 abbrev pub with_revision : List Change → Past → Past
 with_revision changes past = record {
   newest = past.newest + 1;
@@ -34,12 +34,12 @@ with_revision changes past = record {
 abbrev pub oldest : Past → ℕ
 oldest past = past.newest - length past.changes
 
--- the history reaches back to a revision, which is no later than the newest
+-- the history holds all changes after the revision, which is not above the newest
 pub record Reaches (past : Past) (rev : ℕ) : Type 0 where
   pub back : oldest past ≤ rev
   pub made : rev ≤ past.newest
 
--- the changes of some revisions, given with the newest first, in the order in which they were made
+-- the changes of revisions, in the order in which they were made; the revisions are given newest first
 abbrev pub in_order : List (List Change) → List Change
 in_order [] = []
 in_order (newest ∷ older) = in_order older ++ newest
@@ -48,7 +48,7 @@ in_order (newest ∷ older) = in_order older ++ newest
 abbrev pub changes_since : ℕ → Past → List Change
 changes_since rev past = in_order (take (past.newest - rev) past.changes)
 
--- how the logic stores a history
+-- how the logic encodes a history
 abbrev pub past_code : Coded Change → Coded Past
 past_code change = code_by (ℕ × (ℕ × List (List Change)))
     (coded× coded_ℕ (coded× coded_ℕ (coded_list (coded_list change))))

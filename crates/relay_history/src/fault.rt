@@ -1,8 +1,8 @@
-//! Why there is no history.
+//! The errors of creating a history.
 use std::alloc::AllocError;
 use thiserror::Error;
 
-/// Why [`History::new`](crate::History::new) makes none, in the order of the checks.
+/// The reason why [`History::new`](crate::History::new) fails, in the order of the checks.
 #[derive(Clone, Copy, Debug, PartialEq, Eq, Error)]
 pub enum HistoryFault {
     /// The limit is not 1 to 1,024, or the revision to start from is above `2^53 - 1`.

@@ -1,74 +1,115 @@
-//! The last revisions' changes, in a ring whose room is taken once: a revision more costs one place, and the oldest gives
-//! its place up where all are taken. The newest revision stands in front, so that what a reader asks for, the revisions
-//! after some revision, is always a front part.
+//! A ring buffer of the changes of the last revisions, allocated once. A new revision takes one place; if all are taken, it replaces
+//! the oldest revision. The newest revision is in front, so the revisions after any given one are always a prefix. The total weight
+//! of the held revisions is stored beside them, so trimming a history to a weight walks no change.
 use crate::fault::HistoryFault;
+use crate::revision::{Revision, weight_of};
 use crate::since::Since;
 use circular_buffer::HeapCircularBuffer;
 use relay_patch::Change;
-use relay_tree::COUNT_MOST;
+use relay_tree::{Budget, MAX_COUNT};
 use std::alloc::Global;
 use std::marker::Model;
 
 /// The most revisions that a history may be asked to hold.
-pub const MOST_REVISIONS: u64 = 1_024;
+pub const MAX_REVISIONS: u64 = 1_024;
 
 /// The last revision that a document can have, `2^53 - 1`.
-pub const LAST_REVISION: u64 = COUNT_MOST;
+pub const LAST_REVISION: u64 = MAX_COUNT;
 
-/// What a document's last revisions changed. Contracts see it as a `Past`: the newest revision, how many revisions are held
-/// at most, and the changes of each held one.
+/// The changes of a document's last revisions. Contracts see it as a `Past`: the newest revision, the most revisions that are held,
+/// and the changes of each held one.
 #[derive(Drop)]
 pub struct History {
     newest: u64,
-    revisions: HeapCircularBuffer<Vec<Change>>,
+    revisions: HeapCircularBuffer<Revision>,
+    /// The total weight of the revisions.
+    weight: u64,
 }
 
 impl Model for History {
     ghost use Rattle.relay_patch.specs.contracts.change.Change as change;
-    ghost use Rattle.relay_history.specs.History.{Past, IsHistory, past_code};
+    ghost use Rattle.relay_history.specs.History.{Past, past_code};
 
     ghost Value = { Past };
 
     ghost coded = { past_code change.the_row.coded };
 
-    ghost use Rattle.relay_history.specs.Kept.{past_of};
+    ghost use Rattle.relay_history.specs.Representation.{past_of, IsKept};
 
     ghost view = { past_of };
 
-    ghost invariant = { λ h. IsHistory (past_of h) };
+    ghost invariant = { IsKept };
 }
 
 impl History {
     ghost use Rattle.std.specs.Prelude.{◌≡◌, ◌<◌, ◌≤◌, ◌↔◌, ◌⊎◌, IfOk, IsErrOf, IfSome, IsSome};
+    ghost use Rattle.std.specs.List.{sum_by};
+    ghost use Rattle.std.specs.Option.{is_none};
+    ghost use Rattle.relay_tree.specs.Budget.{paid};
     ghost use Rattle.relay_history.specs.History.{begun, with_revision, oldest, Reaches, changes_since, IsHistory};
+    ghost use Rattle.relay_history.specs.Trimmed.{revision_weight, trimmed};
+    ghost use Rattle.relay_history.specs.Representation.{without_oldest};
 
-    /// A history that holds no revision yet: the newest is `start`, and at most `limit` will be held.
-    /// BadLimit: `limit` is not 1 to [`MOST_REVISIONS`], or `start` is above [`LAST_REVISION`].
+    /// Creates a history that holds no revision yet. Its newest revision is `start`, and it will hold at most `limit`. Allocates all the
+    /// memory that its ring of revisions needs. Returns `BadLimit` if `limit` is not 1 to [`MAX_REVISIONS`] or `start` is above
+    /// [`LAST_REVISION`], and `NoMemory` if memory runs out.
     pub fn new(alloc: Global, limit: u64, start: u64) -> Result<History, HistoryFault>
         ensures ok { IfOk result (λ history. history ≡ begun limit start) }
-        ensures bad_limit { IsErrOf result HistoryFault.BadLimit ↔ ((limit < 1) ⊎ (MOST_REVISIONS < limit) ⊎ (LAST_REVISION < start)) }
+        ensures bad_limit { IsErrOf result HistoryFault.BadLimit ↔ ((limit < 1) ⊎ (MAX_REVISIONS < limit) ⊎ (LAST_REVISION < start)) }
     {
-        if limit < 1 || limit > MOST_REVISIONS || start > LAST_REVISION {
+        if limit < 1 || limit > MAX_REVISIONS || start > LAST_REVISION {
             return Err(HistoryFault::BadLimit);
         }
         let revisions = HeapCircularBuffer::with_capacity(alloc, limit as usize)?;
         Ok(History {
             newest: start,
             revisions,
+            weight: 0,
         })
     }
 
-    /// Takes in what the next revision changed. Where the most are held already, the oldest goes. No memory is taken.
-    #[tactic(auto, using(crate::proofs::Revisions::changes_of_take))]
+    /// Adds the changes of the next revision, which are walked once. If the limit of revisions is reached, the oldest is forgotten.
+    /// Allocates nothing.
+    #[tactic(auto, using(crate::proofs::Weights::one_more_fits, crate::proofs::Weights::one_within_more, crate::proofs::Weights::kept_with_revision))]
     pub fn push(&mut self, changes: Vec<Change>)
         requires { self.old.newest < LAST_REVISION }
         ensures { self.new ≡ with_revision changes.items self.old }
     {
-        let _ = self.revisions.push_front(changes);
+        let revision = Revision::of(changes);
+        self.weight += revision.weight();
+        let oldest = self.revisions.push_front(revision);
+        self.weight -= weight_of(oldest);
         self.newest += 1;
     }
 
-    /// The newest revision. No memory is taken.
+    /// Forgets the oldest revisions until the rest together weigh no more than the budget; none if the budget is
+    /// [`Budget::Unbounded`]. Walks no change, so the cost is that of dropping what is forgotten. Allocates nothing.
+    #[tactic(auto, using(crate::proofs::Trims::trimmed_all, crate::proofs::Trims::trimmed_without_oldest))]
+    pub fn trim(&mut self, budget: Budget)
+        ensures { self.new ≡ trimmed budget self.old }
+    {
+        while self.exceeds(budget) {
+            self.forget_oldest();
+        }
+    }
+
+    /// Returns whether the held revisions together weigh more than the budget.
+    fn exceeds(&self, budget: Budget) -> bool
+        ensures { result ≡ is_none (paid (sum_by revision_weight self.now.changes) budget) }
+    {
+        budget.pay(self.weight).is_none()
+    }
+
+    /// Forgets the oldest revision, if one is held.
+    #[tactic(auto, using(crate::proofs::Weights::one_within))]
+    fn forget_oldest(&mut self)
+        ensures { self.new ≡ without_oldest self.old }
+    {
+        let oldest = self.revisions.pop_back();
+        self.weight -= weight_of(oldest);
+    }
+
+    /// Returns the newest revision. Allocates nothing.
     pub fn newest(&self) -> u64
         ensures kept { IsHistory self.now }
         ensures newest { result ≡ self.now.newest }
@@ -76,7 +117,8 @@ impl History {
         self.newest
     }
 
-    /// The oldest revision from which [`History::since`] reaches to the newest. No memory is taken.
+    /// Returns the oldest revision after which all changes are held, the least for which [`History::since`] returns `Some`. Allocates
+    /// nothing.
     pub fn oldest(&self) -> u64
         ensures kept { IsHistory self.now }
         ensures oldest { result ≡ oldest self.now }
@@ -84,8 +126,8 @@ impl History {
         self.newest - self.revisions.len() as u64
     }
 
-    /// The changes after a revision, in order: those of `rev + 1` to the newest. None where `rev` is above the newest
-    /// revision or below [`History::oldest`]. No memory is taken.
+    /// Returns the changes after a revision, in order: those of `rev + 1` to the newest. Returns `None` if `rev` is above the newest
+    /// revision or below [`History::oldest`]. Allocates nothing.
     pub fn since(&self, rev: u64) -> Option<Since<'_>>
         ensures reaches { IsSome result ↔ Reaches self.now rev }
         ensures changes { IfSome result (λ changes. changes ≡ changes_since rev self.now) }

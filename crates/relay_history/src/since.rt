@@ -1,17 +1,18 @@
-//! The changes after a revision, one after the other.
+//! An iterator over the changes after a revision.
+use crate::revision::Revision;
 use circular_buffer::HeapCircularBuffer;
 use relay_patch::Change;
 use std::marker::Model;
 
-/// The changes after a revision, in the order in which they were made. Contracts see it as the list of those still to come.
-/// `since.collect(alloc)?` gives them all at once, as a `Vec<&Change>`.
+/// An iterator over the changes after a revision, in the order in which they were made. Contracts see it as the list of the changes
+/// not returned yet. `since.collect(alloc)?` returns them all at once, as a `Vec<&Change>`.
 #[derive(Drop)]
 pub struct Since<'a> {
-    /// What is left of the revision that is being told.
+    /// The changes of the current revision that were not returned yet.
     changes: &'a [Change],
-    /// The revisions held, the newest first.
-    revisions: &'a HeapCircularBuffer<Vec<Change>>,
-    /// How many of them are still to be told.
+    /// The held revisions, newest first.
+    revisions: &'a HeapCircularBuffer<Revision>,
+    /// The number of revisions at the front that were not started yet.
     left: usize,
 }
 
@@ -25,7 +26,7 @@ impl<'a> Model for Since<'a> {
 
     ghost coded = { coded_list change.the_row.coded };
 
-    ghost use Rattle.relay_history.specs.Kept.{left_of};
+    ghost use Rattle.relay_history.specs.Representation.{left_of};
 
     ghost view = { left_of };
 
@@ -35,15 +36,11 @@ impl<'a> Model for Since<'a> {
 impl<'a> Since<'a> {
     ghost use Rattle.std.specs.Prelude.{◌≡◌, ◌≤◌, take, length};
     ghost use Rattle.relay_history.specs.History.{in_order};
-    ghost use Rattle.relay_history.specs.Kept.{changes_of};
 
-    /// The changes of the first `count` of these revisions, which stand with the newest first.
-    pub(crate) fn of_first(
-        revisions: &'a HeapCircularBuffer<Vec<Change>>,
-        count: usize,
-    ) -> Since<'a>
+    /// Returns the changes of the first `count` of these revisions, which are newest first.
+    pub(crate) fn of_first(revisions: &'a HeapCircularBuffer<Revision>, count: usize) -> Since<'a>
         requires { count ≤ length revisions.now.items }
-        ensures { result ≡ in_order (take count (changes_of revisions.now.items)) }
+        ensures { result ≡ in_order (take count revisions.now.items) }
     {
         Since {
             changes: &[],
@@ -66,7 +63,7 @@ impl<'a> Iterator for Since<'a> {
     fn next(&mut self) -> Option<&'a Change> {
         while self.changes.is_empty() && self.left > 0 {
             self.left -= 1;
-            self.changes = self.revisions.get(self.left)?.as_slice();
+            self.changes = self.revisions.get(self.left)?.changes();
         }
         let (change, rest) = self.changes.split_first()?;
         self.changes = rest;

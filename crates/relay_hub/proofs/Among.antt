@@ -1,4 +1,4 @@
--- Telling the sessions that a list of numbers names, one after the other.
+-- Notifying the sessions that a list of numbers names, one after the other.
 use Rattle.std.proofs.Common.{◌≡◌, ℕ, zero, suc, ◌+◌, ◌<◌, ◌==◌, Bool, true, false, ◌||◌, nat_eq, List, [], ◌∷◌, ◌++◌, length, take, get_or, Some, None, refl, sym, ◌∙◌, ap, subst, arith, inl, inr, position, slice_set, if◌then◌else◌}
 use Rattle.std.specs.List.{list_any, position_or_len}
 use Rattle.std.specs.List.Sorted.{IsStrictlyIncreasing}
@@ -21,18 +21,18 @@ use Rattle.relay_hub.proofs.Told.{told_number}
 apart_below : (x y : ℕ) → x < y → (y == x) ≡ false
 apart_below x y h = grind (arith, nat_tests, h)
 
--- one that is above some numbers is none of them
+-- a number above some others is none of them
 none_of : (n : ℕ) (xs : List ℕ) (k d : ℕ) → ((i : ℕ) → i < k → get_or xs i d < n) → list_any (nat_eq n) (take k xs) ≡ false
 none_of n xs zero d h = refl
 none_of n [] (suc k) d h = refl
 none_of n (x ∷ xs) (suc k) d h =
     rw (apart_below x n (h 0 (omega arith)), none_of n xs k d (λ i below. h (suc i) (omega (arith, below)))) refl
 
--- of numbers that rise the next one is none before it
+-- of rising numbers the next one is none of those before it
 pub rising_fresh : (xs : List ℕ) (k d : ℕ) → IsStrictlyIncreasing xs → k < length xs → list_any (nat_eq (get_or xs k d)) (take k xs) ≡ false
 rising_fresh xs k d rises within = none_of (get_or xs k d) xs k d (λ i below. AllPairs-from_increasing xs rises i k d below within)
 
--- is it the one number of a list
+-- whether it is the one number of a list
 is_named : (n s : ℕ) (b : Bool) → (n == s) ≡ b → list_any (nat_eq n) (s ∷ []) ≡ b
 is_named n s true e = rw e refl
 is_named n s false e = rw e refl
@@ -40,12 +40,12 @@ is_named n s false e = rw e refl
 -- One after the other.
 
 module _ (d : Document) (changes : List Change) (room : Room) where
-  -- who is told or not keeps its number
+  -- a session keeps its number, whether it is notified or not
   told_if_number : (b : Bool) (short : Bool) (x y : Session) → ToldIf b d changes room short x y → y.number ≡ x.number
   told_if_number true short x y h = told_number d changes room x.view short x y h
   told_if_number false short x y h = ap (λ (z : Session). z.number) h.0
 
-  -- nobody is told where nobody has the number
+  -- no session is notified if none has the number
   pub absent_among : (s : ℕ) (xs : List Session) → session_in xs s ≡ None → ToldAmong (s ∷ []) d changes room xs xs 0
   absent_among s [] none = refl
   absent_among s (x ∷ xs) none =
@@ -79,14 +79,14 @@ module _ (d : Document) (changes : List Change) (room : Room) where
             )
       ]
 
-  -- the one who has the number is told, at its place
+  -- the session with the number is notified, at its place
   pub place_among : (s : ℕ) (xs : List Session) (i : ℕ) (z y : Session) (short : Bool) → position (is_number s) xs ≡ Some i → EachOnce xs
       → Told d changes room short (get_or xs i z) y → ToldAmong (s ∷ []) d changes room xs (slice_set xs i y) (if short then 1 else 0)
   place_among s xs i z y short at once told =
       let place = place_within xs s i at in
       one_among s xs i z y short place.1 place.0 once told
 
-  -- first one is told or not, and then, where it was not, it is told or not
+  -- a session is notified or not, and then, if it was not, it is notified or not
   both_told : (a b : Bool) (p q : Bool) (x y z : Session) → (a ≡ true → b ≡ true → ⊥) → ToldIf a d changes room p x y → ToldIf b d changes room q y z
       → (short : Bool) × ToldIf (a || b) d changes room short x z × ((if short then 1 else 0) ≡ (if p then 1 else 0) + (if q then 1 else 0))
   both_told true true p q x y z apart h k = absurd (apart refl refl)
@@ -101,7 +101,7 @@ module _ (d : Document) (changes : List Change) (room : Room) where
         | inr other ↦ let no : false ≡ true = rw other.0 at b in absurd (cc no)
       ]
 
-  -- some were told, and now one more is
+  -- some were notified, and now one more is
   pub more_among : (ns : List ℕ) (s : ℕ) → list_any (nat_eq s) ns ≡ false → (xs ys zs : List Session) (n m : ℕ)
       → ToldAmong ns d changes room xs ys n → ToldAmong (s ∷ []) d changes room ys zs m → ToldAmong (ns ++ s ∷ []) d changes room xs zs (n + m)
   more_among ns s fresh [] [] [] n m h k = omega (arith, h, k)
@@ -115,12 +115,12 @@ module _ (d : Document) (changes : List Change) (room : Room) where
   more_among ns s fresh (x ∷ xs) [] zs n m h k = absurd h
   more_among ns s fresh _ _ _ n m h k = absurd k
 
-  -- nobody is told of no number
+  -- an empty list of numbers notifies no session
   pub none_among : (xs : List Session) → ToldAmong [] d changes room xs xs 0
   none_among [] = refl
   none_among (x ∷ xs) = (false, 0, (refl, refl), refl, none_among xs)
 
-  -- those of the numbers before a place were told, and now the one at that place is
+  -- those of the numbers before a place were notified, and now the one at that place is
   pub next_among : (numbers : List ℕ) (k e : ℕ) (xs ys zs : List Session) (n m : ℕ) → IsStrictlyIncreasing numbers → k < length numbers
       → ToldAmong (take k numbers) d changes room xs ys n → ToldAmong (get_or numbers k e ∷ []) d changes room ys zs m
       → ToldAmong (take (k + 1) numbers) d changes room xs zs (n + m)

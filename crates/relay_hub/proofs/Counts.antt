@@ -1,4 +1,4 @@
--- The reply to an edit that is refused holds counts.
+-- The reply to a refused edit holds counts.
 use Rattle.std.proofs.Common.{◌≡◌, ℕ, ◌≤◌, List, length, Option, Some, None, Err, arith, option_map}
 use Rattle.relay_patch.specs.declared.bounds.TheConstants.Bounds.{DOCUMENT}
 use Rattle.relay_patch.specs.declared.limits.TheConstants.PatchLimits.{REQUEST}

@@ -1,16 +1,22 @@
--- The documents of a room as they become more, and what becomes of a room that has them.
+-- The documents of a room as they grow, and how a room that has them changes.
 use Rattle.std.proofs.Common.{◌≡◌, ℕ, zero, suc, ◌+◌, ◌-◌, ◌<◌, ◌≤◌, List, [], ◌∷◌, ◌++◌, length, take, Some, refl, sym, ◌∙◌, ap, subst, arith, length-append, ◌⊎◌, inl, inr, slice_get, min}
 use Rattle.std.proofs.lemmas.Bool.{cases_lt}
 use Rattle.std.proofs.lemmas.Option.{slice_get-get_or}
 use Rattle.relay_tree.specs.Document.{Document, null}
-use Rattle.relay_history.specs.History.{Past, Reaches, with_revision, changes_since}
+use Rattle.relay_tree.specs.declared.budget.Budget.{Budget}
+use Rattle.relay_tree.specs.declared.budget.Budget.TheVariants.{Unbounded}
+use Rattle.relay_history.specs.Trimmed as trim
+use Rattle.relay_history.proofs.Trims.{trimmed_unbounded, trimmed_reaches, trimmed_changes_since, trimmed_slice_get}
+use Rattle.relay_history.specs.History.{Past, IsHistory, Reaches, with_revision, changes_since}
 use Rattle.relay_history.proofs.Growing.{held-with_revision, changes_since-newest, changes_since-with_revision}
 use Rattle.relay_patch.specs.Change.{Leads, all_changes}
 use Rattle.relay_patch.specs.declared.change.Change.{Change}
 use Rattle.relay_patch.specs.declared.op.Op.{Op}
 use Rattle.relay_patch.proofs.Made.{Leads-append}
-use Rattle.relay_room.specs.Room.{State as Room, revision}
+use Rattle.relay_room.specs.Room.{State as Room, revision, trimmed}
+use Rattle.relay_room.proofs.Rooms.{trimmed_is_room}
 use Rattle.relay_hub.specs.Log.{present_of}
+use Rattle.relay_hub.specs.declared.config.HubConfig.{HubConfig}
 use Rattle.relay_hub.specs.Stands.{RoomStands}
 use Rattle.relay_hub.specs.Step.{GoesOn}
 use Rattle.relay_hub.proofs.Places.{append_cases, slice_get-last}
@@ -32,8 +38,8 @@ slice_get-present ds r h =
     let within : r < length ds = omega (arith, h) in
     rw (e, slice_get-get_or ds r null within) refl
 
--- the changes since each revision that is still held lead to the newest document
-goes_on_led : (most : ℕ) (ds : List Document) (room next : Room) (changes : List Change) (d : Document) → RoomStands most ds room → next.document ≡ d
+-- the changes since each revision that is still kept lead to the newest document
+goes_on_led : (most : HubConfig) (ds : List Document) (room next : Room) (changes : List Change) (d : Document) → RoomStands most ds room → next.document ≡ d
     → next.history ≡ with_revision changes room.history → Leads room.document changes d
     → (rev : ℕ) (before : Document) → slice_get (ds ++ d ∷ []) rev ≡ Some before → Reaches next.history rev → Leads before (changes_since rev next.history) next.document
 goes_on_led most ds room next changes d h document history leads rev before at reaches =
@@ -64,8 +70,8 @@ slice_get-taken (suc n) (y ∷ ys) zero x h = h
 slice_get-taken (suc n) (y ∷ ys) (suc i) x h = slice_get-taken n ys i x h
 slice_get-taken _ _ i x h = absurd (cc h)
 
--- the changes of each revision that is still held lead from the document before it to its own
-goes_on_steps : (most : ℕ) (ds : List Document) (room next : Room) (changes : List Change) (d : Document) → RoomStands most ds room
+-- the changes of each revision that is still kept lead from the document before it to its own
+goes_on_steps : (most : HubConfig) (ds : List Document) (room next : Room) (changes : List Change) (d : Document) → RoomStands most ds room
     → next.history ≡ with_revision changes room.history → Leads room.document changes d
     → (rev : ℕ) (before after : Document) (cs : List Change) → slice_get (ds ++ d ∷ []) rev ≡ Some before → slice_get (ds ++ d ∷ []) (rev + 1) ≡ Some after
     → slice_get next.history.changes (revision next - (rev + 1)) ≡ Some cs → Leads before cs after
@@ -95,8 +101,8 @@ goes_on_steps most ds room next changes d h history leads rev before after cs at
         let within = earlier.0 in
         h.steps rev before after cs (older (omega (arith, within))) earlier.1 (held_with (suc (past.newest - (rev + 1))) (omega (arith, within, h.made)))
 
--- a room that goes on has one document more
-pub goes_on_stands : (most : ℕ) (ds : List Document) (room next : Room) (patch : List Op) (d : Document) → RoomStands most ds room → GoesOn room patch d next → RoomStands most (ds ++ d ∷ []) next
+-- a room after a revision has one document more
+pub goes_on_stands : (most : HubConfig) (ds : List Document) (room next : Room) (patch : List Op) (d : Document) → RoomStands most ds room → GoesOn room patch d next → RoomStands most (ds ++ d ∷ []) next
 goes_on_stands most ds room next patch d h goes =
     let changes = all_changes room.document patch in
     let newest : revision next ≡ revision room + 1 = ap (λ (p : Past). p.newest) goes.history in
@@ -107,7 +113,30 @@ goes_on_stands most ds room next patch d h goes =
       made = omega (arith, newest, h.made, length-append ds (d ∷ []));
       is = goes.is;
       limit = limit ∙ h.limit;
-      held = omega (arith, count, newest, h.limit, h.held);
+      held = λ free. let was = h.held free in omega (arith, count, newest, h.limit, was);
       led = goes_on_led most ds room next changes d h goes.document goes.history goes.leads;
       steps = goes_on_steps most ds room next changes d h goes.history goes.leads;
+    }
+
+-- a history reaches back to the revision before the one that was just added
+pub newest_reached : (old new : Past) (changes : List Change) → IsHistory new → new ≡ with_revision changes old → Reaches new (new.newest - 1)
+newest_reached old new changes is same =
+    let count = ap (λ (p : Past). length p.changes) same ∙ held-with_revision changes old in
+    let limit = ap (λ (p : Past). p.limit) same in
+    let least = is.limited.0 in
+    record { back = omega (arith, count, limit, least); made = omega arith }
+
+-- a room that drops what its history may not hold still has its documents
+pub trimmed_stands : (b : HubConfig) (ds : List Document) (room : Room) (budget : Budget) → (b.history_weight ≡ Unbounded → budget ≡ Unbounded) → RoomStands b ds room
+    → RoomStands b ds (trimmed budget room)
+trimmed_stands b ds room budget all h =
+    let past = room.history in
+    record {
+      document = h.document;
+      made = h.made;
+      is = trimmed_is_room budget room h.is;
+      limit = h.limit;
+      held = λ free. ap (λ (p : Past). length p.changes) (ap (λ w. trim.trimmed w past) (all free) ∙ trimmed_unbounded past) ∙ h.held free;
+      led = λ rev d at reaches. rw (trimmed_changes_since budget past rev reaches) (h.led rev d at (trimmed_reaches budget past rev reaches));
+      steps = λ rev before after changes at behind held. h.steps rev before after changes at behind (trimmed_slice_get budget past (revision room - (rev + 1)) changes held);
     }

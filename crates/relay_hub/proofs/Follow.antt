@@ -1,4 +1,4 @@
--- What a client that follows a view holds, as messages come.
+-- What a client that follows a view holds, as messages arrive.
 use Rattle.std.proofs.Common.{◌≡◌, ℕ, ◌<◌, Bool, true, false, List, [], ◌∷◌, ◌++◌, Option, Some, None, Ok, refl, sym, ◌∙◌, ap, subst, arith, append_assoc, append-nil, length-append, slice_get, option_map, nat_lt, map, if◌then◌else◌}
 use Rattle.std.proofs.lemmas.Bool.Decides.{nat_tests}
 use Rattle.std.proofs.lemmas.List.{map-append}
@@ -6,7 +6,7 @@ use Rattle.std.proofs.lemmas.Option.{slice_get_within}
 use Rattle.relay_outbox.specs.Outbox.{Line, line, folded, with_patch}
 use Rattle.relay_patch.specs.Patch.{after, free}
 use Rattle.relay_patch.specs.declared.op.Op.{Op}
-use Rattle.relay_proto.specs.Client.{Client, nothing, holds, client, client_after}
+use Rattle.relay_proto.specs.Client.{Client, holds, client, client_after}
 use Rattle.relay_proto.specs.declared.message.Message.{Message}
 use Rattle.relay_proto.specs.declared.message.Message.TheVariants.{Reply, Patch, Snapshot}
 use Rattle.relay_proto.specs.declared.reply.Reply.{Reply as AnyReply}
@@ -15,13 +15,15 @@ use Rattle.relay_room.specs.Room.{State as Room, revision}
 use Rattle.relay_room.specs.declared.catch_up.CatchUp.{CatchUp}
 use Rattle.relay_room.specs.declared.catch_up.CatchUp.TheVariants as how
 use Rattle.relay_tree.specs.Document.{Document}
+use Rattle.relay_tree.specs.declared.budget.Budget.{Budget}
 use Rattle.relay_view.specs.View.{View, view}
 use Rattle.relay_hub.specs.Log.{Watching, begun}
-use Rattle.relay_hub.specs.Session.{told_line, snapshot_of, patch_message, later}
+use Rattle.relay_hub.specs.Session.{led_line, told_line, with_patch_within, snapshot_of, patch_message, later}
+use Rattle.relay_hub.specs.declared.config.HubConfig.{HubConfig}
 use Rattle.relay_hub.specs.Stands.{HoldsRevision, IsAtNamed, EachLeads, HoldsPresent, Follows, RoomStands}
 use Rattle.relay_hub.proofs.Documents.{slice_get-present}
 use Rattle.relay_hub.proofs.Places.{slice_get-earlier}
-use Rattle.relay_hub.proofs.Waiting.{by_waiting}
+use Rattle.relay_hub.proofs.Waiting.{by_waiting, by_weight, by_due}
 
 -- Messages one after the other.
 
@@ -29,7 +31,7 @@ pub client_after-append : (c : Client) (xs ys : List Message) → client_after c
 client_after-append c [] ys = refl
 client_after-append c (x ∷ xs) ys = client_after-append (client c x) xs ys
 
-EachLeads-left : (ds : List Document) (v : View) (c : Client) (xs ys : List Message) → EachLeads ds v c (xs ++ ys) → EachLeads ds v c xs
+pub EachLeads-left : (ds : List Document) (v : View) (c : Client) (xs ys : List Message) → EachLeads ds v c (xs ++ ys) → EachLeads ds v c xs
 EachLeads-left ds v c [] ys h = tt
 EachLeads-left ds v c (x ∷ xs) ys h = (h.0, EachLeads-left ds v (client c x) xs ys h.1)
 
@@ -37,7 +39,7 @@ EachLeads-append : (ds : List Document) (v : View) (c : Client) (xs ys : List Me
 EachLeads-append ds v c [] ys h k = k
 EachLeads-append ds v c (x ∷ xs) ys h k = (h.0, EachLeads-append ds v (client c x) xs ys h.1 k)
 
--- One more document changes nothing that was said.
+-- One more document changes no earlier statement.
 
 document_newer : (ds : List Document) (d : Document) (v : View) (r : ℕ) (tree : Document) (o : Option Document) → slice_get ds r ≡ o
     → option_map (view v) o ≡ Some tree → option_map (view v) (slice_get (ds ++ d ∷ []) r) ≡ Some tree
@@ -59,17 +61,17 @@ EachLeads-newer ds d v c (m ∷ ms) h = (IsAtNamed-newer ds d v m (client c m) h
 
 -- Snapshots.
 
--- a snapshot leads any client to the present document
-snapshot_leads : (most : ℕ) (ds : List Document) (v : View) (room : Room) → RoomStands most ds room
+-- a snapshot brings any client to the present document
+snapshot_leads : (most : HubConfig) (ds : List Document) (v : View) (room : Room) → RoomStands most ds room
     → HoldsRevision ds v (revision room) (holds (revision room) (view v room.document))
 snapshot_leads most ds v room h = (refl, rw (slice_get-present ds (revision room) h.made, h.document) refl)
 
-snapshot_present : (most : ℕ) (ds : List Document) (v : View) (room : Room) → RoomStands most ds room
+snapshot_present : (most : HubConfig) (ds : List Document) (v : View) (room : Room) → RoomStands most ds room
     → HoldsPresent ds v (holds (revision room) (view v room.document))
 snapshot_present most ds v room h = (omega (arith, h.made), ap (view v) h.document)
 
--- behind messages that each lead where they say, a snapshot does the rest
-Follows-due : (most : ℕ) (ds : List Document) (w : Watching) (room : Room) → RoomStands most ds room → (before : List Message)
+-- after messages that each bring the client where they say, a snapshot does the rest
+Follows-due : (most : HubConfig) (ds : List Document) (w : Watching) (room : Room) → RoomStands most ds room → (before : List Message)
     → EachLeads ds w.view w.start (w.heard ++ before) → Follows ds w (before ++ snapshot_of room w.view ∷ [])
 Follows-due most ds w room h before each =
     let e = append_assoc w.heard before (snapshot_of room w.view ∷ []) in
@@ -78,13 +80,13 @@ Follows-due most ds w room h before each =
       exactly = rw (← e, client_after-append w.start (w.heard ++ before) (snapshot_of room w.view ∷ [])) (snapshot_present most ds w.view room h);
     }
 
-pub Follows-snapshot : (most : ℕ) (ds : List Document) (w : Watching) (room : Room) → RoomStands most ds room
+pub Follows-snapshot : (most : HubConfig) (ds : List Document) (w : Watching) (room : Room) → RoomStands most ds room
     → EachLeads ds w.view w.start w.heard → Follows ds w (snapshot_of room w.view ∷ [])
 Follows-snapshot most ds w room h each = Follows-due most ds w room h [] (subst (λ ms. EachLeads ds w.view w.start ms) (sym (append-nil w.heard)) each)
 
--- One more document, of which a view is told.
+-- One more document, of which a view is notified.
 
-module _ (most : ℕ) (ds : List Document) (d : Document) (w : Watching) (room next : Room) (h : RoomStands most ds room) (k : RoomStands most (ds ++ d ∷ []) next) where
+module _ (most : HubConfig) (ds : List Document) (d : Document) (w : Watching) (room next : Room) (h : RoomStands most ds room) (k : RoomStands most (ds ++ d ∷ []) next) where
   -- a client that holds the present view, and a patch that leads from it to the view of the next document
   patch_leads : (c : Client) (ops : List Op) → HoldsPresent ds w.view c → after (view w.view room.document) ops free ≡ Ok (view w.view next.document)
       → client c (Patch (revision next) ops) ≡ holds (revision next) (view w.view next.document)
@@ -126,7 +128,7 @@ module _ (most : ℕ) (ds : List Document) (d : Document) (w : Watching) (room n
       (rw (append_assoc w.heard before (snapshot_of room w.view ∷ [])) (rw due at follows.each)) in
       rw due (Follows-due most (ds ++ d ∷ []) w next k before (EachLeads-newer ds d w.view w.start (w.heard ++ before) each))
 
-  -- what was drawn so far still leads where it says, and a snapshot is due
+  -- what was drawn so far still brings the client where it says, and a snapshot is due
   pub folded_follows : (o : Line AnyReply (ℕ × List Op)) → Follows ds w (later room w.view o) → Follows (ds ++ d ∷ []) w (later next w.view (folded o))
   folded_follows o follows =
       Follows-snapshot most (ds ++ d ∷ []) w next k (EachLeads-newer ds d w.view w.start w.heard (EachLeads-left ds w.view w.start w.heard (later room w.view o) follows.each))
@@ -159,33 +161,41 @@ module _ (most : ℕ) (ds : List Document) (d : Document) (w : Watching) (room n
           let lists : later next w.view sent ≡ before ++ Patch (revision next) ops ∷ [] = later_plain next sent none ∙ map-append patch_message o.patches ((revision next, ops) ∷ []) in
           subst (λ ms. Follows (ds ++ d ∷ []) w ms) (sym lists) (Follows-patch before ops plain leads)
 
-  -- a line that is told of the document still leads its client to the present view
-  pub told_follows : (o : Line AnyReply (ℕ × List Op)) (told : CatchUp) → MakesPresent next w.view room.document told
-      → Follows ds w (later room w.view o) → Follows (ds ++ d ∷ []) w (later next w.view (told_line (revision next) told o))
-  told_follows o how.Nothing makes follows = stays_follows o o.due refl makes follows
-  told_follows o (how.Patch ops) makes follows = patched_follows o ops makes follows
-  told_follows o how.Snapshot makes follows = folded_follows o follows
+  led_follows : (budget : Budget) (o : Line AnyReply (ℕ × List Op)) (told : CatchUp) → MakesPresent next w.view room.document told
+      → Follows ds w (later room w.view o) → Follows (ds ++ d ∷ []) w (later next w.view (led_line budget (revision next) told o))
+  led_follows budget o how.Nothing makes follows = stays_follows o o.due refl makes follows
+  led_follows budget o (how.Patch ops) makes follows =
+      by_weight (λ o. Follows (ds ++ d ∷ []) w (later next w.view o)) budget (revision next, ops) o (patched_follows o ops makes follows) (folded_follows o follows)
+  led_follows budget o how.Snapshot makes follows = folded_follows o follows
 
--- One who resumes from an earlier document.
+  -- an outbox that is notified of the document still brings its client to the present view
+  pub told_follows : (budget : Budget) (o : Line AnyReply (ℕ × List Op)) (told : CatchUp) → MakesPresent next w.view room.document told
+      → Follows ds w (later room w.view o) → Follows (ds ++ d ∷ []) w (later next w.view (told_line budget (revision next) told o))
+  told_follows budget o told makes follows =
+      by_due (λ o. Follows (ds ++ d ∷ []) w (later next w.view o)) budget (revision next) told o (λ due. line_due o due follows) (λ due. led_follows budget o told makes follows)
 
-pub level_follows : (most : ℕ) (ds : List Document) (v : View) (room : Room) (rev : ℕ) (d : Document) → RoomStands most ds room → slice_get ds rev ≡ Some d
+-- A client that resumes from an earlier document.
+
+pub level_follows : (most : HubConfig) (ds : List Document) (v : View) (room : Room) (rev : ℕ) (d : Document) → RoomStands most ds room → slice_get ds rev ≡ Some d
     → view v d ≡ view v room.document → Follows ds (begun v (holds rev (view v d))) []
 level_follows most ds v room rev d h at same = record { each = tt; exactly = (slice_get_within ds rev d at, same ∙ ap (view v) h.document) }
 
-patch_follows : (most : ℕ) (ds : List Document) (v : View) (room : Room) (rev : ℕ) (d : Document) (ops : List Op) → RoomStands most ds room → rev < revision room
+patch_follows : (most : HubConfig) (ds : List Document) (v : View) (room : Room) (rev : ℕ) (d : Document) (ops : List Op) → RoomStands most ds room → rev < revision room
     → after (view v d) ops free ≡ Ok (view v room.document) → Follows ds (begun v (holds rev (view v d))) (Patch (revision room) ops ∷ [])
 patch_follows most ds v room rev d ops h earlier leads =
     let above : nat_lt rev (revision room) ≡ true = grind (arith, nat_tests, earlier) in
     let is : client (holds rev (view v d)) (Patch (revision room) ops) ≡ holds (revision room) (view v room.document) = rw (above, leads) refl in
     record { each = (rw is (snapshot_leads most ds v room h), tt); exactly = rw is (snapshot_present most ds v room h) }
 
--- a line in which no patch waits, and to which one comes that makes the present view
-pub resumed_follows : (most : ℕ) (ds : List Document) (v : View) (room : Room) (rev : ℕ) (d : Document) (ops : List Op) (o : Line AnyReply (ℕ × List Op)) → RoomStands most ds room → rev < revision room
+-- an outbox in which no patch waits, and to which one is added that makes the present view
+pub resumed_follows : (most : HubConfig) (ds : List Document) (v : View) (room : Room) (rev : ℕ) (d : Document) (ops : List Op) (budget : Budget) (o : Line AnyReply (ℕ × List Op)) → RoomStands most ds room → rev < revision room
     → after (view v d) ops free ≡ Ok (view v room.document) → o.patches ≡ [] → o.due ≡ false
-    → Follows ds (begun v (holds rev (view v d))) (later room v (with_patch (revision room, ops) o))
-resumed_follows most ds v room rev d ops o h earlier leads none not_due =
+    → Follows ds (begun v (holds rev (view v d))) (later room v (with_patch_within budget (revision room, ops) o))
+resumed_follows most ds v room rev d ops budget o h earlier leads none not_due =
     let w = begun v (holds rev (view v d)) in
-    by_waiting (λ o. Follows ds w (later room v o)) (revision room) ops o
+    by_weight (λ o. Follows ds w (later room v o)) budget (revision room, ops) o
+    (by_waiting (λ o. Follows ds w (later room v o)) (revision room) ops o
     (λ due. absurd (cc (due, not_due)))
     (λ quiet. rw (none, not_due) (patch_follows most ds v room rev d ops h earlier leads))
+    (Follows-snapshot most ds w room h tt))
     (Follows-snapshot most ds w room h tt)

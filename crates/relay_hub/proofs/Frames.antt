@@ -1,18 +1,18 @@
--- What an entry changes in one room alone, or nowhere, keeps a hub standing for its log.
-use Rattle.std.proofs.Common.{◌≡◌, ◌≢◌, ℕ, ◌==◌, List, [], ◌∷◌, Option, Some, None, refl, sym, ◌∙◌, ap, subst, inl, inr, slice_get, slice_set, is_some, if◌then◌else◌}
+-- An entry that changes only one room, or nothing, keeps a hub standing for its log.
+use Rattle.std.proofs.Common.{◌≡◌, ◌≢◌, ℕ, ◌==◌, true, List, [], ◌∷◌, Option, Some, None, refl, sym, ◌∙◌, ap, subst, inl, inr, slice_get, slice_set, if◌then◌else◌}
 use Rattle.std.proofs.lemmas.Bool.Decides.{eqb_tells}
 use Rattle.relay_room.specs.Room.{State as Room}
 use Rattle.relay_tree.specs.Document.{Document, null}
 use Rattle.relay_hub.specs.Log.{Log, Entry, Watching, home, is_opened, documents, watching, opened, open_count}
 use Rattle.relay_hub.specs.Session.{Session}
-use Rattle.relay_hub.specs.Stands.{RoomStands, LineStands, WatchStands, SessionStands, GroupStands, HomeStands, StandsFor}
-use Rattle.relay_hub.specs.State.{Group, State, RoomOf, Home, place_of, place_named, session_in}
-use Rattle.relay_hub.specs.Step.{ChangesOnly, with_group}
-use Rattle.relay_hub.specs.declared.beginning.Beginning.{Beginning}
+use Rattle.relay_hub.specs.Stands.{RoomStands, LineStands, WatchStands, SessionStands, RoomSessionsStand, HomeStands, StandsFor}
+use Rattle.relay_hub.specs.State.{RoomSessions, State, RoomOf, Home, place_of, place_named, session_in}
+use Rattle.relay_hub.specs.Step.{ChangesOnly, with_room}
+use Rattle.relay_hub.specs.declared.config.HubConfig.{HubConfig}
 use Rattle.relay_hub.proofs.Places.{by_number, slice_set_cases, slice_get-set, slice_get-set_other}
 use Rattle.relay_hub.proofs.Rooms.{named_set}
 
--- nobody comes or goes by the entry
+-- no session is opened or closed by the entry
 pub record Quiet (E : Log) (e : Entry) : Type 0 where
   pub opened : opened (e ∷ E) ≡ opened E
   pub count : open_count (e ∷ E) ≡ open_count E
@@ -20,17 +20,17 @@ pub record Quiet (E : Log) (e : Entry) : Type 0 where
   pub home : (t : ℕ) → home (e ∷ E) t ≡ home E t
 
 -- a session of a room
-pub session_stands : (b : Beginning) (E : Log) (hub : State) (t : ℕ) (r : RoomOf hub) → StandsFor b E hub → place_of hub t ≡ Some r.place
-    → SessionStands b.waiting (documents E) r.name r.group.room (session_in r.group.sessions t) (home E t) (watching b.epoch E t)
+pub session_stands : (b : HubConfig) (E : Log) (hub : State) (t : ℕ) (r : RoomOf hub) → StandsFor b E hub → place_of hub t ≡ Some r.place
+    → SessionStands b.waiting (documents E) r.name r.room_sessions.room (session_in r.room_sessions.sessions t) (home E t) (watching b.epoch E t)
 session_stands b E hub t r h at = rw (at, r.there) at (h.sessions t)
 
--- a session that is at home
-pub here : (b : Beginning) (E : Log) (hub : State) (s : ℕ) (mine : Home hub s) → StandsFor b E hub
-    → (home E s ≡ Some mine.room.name) × LineStands b.waiting mine.session × WatchStands (documents E mine.room.name) mine.room.group.room mine.session (watching b.epoch E s)
+-- a session that is open
+pub here : (b : HubConfig) (E : Log) (hub : State) (s : ℕ) (mine : Home hub s) → StandsFor b E hub
+    → (home E s ≡ Some mine.room.name) × LineStands b.waiting mine.session × WatchStands (documents E mine.room.name) mine.room.room_sessions.room mine.session (watching b.epoch E s)
 here b E hub s mine h = let found = session_stands b E hub s mine.room h mine.at in rw mine.is at found
 
--- two rooms have two names
-names_apart : (b : Beginning) (E : Log) (hub : State) (place p : ℕ) (name known : List ℕ) (g k : Group) → StandsFor b E hub
+-- two rooms have different names
+names_apart : (b : HubConfig) (E : Log) (hub : State) (place p : ℕ) (name known : List ℕ) (g k : RoomSessions) → StandsFor b E hub
     → slice_get hub.rooms place ≡ Some (name, g) → slice_get hub.rooms p ≡ Some (known, k) → p ≢ place → known ≢ name
 names_apart b E hub place p name known g k h at there apart same =
     let one = h.names place name g at in
@@ -38,95 +38,95 @@ names_apart b E hub place p name known g k h at there apart same =
     let both : Some p ≡ Some place = sym two ∙ (ap (λ n. place_named n hub.rooms) same ∙ one) in
     apart cc
 
--- the same documents of its room, the same home and the same watching are all that a session needs
+-- a session needs only the same documents of its room, the same home and the same watching
 session_stays : (most : ℕ) (ds es : List ℕ → List Document) (name : List ℕ) (room : Room) (o : Option Session) (there : Option (List ℕ)) (w : Option Watching) → es name ≡ ds name
     → SessionStands most ds name room o there w → SessionStands most es name room o there w
 session_stays most ds es name room (Some x) there w same h = (h.0, h.1, subst (λ l. WatchStands l room x w) (sym same) h.2)
 session_stays most ds es name room None there w same h = h
 
-group_stays : (most : ℕ) (ds es : List ℕ → List Document) (t : ℕ) (o : Option (List ℕ × Group)) (there : Option (List ℕ)) (w : Option Watching)
-    → ((name : List ℕ) (g : Group) → o ≡ Some (name, g) → es name ≡ ds name) → GroupStands most ds t o there w → GroupStands most es t o there w
-group_stays most ds es t (Some r) there w same h = session_stays most ds es r.0 r.1.room (session_in r.1.sessions t) there w (same r.0 r.1 refl) h
-group_stays most ds es t None there w same h = h
+room_sessions_stay : (most : ℕ) (ds es : List ℕ → List Document) (t : ℕ) (o : Option (List ℕ × RoomSessions)) (there : Option (List ℕ)) (w : Option Watching)
+    → ((name : List ℕ) (g : RoomSessions) → o ≡ Some (name, g) → es name ≡ ds name) → RoomSessionsStand most ds t o there w → RoomSessionsStand most es t o there w
+room_sessions_stay most ds es t (Some r) there w same h = session_stays most ds es r.0 r.1.room (session_in r.1.sessions t) there w (same r.0 r.1 refl) h
+room_sessions_stay most ds es t None there w same h = h
 
-home_stays : (most : ℕ) (ds es : List ℕ → List Document) (rooms : List (List ℕ × Group)) (t : ℕ) (o : Option ℕ) (there : Option (List ℕ)) (w : Option Watching)
+home_stays : (most : ℕ) (ds es : List ℕ → List Document) (rooms : List (List ℕ × RoomSessions)) (t : ℕ) (o : Option ℕ) (there : Option (List ℕ)) (w : Option Watching)
     → ((name : List ℕ) → es name ≡ ds name) → HomeStands most ds rooms t o there w → HomeStands most es rooms t o there w
-home_stays most ds es rooms t (Some p) there w same h = group_stays most ds es t (slice_get rooms p) there w (λ name g e. same name) h
+home_stays most ds es rooms t (Some p) there w same h = room_sessions_stay most ds es t (slice_get rooms p) there w (λ name g e. same name) h
 home_stays most ds es rooms t None there w same h = h
 
 -- an entry that changes nothing
-pub unaffected : (b : Beginning) (E : Log) (e : Entry) (hub : State) → StandsFor b E hub → Quiet E e
+pub unaffected : (b : HubConfig) (E : Log) (e : Entry) (hub : State) → StandsFor b E hub → Quiet E e
     → ((name : List ℕ) → documents (e ∷ E) name ≡ documents E name) → ((t : ℕ) → watching b.epoch (e ∷ E) t ≡ watching b.epoch E t) → StandsFor b (e ∷ E) hub
 unaffected b E e hub h quiet same watches = record {
   made = h.made;
   is = h.is;
   next = rw quiet.opened h.next;
   count = h.count ∙ sym quiet.count;
-  rooms = λ place name g at. subst (λ ds. RoomStands b.history ds g.room) (sym (same name)) (h.rooms place name g at);
+  rooms = λ place name g at. subst (λ ds. RoomStands b ds g.room) (sym (same name)) (h.rooms place name g at);
   names = h.names;
-  known = λ name. h.known name ∙ sym (quiet.rooms name);
+  known = λ name place there. quiet.rooms name ∙ h.known name place there;
   others = λ name none. same name ∙ h.others name none;
   sessions = λ t. rw (quiet.home t, watches t)
       (home_stays b.waiting (documents E) (documents (e ∷ E)) hub.rooms t (place_of hub t) (home E t) (watching b.epoch E t) same (h.sessions t));
 }
 
--- an entry after which the room at a place is another, and no documents of other names differ
-module _ (b : Beginning) (E : Log) (e : Entry) (old : State) (r : RoomOf old) (h : Group) (stands : StandsFor b E old)
+-- an entry after which the room at a place differs, and no documents of other names do
+module _ (b : HubConfig) (E : Log) (e : Entry) (old : State) (r : RoomOf old) (h : RoomSessions) (stands : StandsFor b E old)
     (elsewhere : (other : List ℕ) → other ≢ r.name → documents (e ∷ E) other ≡ documents E other) where
-  pub set_rooms : RoomStands b.history (documents (e ∷ E) r.name) h.room
-      → (p : ℕ) (known : List ℕ) (k : Group) → slice_get (slice_set old.rooms r.place (r.name, h)) p ≡ Some (known, k) → RoomStands b.history (documents (e ∷ E) known) k.room
+  pub set_rooms : RoomStands b (documents (e ∷ E) r.name) h.room
+      → (p : ℕ) (known : List ℕ) (k : RoomSessions) → slice_get (slice_set old.rooms r.place (r.name, h)) p ≡ Some (known, k) → RoomStands b (documents (e ∷ E) known) k.room
   set_rooms room p known k is =
       elim (slice_set_cases old.rooms r.place p (r.name, h) (known, k) is) [
         | inl same ↦
-            let named : known ≡ r.name = ap (λ (n : List ℕ × Group). n.0) same.1 in
-            let is : k ≡ h = ap (λ (n : List ℕ × Group). n.1) same.1 in
+            let named : known ≡ r.name = ap (λ (n : List ℕ × RoomSessions). n.0) same.1 in
+            let is : k ≡ h = ap (λ (n : List ℕ × RoomSessions). n.1) same.1 in
             rw (named, is) room
-        | inr other ↦ subst (λ ds. RoomStands b.history ds k.room) (sym (elsewhere known (names_apart b E old r.place p r.name known r.group k stands r.there other.1 other.0))) (stands.rooms p known k other.1)
+        | inr other ↦ subst (λ ds. RoomStands b ds k.room) (sym (elsewhere known (names_apart b E old r.place p r.name known r.room_sessions k stands r.there other.1 other.0))) (stands.rooms p known k other.1)
       ]
 
-  pub set_names : (p : ℕ) (known : List ℕ) (k : Group) → slice_get (slice_set old.rooms r.place (r.name, h)) p ≡ Some (known, k) → place_named known (slice_set old.rooms r.place (r.name, h)) ≡ Some p
-  set_names p known k is = named_set old.rooms r.place r.name known r.group h r.there ∙ elim (slice_set_cases old.rooms r.place p (r.name, h) (known, k) is) [
+  pub set_names : (p : ℕ) (known : List ℕ) (k : RoomSessions) → slice_get (slice_set old.rooms r.place (r.name, h)) p ≡ Some (known, k) → place_named known (slice_set old.rooms r.place (r.name, h)) ≡ Some p
+  set_names p known k is = named_set old.rooms r.place r.name known r.room_sessions h r.there ∙ elim (slice_set_cases old.rooms r.place p (r.name, h) (known, k) is) [
     | inl same ↦
-        let named : known ≡ r.name = ap (λ (n : List ℕ × Group). n.0) same.1 in
-        rw (named, same.0) (stands.names r.place r.name r.group r.there)
+        let named : known ≡ r.name = ap (λ (n : List ℕ × RoomSessions). n.0) same.1 in
+        rw (named, same.0) (stands.names r.place r.name r.room_sessions r.there)
     | inr other ↦ stands.names p known k other.1
   ]
 
-  pub set_known : (other : List ℕ) → is_some (place_named other (slice_set old.rooms r.place (r.name, h))) ≡ is_opened E other
-  set_known other = ap is_some (named_set old.rooms r.place r.name other r.group h r.there) ∙ stands.known other
+  pub set_known : (other : List ℕ) (p : ℕ) → place_named other (slice_set old.rooms r.place (r.name, h)) ≡ Some p → is_opened E other ≡ true
+  set_known other p there = stands.known other p (sym (named_set old.rooms r.place r.name other r.room_sessions h r.there) ∙ there)
 
   pub set_others : (other : List ℕ) → place_named other (slice_set old.rooms r.place (r.name, h)) ≡ None → documents (e ∷ E) other ≡ null ∷ []
   set_others other none =
-      let absent : place_named other old.rooms ≡ None = sym (named_set old.rooms r.place r.name other r.group h r.there) ∙ none in
-      elsewhere other (λ same. let found = stands.names r.place r.name r.group r.there in absurd (cc (ap (λ n. place_named n old.rooms) same, absent, found))) ∙ stands.others other absent
+      let absent : place_named other old.rooms ≡ None = sym (named_set old.rooms r.place r.name other r.room_sessions h r.there) ∙ none in
+      elsewhere other (λ same. let found = stands.names r.place r.name r.room_sessions r.there in absurd (cc (ap (λ n. place_named n old.rooms) same, absent, found))) ∙ stands.others other absent
 
-  -- a session at home elsewhere stays, and one at home there is told of
+  -- a session in another room is unchanged, and one in this room is notified
   pub set_home : (t : ℕ) (there : Option (List ℕ)) (w : Option Watching) → there ≡ home E t → (place_of old t ≢ Some r.place → w ≡ watching b.epoch E t)
       → (place_of old t ≡ Some r.place → SessionStands b.waiting (documents (e ∷ E)) r.name h.room (session_in h.sessions t) there w)
       → HomeStands b.waiting (documents (e ∷ E)) (slice_set old.rooms r.place (r.name, h)) t (place_of old t) there w
   set_home t there w known watches here = go (place_of old t) refl
     where
-      away : (p : ℕ) → place_of old t ≡ Some p → p ≢ r.place → w ≡ watching b.epoch E t → GroupStands b.waiting (documents (e ∷ E)) t (slice_get old.rooms p) there w
+      away : (p : ℕ) → place_of old t ≡ Some p → p ≢ r.place → w ≡ watching b.epoch E t → RoomSessionsStand b.waiting (documents (e ∷ E)) t (slice_get old.rooms p) there w
       away p home_at apart watched =
           rw (known, watched)
-          (group_stays b.waiting (documents E) (documents (e ∷ E)) t (slice_get old.rooms p) (home E t) (watching b.epoch E t)
-          (λ other k is. elsewhere other (names_apart b E old r.place p r.name other r.group k stands r.there is apart))
+          (room_sessions_stay b.waiting (documents E) (documents (e ∷ E)) t (slice_get old.rooms p) (home E t) (watching b.epoch E t)
+          (λ other k is. elsewhere other (names_apart b E old r.place p r.name other r.room_sessions k stands r.there is apart))
           (rw home_at at (stands.sessions t)))
 
       go : (o : Option ℕ) → place_of old t ≡ o → HomeStands b.waiting (documents (e ∷ E)) (slice_set old.rooms r.place (r.name, h)) t o there w
       go None home_at = known ∙ (rw home_at at (stands.sessions t))
       go (Some p) home_at =
           elim (eqb_tells p r.place) [
-            | inl same ↦ rw (same.1, slice_get-set old.rooms r.place (r.name, r.group) (r.name, h) r.there) (here (home_at ∙ ap Some same.1))
+            | inl same ↦ rw (same.1, slice_get-set old.rooms r.place (r.name, r.room_sessions) (r.name, h) r.there) (here (home_at ∙ ap Some same.1))
             | inr other ↦ rw (slice_get-set_other old.rooms r.place p (r.name, h) other.1)
                 (away p home_at other.1 (watches (λ is. other.1 (let both : Some p ≡ Some r.place = sym home_at ∙ is in cc))))
           ]
 
-  -- where nobody comes or goes
-  pub room_changes : Quiet E e → RoomStands b.history (documents (e ∷ E) r.name) h.room
+  -- if no session is opened or closed
+  pub room_changes : Quiet E e → RoomStands b (documents (e ∷ E) r.name) h.room
       → ((t : ℕ) → place_of old t ≢ Some r.place → watching b.epoch (e ∷ E) t ≡ watching b.epoch E t)
       → ((t : ℕ) → place_of old t ≡ Some r.place → SessionStands b.waiting (documents (e ∷ E)) r.name h.room (session_in h.sessions t) (home (e ∷ E) t) (watching b.epoch (e ∷ E) t))
-      → StandsFor b (e ∷ E) (with_group r.place r.name h old)
+      → StandsFor b (e ∷ E) (with_room r.place r.name h old)
   room_changes quiet room watches here = record {
     made = stands.made;
     is = stands.is;
@@ -134,21 +134,21 @@ module _ (b : Beginning) (E : Log) (e : Entry) (old : State) (r : RoomOf old) (h
     count = stands.count ∙ sym quiet.count;
     rooms = set_rooms room;
     names = set_names;
-    known = λ other. set_known other ∙ sym (quiet.rooms other);
+    known = λ other p there. quiet.rooms other ∙ set_known other p there;
     others = set_others;
     sessions = λ t. set_home t (home (e ∷ E) t) (watching b.epoch (e ∷ E) t) (quiet.home t) (watches t) (here t);
   }
 
-  -- where one session alone differs, and no documents do
+  -- if only one session differs, and no documents do
   pub session_changes : Quiet E e → ((other : List ℕ) → documents (e ∷ E) other ≡ documents E other) → (s : ℕ) (y : Session) → place_of old s ≡ Some r.place → home E s ≡ Some r.name
-      → ChangesOnly s (Some y) r.group h → ((t : ℕ) → s ≢ t → watching b.epoch (e ∷ E) t ≡ watching b.epoch E t)
-      → LineStands b.waiting y → WatchStands (documents E r.name) r.group.room y (watching b.epoch (e ∷ E) s) → StandsFor b (e ∷ E) (with_group r.place r.name h old)
+      → ChangesOnly s (Some y) r.room_sessions h → ((t : ℕ) → s ≢ t → watching b.epoch (e ∷ E) t ≡ watching b.epoch E t)
+      → LineStands b.waiting y → WatchStands (documents E r.name) r.room_sessions.room y (watching b.epoch (e ∷ E) s) → StandsFor b (e ∷ E) (with_room r.place r.name h old)
   session_changes quiet same s y s_at s_home changes others line watch =
       room_changes quiet
-      (rw (same r.name, changes.0) (stands.rooms r.place r.name r.group r.there))
+      (rw (same r.name, changes.0) (stands.rooms r.place r.name r.room_sessions r.there))
       (λ t apart. others t (λ is. apart (subst (λ u. place_of old u ≡ Some r.place) is s_at)))
       (λ t t_at. rw (changes.0, changes.1.found t, quiet.home t)
-      (session_stays b.waiting (documents E) (documents (e ∷ E)) r.name r.group.room (if s == t then Some y else session_in r.group.sessions t) (home E t) (watching b.epoch (e ∷ E) t) (same r.name)
-      (by_number (λ t c. SessionStands b.waiting (documents E) r.name r.group.room (if c then Some y else session_in r.group.sessions t) (home E t) (watching b.epoch (e ∷ E) t)) s t
+      (session_stays b.waiting (documents E) (documents (e ∷ E)) r.name r.room_sessions.room (if s == t then Some y else session_in r.room_sessions.sessions t) (home E t) (watching b.epoch (e ∷ E) t) (same r.name)
+      (by_number (λ t c. SessionStands b.waiting (documents E) r.name r.room_sessions.room (if c then Some y else session_in r.room_sessions.sessions t) (home E t) (watching b.epoch (e ∷ E) t)) s t
       (s_home, line, watch)
       (λ apart. rw (others t apart) (session_stands b E old t r stands t_at)))))

@@ -1,4 +1,4 @@
--- The index of what a room's sessions watch, as they change.
+-- The index of the views that a room's sessions watch, as the sessions change.
 use Rattle.std.proofs.Common.{◌≡◌, ℕ, ◌==◌, Bool, true, false, cond, List, [], ◌∷◌, ◌++◌, Option, Some, None, refl, sym, ◌∙◌, ap, nat_cmp, arith, option_and_then, position, if◌then◌else◌}
 use Rattle.std.specs.Cmp.{nat_cmp_total, nat_eq_equiv, unsigned_ties}
 use Rattle.std.specs.FinMap as map
@@ -19,7 +19,7 @@ use Rattle.relay_hub.proofs.Sessions.{push_last, session_there}
 use Rattle.relay_hub.proofs.Told.{IsTold, each_told}
 use Rattle.relay_hub.proofs.Rising.{same_rises, numbers_told, joined_rises, one_rises}
 
--- the view of a session, where it is there and watches
+-- the view of a session, if it is there and watches
 abbrev shown : Option Session → Option View
 shown o = option_and_then (λ x. x.view) o
 
@@ -29,7 +29,7 @@ of_either : (b : Bool) (o p : Option Session) → (if b then shown o else shown 
 of_either true o p = refl
 of_either false o p = refl
 
--- and the index has its view, and all others as before
+-- one session differs, and the index has its view, and all others as before
 only_indexed : (old new : Watches) (xs ys : List Session) (s : ℕ) (o : Option Session) → OnlyAt s o xs ys → IsRising ys
     → ((t : ℕ) → map.get new t ≡ (if s == t then shown o else map.get old t)) → IsIndexed old xs → IsIndexed new ys
 only_indexed old new xs ys s o only rising has h = record {
@@ -46,7 +46,7 @@ put_indexed w xs ys s y v only rising view h =
     only_indexed w (map.insert w s v) xs ys s (Some y) only rising
     (λ t. get-insert nat_cmp_total w s v t ∙ (ap (λ b. cond b (Some v) (map.get w t)) (same_number s t) ∙ ap (λ o. cond (s == t) o (map.get w t)) (sym view))) h
 
--- it watches nothing any more, or is gone
+-- it watches nothing any more, or is removed
 pub out_indexed : (w : Watches) (xs ys : List Session) (s : ℕ) (o : Option Session) → OnlyAt s o xs ys → IsRising ys → shown o ≡ None → IsIndexed w xs → IsIndexed (map.remove w s) ys
 out_indexed w xs ys s o only rising view h =
     only_indexed w (map.remove w s) xs ys s o only rising
@@ -58,7 +58,7 @@ same_indexed w xs ys s o only rising view h =
     only_indexed w w xs ys s o only rising
     (λ t. by_number (λ t b. map.get w t ≡ (if b then shown o else map.get w t)) s t (h.agrees s ∙ sym view) (λ other. refl)) h
 
--- the same of a session that is there, and of which a function makes the new one
+-- the same of a session that is there, and that a function changes
 
 module _ (xs ys : List Session) (s i : ℕ) (at : position (is_number s) xs ≡ Some i) (f : Session → Session) (changes : ChangesBy s f xs ys)
     (same : numbers ys ≡ numbers xs) (w : Watches) (h : IsIndexed w xs) where
@@ -80,7 +80,7 @@ module _ (xs ys : List Session) (s i : ℕ) (at : position (is_number s) xs ≡ 
       let x = session_there xs s i at in
       out_indexed w xs ys s (Some (f x.0)) (changes x.0 x.1) rising (none x.0) h
 
--- A session comes that watches nothing.
+-- A session is added that watches nothing.
 
 pub joined_indexed : (w : Watches) (xs : List Session) (y : Session) → IsAbove y.number xs → y.view ≡ None → IsIndexed w xs → IsIndexed w (xs ++ y ∷ [])
 joined_indexed w xs y above none h =
@@ -97,10 +97,10 @@ first_indexed x none = record {
     none_of true = sym none
     none_of false = refl
 
--- Telling changes no view.
+-- Notifying changes no view.
 
 told_view : (d : Document) (changes : List Change) (room : Room) (v : Option View) (short : Bool) (x y : Session) → ToldAs d changes room v short x y → y.view ≡ x.view
-told_view d changes room (Some v) true x y h = ap (λ (z : Session). z.view) h
+told_view d changes room (Some v) true x y h = ap (λ (z : Session). z.view) h.1
 told_view d changes room _ _ x y h = ap (λ (z : Session). z.view) h.0
 
 told_shown : (d : Document) (changes : List Change) (room : Room) (o p : Option Session) → IsTold d changes room o p → shown o ≡ shown p

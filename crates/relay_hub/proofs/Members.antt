@@ -1,4 +1,4 @@
--- Each step keeps a hub one: its numbers are below the next one, and a session stands in its own room alone, and once.
+-- Each step keeps `IsHub`: session numbers are below the next one, and a session is in its own room alone, and once.
 use Rattle.std.proofs.Common.{◌≡◌, ◌≢◌, ℕ, ◌≤◌, ◌==◌, ◌⊎◌, inl, inr, Bool, true, false, List, [], ◌∷◌, length, Option, Some, None, Result, Ok, Err, refl, sym, ◌∙◌, ap, subst, arith, slice_get, slice_set, nat_le, IsSome, if◌then◌else◌}
 use Rattle.std.proofs.lemmas.Bool.Decides.{eqb_tells, nat_tests}
 use Rattle.relay_patch.specs.Change.{all_changes}
@@ -9,54 +9,57 @@ use Rattle.relay_proto.specs.declared.refusal.Refusal.{Refusal}
 use Rattle.relay_proto.specs.declared.reply.Reply.TheVariants.{Done}
 use Rattle.relay_proto.specs.declared.request.Request.{Request}
 use Rattle.relay_proto.specs.declared.request.Request.TheVariants.{Edit, Watch, Resume, Unwatch}
-use Rattle.relay_room.specs.CatchUp.{caught_up}
+use Rattle.relay_room.specs.CatchUp.{caught_up_within}
 use Rattle.relay_room.specs.Edit.{edited}
 use Rattle.relay_room.specs.Room.{begun, revision}
 use Rattle.relay_room.specs.declared.catch_up.CatchUp.TheVariants.{Snapshot}
 use Rattle.relay_room.specs.declared.fault.EditFault.{EditFault}
 use Rattle.relay_tree.specs.Document.{Document, null}
+use Rattle.relay_tree.specs.declared.budget.Budget.{Budget}
 use Rattle.relay_hub.specs.Refusal.{refused, future_refusal}
 use Rattle.relay_hub.specs.Session.{Session, replied, newcomer, watches, unwatches, resumes, drawn}
-use Rattle.relay_hub.specs.State.{Group, group, State, EachOnce, Home, RoomOf, IsHub, place_of, place_named, session_in}
-use Rattle.relay_hub.specs.Step.{OnlyAt, EditServed, ResumeServed, Serves, Receives, Draws, with_group, InGroup, AtPlace, Enters, Opens, Closes, ClosesIn, ClosesGroup, ClosesAt, Step}
+use Rattle.relay_hub.specs.State.{RoomSessions, room_sessions, State, EachOnce, Home, RoomOf, IsHub, place_of, place_named, vacant_place, session_in}
+use Rattle.relay_hub.specs.Step.{OnlyAt, EditServed, ResumeServed, Serves, Receives, Draws, with_room, InRoom, AtPlace, Founds, Enters, Opens, Closes, ClosesIn, ClosesInRoom, ClosesAt, Step}
+use Rattle.relay_hub.specs.declared.config.HubConfig.{HubConfig}
 use Rattle.relay_hub.specs.declared.event.Answer.{Answer}
 use Rattle.relay_hub.specs.declared.event.Answer.TheVariants.{Opened, NotOpened, Heard, Drawn, Closed, NoSession}
 use Rattle.relay_hub.specs.declared.event.Event.{Event}
 use Rattle.relay_hub.specs.declared.event.Event.TheVariants.{Open, Receive, Draw, Close}
 use Rattle.relay_hub.specs.declared.event.Heard.TheVariants.{Answered, Busy}
 use Rattle.relay_hub.proofs.Places.{by_number, by_finding, slice_set_cases, append_cases, slice_get-set, slice_get-set_other, slice_get-earlier, slice_get-last}
+use Rattle.relay_hub.proofs.Rooms.{Vacant, vacant}
 use Rattle.relay_hub.proofs.Told.{each_told, none_told, some_told, once_told}
 
--- each session stands in its own room alone
+-- each session is in no room but its own
 abbrev StandAlone : State → Type 0
-StandAlone hub = (place : ℕ) (name : List ℕ) (g : Group) → slice_get hub.rooms place ≡ Some (name, g)
+StandAlone hub = (place : ℕ) (name : List ℕ) (g : RoomSessions) → slice_get hub.rooms place ≡ Some (name, g)
     → (t : ℕ) (x : Session) → session_in g.sessions t ≡ Some x → place_of hub t ≡ Some place
 
--- one room differs, whose sessions are at home there, and who is at home elsewhere stays so
-set_alone : (old new : State) (place : ℕ) (name : List ℕ) (g : Group) → IsHub old → new.rooms ≡ slice_set old.rooms place (name, g)
+-- one room differs: its sessions have it as their room, and the others keep theirs
+set_alone : (old new : State) (place : ℕ) (name : List ℕ) (g : RoomSessions) → IsHub old → new.rooms ≡ slice_set old.rooms place (name, g)
     → ((t p : ℕ) → place_of old t ≡ Some p → p ≢ place → place_of new t ≡ Some p)
     → ((t : ℕ) (x : Session) → session_in g.sessions t ≡ Some x → place_of new t ≡ Some place)
     → StandAlone new
 set_alone old new place name g h rooms others here p known h_g at t x is =
     elim (slice_set_cases old.rooms place p (name, g) (known, h_g) (ap (λ rooms. slice_get rooms p) (sym rooms) ∙ at)) [
-      | inl k ↦ here t x (ap (λ (r : List ℕ × Group). session_in r.1.sessions t) (sym k.1) ∙ is) ∙ ap Some (sym k.0)
+      | inl k ↦ here t x (ap (λ (r : List ℕ × RoomSessions). session_in r.1.sessions t) (sym k.1) ∙ is) ∙ ap Some (sym k.0)
       | inr k ↦ others t p (h.members p known h_g k.1 t x is) k.0
     ]
 
--- each session stands once in its room
+-- each session is in its room only once
 abbrev StandOnce : State → Type 0
-StandOnce hub = (place : ℕ) (name : List ℕ) (g : Group) → slice_get hub.rooms place ≡ Some (name, g) → EachOnce g.sessions
+StandOnce hub = (place : ℕ) (name : List ℕ) (g : RoomSessions) → slice_get hub.rooms place ≡ Some (name, g) → EachOnce g.sessions
 
--- in one room that differs each stands once
-set_once : (old new : State) (place : ℕ) (name : List ℕ) (g : Group) → IsHub old → new.rooms ≡ slice_set old.rooms place (name, g) → EachOnce g.sessions → StandOnce new
+-- one room differs, and each of its sessions is there only once
+set_once : (old new : State) (place : ℕ) (name : List ℕ) (g : RoomSessions) → IsHub old → new.rooms ≡ slice_set old.rooms place (name, g) → EachOnce g.sessions → StandOnce new
 set_once old new place name g h rooms once p known k at =
     elim (slice_set_cases old.rooms place p (name, g) (known, k) (ap (λ rooms. slice_get rooms p) (sym rooms) ∙ at)) [
-      | inl c ↦ rw (ap (λ (r : List ℕ × Group). r.1) c.1) once
+      | inl c ↦ rw (ap (λ (r : List ℕ × RoomSessions). r.1) c.1) once
       | inr c ↦ h.once p known k c.1
     ]
 
--- one room differs, from which nobody went who is still at home there
-set_homes : (old new : State) (place : ℕ) (name : List ℕ) (was g : Group) → slice_get old.rooms place ≡ Some (name, was) → new.rooms ≡ slice_set old.rooms place (name, g)
+-- one room differs, and each session whose room it still is remains in it
+set_homes : (old new : State) (place : ℕ) (name : List ℕ) (was g : RoomSessions) → slice_get old.rooms place ≡ Some (name, was) → new.rooms ≡ slice_set old.rooms place (name, g)
     → (t : ℕ) (home : Home old t) → place_of new t ≡ Some home.room.place → (home.room.place ≡ place → (y : Session) × (session_in g.sessions t ≡ Some y)) → Home new t
 set_homes old new place name was g at rooms t home still stays =
     let r = home.room in
@@ -64,26 +67,26 @@ set_homes old new place name was g at rooms t home still stays =
       | inl same ↦
           let y = stays same.1 in
           let there : slice_get new.rooms r.place ≡ Some (name, g) = rw (rooms, same.1) (slice_get-set old.rooms place (name, was) (name, g) at) in
-          record { room = record { place = r.place; name = name; group = g; there = there }; session = y.0; at = still; is = y.1 }
+          record { room = record { place = r.place; name = name; room_sessions = g; there = there }; session = y.0; at = still; is = y.1 }
       | inr other ↦
-          let there : slice_get new.rooms r.place ≡ Some (r.name, r.group) = rw (rooms, slice_get-set_other old.rooms place r.place (name, g) other.1) r.there in
-          record { room = record { place = r.place; name = r.name; group = r.group; there = there }; session = home.session; at = still; is = home.is }
+          let there : slice_get new.rooms r.place ≡ Some (r.name, r.room_sessions) = rw (rooms, slice_get-set_other old.rooms place r.place (name, g) other.1) r.there in
+          record { room = record { place = r.place; name = r.name; room_sessions = r.room_sessions; there = there }; session = home.session; at = still; is = home.is }
     ]
 
--- what stands at the place of a session's room
-same_home : (hub : State) (t place : ℕ) (name : List ℕ) (g : Group) (home : Home hub t) → slice_get hub.rooms place ≡ Some (name, g) → home.room.place ≡ place → session_in g.sessions t ≡ Some home.session
+-- the room at the place of a session's room
+same_home : (hub : State) (t place : ℕ) (name : List ℕ) (g : RoomSessions) (home : Home hub t) → slice_get hub.rooms place ≡ Some (name, g) → home.room.place ≡ place → session_in g.sessions t ≡ Some home.session
 same_home hub t place name g home at same =
-    let both : ◌≡◌ {A = Option (List ℕ × Group)} (Some (home.room.name, home.room.group)) (Some (name, g)) = sym home.room.there ∙ (ap (λ p. slice_get hub.rooms p) same ∙ at) in
-    let one : ◌≡◌ {A = List ℕ × Group} (home.room.name, home.room.group) (name, g) = cc in
-    subst (λ (k : Group). session_in k.sessions t ≡ Some home.session) (ap (λ (r : List ℕ × Group). r.1) one) home.is
+    let both : ◌≡◌ {A = Option (List ℕ × RoomSessions)} (Some (home.room.name, home.room.room_sessions)) (Some (name, g)) = sym home.room.there ∙ (ap (λ p. slice_get hub.rooms p) same ∙ at) in
+    let one : ◌≡◌ {A = List ℕ × RoomSessions} (home.room.name, home.room.room_sessions) (name, g) = cc in
+    subst (λ (k : RoomSessions). session_in k.sessions t ≡ Some home.session) (ap (λ (r : List ℕ × RoomSessions). r.1) one) home.is
 
--- nobody comes into the room or leaves it, and each still stands once
-record Keeps (old new : Group) : Type 0 where
+-- no session enters the room or leaves it, and each is still there only once
+record Keeps (old new : RoomSessions) : Type 0 where
   none : (t : ℕ) → session_in old.sessions t ≡ None → session_in new.sessions t ≡ None
   some : (t : ℕ) (x : Session) → session_in old.sessions t ≡ Some x → IsSome (session_in new.sessions t)
   once : EachOnce old.sessions → EachOnce new.sessions
 
-keeps_same : (old new : Group) → new ≡ old → Keeps old new
+keeps_same : (old new : RoomSessions) → new ≡ old → Keeps old new
 keeps_same old new same = record {
   none = λ t h. rw same h;
   some = λ t x h. rw (same, h) refl;
@@ -94,19 +97,19 @@ some_one : {X : Type 0} (o : Option X) → IsSome o → (x : X) × (o ≡ Some x
 some_one (Some x) h = (x, refl)
 some_one None h = absurd (cc h)
 
--- who is in the new room was in the old one, and so is at home
-stays_home : (hub : State) (place : ℕ) (name : List ℕ) (old new : Group) → IsHub hub → slice_get hub.rooms place ≡ Some (name, old) → Keeps old new
+-- a session of the new room was in the old one, so it is its room
+stays_home : (hub : State) (place : ℕ) (name : List ℕ) (old new : RoomSessions) → IsHub hub → slice_get hub.rooms place ≡ Some (name, old) → Keeps old new
     → (t : ℕ) (x : Session) → session_in new.sessions t ≡ Some x → place_of hub t ≡ Some place
 stays_home hub place name old new h at keeps t x is =
     by_finding (place_of hub t ≡ Some place) (session_in old.sessions t)
     (λ gone. absurd (cc (keeps.none t gone, is)))
     (λ y there. h.members place name old at t y there)
 
-in_group_is_hub : (old new : State) (place : ℕ) (answer : Answer) (Does : Group → Group → Type 0) (o : Option (List ℕ × Group)) → IsHub old
-    → ((g h : Group) → Does g h → Keeps g h) → slice_get old.rooms place ≡ o → InGroup place o old answer Does new → IsHub new
-in_group_is_hub old new place answer Does None h keeps at step = rw step.1 h
-in_group_is_hub old new place answer Does (Some there) h keeps at step =
-    let next = with_group place there.0 step.0 old in
+in_room_is_hub : (old new : State) (place : ℕ) (answer : Answer) (Does : RoomSessions → RoomSessions → Type 0) (o : Option (List ℕ × RoomSessions)) → IsHub old
+    → ((g h : RoomSessions) → Does g h → Keeps g h) → slice_get old.rooms place ≡ o → InRoom place o old answer Does new → IsHub new
+in_room_is_hub old new place answer Does None h keeps at step = rw step.1 h
+in_room_is_hub old new place answer Does (Some there) h keeps at step =
+    let next = with_room place there.0 step.0 old in
     let kept = keeps there.1 step.0 step.1 in
     subst IsHub (sym step.2) (record {
       made = h.made;
@@ -119,66 +122,67 @@ in_group_is_hub old new place answer Does (Some there) h keeps at step =
       once = set_once old next place there.0 step.0 h refl (kept.once (h.once place there.0 there.1 at));
     })
 
-at_home_is_hub : (old new : State) (answer : Answer) (Does : Group → Group → Type 0) (place : Option ℕ) → IsHub old
-    → ((g h : Group) → Does g h → Keeps g h) → AtPlace place old answer Does new → IsHub new
+at_home_is_hub : (old new : State) (answer : Answer) (Does : RoomSessions → RoomSessions → Type 0) (place : Option ℕ) → IsHub old
+    → ((g h : RoomSessions) → Does g h → Keeps g h) → AtPlace place old answer Does new → IsHub new
 at_home_is_hub old new answer Does None h keeps step = rw step.1 h
-at_home_is_hub old new answer Does (Some place) h keeps step = in_group_is_hub old new place answer Does (slice_get old.rooms place) h keeps refl step
+at_home_is_hub old new answer Does (Some place) h keeps step = in_room_is_hub old new place answer Does (slice_get old.rooms place) h keeps refl step
 
--- what is done in a room lets none in or out
+-- what is done in a room adds and removes no session
 
-keeps_only : (s : ℕ) (x y : Session) (old new : Group) → session_in old.sessions s ≡ Some x → OnlyAt s (Some y) old.sessions new.sessions → Keeps old new
+keeps_only : (s : ℕ) (x y : Session) (old new : RoomSessions) → session_in old.sessions s ≡ Some x → OnlyAt s (Some y) old.sessions new.sessions → Keeps old new
 keeps_only s x y old new e only = record {
   none = λ t none. rw (only.found t) (by_number (λ t b. session_in old.sessions t ≡ None → (if b then Some y else session_in old.sessions t) ≡ None) s t (λ absent. absurd (cc (e, absent))) (λ other is. is) none);
   some = λ t z is. rw (only.found t) (by_number (λ t b. session_in old.sessions t ≡ Some z → IsSome (if b then Some y else session_in old.sessions t)) s t (λ there. refl) (λ other there. rw there refl) is);
   once = only.once;
 }
 
-edit_keeps : (s short id : ℕ) (x : Session) (patch : List Op) (o : Result Document EditFault) (old new : Group) → session_in old.sessions s ≡ Some x
-    → EditServed s x id patch o short old new → Keeps old new
-edit_keeps s short id x patch (Err fault) old new e h = keeps_only s x (replied h.1 x) old new e h.3.1
-edit_keeps s short id x patch (Ok d) old new e h =
+edit_keeps : (budget : Budget) (s short id : ℕ) (x : Session) (patch : List Op) (o : Result Document EditFault) (old new : RoomSessions) → session_in old.sessions s ≡ Some x
+    → EditServed budget s x id patch o short old new → Keeps old new
+edit_keeps budget s short id x patch (Err fault) old new e h = keeps_only s x (replied h.1 x) old new e h.3.1
+edit_keeps budget s short id x patch (Ok d) old new e h =
     let before = old.room.document in
     let changes = all_changes before patch in
-    let mid = group new.room h.1 in
-    let answered = keeps_only s x (replied (Done id (revision new.room)) x) old mid e h.2 in
-    let told = each_told before changes new.room h.1 new.sessions short h.3 in
+    let room = h.0 in
+    let mid = room_sessions room h.2 in
+    let answered = keeps_only s x (replied (Done id (revision room)) x) old mid e h.3 in
+    let told = each_told before changes room h.2 new.sessions short h.4 in
     record {
-      none = λ t none. none_told before changes new.room (session_in h.1 t) (session_in new.sessions t) (told t) (answered.none t none);
+      none = λ t none. none_told before changes room (session_in h.2 t) (session_in new.sessions t) (told t) (answered.none t none);
       some = λ t z is.
-          let there = some_one (session_in h.1 t) (answered.some t z is) in
-          some_told before changes new.room (session_in h.1 t) (session_in new.sessions t) there.0 (told t) there.1;
-      once = λ once. once_told before changes new.room h.1 new.sessions short h.3 (answered.once once);
+          let there = some_one (session_in h.2 t) (answered.some t z is) in
+          some_told before changes room (session_in h.2 t) (session_in new.sessions t) there.0 (told t) there.1;
+      once = λ once. once_told before changes room h.2 new.sessions short h.4 (answered.once once);
     }
 
-resume_keeps : (present past : Bool) (id rev s : ℕ) (pointers : View) (x : Session) (old new : Group) → session_in old.sessions s ≡ Some x
+resume_keeps : (present past : Bool) (id rev s : ℕ) (pointers : View) (x : Session) (old new : RoomSessions) → session_in old.sessions s ≡ Some x
     → ResumeServed present past id rev pointers s x old new → Keeps old new
 resume_keeps false past id rev s pointers x old new e h = keeps_only s x (resumes (revision old.room) id pointers Snapshot x) old new e h.1
 resume_keeps true false id rev s pointers x old new e h = keeps_only s x (replied (refused (future_refusal id)) x) old new e h.1
-resume_keeps true true id rev s pointers x old new e h = keeps_only s x (resumes (revision old.room) id pointers (caught_up old.room rev pointers) x) old new e h.2.1
+resume_keeps true true id rev s pointers x old new e h = keeps_only s x (resumes (revision old.room) id pointers (caught_up_within x.budget old.room rev pointers) x) old new e h.2.1
 
-serve_keeps : (epoch s short : ℕ) (x : Session) (request : Result Request Refusal) (old new : Group) → session_in old.sessions s ≡ Some x
-    → Serves epoch s x request short old new → Keeps old new
-serve_keeps epoch s short x (Err r) old new e h = keeps_only s x (replied (refused r) x) old new e h.1.1
-serve_keeps epoch s short x (Ok (Watch id pointers)) old new e h = keeps_only s x (watches id pointers x) old new e h.1.1
-serve_keeps epoch s short x (Ok (Unwatch id)) old new e h = keeps_only s x (unwatches id x) old new e h.1.1
-serve_keeps epoch s short x (Ok (Resume id n rev pointers)) old new e h = resume_keeps (n == epoch) (nat_le rev (revision old.room)) id rev s pointers x old new e h.1
-serve_keeps epoch s short x (Ok (Edit id base patch)) old new e h = edit_keeps s short id x patch (edited old.room base patch) old new e h
+serve_keeps : (made : HubConfig) (s short : ℕ) (x : Session) (request : Result Request Refusal) (old new : RoomSessions) → session_in old.sessions s ≡ Some x
+    → Serves made s x request short old new → Keeps old new
+serve_keeps made s short x (Err r) old new e h = keeps_only s x (replied (refused r) x) old new e h.1.1
+serve_keeps made s short x (Ok (Watch id pointers)) old new e h = keeps_only s x (watches id pointers x) old new e h.1.1
+serve_keeps made s short x (Ok (Unwatch id)) old new e h = keeps_only s x (unwatches id x) old new e h.1.1
+serve_keeps made s short x (Ok (Resume id n rev pointers)) old new e h = resume_keeps (n == made.epoch) (nat_le rev (revision old.room)) id rev s pointers x old new e h.1
+serve_keeps made s short x (Ok (Edit id base patch)) old new e h = edit_keeps made.history_weight s short id x patch (edited old.room base patch) old new e h
 
-receive_keeps : (epoch s : ℕ) (o : Option Session) (text : List ℕ) (answer : Answer) (old new : Group) → session_in old.sessions s ≡ o
-    → Receives epoch s o text answer old new → Keeps old new
-receive_keeps epoch s None text NoSession old new e h = keeps_same old new h
-receive_keeps epoch s (Some x) text (Heard Busy) old new e h = keeps_same old new h.1
-receive_keeps epoch s (Some x) text (Heard (Answered short)) old new e h = serve_keeps epoch s short x (request_of_text text) old new e h.1
-receive_keeps epoch s o text answer old new e h = absurd h
+receive_keeps : (made : HubConfig) (s : ℕ) (o : Option Session) (text : List ℕ) (answer : Answer) (old new : RoomSessions) → session_in old.sessions s ≡ o
+    → Receives made s o text answer old new → Keeps old new
+receive_keeps made s None text NoSession old new e h = keeps_same old new h
+receive_keeps made s (Some x) text (Heard Busy) old new e h = keeps_same old new h.1
+receive_keeps made s (Some x) text (Heard (Answered short)) old new e h = serve_keeps made s short x (request_of_text text) old new e h.1
+receive_keeps made s o text answer old new e h = absurd h
 
-draw_keeps : (s : ℕ) (o : Option Session) (answer : Answer) (old new : Group) → session_in old.sessions s ≡ o → Draws s o answer old new → Keeps old new
+draw_keeps : (s : ℕ) (o : Option Session) (answer : Answer) (old new : RoomSessions) → session_in old.sessions s ≡ o → Draws s o answer old new → Keeps old new
 draw_keeps s None NoSession old new e h = keeps_same old new h
 draw_keeps s (Some x) (Drawn text) old new e h = keeps_only s x (drawn x) old new e h.1.1
 draw_keeps s o answer old new e h = absurd h
 
--- a newcomer
+-- a new session
 
--- who was at home somewhere is not the newcomer
+-- a session that already had a room is not the new one
 not_new : (old : State) (n t p : ℕ) → IsHub old → n ≡ old.next → place_of old t ≡ Some p → n ≢ t
 not_new old n t p h number at same = let none : place_of old t ≡ None = h.below t (omega (arith, number, same)) in absurd (cc (none, at))
 
@@ -199,38 +203,60 @@ joins_alone old new name n place i h number home step =
     let g = step.2 in
     set_alone old new i step.1 step.3 h step.5 (λ t p at other. opens_stays old new n place t p h number home at)
     (λ t x is. rw (home t) (by_number
-    (λ t b. (if b then Some (newcomer old.made.epoch (revision g.room) n old.made.waiting) else session_in g.sessions t) ≡ Some x → (if b then Some place else place_of old t) ≡ Some i) n t
+    (λ t b. (if b then Some (newcomer old.made (revision g.room) n) else session_in g.sessions t) ≡ Some x → (if b then Some place else place_of old t) ≡ Some i) n t
     (λ here. ap Some step.0) (λ other there. h.members i step.1 g step.4 t x there) (sym (step.6.1.found t) ∙ is)))
 
-founds_alone : (old new : State) (name : List ℕ) (n place : ℕ) → IsHub old → n ≡ old.next
-    → ((t : ℕ) → place_of new t ≡ (if n == t then Some place else place_of old t)) → Enters n name None old place new → StandAlone new
-founds_alone old new name n place h number home step p known g at t x is =
-    let first = newcomer old.made.epoch 0 n old.made.waiting in
-    let room : List ℕ × Group = (name, group (begun null 0 old.made.history) (first ∷ [])) in
+-- the room that an opening makes
+abbrev founded : State → List ℕ → ℕ → List ℕ × RoomSessions
+founded old name n = (name, room_sessions (begun null 0 old.made.history) (newcomer old.made 0 n ∷ []))
+
+-- the newcomer alone stands in it
+founded_alone : (old new : State) (n place t : ℕ) (x : Session) → ((t : ℕ) → place_of new t ≡ (if n == t then Some place else place_of old t))
+    → session_in (newcomer old.made 0 n ∷ []) t ≡ Some x → place_of new t ≡ Some place
+founded_alone old new n place t x home is =
+    let first = newcomer old.made 0 n in
+    rw (home t) (by_number (λ t b. (if b then Some first else None) ≡ Some x → (if b then Some place else place_of old t) ≡ Some place) n t
+    (λ here. refl) (λ other none. absurd (cc none)) is)
+
+-- nobody is at home in a room that is vacant
+not_vacant : (old : State) (i t : ℕ) (v : Vacant old.rooms i) (home : Home old t) → home.room.place ≡ i → ⊥
+not_vacant old i t v home same =
+    let is = same_home old t i v.name v.room_sessions home v.there same in
+    let none : session_in v.room_sessions.sessions t ≡ None = rw v.empty refl in
+    absurd (cc (is, none))
+
+founds_alone : (old new : State) (name : List ℕ) (n place : ℕ) (o : Option ℕ) → IsHub old → n ≡ old.next
+    → ((t : ℕ) → place_of new t ≡ (if n == t then Some place else place_of old t)) → Founds o (founded old name n) old.rooms place new.rooms → StandAlone new
+founds_alone old new name n place (Some i) h number home step p known g at t x is =
+    set_alone old new i name (founded old name n).1 h step.1 (λ t p at other. opens_stays old new n place t p h number home at)
+    (λ t x is. founded_alone old new n place t x home is ∙ ap Some step.0) p known g at t x is
+founds_alone old new name n place None h number home step p known g at t x is =
+    let room = founded old name n in
     elim (append_cases old.rooms p room (known, g) (ap (λ rooms. slice_get rooms p) (sym step.1) ∙ at)) [
       | inl k ↦
-          let there : session_in (first ∷ []) t ≡ Some x = ap (λ (r : List ℕ × Group). session_in r.1.sessions t) (sym k.1) ∙ is in
-          rw (home t) (by_number (λ t b. (if b then Some first else None) ≡ Some x → (if b then Some place else place_of old t) ≡ Some p) n t
-          (λ here. ap Some (step.0 ∙ sym k.0)) (λ other none. absurd (cc none)) there)
+          let there : session_in room.1.sessions t ≡ Some x = ap (λ (r : List ℕ × RoomSessions). session_in r.1.sessions t) (sym k.1) ∙ is in
+          founded_alone old new n place t x home there ∙ ap Some (step.0 ∙ sym k.0)
       | inr k ↦ opens_stays old new n place t p h number home (h.members p known g k.1 t x is)
     ]
 
 enters_alone : (old new : State) (name : List ℕ) (n place : ℕ) (o : Option ℕ) → IsHub old → n ≡ old.next
     → ((t : ℕ) → place_of new t ≡ (if n == t then Some place else place_of old t)) → Enters n name o old place new → StandAlone new
 enters_alone old new name n place (Some i) h number home step = joins_alone old new name n place i h number home step
-enters_alone old new name n place None h number home step = founds_alone old new name n place h number home step
+enters_alone old new name n place None h number home step = founds_alone old new name n place (vacant_place old.made.rooms old.rooms) h number home step
 
-enters_once : (old new : State) (name : List ℕ) (n place : ℕ) (o : Option ℕ) → IsHub old → Enters n name o old place new → StandOnce new
-enters_once old new name n place (Some i) h step = set_once old new i step.1 step.3 h step.5 (step.6.1.once (h.once i step.1 step.2 step.4))
-enters_once old new name n place None h step = λ p known g at.
-    let first = newcomer old.made.epoch 0 n old.made.waiting in
-    let room : List ℕ × Group = (name, group (begun null 0 old.made.history) (first ∷ [])) in
-    elim (append_cases old.rooms p room (known, g) (ap (λ rooms. slice_get rooms p) (sym step.1) ∙ at)) [
-      | inl k ↦ rw (ap (λ (r : List ℕ × Group). r.1) k.1) (refl, tt)
+founds_once : (old new : State) (name : List ℕ) (n place : ℕ) (o : Option ℕ) → IsHub old → Founds o (founded old name n) old.rooms place new.rooms → StandOnce new
+founds_once old new name n place (Some i) h step = set_once old new i name (founded old name n).1 h step.1 (refl, tt)
+founds_once old new name n place None h step = λ p known g at.
+    elim (append_cases old.rooms p (founded old name n) (known, g) (ap (λ rooms. slice_get rooms p) (sym step.1) ∙ at)) [
+      | inl k ↦ rw (ap (λ (r : List ℕ × RoomSessions). r.1) k.1) (refl, tt)
       | inr k ↦ h.once p known g k.1
     ]
 
--- who is at home after an opening is the newcomer, or was before
+enters_once : (old new : State) (name : List ℕ) (n place : ℕ) (o : Option ℕ) → IsHub old → Enters n name o old place new → StandOnce new
+enters_once old new name n place (Some i) h step = set_once old new i step.1 step.3 h step.5 (step.6.1.once (h.once i step.1 step.2 step.4))
+enters_once old new name n place None h step = founds_once old new name n place (vacant_place old.made.rooms old.rooms) h step
+
+-- a session that has a room after an opening is the new one, or had it before
 home_cases : (old new : State) (n place t p : ℕ) → ((t : ℕ) → place_of new t ≡ (if n == t then Some place else place_of old t)) → place_of new t ≡ Some p
     → ((n ≡ t) × (p ≡ place)) ⊎ ((n ≢ t) × (place_of old t ≡ Some p))
 home_cases old new n place t p home at =
@@ -240,19 +266,68 @@ home_cases old new n place t p home at =
       | inr other ↦ let there : place_of old t ≡ Some p = rw other.0 at found in inr (other.1, there)
     ]
 
+founds_homes : (old new : State) (name : List ℕ) (n place : ℕ) (o : Option ℕ) → vacant_place old.made.rooms old.rooms ≡ o → IsHub old → n ≡ old.next
+    → ((t : ℕ) → place_of new t ≡ (if n == t then Some place else place_of old t)) → Founds o (founded old name n) old.rooms place new.rooms
+    → (t p : ℕ) → place_of new t ≡ Some p → Home new t
+founds_homes old new name n place (Some i) is_vacant h number home step t p at =
+    let room = founded old name n in
+    let v = vacant old.made.rooms old.rooms i is_vacant in
+    elim (home_cases old new n place t p home at) [
+      | inl mine ↦
+          let here : p ≡ i = mine.1 ∙ step.0 in
+          let test : (n == t) ≡ true = grind (arith, nat_tests, mine.0) in
+          record {
+            room = record { place = p; name = name; room_sessions = room.1; there = rw (here, step.1) (slice_get-set old.rooms i (v.name, v.room_sessions) room v.there) };
+            session = newcomer old.made 0 n;
+            at = at;
+            is = rw test refl;
+          }
+      | inr other ↦
+          let was = h.homes t p other.1 in
+          let r = was.room in
+          record {
+            room = record { place = r.place; name = r.name; room_sessions = r.room_sessions; there = rw (step.1, slice_get-set_other old.rooms i r.place room (not_vacant old i t v was)) r.there };
+            session = was.session;
+            at = opens_stays old new n place t r.place h number home was.at;
+            is = was.is;
+          }
+    ]
+founds_homes old new name n place None is_vacant h number home step t p at =
+    let room = founded old name n in
+    elim (home_cases old new n place t p home at) [
+      | inl mine ↦
+          let here : p ≡ length old.rooms = mine.1 ∙ step.0 in
+          let test : (n == t) ≡ true = grind (arith, nat_tests, mine.0) in
+          record {
+            room = record { place = p; name = name; room_sessions = room.1; there = rw (here, step.1) (slice_get-last old.rooms room) };
+            session = newcomer old.made 0 n;
+            at = at;
+            is = rw test refl;
+          }
+      | inr other ↦
+          let was = h.homes t p other.1 in
+          let r = was.room in
+          record {
+            room = record { place = r.place; name = r.name; room_sessions = r.room_sessions; there = rw step.1 (slice_get-earlier old.rooms room (r.name, r.room_sessions) r.place r.there) };
+            session = was.session;
+            at = opens_stays old new n place t r.place h number home was.at;
+            is = was.is;
+          }
+    ]
+
 enters_homes : (old new : State) (name : List ℕ) (n place : ℕ) (o : Option ℕ) → IsHub old → n ≡ old.next
     → ((t : ℕ) → place_of new t ≡ (if n == t then Some place else place_of old t)) → Enters n name o old place new
     → (t p : ℕ) → place_of new t ≡ Some p → Home new t
 enters_homes old new name n place (Some i) h number home step t p at =
     let g = step.2 in
     let k = step.3 in
-    let x = newcomer old.made.epoch (revision g.room) n old.made.waiting in
+    let x = newcomer old.made (revision g.room) n in
     elim (home_cases old new n place t p home at) [
       | inl mine ↦
           let here : p ≡ i = mine.1 ∙ step.0 in
           let test : (n == t) ≡ true = grind (arith, nat_tests, mine.0) in
           record {
-            room = record { place = p; name = step.1; group = k; there = rw (here, step.5) (slice_get-set old.rooms i (step.1, g) (step.1, k) step.4) };
+            room = record { place = p; name = step.1; room_sessions = k; there = rw (here, step.5) (slice_get-set old.rooms i (step.1, g) (step.1, k) step.4) };
             session = x;
             at = at;
             is = rw (step.6.1.found t, test) refl;
@@ -265,29 +340,7 @@ enters_homes old new name n place (Some i) h number home step t p at =
           let test : (n == t) ≡ false = grind (arith, nat_tests, other.0) in
           (was.session, rw (step.6.1.found t, test) (same_home old t i step.1 g was step.4 same)))
     ]
-enters_homes old new name n place None h number home step t p at =
-    let x = newcomer old.made.epoch 0 n old.made.waiting in
-    let g = group (begun null 0 old.made.history) (x ∷ []) in
-    elim (home_cases old new n place t p home at) [
-      | inl mine ↦
-          let here : p ≡ length old.rooms = mine.1 ∙ step.0 in
-          let test : (n == t) ≡ true = grind (arith, nat_tests, mine.0) in
-          record {
-            room = record { place = p; name = name; group = g; there = rw (here, step.1) (slice_get-last old.rooms (name, g)) };
-            session = x;
-            at = at;
-            is = rw test refl;
-          }
-      | inr other ↦
-          let was = h.homes t p other.1 in
-          let r = was.room in
-          record {
-            room = record { place = r.place; name = r.name; group = r.group; there = rw step.1 (slice_get-earlier old.rooms (name, g) (r.name, r.group) r.place r.there) };
-            session = was.session;
-            at = opens_stays old new n place t r.place h number home was.at;
-            is = was.is;
-          }
-    ]
+enters_homes old new name n place None h number home step t p at = founds_homes old new name n place (vacant_place old.made.rooms old.rooms) refl h number home step t p at
 
 open_is_hub : (old new : State) (name : List ℕ) (n : ℕ) → IsHub old → Opens old name n new → IsHub new
 open_is_hub old new name n h step = record {
@@ -298,13 +351,13 @@ open_is_hub old new name n h step = record {
   once = enters_once old new name n step.place (place_named name old.rooms) h step.enters;
 }
 
--- a session that goes
+-- a session that is closed
 
 otherwise : {X : Type 0} (b : Bool) (u v w : X) → b ≡ false → w ≡ (if b then u else v) → w ≡ v
 otherwise true u v w other is = absurd (cc other)
 otherwise false u v w other is = is
 
-closes_is_hub : (old new : State) (s : ℕ) (r : RoomOf old) → IsHub old → place_of old s ≡ Some r.place → Closes s r.place r.name r.group old new → IsHub new
+closes_is_hub : (old new : State) (s : ℕ) (r : RoomOf old) → IsHub old → place_of old s ≡ Some r.place → Closes s r.place r.name r.room_sessions old new → IsHub new
 closes_is_hub old new s r h home step = record {
   made = rw step.made h.made;
   homes = λ t p t_at.
@@ -315,43 +368,43 @@ closes_is_hub old new s r h home step = record {
             let before : place_of old t ≡ Some p = rw other.0 at found in
             let was = h.homes t p before in
             let still : place_of new t ≡ Some was.room.place = otherwise (s == t) None (place_of old t) (place_of new t) other.0 (step.home t) ∙ was.at in
-            set_homes old new r.place r.name r.group step.left r.there step.rooms t was still
-            (λ same. (was.session, otherwise (s == t) None (session_in r.group.sessions t) (session_in step.left.sessions t) other.0 (step.leaves.1.found t) ∙ same_home old t r.place r.name r.group was r.there same))
+            set_homes old new r.place r.name r.room_sessions step.left r.there step.rooms t was still
+            (λ same. (was.session, otherwise (s == t) None (session_in r.room_sessions.sessions t) (session_in step.left.sessions t) other.0 (step.leaves.1.found t) ∙ same_home old t r.place r.name r.room_sessions was r.there same))
       ];
-  once = set_once old new r.place r.name step.left h step.rooms (step.leaves.1.once (h.once r.place r.name r.group r.there));
+  once = set_once old new r.place r.name step.left h step.rooms (step.leaves.1.once (h.once r.place r.name r.room_sessions r.there));
   below = λ t late. rw (step.home t) (by_number (λ t b. place_of old t ≡ None → (if b then None else place_of old t) ≡ None) s t (λ e. refl) (λ other e. e)
       (h.below t (omega (arith, late, step.next))));
   members = set_alone old new r.place r.name step.left h step.rooms
       (λ t p is other. rw (step.home t) (by_number (λ t b. place_of old t ≡ Some p → (if b then None else place_of old t) ≡ Some p) s t
       (λ e. let same : Some p ≡ Some r.place = sym e ∙ home in absurd (other cc)) (λ apart e. e) is))
-      (λ t x is. rw (step.home t) (by_number (λ t b. (if b then None else session_in r.group.sessions t) ≡ Some x → (if b then None else place_of old t) ≡ Some r.place) s t
-      (λ e. absurd (cc e)) (λ apart e. h.members r.place r.name r.group r.there t x e) (sym (step.leaves.1.found t) ∙ is)));
+      (λ t x is. rw (step.home t) (by_number (λ t b. (if b then None else session_in r.room_sessions.sessions t) ≡ Some x → (if b then None else place_of old t) ≡ Some r.place) s t
+      (λ e. absurd (cc e)) (λ apart e. h.members r.place r.name r.room_sessions r.there t x e) (sym (step.leaves.1.found t) ∙ is)));
 }
 
 close_in_is_hub : (old new : State) (s : ℕ) (r : RoomOf old) (o : Option Session) (answer : Answer) → IsHub old → place_of old s ≡ Some r.place
-    → ClosesIn s r.place r.name r.group o old answer new → IsHub new
+    → ClosesIn s r.place r.name r.room_sessions o old answer new → IsHub new
 close_in_is_hub old new s r None NoSession h home step = rw step h
 close_in_is_hub old new s r (Some x) Closed h home step = closes_is_hub old new s r h home step
 close_in_is_hub old new s r o answer h home step = absurd step
 
-close_group_is_hub : (old new : State) (s place : ℕ) (o : Option (List ℕ × Group)) (answer : Answer) → IsHub old → place_of old s ≡ Some place
-    → slice_get old.rooms place ≡ o → ClosesGroup s place o old answer new → IsHub new
-close_group_is_hub old new s place None answer h home at step = rw step.1 h
-close_group_is_hub old new s place (Some there) answer h home at step =
-    let r : RoomOf old = record { place = place; name = there.0; group = there.1; there = at } in
+close_in_room_is_hub : (old new : State) (s place : ℕ) (o : Option (List ℕ × RoomSessions)) (answer : Answer) → IsHub old → place_of old s ≡ Some place
+    → slice_get old.rooms place ≡ o → ClosesInRoom s place o old answer new → IsHub new
+close_in_room_is_hub old new s place None answer h home at step = rw step.1 h
+close_in_room_is_hub old new s place (Some there) answer h home at step =
+    let r : RoomOf old = record { place = place; name = there.0; room_sessions = there.1; there = at } in
     close_in_is_hub old new s r (session_in there.1.sessions s) answer h home step
 
 close_is_hub : (old new : State) (s : ℕ) (o : Option ℕ) (answer : Answer) → IsHub old → place_of old s ≡ o → ClosesAt s o old answer new → IsHub new
 close_is_hub old new s None answer h home step = rw step.1 h
-close_is_hub old new s (Some place) answer h home step = close_group_is_hub old new s place (slice_get old.rooms place) answer h home refl step
+close_is_hub old new s (Some place) answer h home step = close_in_room_is_hub old new s place (slice_get old.rooms place) answer h home refl step
 
--- a step keeps a hub one
+-- a step keeps `IsHub`
 pub step_is_hub : (old new : State) (event : Event) (answer : Answer) → IsHub old → Step old event answer new → IsHub new
 step_is_hub old new (Open name) (Opened n) h step = open_is_hub old new name n h step.1
 step_is_hub old new (Open name) (NotOpened fault) h step = rw step.1 h
 step_is_hub old new (Receive s text) answer h step =
-    at_home_is_hub old new answer (λ g k. Receives old.made.epoch s (session_in g.sessions s) text answer g k) (place_of old s) h
-    (λ g k does. receive_keeps old.made.epoch s (session_in g.sessions s) text answer g k refl does) step
+    at_home_is_hub old new answer (λ g k. Receives old.made s (session_in g.sessions s) text answer g k) (place_of old s) h
+    (λ g k does. receive_keeps old.made s (session_in g.sessions s) text answer g k refl does) step
 step_is_hub old new (Draw s) answer h step =
     at_home_is_hub old new answer (λ g k. Draws s (session_in g.sessions s) answer g k) (place_of old s) h
     (λ g k does. draw_keeps s (session_in g.sessions s) answer g k refl does) step

@@ -1,5 +1,5 @@
 -- Opening a session: the reasons not to, and the room that it enters.
-use Rattle.std.proofs.Common.{◌≡◌, ℕ, ◌+◌, ◌<◌, ◌≤◌, Bool, true, false, List, [], ◌∷◌, Option, Some, None, refl, ◌∙◌, ap, length, arith, cond, position, bytes_eq, string_bytes, is_some, not, ◌&&◌, nat_le, nat_lt}
+use Rattle.std.proofs.Common.{◌≡◌, ℕ, ◌+◌, ◌<◌, ◌≤◌, true, false, List, [], ◌∷◌, Some, None, refl, ◌∙◌, ap, length, arith, cond, position, bytes_eq, string_bytes, not, nat_le, nat_lt}
 use Rattle.std.specs.List.{position_or_len}
 use Rattle.std.specs.Map.{keys_of, lookup}
 use Rattle.std.specs.String.{string_eq}
@@ -9,51 +9,46 @@ use Rattle.std.proofs.lemmas.List.{length-map}
 use Rattle.std.proofs.lemmas.Map.Entries.{length-keys_of}
 use Rattle.indexmap.proofs.MapLemmas.{Missing-position}
 use Rattle.relay_proto.specs.RoomName.{is_room_name}
-use Rattle.relay_tree.specs.declared.count.TheConstants.{COUNT_MOST}
-use Rattle.relay_hub.specs.Kept.{named, rooms_of}
-use Rattle.relay_hub.specs.State.{Group, State, place_named}
+use Rattle.relay_tree.specs.declared.count.TheConstants.{MAX_COUNT}
+use Rattle.relay_hub.specs.Representation.{named, rooms_of}
+use Rattle.relay_hub.specs.State.{RoomSessions, State, place_named, is_crowded}
 use Rattle.relay_hub.specs.Step.{open_fault}
 use Rattle.relay_hub.specs.declared.fault.OpenFault.TheVariants.{RoomsFull, SessionsFull, Exhausted}
-use Rattle.relay_hub.specs.declared.hub.TheConstants.{ROOMS_MOST, SESSIONS_MOST}
 
 -- Names.
 
-place_or_len : {A : Type 0} (name : List ℕ) (es : List (String A × Group))
+place_or_len : {A : Type 0} (name : List ℕ) (es : List (String A × RoomSessions))
     → position_or_len (λ key. bytes_eq name (string_bytes key)) (keys_of es) ≡ position_or_len (λ room. bytes_eq name room.0) (rooms_of es)
 place_or_len name [] = refl
 place_or_len name (e ∷ es) = ap (λ n. cond (not (bytes_eq name (string_bytes e.0))) (1 + n) 0) (place_or_len name es)
 
 -- the place of a key is that of the room of its name
-pub place_is : {A : Type 0} (name : List ℕ) (es : List (String A × Group)) → position (λ key. bytes_eq name (string_bytes key)) (keys_of es) ≡ place_named name (rooms_of es)
+pub place_is : {A : Type 0} (name : List ℕ) (es : List (String A × RoomSessions)) → position (λ key. bytes_eq name (string_bytes key)) (keys_of es) ≡ place_named name (rooms_of es)
 place_is name es = rw (place_or_len name es, length-keys_of es, length-map es named) refl
 
 -- a name of no room is no key
-pub absent : {A : Type 0} (key : String A) (es : List (String A × Group)) → place_named (string_bytes key) (rooms_of es) ≡ None → lookup (string_eq key) es ≡ None
+pub absent : {A : Type 0} (key : String A) (es : List (String A × RoomSessions)) → place_named (string_bytes key) (rooms_of es) ≡ None → lookup (string_eq key) es ≡ None
 absent key es none = (Missing-position (string_eq key) es (place_is (string_bytes key) es ∙ none)).value
 
 -- The reasons not to open a session, in the order of the checks.
-
--- there are as many rooms as there may be, and another one is wanted
-abbrev pub is_crowded : Option ℕ → State → Bool
-is_crowded place hub = not (is_some place) && nat_le ROOMS_MOST (length hub.rooms)
 
 module _ (hub : State) (name : List ℕ) (right : is_room_name name ≡ true) where
   pub rooms_full : is_crowded (place_named name hub.rooms) hub ≡ true → open_fault hub name ≡ Some RoomsFull
   rooms_full crowded = rw (right, crowded) refl
 
   module _ (free : is_crowded (place_named name hub.rooms) hub ≡ false) where
-    pub sessions_full : SESSIONS_MOST ≤ length hub.homes → open_fault hub name ≡ Some SessionsFull
-    sessions_full full = let f : nat_le SESSIONS_MOST (length hub.homes) ≡ true = grind (arith, nat_tests, full) in rw (right, free, f) refl
+    pub sessions_full : hub.made.sessions ≤ length hub.homes → open_fault hub name ≡ Some SessionsFull
+    sessions_full full = let f : nat_le hub.made.sessions (length hub.homes) ≡ true = grind (arith, nat_tests, full) in rw (right, free, f) refl
 
-    module _ (few : length hub.homes < SESSIONS_MOST) where
-      pub exhausted : COUNT_MOST < hub.next → open_fault hub name ≡ Some Exhausted
+    module _ (few : length hub.homes < hub.made.sessions) where
+      pub exhausted : MAX_COUNT < hub.next → open_fault hub name ≡ Some Exhausted
       exhausted past =
-          let f : nat_le SESSIONS_MOST (length hub.homes) ≡ false = grind (arith, nat_tests, few) in
-          let g : nat_lt COUNT_MOST hub.next ≡ true = grind (arith, nat_tests, past) in
+          let f : nat_le hub.made.sessions (length hub.homes) ≡ false = grind (arith, nat_tests, few) in
+          let g : nat_lt MAX_COUNT hub.next ≡ true = grind (arith, nat_tests, past) in
           rw (right, free, f, g) refl
 
-      pub admitted : hub.next ≤ COUNT_MOST → open_fault hub name ≡ None
+      pub admitted : hub.next ≤ MAX_COUNT → open_fault hub name ≡ None
       admitted left =
-          let f : nat_le SESSIONS_MOST (length hub.homes) ≡ false = grind (arith, nat_tests, few) in
-          let g : nat_lt COUNT_MOST hub.next ≡ false = grind (arith, nat_tests, left) in
+          let f : nat_le hub.made.sessions (length hub.homes) ≡ false = grind (arith, nat_tests, few) in
+          let g : nat_lt MAX_COUNT hub.next ≡ false = grind (arith, nat_tests, left) in
           rw (right, free, f, g) refl

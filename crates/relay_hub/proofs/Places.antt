@@ -1,11 +1,11 @@
--- Finding by number and by place, in lists where one was changed or came.
+-- Finding by number and by place, in lists in which an element was changed or added.
 use Rattle.std.proofs.Common.{◌≡◌, ◌≢◌, ℕ, zero, suc, ◌+◌, ◌<◌, ◌==◌, ◌⊎◌, inl, inr, Bool, true, false, List, [], ◌∷◌, ◌++◌, length, get_or, not, length-append, Option, Some, None, refl, sym, ◌∙◌, ap, subst, arith, slice_get, slice_set, position, nat_lt, if◌then◌else◌}
 use Rattle.std.specs.List.{position_or_len}
 use Rattle.std.proofs.lemmas.Bool.Decides.{nat_tests}
 use Rattle.std.proofs.lemmas.List.{length-set}
 use Rattle.std.proofs.lemmas.List.Folds.{position_or_len-set, position_or_len_push}
 use Rattle.std.proofs.lemmas.List.Sums.{prefix_len-le-length}
-use Rattle.std.proofs.lemmas.Option.{get_or_from_slice_get}
+use Rattle.std.proofs.lemmas.Option.{get_or_from_slice_get, slice_get_within}
 use Rattle.std.proofs.lemmas.Bool.Decides.{eqb_tells}
 
 -- cases on whether two numbers are the same
@@ -16,12 +16,12 @@ by_number P s t same other =
       | inr h ↦ rw h.0 (other h.1)
     ]
 
--- what is there, is there or not
+-- cases on whether there is a value
 pub by_finding : {X : Type 0} (P : Type 0) (o : Option X) → (o ≡ None → P) → ((x : X) → o ≡ Some x → P) → P
 by_finding P None none some = none refl
 by_finding P (Some x) none some = some x refl
 
--- where one was written, it or another is found
+-- after a write, what is found is the new element, or another place's
 pub slice_set_cases : {X : Type 0} (xs : List X) (i p : ℕ) (v x : X) → slice_get (slice_set xs i v) p ≡ Some x
     → ((p ≡ i) × (x ≡ v)) ⊎ ((p ≢ i) × (slice_get xs p ≡ Some x))
 slice_set_cases [] i p v x h = absurd cc
@@ -33,7 +33,7 @@ slice_set_cases (y ∷ ys) (suc i) (suc p) v x h =
     ]
 slice_set_cases (y ∷ ys) _ _ v x h = inr (λ e. omega (arith, e), h)
 
--- where one was appended, it or an earlier one is found
+-- after an append, what is found is the new element or an earlier one
 pub append_cases : {X : Type 0} (xs : List X) (p : ℕ) (v x : X) → slice_get (xs ++ v ∷ []) p ≡ Some x
     → ((p ≡ length xs) × (x ≡ v)) ⊎ ((p < length xs) × (slice_get xs p ≡ Some x))
 append_cases [] zero v x h = inl (refl, cc)
@@ -71,7 +71,7 @@ slice_get-last (y ∷ ys) d = slice_get-last ys d
 
 -- The first place that passes a test.
 
--- what a place that is found or not tells
+-- what follows if a place is found or not
 pub tested : (b : Bool) (n i : ℕ) → (if b then Some n else None) ≡ Some i → (b ≡ true) × (i ≡ n)
 tested true n i h = (refl, cc)
 tested false n i h = absurd (cc h)
@@ -115,3 +115,53 @@ position_last test xs v h passes =
     let last : length xs + 0 ≡ length xs = omega arith in
     let inside : nat_lt (length xs) (length (xs ++ v ∷ [])) ≡ true = grind (arith, nat_tests, length-append xs (v ∷ [])) in
     rw (position_or_len_push test xs v, here, passes, last, inside) refl
+
+written_step : (b : Bool) (n m l i : ℕ) → (if not b then 1 + n else 0) ≡ suc l → (n ≡ l → m ≡ i) → (if not b then 1 + m else 0) ≡ suc i
+written_step true n m l i h rest = absurd (omega (arith, h))
+written_step false n m l i h rest = let r = rest (omega (arith, h)) in omega (arith, r)
+
+written_at : {X : Type 0} (test : X → Bool) (xs : List X) (i : ℕ) (v : X) → position_or_len test xs ≡ length xs → test v ≡ true → i < length xs
+    → position_or_len test (slice_set xs i v) ≡ i
+written_at test [] i v all passes within = absurd (omega (arith, within))
+written_at test (x ∷ xs) zero v all passes within = rw passes refl
+written_at test (x ∷ xs) (suc i) v all passes within =
+    written_step (test x) (position_or_len test xs) (position_or_len test (slice_set xs i v)) (length xs) i all
+    (λ rest. written_at test xs i v rest passes (omega (arith, within)))
+
+-- where none passed, and one that passes was written
+pub position_written : {X : Type 0} (test : X → Bool) (xs : List X) (i : ℕ) (v : X) → position test xs ≡ None → test v ≡ true → i < length xs
+    → position test (slice_set xs i v) ≡ Some i
+position_written test xs i v none passes within =
+    let n = position_or_len test xs in
+    let t : nat_lt n (length xs) ≡ false = untested (nat_lt n (length xs)) n none in
+    let all : n ≡ length xs = grind (arith, nat_tests, t, prefix_len-le-length (λ x. not (test x)) xs) in
+    let here = written_at test xs i v all passes within in
+    let inside : nat_lt i (length xs) ≡ true = grind (arith, nat_tests, within) in
+    rw (here, length-set xs i v, inside) refl
+
+-- the first that passes, and none that does
+pub position_first : {X : Type 0} (test : X → Bool) (xs : List X) (i : ℕ) (x : X) → ((p : ℕ) (y : X) → p < i → slice_get xs p ≡ Some y → test y ≡ false)
+    → slice_get xs i ≡ Some x → test x ≡ true → position test xs ≡ Some i
+position_first {X = X} test xs i x before at passes =
+    let inside : nat_lt i (length xs) ≡ true = grind (arith, nat_tests, slice_get_within xs i x at) in
+    rw (go xs i before at, inside) refl
+  where
+    go : (xs : List X) (i : ℕ) → ((p : ℕ) (y : X) → p < i → slice_get xs p ≡ Some y → test y ≡ false) → slice_get xs i ≡ Some x → position_or_len test xs ≡ i
+    go [] i before at = absurd (cc at)
+    go (y ∷ ys) zero before at = let same : y ≡ x = cc in rw (same, passes) refl
+    go (y ∷ ys) (suc i) before at =
+        let fails : test y ≡ false = before 0 y (omega arith) refl in
+        let rest = go ys i (λ p z less is. before (suc p) z (omega (arith, less)) is) at in
+        rw fails (omega (arith, rest))
+
+pub position_none : {X : Type 0} (test : X → Bool) (xs : List X) → ((p : ℕ) (y : X) → slice_get xs p ≡ Some y → test y ≡ false) → position test xs ≡ None
+position_none {X = X} test xs fails =
+    let past : nat_lt (length xs) (length xs) ≡ false = grind (arith, nat_tests) in
+    rw (go xs fails, past) refl
+  where
+    go : (xs : List X) → ((p : ℕ) (y : X) → slice_get xs p ≡ Some y → test y ≡ false) → position_or_len test xs ≡ length xs
+    go [] fails = refl
+    go (y ∷ ys) fails =
+        let no : test y ≡ false = fails 0 y refl in
+        let rest = go ys (λ p z is. fails (suc p) z is) in
+        rw no (omega (arith, rest))

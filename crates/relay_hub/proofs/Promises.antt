@@ -1,12 +1,12 @@
--- What the steps of the calls promise to clients.
+-- What the steps of the calls guarantee to clients.
 use Rattle.std.proofs.Common.{◌≡◌, ℕ, List, Result, Ok}
 use Rattle.relay_hub.specs.Call.{StepIf, Runs, receiving, followed}
 use Rattle.relay_hub.specs.Log.{Log}
 use Rattle.relay_hub.specs.Stands.{StandsFor, EachHoldsPresent, EachIsAtNamed}
 use Rattle.relay_hub.specs.State.{State}
 use Rattle.relay_hub.specs.Step.{Step}
-use Rattle.relay_hub.specs.Telling.{RefusesEdits}
-use Rattle.relay_hub.specs.declared.beginning.Beginning.{Beginning}
+use Rattle.relay_hub.specs.Queries.{RefusesEdits}
+use Rattle.relay_hub.specs.declared.config.HubConfig.{HubConfig}
 use Rattle.relay_hub.specs.declared.event.Answer.{Answer}
 use Rattle.relay_hub.specs.declared.event.Answer.TheVariants.{Heard as HeardAnswer}
 use Rattle.relay_hub.specs.declared.event.Event.{Event}
@@ -17,7 +17,7 @@ use Rattle.relay_hub.specs.declared.fault.HubFault.{HubFault}
 use Rattle.relay_hub.proofs.Stands.{runs_stand}
 use Rattle.relay_hub.proofs.Watchers.{exactly_held, each_held, unread_no_trace, unmade_no_trace}
 
--- an edit that is refused leaves no trace
+-- a refused edit leaves no trace
 pub refuses_edits : (old new : State) (s : ℕ) (text : List ℕ) (result : Result Heard HubFault) → StepIf old (Receive s text) (receiving result) new
     → (short : ℕ) → result ≡ Ok (Answered short) → RefusesEdits s text old new
 refuses_edits old new s text result step short is =
@@ -27,8 +27,8 @@ refuses_edits old new s text result step short is =
       unmade = λ name g x id base patch fault there found read refused. unmade_no_trace old new s short text name g x there found answered id base patch fault read refused;
     }
 
--- after a run the hub stands for the log that goes on by it
-module _ {old new : State} {events : List Event} {answers : List Answer} (runs : Runs old events answers new) (b : Beginning) (E : Log) (stands : StandsFor b E old) where
+-- after a run the hub stands for the log that the run extended
+module _ {old new : State} {events : List Event} {answers : List Answer} (runs : Runs old events answers new) (b : HubConfig) (E : Log) (stands : StandsFor b E old) where
   pub stands_after : StandsFor b (followed E events answers) new
   stands_after = runs_stand b E stands runs
 

@@ -1,4 +1,5 @@
--- Sessions whose numbers rise: each stands there once, they go on rising as sessions change, come and go, and one is found by halves.
+-- Sessions whose numbers rise: each number occurs once, they still rise when sessions are changed, added and removed, and a session is
+-- found by binary search.
 use Rattle.std.proofs.Common.{◌≡◌, ◌≢◌, ℕ, zero, suc, ◌+◌, ◌<◌, ◌≤◌, ◌==◌, Bool, true, false, not, List, [], ◌∷◌, ◌++◌, length, get_or, Some, None, refl, sym, ap, subst, arith, inl, inr, filter, nat_lt, position, slice_set, if◌then◌else◌}
 use Rattle.std.specs.List.{position_or_len, AllPairs}
 use Rattle.std.specs.List.Sorted.{IsStrictlyIncreasing, IsPartitionPoint, IsPartitionedBy}
@@ -39,7 +40,7 @@ pub once_rising : (xs : List Session) → IsRising xs → EachOnce xs
 once_rising [] h = tt
 once_rising (x ∷ xs) h = (none_above xs x.number (first_below x xs h), once_rising xs (rest_rises x xs h))
 
--- What keeps the numbers keeps their order.
+-- What leaves the numbers unchanged leaves their order unchanged.
 
 pub same_rises : (xs ys : List Session) → numbers ys ≡ numbers xs → IsRising xs → IsRising ys
 same_rises xs ys same h = subst IsStrictlyIncreasing (sym same) h
@@ -62,7 +63,7 @@ numbers_told d changes room (x ∷ xs) (y ∷ ys) n h =
     λ i. first i ∷ rest i
 numbers_told d changes room _ _ n h = absurd h
 
--- A session goes.
+-- A session is removed.
 
 kept_numbers : (b : Bool) (x : Session) (xs : List Session) (ns : List ℕ) → numbers xs ≡ ns
     → numbers (if not b then x ∷ xs else xs) ≡ (if not b then x.number ∷ ns else ns)
@@ -76,7 +77,7 @@ numbers_left (x ∷ xs) s = kept_numbers (x.number == s) x (filter (λ y. not (i
 pub left_rises : (xs : List Session) (s : ℕ) → IsRising xs → IsRising (filter (λ x. not (is_number s x)) xs)
 left_rises xs s h = subst IsStrictlyIncreasing (sym (numbers_left xs s)) (IsStrictlyIncreasing-filter (λ n. not (n == s)) (numbers xs) h)
 
--- One comes, of a number above all.
+-- A session is added, with a number above all others.
 
 below_new : (xs : List Session) (n : ℕ) → ((t : ℕ) → n ≤ t → session_in xs t ≡ None) → (k : ℕ) → k < length (numbers xs) → get_or (numbers xs) k 0 < n
 below_new [] n fresh k within = absurd (omega (arith, within))
@@ -106,7 +107,7 @@ joined_rises xs y fresh h =
 pub one_rises : (x : Session) → IsRising (x ∷ [])
 one_rises x k within = absurd (omega (arith, within))
 
--- Found by halves.
+-- Binary search.
 
 abbrev pub is_below : ℕ → Session → Bool
 is_below n x = nat_lt x.number n
@@ -123,7 +124,7 @@ pair_rises xs h i j d less within =
     let rises : get_or (numbers xs) i 0 < get_or (numbers xs) j 0 = pairs xs h i j 0 less b.0 in
     omega (arith, rises, a.1, b.1)
 
--- those of lower numbers come first
+-- the sessions with lower numbers come first
 pub below_parted : (n : ℕ) (xs : List Session) → IsRising xs → IsPartitionedBy (is_below n) xs
 below_parted n xs h i j d le within below =
     elim (cases_lt i j) [
@@ -162,7 +163,7 @@ module _ (xs : List Session) (n i : ℕ) (d : Session) (point : IsPartitionPoint
   before : (k : ℕ) → k < i → (get_or xs k d).number < n
   before k less = point.0 k d (omega arith) less
 
-  -- where the first of no lower number has the number, it is the place
+  -- if the first session with no lower number has the number, it is the place
   pub found_there : i < length xs → (get_or xs i d).number ≡ n → position (is_number n) xs ≡ Some i
   found_there within is =
       let inside : nat_lt i (length xs) ≡ true = grind (arith, nat_tests, within) in
@@ -182,7 +183,7 @@ module _ (xs : List Session) (n i : ℕ) (d : Session) (point : IsPartitionPoint
             ]
       ]
 
-  -- and where it has another, or there is none, the number is nowhere
+  -- and if it has another number, or there is none, the number is nowhere
   pub found_nowhere : IsRising xs → (i < length xs → (get_or xs i d).number ≢ n) → position (is_number n) xs ≡ None
   found_nowhere h other =
       let outside : nat_lt (length xs) (length xs) ≡ false = grind (arith, nat_tests) in

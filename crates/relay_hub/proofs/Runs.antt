@@ -1,4 +1,4 @@
--- Runs: a run that goes on by one step.
+-- Runs: a run continues by one step.
 use Rattle.std.proofs.Common.{◌≡◌, List, [], ◌∷◌, ◌++◌, length, Some, subst, slice_get}
 use Rattle.relay_hub.specs.Call.{Runs, stops, steps}
 use Rattle.relay_hub.specs.State.{State}
@@ -13,7 +13,7 @@ one old new (e ∷ events) event answer at step =
     let same : event ≡ e = cc in
     steps old new new e events answer [] (subst (λ e. Step old e answer new) same step) (stops new events)
 
--- the next event is done after those that have an answer
+-- the next event is carried out after those that have an answer
 pub run_more : (old mid new : State) (events : List Event) (answers : List Answer) (event : Event) (answer : Answer)
     → Runs old events answers mid → slice_get events (length answers) ≡ Some event → Step mid event answer new → Runs old events (answers ++ answer ∷ []) new
 run_more old mid new events answers event answer (stops hub rest) at step = one hub new rest event answer at step

@@ -1,28 +1,29 @@
--- What becomes of one request.
+-- The effect of one request.
 use Rattle.std.proofs.Common.{◌≡◌, ℕ, ◌<◌, true, List, Some, Result, position, nat_le, refl, arith}
 use Rattle.std.proofs.lemmas.Bool.Decides.{nat_tests}
 use Rattle.relay_view.specs.View.{View}
 use Rattle.relay_proto.specs.Request.{request_of_text}
 use Rattle.relay_proto.specs.declared.refusal.Refusal.{Refusal}
 use Rattle.relay_proto.specs.declared.request.Request.{Request}
-use Rattle.relay_room.specs.CatchUp.{caught_up, LeadsOn, Fits}
+use Rattle.relay_room.specs.CatchUp.{caught_up_within, LeadsOn, Fits}
 use Rattle.relay_room.specs.Room.{State as Room, revision}
 use Rattle.relay_room.specs.declared.catch_up.CatchUp.{CatchUp}
 use Rattle.relay_room.specs.declared.catch_up.CatchUp.TheVariants.{Nothing}
 use Rattle.relay_hub.proofs.Sessions.{session_there}
 use Rattle.relay_hub.specs.Call.{HasRoom}
 use Rattle.relay_hub.specs.Session.{Session, resumes}
-use Rattle.relay_hub.specs.State.{Group, group, is_number, session_in}
+use Rattle.relay_hub.specs.State.{RoomSessions, room_sessions, is_number, session_in}
 use Rattle.relay_hub.specs.Step.{OnlyAt, ResumeServed, Serves, Receives}
+use Rattle.relay_hub.specs.declared.config.HubConfig.{HubConfig}
 use Rattle.relay_hub.specs.declared.event.Answer.TheVariants.{Heard}
 use Rattle.relay_hub.specs.declared.event.Heard.TheVariants.{Answered}
 
--- a text of a session that is there, and in whose line a reply fits, is answered
-pub answered : (epoch s i short : ℕ) (text : List ℕ) (asked : Result Request Refusal) (old new : Group) →
+-- a text of a session that is there, and in whose outbox a reply fits, is answered
+pub answered : (made : HubConfig) (s i short : ℕ) (text : List ℕ) (asked : Result Request Refusal) (old new : RoomSessions) →
     position (is_number s) old.sessions ≡ Some i → HasRoom old.sessions s → request_of_text text ≡ asked →
-    ((x : Session) → session_in old.sessions s ≡ Some x → Serves epoch s x asked short old new) →
-    Receives epoch s (session_in old.sessions s) text (Heard (Answered short)) old new
-answered epoch s i short text asked old new at space read serves =
+    ((x : Session) → session_in old.sessions s ≡ Some x → Serves made s x asked short old new) →
+    Receives made s (session_in old.sessions s) text (Heard (Answered short)) old new
+answered made s i short text asked old new at space read serves =
     let there = session_there old.sessions s i at in
     rw (there.1, read) (space there.0 there.1, serves there.0 there.1)
 
@@ -31,16 +32,16 @@ pub resumes-number : (rev id : ℕ) (pointers : View) (how : CatchUp) (x : Sessi
 resumes-number rev id pointers Nothing x = refl
 resumes-number rev id pointers _ x = refl
 
--- and watches the view that it names
+-- and it watches the view that it names
 pub resumes-view : (rev id : ℕ) (pointers : View) (how : CatchUp) (x : Session) → (resumes rev id pointers how x).view ≡ Some pointers
 resumes-view rev id pointers Nothing x = refl
 resumes-view rev id pointers _ x = refl
 
--- a session resumes from a revision that there is
+-- a session resumes from a revision that exists
 pub resume_served : (room : Room) (s id rev : ℕ) (pointers : View) (how : CatchUp) (x : Session) (xs ys : List Session) →
-    (revision room < rev → ⊥) → how ≡ caught_up room rev pointers → LeadsOn room rev pointers how → Fits how →
+    (revision room < rev → ⊥) → how ≡ caught_up_within x.budget room rev pointers → LeadsOn room rev pointers how → Fits how →
     OnlyAt s (Some (resumes (revision room) id pointers how x)) xs ys →
-    ResumeServed true (nat_le rev (revision room)) id rev pointers s x (group room xs) (group room ys)
+    ResumeServed true (nat_le rev (revision room)) id rev pointers s x (room_sessions room xs) (room_sessions room ys)
 resume_served room s id rev pointers how x xs ys past is leads fits only =
     let test : nat_le rev (revision room) ≡ true = grind (arith, nat_tests, past) in
     rw (test, ← is) (leads, fits, (refl, only))

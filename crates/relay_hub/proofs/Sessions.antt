@@ -1,4 +1,4 @@
--- Finding a session by its number, in a list in which one was changed or taken away, or came.
+-- Finding a session by its number in a list in which one session was changed, removed or added.
 use Rattle.std.proofs.Common.{◌≡◌, ℕ, ◌<◌, ◌≤◌, ◌==◌, Bool, true, false, List, [], ◌∷◌, ◌++◌, length, Option, Some, None, refl, sym, ◌∙◌, ap, subst, arith, inl, inr, get_or, not, zero, suc, IsSome, slice_get, if◌then◌else◌, position, filter, nat_lt, nat_le, slice_set}
 use Rattle.std.specs.Bool.{MatchBool}
 use Rattle.std.specs.List.{position_or_len}
@@ -6,16 +6,16 @@ use Rattle.std.specs.Option.{option_or}
 use Rattle.std.proofs.lemmas.Bool.Decides.{eqb_tells, leb_tells, nat_tests}
 use Rattle.std.proofs.lemmas.List.Folds.{find-set, find_past, find_at, find-append}
 use Rattle.std.proofs.lemmas.Option.{slice_get_past, slice_get-get_or}
-use Rattle.relay_outbox.specs.declared.outbox.TheConstants.{REPLIES}
+use Rattle.relay_outbox.specs.declared.outbox.TheConstants.{MAX_REPLIES}
 use Rattle.relay_hub.specs.Call.{ChangesBy, HasRoom, IsFull}
 use Rattle.relay_hub.specs.Session.{Session}
 use Rattle.relay_hub.specs.State.{session_in, is_number, EachOnce}
 use Rattle.relay_hub.specs.Step.{OnlyAt}
 use Rattle.relay_hub.proofs.Places.{by_number, tested, untested}
 
--- Where a session stands.
+-- The place of a session.
 
--- where no place is found, there is no session
+-- if no place is found, there is no session
 pub not_found : (xs : List Session) (s : ℕ) → position (is_number s) xs ≡ None → session_in xs s ≡ None
 not_found xs s h =
     let n = position_or_len (is_number s) xs in
@@ -36,7 +36,7 @@ found xs s i h = rw (place_within xs s i h).1 (find_at (is_number s) xs)
 pub found_at : (xs : List Session) (s i : ℕ) → position (is_number s) xs ≡ Some i → (d : Session) → session_in xs s ≡ Some (get_or xs i d)
 found_at xs s i h d = found xs s i h ∙ slice_get-get_or xs i d (place_within xs s i h).0
 
--- which is therefore the session that was found otherwise
+-- so it is the same as a session found in another way
 pub same_session : (xs : List Session) (s i : ℕ) → position (is_number s) xs ≡ Some i → (d x : Session) → session_in xs s ≡ Some x → get_or xs i d ≡ x
 same_session xs s i h d x e =
     let same : Some x ≡ Some (get_or xs i d) = sym e ∙ found_at xs s i h d in
@@ -47,7 +47,7 @@ some_at [] i h = absurd (omega arith)
 some_at (x ∷ xs) zero h = (x, refl)
 some_at (x ∷ xs) (suc i) h = some_at xs i (omega arith)
 
--- there is a session where its place was found
+-- if its place was found, the session exists
 pub session_there : (xs : List Session) (s i : ℕ) → position (is_number s) xs ≡ Some i → (x : Session) × (session_in xs s ≡ Some x)
 session_there xs s i h = let p = some_at xs i (place_within xs s i h).0 in (p.0, found xs s i h ∙ p.1)
 
@@ -68,11 +68,11 @@ never_unplaced xs s there none =
     let no : false ≡ true = rw (not_found xs s none) at there in
     absurd (cc no)
 
--- where all passes but one number
+-- only the session of one number differs
 abbrev IsOnly : ℕ → Option Session → List Session → List Session → Type 0
 IsOnly s x old new = (t : ℕ) → session_in new t ≡ (if s == t then x else session_in old t)
 
--- a number that none has, the first has not
+-- if no session has a number, the first one does not
 pub none_there : (x : Session) (xs : List Session) (t : ℕ) → session_in (x ∷ xs) t ≡ None → ((x.number == t) ≡ false) × (session_in xs t ≡ None)
 none_there x xs t h = go (x.number == t) h
   where
@@ -82,7 +82,7 @@ none_there x xs t h = go (x.number == t) h
 
 -- A session is changed.
 
--- one of the same number in its place
+-- a session of the same number in its place
 none_set : (xs : List Session) (i : ℕ) (y d : Session) (t : ℕ) → y.number ≡ (get_or xs i d).number → session_in xs t ≡ None → session_in (slice_set xs i y) t ≡ None
 none_set [] i y d t e h = h
 none_set (x ∷ xs) zero y d t e h = let n = none_there x xs t h in rw (e, n.0) n.1
@@ -115,7 +115,7 @@ set_changes xs s i f keeps h d x e =
       once = once_set xs i (f y) d (keeps y);
     }
 
--- A session is taken away.
+-- A session is removed.
 
 tells_same : (n s t : ℕ) → (n == s) ≡ true → (n == t) ≡ (s == t)
 tells_same n s t h = grind (arith, nat_tests, h)
@@ -162,25 +162,25 @@ once_others (x ∷ xs) s h = go (is_number s x) (once_others xs s h.1)
 pub filter_removes : (xs : List Session) (s : ℕ) → OnlyAt s None xs (filter (λ x. not (is_number s x)) xs)
 filter_removes xs s = record { found = session_in-others xs s; once = once_others xs s }
 
--- The line of a session.
+-- The outbox of a session.
 
--- where a reply fits in the line of a session, it does in that of the session at its place
-pub room_at : (xs : List Session) (s i : ℕ) → position (is_number s) xs ≡ Some i → HasRoom xs s → (d : Session) → length (get_or xs i d).outbox.replies < REPLIES
+-- if a reply fits in the outbox of a session, it fits in that of the session at its place
+pub room_at : (xs : List Session) (s i : ℕ) → position (is_number s) xs ≡ Some i → HasRoom xs s → (d : Session) → length (get_or xs i d).outbox.replies < MAX_REPLIES
 room_at xs s i h space d = space (get_or xs i d) (found_at xs s i h d)
 
--- a line is full, or a reply fits
-pub full_or_room : (xs : List Session) (s i : ℕ) → position (is_number s) xs ≡ Some i → (y : Session) → y ≡ get_or xs i y → length y.outbox.replies ≤ REPLIES →
-    MatchBool (nat_le REPLIES (length y.outbox.replies)) (IsFull xs s) (HasRoom xs s)
+-- an outbox is full, or a reply fits
+pub full_or_room : (xs : List Session) (s i : ℕ) → position (is_number s) xs ≡ Some i → (y : Session) → y ≡ get_or xs i y → length y.outbox.replies ≤ MAX_REPLIES →
+    MatchBool (nat_le MAX_REPLIES (length y.outbox.replies)) (IsFull xs s) (HasRoom xs s)
 full_or_room xs s i h y at within =
     let n = length y.outbox.replies in
     let same : (x : Session) → session_in xs s ≡ Some x → length x.outbox.replies ≡ n =
     λ x e. ap (λ (z : Session). length z.outbox.replies) (sym (at ∙ same_session xs s i h y x e)) in
-    elim (leb_tells REPLIES n) [
+    elim (leb_tells MAX_REPLIES n) [
       | inl e ↦ rw e.0 (λ x k. let is : length x.outbox.replies ≡ n = same x k in omega (arith, e.1, within))
       | inr e ↦ rw e.0 (λ x k. let is : length x.outbox.replies ≡ n = same x k in omega (arith, e.1))
     ]
 
--- A session comes.
+-- A session is added.
 
 or_none : (o : Option Session) → option_or o None ≡ o
 or_none None = refl
@@ -199,6 +199,6 @@ once_push (x ∷ xs) y none h =
     let other : (y.number == x.number) ≡ false = grind (arith, nat_tests, rest.0) in
     (rw (session_in-push xs y rest.1 x.number, other) h.0, once_push xs y rest.1 h.1)
 
--- a session of a new number comes last, and no other differs
+-- a session with a new number is added last, and no other differs
 pub push_last : (xs : List Session) (y : Session) → session_in xs y.number ≡ None → OnlyAt y.number (Some y) xs (xs ++ y ∷ [])
 push_last xs y none = record { found = session_in-push xs y none; once = once_push xs y none }

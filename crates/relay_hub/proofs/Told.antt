@@ -1,4 +1,4 @@
--- Telling the sessions of a room, one after the other.
+-- Notifying the sessions of a room, one after the other.
 use Rattle.std.proofs.Common.{◌≡◌, ℕ, ◌==◌, Bool, true, false, List, [], ◌∷◌, Option, Some, None, refl, sym, ap}
 use Rattle.std.specs.Prelude.{⊤, IsSome, if◌then◌else◌}
 use Rattle.relay_patch.specs.declared.change.Change.{Change}
@@ -9,7 +9,7 @@ use Rattle.relay_hub.specs.Session.{Session}
 use Rattle.relay_hub.specs.State.{EachOnce, session_in}
 use Rattle.relay_hub.specs.Step.{ToldAs, Told, AllTold}
 
--- a session that is there is told and stays, and no other comes
+-- a session that is there is notified and stays, and no other is added
 abbrev pub IsTold : Document → List Change → Room → Option Session → Option Session → Type 0
 IsTold d changes room (Some x) (Some y) = (short : Bool) × Told d changes room short x y
 IsTold d changes room None None = ⊤
@@ -17,7 +17,7 @@ IsTold d changes room (Some x) None = ⊥
 IsTold d changes room None (Some y) = ⊥
 
 pub told_number : (d : Document) (changes : List Change) (room : Room) (v : Option View) (short : Bool) (x y : Session) → ToldAs d changes room v short x y → y.number ≡ x.number
-told_number d changes room (Some v) true x y h = ap (λ (z : Session). z.number) h
+told_number d changes room (Some v) true x y h = ap (λ (z : Session). z.number) h.1
 told_number d changes room _ _ x y h = ap (λ (z : Session). z.number) h.0
 
 first_told : (d : Document) (changes : List Change) (room : Room) (a b : Bool) (x y : Session) (o p : Option Session) (short : Bool) → a ≡ b → Told d changes room short x y → IsTold d changes room o p
@@ -44,7 +44,7 @@ some_told d changes room None p x h e = absurd (cc e)
 some_told d changes room (Some z) (Some y) x h e = refl
 some_told d changes room (Some z) None x h e = absurd h
 
--- whose numbers stay
+-- the numbers stay
 pub once_told : (d : Document) (changes : List Change) (room : Room) (xs ys : List Session) (n : ℕ) → AllTold d changes room xs ys n → EachOnce xs → EachOnce ys
 once_told d changes room [] [] n h once = tt
 once_told d changes room (x ∷ xs) (y ∷ ys) n h once = (

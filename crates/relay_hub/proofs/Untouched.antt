@@ -1,5 +1,5 @@
--- Whom an edit does not touch is told nothing.
-use Rattle.std.proofs.Common.{◌≡◌, ℕ, ◌-◌, ◌<◌, ◌==◌, Bool, true, false, nat_eq, List, [], ◌∷◌, Option, Some, None, Ok, refl, ◌∙◌, subst, arith, nat_lt, if◌then◌else◌}
+-- A session that an edit does not touch is not notified.
+use Rattle.std.proofs.Common.{◌≡◌, ℕ, ◌-◌, ◌<◌, ◌==◌, Bool, true, false, nat_eq, List, [], ◌∷◌, Option, Some, None, Ok, refl, sym, ap, ◌∙◌, subst, arith, nat_lt, if◌then◌else◌}
 use Rattle.std.specs.List.{list_any}
 use Rattle.std.specs.FinMap as map
 use Rattle.std.proofs.lemmas.Bool.Decides.{nat_tests}
@@ -15,14 +15,25 @@ use Rattle.relay_room.specs.declared.catch_up.CatchUp.TheVariants.{Nothing}
 use Rattle.relay_translate.specs.Translate.{local}
 use Rattle.relay_translate.specs.Watches.{Watches}
 use Rattle.relay_translate.proofs.Slots.{translation}
+use Rattle.relay_room.proofs.Missed.{afforded_none}
 use Rattle.relay_tree.specs.Document.{Document}
+use Rattle.relay_tree.specs.declared.budget.Budget.{Budget}
+use Rattle.relay_outbox.specs.Outbox.{Line}
+use Rattle.relay_proto.specs.declared.reply.Reply.{Reply}
+use Rattle.relay_patch.specs.declared.op.Op.{Op}
 use Rattle.relay_view.specs.View.{View, view}
 use Rattle.relay_hub.specs.Session.{Session}
 use Rattle.relay_hub.specs.State.{EachOnce, session_in}
-use Rattle.relay_hub.specs.Step.{telling, ToldView, ToldAs, Told, AllTold}
+use Rattle.relay_hub.specs.Session.{with_line, told_line}
+use Rattle.relay_hub.specs.Step.{ToldView, ToldAs, Told, AllTold}
+use Rattle.relay_hub.proofs.Waiting.{by_due}
 use Rattle.relay_hub.specs.Watched.{IsIndexed, ToldIf, ToldAmong}
 use Rattle.relay_hub.proofs.Places.{by_number}
 use Rattle.relay_hub.proofs.Rising.{once_rising}
+
+-- an outbox that is notified of nothing is unchanged, whether a snapshot is due or not
+untold_line : (budget : Budget) (rev : ℕ) (o : Line Reply (ℕ × List Op)) → told_line budget rev Nothing o ≡ o
+untold_line budget rev o = by_due (λ p. p ≡ o) budget rev Nothing o (λ due. refl) (λ due. refl)
 
 no_operation : (ops : List Op) → patch_or_nothing ops ≡ Nothing → ops ≡ []
 no_operation [] h = refl
@@ -30,23 +41,22 @@ no_operation (op ∷ ops) h = absurd (cc h)
 
 module _ (room : Room) (d : Document) (changes : List Change) (edited : 0 < revision room) (reaches : Reaches room.history (revision room - 1))
     (since : changes ≡ changes_since (revision room - 1) room.history) (leads : Leads d changes room.document) where
-  -- who misses nothing is told nothing
-  nothing_told : (v : View) → caught_up room (revision room - 1) v ≡ Nothing → telling changes room v ≡ Nothing
-  nothing_told v missed =
+  -- a session that misses nothing has no operation to receive
+  none_told : (v : View) → caught_up room (revision room - 1) v ≡ Nothing → local changes room.document v ≡ []
+  none_told v missed =
       let held : nat_lt (revision room - 1) (oldest room.history) ≡ false = grind (arith, nat_tests, reaches.back) in
-      rw since (rw held at missed)
+      no_operation (local changes room.document v) (rw since (rw held at missed))
 
-  same_view : (v : View) → telling changes room v ≡ Nothing → view v d ≡ view v room.document
-  same_view v nothing =
-      let none : local changes room.document v ≡ [] = no_operation (local changes room.document v) nothing in
+  same_view : (v : View) → local changes room.document v ≡ [] → view v d ≡ view v room.document
+  same_view v none =
       let after_none : after (view v d) [] free ≡ Ok (view v room.document) =
       subst (λ ops. after (view v d) ops free ≡ Ok (view v room.document)) none (translation changes room.document v d leads) in
       cc after_none
 
   quiet_view : (v : View) (x : Session) → caught_up room (revision room - 1) v ≡ Nothing → ToldView d changes room v false x x
   quiet_view v x missed =
-      let nothing = nothing_told v missed in
-      rw nothing (refl, same_view v nothing, tt)
+      let none = none_told v missed in
+      rw (none, afforded_none x.budget) (ap (λ o. with_line o x) (sym (untold_line x.budget (revision room) x.outbox)), same_view v none, tt)
 
   module _ (w : Watches) (numbers : List ℕ) (others : OthersMissNothing room w numbers) where
     quiet_as : (o : Option View) (x : Session) → map.get w x.number ≡ o → list_any (nat_eq x.number) numbers ≡ false → ToldAs d changes room o false x x
@@ -77,7 +87,7 @@ module _ (room : Room) (d : Document) (changes : List Change) (edited : 0 < revi
         (h.0, h.1, told_either (list_any (nat_eq x.number) numbers) h.0 x y refl (first_has x xs has) h.2, h.3, all_of_them xs ys h.1 once.1 (rest_have x xs once.0 has) h.4)
     all_of_them _ _ n once has h = absurd h
 
-    -- where those are told whom the index names, all are
+    -- if the sessions that the index names are notified, all are
     pub among_all : (xs ys : List Session) (n : ℕ) → IsIndexed w xs → ToldAmong numbers d changes room xs ys n → AllTold d changes room xs ys n
     among_all xs ys n indexed h =
         all_of_them xs ys n (once_rising xs indexed.rising) (λ t z is. indexed.agrees t ∙ rw is refl) h

@@ -1,4 +1,4 @@
--- What a hub that stands for its log does for its watchers, and what a refused edit leaves.
+-- What a hub that stands for its log provides for its watchers, and what a refused edit changes.
 use Rattle.std.proofs.Common.{◌≡◌, ◌≢◌, ℕ, zero, suc, ◌==◌, true, false, List, [], ◌∷◌, ◌++◌, map, Option, Some, None, option_and_then, Ok, Err, refl, sym, ap, subst, arith, inl, inr, slice_get, slice_set}
 use Rattle.std.proofs.lemmas.Bool.Decides.{eqb_tells, nat_tests}
 use Rattle.relay_patch.specs.declared.op.Op.{Op}
@@ -16,10 +16,10 @@ use Rattle.relay_hub.specs.Log.{Log, Watching, documents, watching}
 use Rattle.relay_hub.specs.Refusal.{refused, edit_refusal}
 use Rattle.relay_hub.specs.Session.{Session, replied, later}
 use Rattle.relay_hub.specs.Stands.{IsAtNamed, EachLeads, HoldsPresent, Follows, WatchStands, StandsFor}
-use Rattle.relay_hub.specs.State.{Group, State, RoomOf, Home, place_of, home_of, session_in, session_of, without_sessions}
-use Rattle.relay_hub.specs.Step.{OnlyAt, ChangesOnly, EditServed, Serves, Receives, with_group, InGroup, Step}
-use Rattle.relay_hub.specs.Telling.{LeavesNoTrace}
-use Rattle.relay_hub.specs.declared.beginning.Beginning.{Beginning}
+use Rattle.relay_hub.specs.State.{RoomSessions, State, RoomOf, Home, place_of, home_of, session_in, session_of, without_sessions}
+use Rattle.relay_hub.specs.Step.{OnlyAt, ChangesOnly, EditServed, Serves, Receives, with_room, InRoom, Step}
+use Rattle.relay_hub.specs.Queries.{LeavesNoTrace}
+use Rattle.relay_hub.specs.declared.config.HubConfig.{HubConfig}
 use Rattle.relay_hub.specs.declared.event.Answer.TheVariants.{Heard}
 use Rattle.relay_hub.specs.declared.event.Event.TheVariants.{Receive}
 use Rattle.relay_hub.specs.declared.event.Heard.TheVariants.{Answered}
@@ -28,7 +28,7 @@ use Rattle.relay_hub.proofs.Frames.{here}
 use Rattle.relay_hub.proofs.Places.{slice_get-set, slice_get-set_other}
 
 -- a session that has a room has it at a place
-at_place : (hub : State) (s : ℕ) (home : List ℕ × Group) → home_of hub s ≡ Some home → (place : ℕ) × (place_of hub s ≡ Some place) × (slice_get hub.rooms place ≡ Some home)
+at_place : (hub : State) (s : ℕ) (home : List ℕ × RoomSessions) → home_of hub s ≡ Some home → (place : ℕ) × (place_of hub s ≡ Some place) × (slice_get hub.rooms place ≡ Some home)
 at_place hub s home h = go (place_of hub s) refl h
   where
     go : (o : Option ℕ) → place_of hub s ≡ o → option_and_then (λ place. slice_get hub.rooms place) o ≡ Some home → (place : ℕ) × (place_of hub s ≡ Some place) × (slice_get hub.rooms place ≡ Some home)
@@ -37,12 +37,12 @@ at_place hub s home h = go (place_of hub s) refl h
 
 -- Watchers.
 
-module _ (b : Beginning) (E : Log) (hub : State) (s : ℕ) (name : List ℕ) (g : Group) (x : Session) (w : Watching) (stands : StandsFor b E hub) (there : home_of hub s ≡ Some (name, g))
+module _ (b : HubConfig) (E : Log) (hub : State) (s : ℕ) (name : List ℕ) (g : RoomSessions) (x : Session) (w : Watching) (stands : StandsFor b E hub) (there : home_of hub s ≡ Some (name, g))
     (is : session_in g.sessions s ≡ Some x) (watches : watching b.epoch E s ≡ Some w) where
   watcher : Follows (documents E name) w (later g.room w.view x.outbox)
   watcher =
       let p = at_place hub s (name, g) there in
-      let mine : Home hub s = record { room = record { place = p.0; name = name; group = g; there = p.2 }; session = x; at = p.1; is = is } in
+      let mine : Home hub s = record { room = record { place = p.0; name = name; room_sessions = g; there = p.2 }; session = x; at = p.1; is = is } in
       let found : WatchStands (documents E name) g.room x (Some w) = rw watches at (here b E hub s mine stands).2 in
       found.1
 
@@ -54,7 +54,7 @@ module _ (b : Beginning) (E : Log) (hub : State) (s : ℕ) (name : List ℕ) (g 
   at_each ds v c [] after m h = h.0
   at_each ds v c (first ∷ before) after m h = at_each ds v (client c first) before after m h.1
 
-  -- each message leaves it at its view of the revision that the message names
+  -- after each message it holds its view of the revision that the message names
   pub each_held : (before after : List Message) (m : Message) → w.heard ++ later g.room w.view x.outbox ≡ before ++ m ∷ after
       → IsAtNamed (documents E name) w.view m (client_after w.start (before ++ m ∷ []))
   each_held before after m split =
@@ -62,7 +62,7 @@ module _ (b : Beginning) (E : Log) (hub : State) (s : ℕ) (name : List ℕ) (g 
 
 -- Refused edits.
 
-same_rooms : (rooms : List (List ℕ × Group)) (place : ℕ) (name : List ℕ) (g h : Group) → slice_get rooms place ≡ Some (name, g) → h.room ≡ g.room
+same_rooms : (rooms : List (List ℕ × RoomSessions)) (place : ℕ) (name : List ℕ) (g h : RoomSessions) → slice_get rooms place ≡ Some (name, g) → h.room ≡ g.room
     → map without_sessions (slice_set rooms place (name, h)) ≡ map without_sessions rooms
 same_rooms [] place name g h at same = refl
 same_rooms (r ∷ rooms) zero name g h at same =
@@ -70,13 +70,13 @@ same_rooms (r ∷ rooms) zero name g h at same =
     rw (first, same) refl
 same_rooms (r ∷ rooms) (suc place) name g h at same = ap (λ rest. without_sessions r ∷ rest) (same_rooms rooms place name g h at same)
 
--- who is not s is found as before
-others_found : (hub : State) (r : RoomOf hub) (h : Group) (s : ℕ) (y : Option Session) → OnlyAt s y r.group.sessions h.sessions
-    → (t : ℕ) → s ≢ t → session_of (with_group r.place r.name h hub) t ≡ session_of hub t
+-- any session but s is found as before
+others_found : (hub : State) (r : RoomOf hub) (h : RoomSessions) (s : ℕ) (y : Option Session) → OnlyAt s y r.room_sessions.sessions h.sessions
+    → (t : ℕ) → s ≢ t → session_of (with_room r.place r.name h hub) t ≡ session_of hub t
 others_found hub r h s y only t apart = go (place_of hub t)
   where
-    found : List (List ℕ × Group) → Option ℕ → Option Session
-    found rooms o = option_and_then (λ (home : List ℕ × Group). session_in home.1.sessions t) (option_and_then (λ p. slice_get rooms p) o)
+    found : List (List ℕ × RoomSessions) → Option ℕ → Option Session
+    found rooms o = option_and_then (λ (home : List ℕ × RoomSessions). session_in home.1.sessions t) (option_and_then (λ p. slice_get rooms p) o)
 
     go : (o : Option ℕ) → found (slice_set hub.rooms r.place (r.name, h)) o ≡ found hub.rooms o
     go None = refl
@@ -84,46 +84,45 @@ others_found hub r h s y only t apart = go (place_of hub t)
         elim (eqb_tells p r.place) [
           | inl same ↦
               let other : (s == t) ≡ false = grind (arith, nat_tests, apart) in
-              rw (same.1, slice_get-set hub.rooms r.place (r.name, r.group) (r.name, h) r.there, r.there, only.found t, other) refl
+              rw (same.1, slice_get-set hub.rooms r.place (r.name, r.room_sessions) (r.name, h) r.there, r.there, only.found t, other) refl
           | inr differs ↦ rw (slice_get-set_other hub.rooms r.place p (r.name, h) differs.1) refl
         ]
 
 -- a room in which one session alone differs
-leaves_no_trace : (hub : State) (s : ℕ) (r : RoomOf hub) (h : Group) (y : Session) → place_of hub s ≡ Some r.place → ChangesOnly s (Some y) r.group h
-    → LeavesNoTrace s y hub (with_group r.place r.name h hub)
+leaves_no_trace : (hub : State) (s : ℕ) (r : RoomOf hub) (h : RoomSessions) (y : Session) → place_of hub s ≡ Some r.place → ChangesOnly s (Some y) r.room_sessions h
+    → LeavesNoTrace s y hub (with_room r.place r.name h hub)
 leaves_no_trace hub s r h y at changes =
     let same : (s == s) ≡ true = grind (arith, nat_tests) in
     record {
-      rooms = same_rooms hub.rooms r.place r.name r.group h r.there changes.0;
+      rooms = same_rooms hub.rooms r.place r.name r.room_sessions h r.there changes.0;
       homes = refl;
       next = refl;
       others = others_found hub r h s (Some y) changes.1;
-      sender = rw (at, slice_get-set hub.rooms r.place (r.name, r.group) (r.name, h) r.there, changes.1.found s, same) refl;
+      sender = rw (at, slice_get-set hub.rooms r.place (r.name, r.room_sessions) (r.name, h) r.there, changes.1.found s, same) refl;
     }
 
--- what an answered text did in the room of its sender, which is x
-module _ (old new : State) (s short : ℕ) (text : List ℕ) (name : List ℕ) (g : Group) (x : Session) (there : home_of old s ≡ Some (name, g)) (is : session_in g.sessions s ≡ Some x)
+-- the effect of an answered text in the room of its sender, which is x
+module _ (old new : State) (s short : ℕ) (text : List ℕ) (name : List ℕ) (g : RoomSessions) (x : Session) (there : home_of old s ≡ Some (name, g)) (is : session_in g.sessions s ≡ Some x)
     (step : Step old (Receive s text) (Heard (Answered short)) new) where
-  done : (h : Group) × Serves old.made.epoch s x (request_of_text text) short g h × ((y : Session) → ChangesOnly s (Some y) g h → LeavesNoTrace s y old new)
+  done : (h : RoomSessions) × Serves old.made s x (request_of_text text) short g h × ((y : Session) → ChangesOnly s (Some y) g h → LeavesNoTrace s y old new)
   done =
       let p = at_place old s (name, g) there in
       let answer = Heard (Answered short) in
-      let Does : Group → Group → Type 0 = λ g h. Receives old.made.epoch s (session_in g.sessions s) text answer g h in
-      let at_home : InGroup p.0 (Some (name, g)) old answer Does new = rw (p.1, p.2) at step in
+      let Does : RoomSessions → RoomSessions → Type 0 = λ g h. Receives old.made s (session_in g.sessions s) text answer g h in
+      let at_home : InRoom p.0 (Some (name, g)) old answer Does new = rw (p.1, p.2) at step in
       let h = at_home.0 in
-      let received : Receives old.made.epoch s (Some x) text answer g h = rw is at at_home.1 in
-      (h, received.1, λ y changes. subst (λ hub. LeavesNoTrace s y old hub) (sym at_home.2) (leaves_no_trace old s (record { place = p.0; name = name; group = g; there = p.2 }) h y p.1 changes))
+      let received : Receives old.made s (Some x) text answer g h = rw is at at_home.1 in
+      (h, received.1, λ y changes. subst (λ hub. LeavesNoTrace s y old hub) (sym at_home.2) (leaves_no_trace old s (record { place = p.0; name = name; room_sessions = g; there = p.2 }) h y p.1 changes))
 
-  -- an edit that is refused changes no room, no other session, and the sender's session by one reply alone, where it is refused
-  -- as it is read
+  -- a refused edit changes no room and no other session, and adds one reply to the sender's, if it is refused when it is read
   pub unread_no_trace : (r : Refusal) → request_of_text text ≡ Err r → LeavesNoTrace s (replied (refused r) x) old new
   unread_no_trace r read =
       let served : (short ≡ 0) × ChangesOnly s (Some (replied (refused r) x)) g done.0 = rw read at done.1 in
       done.2 (replied (refused r) x) served.1
 
-  -- and where the room refuses it
+  -- and the same if the room refuses it
   pub unmade_no_trace : (id : ℕ) (base : Option ℕ) (patch : List Op) (fault : EditFault) → request_of_text text ≡ Ok (Edit id base patch) → edited g.room base patch ≡ Err fault
       → (r : Reply) × (edit_refusal id fault ≡ Some r) × LeavesNoTrace s (replied r x) old new
   unmade_no_trace id base patch fault read unmade =
-      let served : EditServed s x id patch (Err fault) short g done.0 = rw (read, unmade) at done.1 in
+      let served : EditServed old.made.history_weight s x id patch (Err fault) short g done.0 = rw (read, unmade) at done.1 in
       (served.1, served.2, done.2 (replied served.1 x) served.3)

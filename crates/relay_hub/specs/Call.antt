@@ -1,12 +1,13 @@
--- Calls as events: what each answers, when it is a step, and runs of steps.
+-- Calls as events: what each one answers, when it is a step, and runs of steps.
 use Rattle.std.specs.Prelude.{◌≡◌, ℕ, ◌<◌, ◌≤◌, length, List, [], ◌∷◌, Option, Some, None, option_map, Result, Ok, Err, slice_get, string_bytes}
 use Rattle.std.specs.Global.{Vec}
 use Rattle.std.specs.declared.string.String.{String}
-use Rattle.relay_outbox.specs.declared.outbox.TheConstants.{REPLIES}
+use Rattle.relay_outbox.specs.declared.outbox.TheConstants.{MAX_REPLIES}
 use Rattle.relay_hub.specs.Log.{Log, entry}
 use Rattle.relay_hub.specs.Session.{Session}
-use Rattle.relay_hub.specs.State.{Group, State, session_in}
+use Rattle.relay_hub.specs.State.{RoomSessions, State, session_in}
 use Rattle.relay_hub.specs.Step.{OnlyAt, Receives, Draws, Step}
+use Rattle.relay_hub.specs.declared.config.HubConfig.{HubConfig}
 use Rattle.relay_hub.specs.declared.event.Answer.{Answer}
 use Rattle.relay_hub.specs.declared.event.Answer.TheVariants as answer
 use Rattle.relay_hub.specs.declared.event.Event.{Event}
@@ -18,7 +19,7 @@ use Rattle.relay_hub.specs.declared.fault.OpenFault.{OpenFault}
 use Rattle.relay_hub.specs.declared.fault.OpenFault.TheVariants as opening_fault
 use Rattle.relay_hub.specs.declared.fault.RunFault.{RunFault}
 
--- what a call answers; nothing where it found no memory
+-- the answer of a call; none if it ran out of memory
 
 abbrev pub not_opened : OpenFault → Option Answer
 not_opened opening_fault.NoMemory = None
@@ -44,7 +45,7 @@ abbrev pub closing : Result (Unit {0}) NoSession → Answer
 closing (Ok u) = answer.Closed
 closing (Err e) = answer.NoSession
 
--- a call with that answer is a step, and without an answer it changed nothing
+-- a call with that answer is a step, and a call without an answer changed nothing
 abbrev pub StepIf : State → Event → Option Answer → State → Type 0
 StepIf old event (Some answer) new = Step old event answer new
 StepIf old event None new = new ≡ old
@@ -60,7 +61,7 @@ pub data Runs : State → List Event → List Answer → State → Type 0 where
   steps : (old mid new : State) (event : Event) (events : List Event) (answer : Answer) (answers : List Answer)
       → Step old event answer mid → Runs mid events answers new → Runs old (event ∷ events) (answer ∷ answers) new
 
--- the answers to the events that a run did
+-- the answers to the events that a run carried out
 abbrev pub done : Result (Vec Answer) RunFault → List Answer
 done (Ok answers) = answers.items
 done (Err fault) = fault.answers.items
@@ -72,29 +73,29 @@ followed E events answers = E
 
 -- The same within a room, for the functions that do the work.
 
-abbrev pub ReceivesIf : ℕ → ℕ → List ℕ → Option Answer → Group → Group → Type 0
-ReceivesIf epoch s text (Some answer) old new = Receives epoch s (session_in old.sessions s) text answer old new
-ReceivesIf epoch s text None old new = new ≡ old
+abbrev pub ReceivesIf : HubConfig → ℕ → List ℕ → Option Answer → RoomSessions → RoomSessions → Type 0
+ReceivesIf made s text (Some answer) old new = Receives made s (session_in old.sessions s) text answer old new
+ReceivesIf made s text None old new = new ≡ old
 
-abbrev pub DrawsIf : ℕ → Option Answer → Group → Group → Type 0
+abbrev pub DrawsIf : ℕ → Option Answer → RoomSessions → RoomSessions → Type 0
 DrawsIf s (Some answer) old new = Draws s (session_in old.sessions s) answer old new
 DrawsIf s None old new = new ≡ old
 
--- no session has that number or a later one
+-- no session has that number or a higher one
 abbrev pub IsAbove : ℕ → List Session → Type 0
 IsAbove s sessions = (t : ℕ) → s ≤ t → session_in sessions t ≡ None
 
--- and none of any room
-abbrev pub IsFresh : ℕ → List (List ℕ × Group) → Type 0
-IsFresh s rooms = (place : ℕ) (name : List ℕ) (g : Group) → slice_get rooms place ≡ Some (name, g) → IsAbove s g.sessions
+-- the same of the sessions of every room
+abbrev pub IsFresh : ℕ → List (List ℕ × RoomSessions) → Type 0
+IsFresh s rooms = (place : ℕ) (name : List ℕ) (g : RoomSessions) → slice_get rooms place ≡ Some (name, g) → IsAbove s g.sessions
 
--- session s becomes f of what it was, and no other differs
+-- session s becomes f of what it was, and no other session differs
 abbrev pub ChangesBy : ℕ → (Session → Session) → List Session → List Session → Type 0
 ChangesBy s f old new = (x : Session) → session_in old s ≡ Some x → OnlyAt s (Some (f x)) old new
 
--- a reply fits in the line of session s
+-- the outbox of session s has space for a reply
 abbrev pub HasRoom : List Session → ℕ → Type 0
-HasRoom sessions s = (x : Session) → session_in sessions s ≡ Some x → length x.outbox.replies < REPLIES
+HasRoom sessions s = (x : Session) → session_in sessions s ≡ Some x → length x.outbox.replies < MAX_REPLIES
 
 abbrev pub IsFull : List Session → ℕ → Type 0
-IsFull sessions s = (x : Session) → session_in sessions s ≡ Some x → length x.outbox.replies ≡ REPLIES
+IsFull sessions s = (x : Session) → session_in sessions s ≡ Some x → length x.outbox.replies ≡ MAX_REPLIES

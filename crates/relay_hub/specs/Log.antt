@@ -1,5 +1,5 @@
--- What a log says: the documents of each room, who is open where, what each session watches and what it was told. A log has its
--- newest entry first, so that each definition says what one more entry does.
+-- What follows from a log: the documents of each room, which sessions are open in which room, what each session watches and which messages
+-- it received. A log has its newest entry first, so each definition says what one more entry changes.
 use Rattle.std.specs.Prelude.{ℕ, ◌+◌, ◌-◌, ◌==◌, Bool, false, ◌||◌, List, [], ◌∷◌, ◌++◌, Option, Some, None, Result, Ok, length, slice_get, unwrap_or, bytes_eq, if◌then◌else◌}
 use Rattle.std.specs.Result.{result_ok}
 use Rattle.relay_tree.specs.Document.{Document, null}
@@ -20,7 +20,7 @@ use Rattle.relay_hub.specs.declared.event.Event.{Event}
 use Rattle.relay_hub.specs.declared.event.Event.TheVariants.{Open, Receive, Draw, Close}
 use Rattle.relay_hub.specs.declared.event.Heard.TheVariants.{Answered}
 
--- an event, and what was answered. A call that found no memory changed nothing, and has no entry
+-- an event and its answer. A call that ran out of memory changed nothing, and has no entry
 pub record Entry : Type 0 where
   pub event : Event
   pub answer : Answer
@@ -31,9 +31,9 @@ entry event answer = record { event = event; answer = answer }
 abbrev pub Log : Type 0
 Log = List Entry
 
--- Who is open where.
+-- Which sessions are open, and in which room.
 
--- the room of session s, where it is open, after an event
+-- the room in which session s is open, if it is, after an event
 abbrev pub home_after : Option (List ℕ) → ℕ → Event → Answer → Option (List ℕ)
 home_after was s (Open name) (Opened t) = if t == s then Some name else was
 home_after was s (Close t) Closed = if t == s then None else was
@@ -54,12 +54,12 @@ abbrev pub is_opened : Log → List ℕ → Bool
 is_opened [] name = false
 is_opened (e ∷ E) name = is_opened_after (is_opened E name) name e.event e.answer
 
--- Documents: those of a room, the first one first, so that the one of revision r stands at place r.
+-- The documents of a room, the first one first, so that the one of revision r is at place r.
 
 abbrev pub present_of : List Document → Document
 present_of documents = unwrap_or (slice_get documents (length documents - 1)) null
 
--- the document that an edit adds, where it is accepted
+-- the document that an edit adds, if it is accepted
 abbrev pub next_document : List Document → Option ℕ → List Op → Option Document
 next_document documents base patch = result_ok (edited_at (length documents - 1) (present_of documents) base patch)
 
@@ -68,7 +68,7 @@ abbrev pub requested : List Document → Result Request Refusal → Option Docum
 requested documents (Ok (Edit id base patch)) = next_document documents base patch
 requested documents _ = None
 
--- the document that a text adds to the room of that name, where its sender is at home there
+-- the document that a text adds to the room of that name, if its sender is open there
 abbrev pub document_added : List Document → List ℕ → Option (List ℕ) → List ℕ → Option Document
 document_added documents name (Some room) text = if bytes_eq room name then requested documents (request_of_text text) else None
 document_added documents name None text = None
@@ -89,9 +89,9 @@ documents (e ∷ E) name = documents_after (home E) (documents E name) name e.ev
 abbrev pub present : Log → List ℕ → Document
 present E name = present_of (documents E name)
 
--- What is watched.
+-- What the sessions watch.
 
--- the pointers of a session's view, what its client held as it began to watch, and the snapshots and patches drawn since
+-- the pointers of a session's view, what its client held when the watch began, and the snapshots and patches drawn since
 pub record Watching : Type 0 where
   pub view : View
   pub start : Client
@@ -100,13 +100,13 @@ pub record Watching : Type 0 where
 abbrev pub begun : View → Client → Watching
 begun pointers start = record { view = pointers; start = start; heard = [] }
 
--- the message, where it is a snapshot or a patch
+-- the message, if it is a snapshot or a patch
 abbrev pub view_message : Option Message → List Message
 view_message (Some (message.Patch rev ops)) = message.Patch rev ops ∷ []
 view_message (Some (message.Snapshot rev tree)) = message.Snapshot rev tree ∷ []
 view_message _ = []
 
--- the watching once a text was drawn
+-- the watching after a text was drawn
 abbrev pub hearing : Option (List ℕ) → Option Watching → Option Watching
 hearing (Some text) (Some w) = Some (record { view = w.view; start = w.start; heard = w.heard ++ view_message (message_of_text text) })
 hearing _ was = was
@@ -116,7 +116,7 @@ abbrev pub resumes_from : Option Watching → ℕ → View → Option Document �
 resumes_from was rev pointers (Some d) = Some (begun pointers (holds rev (view pointers d)))
 resumes_from was rev pointers None = was
 
--- the watching of a session after a request that was answered. A revision to come is refused, and changes nothing
+-- the watching of a session after a request that was answered. A resume from a future revision is refused, and changes nothing
 abbrev pub asked : ℕ → List Document → Option Watching → Result Request Refusal → Option Watching
 asked epoch documents was (Ok (Watch id pointers)) = Some (begun pointers nothing)
 asked epoch documents was (Ok (Unwatch id)) = None

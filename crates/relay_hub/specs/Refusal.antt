@@ -1,4 +1,4 @@
--- Why a request is refused, as replies say it.
+-- Why a request is refused, as replies state it.
 use Rattle.std.specs.Prelude.{ℕ, Option, Some, None, option_map}
 use Rattle.relay_patch.specs.declared.fault.Cause.{Cause}
 use Rattle.relay_patch.specs.declared.fault.Cause.TheVariants as cause
@@ -10,15 +10,15 @@ use Rattle.relay_proto.specs.declared.word.Word.TheVariants as word
 use Rattle.relay_room.specs.declared.fault.EditFault.{EditFault}
 use Rattle.relay_room.specs.declared.fault.EditFault.TheVariants.{Exhausted, Stale, Apply}
 
--- the reply to what is refused
+-- the reply of a refusal
 abbrev pub refused : Refusal → Reply
 refused r = Refused r.id r.fault r.at None
 
--- the refusal of the request of that id, for that reason, at that place
+-- the refusal of the request with that id, for that reason, at that place
 abbrev pub refusal : ℕ → Word → Option ℕ → Refusal
 refusal id w at = record { fault = w; id = Some id; at = at }
 
--- the word of a cause; want of memory is no refusal, and has none
+-- the word of a cause; out of memory is no refusal, and has none
 abbrev pub cause_word : Cause → Option Word
 cause_word cause.Missing = Some word.Missing
 cause_word cause.NotIndex = Some word.NotIndex
@@ -31,13 +31,13 @@ cause_word cause.TooDeep = Some word.TooDeep
 cause_word cause.TooHeavy = Some word.TooHeavy
 cause_word cause.NoMemory = None
 
--- the reply to an edit that its room refuses: at which operation, where it is one's fault; and the present revision, where the
--- edit is for another one
+-- the reply to an edit that its room refuses: with the place of the operation, if one is at fault, and the present revision, if the edit is
+-- for another one
 abbrev pub edit_refusal : ℕ → EditFault → Option Reply
 edit_refusal id Exhausted = Some (refused (refusal id word.Exhausted None))
 edit_refusal id (Stale present) = Some (Refused (Some id) word.Stale None (Some present))
 edit_refusal id (Apply fault) = option_map (λ w. refused (refusal id w (Some fault.at))) (cause_word fault.cause)
 
--- a resume from a revision that is still to come
+-- the refusal of a resume from a future revision
 abbrev pub future_refusal : ℕ → Refusal
 future_refusal id = refusal id word.Future None

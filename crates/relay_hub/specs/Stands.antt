@@ -1,6 +1,6 @@
--- When a hub stands for a log: it has the documents, the sessions and the views of the log, and every watching client that applies
--- what was drawn for it and what waits holds exactly its view of the present document.
-use Rattle.std.specs.Prelude.{ℕ, ◌≡◌, ⊤, ◌+◌, ◌-◌, is_some, ◌<◌, min, false, List, [], ◌∷◌, ◌++◌, Option, Some, None, length, slice_get, option_map}
+-- When a hub stands for a log, that is, agrees with it: it has the documents, the sessions and the views of the log, and every watching
+-- client that applies what was drawn for it and what waits holds exactly its view of the present document.
+use Rattle.std.specs.Prelude.{ℕ, ◌≡◌, ⊤, ◌+◌, ◌-◌, ◌<◌, min, true, false, List, [], ◌∷◌, ◌++◌, Option, Some, None, length, slice_get, option_map}
 use Rattle.std.specs.List.{AllByRecursion}
 use Rattle.relay_history.specs.History.{Reaches, changes_since}
 use Rattle.relay_patch.specs.Change.{Leads}
@@ -16,66 +16,67 @@ use Rattle.relay_tree.specs.Document.{Document, null}
 use Rattle.relay_view.specs.View.{View, view}
 use Rattle.relay_hub.specs.Log.{Log, Watching, home, is_opened, documents, present_of, watching, opened, open_count}
 use Rattle.relay_hub.specs.Session.{Session, later}
-use Rattle.relay_hub.specs.State.{State, IsBeginning, Group, place_of, home_of, place_named, session_in}
-use Rattle.relay_hub.specs.declared.beginning.Beginning.{Beginning}
+use Rattle.relay_hub.specs.State.{State, IsConfig, RoomSessions, place_of, home_of, place_named, session_in}
+use Rattle.relay_tree.specs.declared.budget.Budget.TheVariants.{Unbounded}
+use Rattle.relay_hub.specs.declared.config.HubConfig.{HubConfig}
 
 -- What a client holds.
 
--- the view of the document of that revision
+-- the client holds that revision, and the view of its document
 abbrev pub HoldsRevision : List Document → View → ℕ → Client → Type 0
 HoldsRevision documents pointers rev (holds held tree) = (held ≡ rev) × (option_map (view pointers) (slice_get documents rev) ≡ Some tree)
 HoldsRevision documents pointers rev nothing = ⊥
 HoldsRevision documents pointers rev lost = ⊥
 
--- the view of the revision that the message names
+-- after the message, the client holds the view of the revision that the message names
 abbrev pub IsAtNamed : List Document → View → Message → Client → Type 0
 IsAtNamed documents pointers (Reply r) c = ⊤
 IsAtNamed documents pointers (Patch rev ops) c = HoldsRevision documents pointers rev c
 IsAtNamed documents pointers (Snapshot rev tree) c = HoldsRevision documents pointers rev c
 
--- each of the messages leaves the client at the view of the revision that it names
+-- after each of the messages, the client holds the view of the revision that the message names
 abbrev pub EachLeads : List Document → View → Client → List Message → Type 0
 EachLeads documents pointers c [] = ⊤
 EachLeads documents pointers c (m ∷ ms) = IsAtNamed documents pointers m (client c m) × EachLeads documents pointers (client c m) ms
 
--- the view of the present document, under a revision that there is
+-- the client holds the view of the present document, and a revision that exists
 abbrev pub HoldsPresent : List Document → View → Client → Type 0
 HoldsPresent documents pointers (holds held tree) = (held < length documents) × (tree ≡ view pointers (present_of documents))
 HoldsPresent documents pointers nothing = ⊥
 HoldsPresent documents pointers lost = ⊥
 
--- what was drawn and what waits lead a watching client to its view of the present document
+-- what was drawn and what waits bring a watching client to its view of the present document
 pub record Follows (documents : List Document) (w : Watching) (waiting : List Message) : Type 0 where
   pub each : EachLeads documents w.view w.start (w.heard ++ waiting)
   pub exactly : HoldsPresent documents w.view (client_after w.start (w.heard ++ waiting))
 
 -- What a hub holds.
 
--- a room has these documents, and holds the changes of its last revisions
-pub record RoomStands (history : ℕ) (documents : List Document) (room : Room) : Type 0 where
+-- a room has these documents, and keeps the changes of its last revisions: of as many as its limit allows, if nothing is bounded by weight
+pub record RoomStands (b : HubConfig) (documents : List Document) (room : Room) : Type 0 where
   pub document : room.document ≡ present_of documents
   pub made : revision room + 1 ≡ length documents
   pub is : IsRoom room
-  pub limit : room.history.limit ≡ history
-  pub held : length room.history.changes ≡ min history (revision room)
+  pub limit : room.history.limit ≡ b.history
+  pub held : b.history_weight ≡ Unbounded → length room.history.changes ≡ min b.history (revision room)
   -- the changes since each revision that the history reaches back to lead from its document to the present one
   pub led : (rev : ℕ) (d : Document) → slice_get documents rev ≡ Some d → Reaches room.history rev → Leads d (changes_since rev room.history) room.document
-  -- and those of each revision that is held lead from the document before it to its own
+  -- the changes of each revision that is kept lead from the document before it to its own
   pub steps : (rev : ℕ) (before after : Document) (changes : List Change)
       → slice_get documents rev ≡ Some before → slice_get documents (rev + 1) ≡ Some after
       → slice_get room.history.changes (revision room - (rev + 1)) ≡ Some changes → Leads before changes after
 
--- a waiting patch is such that its text reads as itself
+-- a waiting patch round-trips through its text
 abbrev pub PatchFits : ℕ × List Op → Type 0
 PatchFits p = IsCount p.0 × AllByRecursion IsSent p.1
 
--- what waits for a session fits: its texts read as themselves
+-- the replies and patches that wait for a session round-trip through their texts
 pub record LineStands (waiting : ℕ) (x : Session) : Type 0 where
   pub limit : x.outbox.limit ≡ waiting
   pub replies : AllByRecursion HasCounts x.outbox.replies
   pub patches : AllByRecursion PatchFits x.outbox.patches
 
--- a session that watches has the view, and its client follows; for another nothing waits but replies
+-- a session that watches has the view, and its client follows; for any other session only replies wait
 abbrev pub WatchStands : List Document → Room → Session → Option Watching → Type 0
 WatchStands documents room x (Some w) = (x.view ≡ Some w.view) × Follows documents w (later room w.view x.outbox)
 WatchStands documents room x None = (x.view ≡ None) × (x.outbox.patches ≡ []) × (x.outbox.due ≡ false)
@@ -84,27 +85,27 @@ abbrev pub SessionStands : ℕ → (List ℕ → List Document) → List ℕ →
 SessionStands waiting documents name room (Some x) there w = (there ≡ Some name) × LineStands waiting x × WatchStands (documents name) room x w
 SessionStands waiting documents name room None there w = ⊥
 
-abbrev pub GroupStands : ℕ → (List ℕ → List Document) → ℕ → Option (List ℕ × Group) → Option (List ℕ) → Option Watching → Type 0
-GroupStands waiting documents s (Some home) there w = SessionStands waiting documents home.0 home.1.room (session_in home.1.sessions s) there w
-GroupStands waiting documents s None there w = ⊥
+abbrev pub RoomSessionsStand : ℕ → (List ℕ → List Document) → ℕ → Option (List ℕ × RoomSessions) → Option (List ℕ) → Option Watching → Type 0
+RoomSessionsStand waiting documents s (Some home) there w = SessionStands waiting documents home.0 home.1.room (session_in home.1.sessions s) there w
+RoomSessionsStand waiting documents s None there w = ⊥
 
 -- what holds of session s, whose room is at that place
-abbrev pub HomeStands : ℕ → (List ℕ → List Document) → List (List ℕ × Group) → ℕ → Option ℕ → Option (List ℕ) → Option Watching → Type 0
-HomeStands waiting documents rooms s (Some place) there w = GroupStands waiting documents s (slice_get rooms place) there w
+abbrev pub HomeStands : ℕ → (List ℕ → List Document) → List (List ℕ × RoomSessions) → ℕ → Option ℕ → Option (List ℕ) → Option Watching → Type 0
+HomeStands waiting documents rooms s (Some place) there w = RoomSessionsStand waiting documents s (slice_get rooms place) there w
 HomeStands waiting documents rooms s None there w = there ≡ None
 
-pub record StandsFor (b : Beginning) (E : Log) (hub : State) : Type 0 where
+pub record StandsFor (b : HubConfig) (E : Log) (hub : State) : Type 0 where
   pub made : hub.made ≡ b
-  pub is : IsBeginning b
+  pub is : IsConfig b
   pub next : hub.next ≡ b.first + opened E
   pub count : length hub.homes ≡ open_count E
   -- each room has the documents of its name
-  pub rooms : (place : ℕ) (name : List ℕ) (g : Group) → slice_get hub.rooms place ≡ Some (name, g) → RoomStands b.history (documents E name) g.room
+  pub rooms : (place : ℕ) (name : List ℕ) (g : RoomSessions) → slice_get hub.rooms place ≡ Some (name, g) → RoomStands b (documents E name) g.room
   -- a room is found by its name
-  pub names : (place : ℕ) (name : List ℕ) (g : Group) → slice_get hub.rooms place ≡ Some (name, g) → place_named name hub.rooms ≡ Some place
-  -- there is a room of each name that was opened, and of no other
-  pub known : (name : List ℕ) → is_some (place_named name hub.rooms) ≡ is_opened E name
-  -- no edit was accepted in a room that there is not
+  pub names : (place : ℕ) (name : List ℕ) (g : RoomSessions) → slice_get hub.rooms place ≡ Some (name, g) → place_named name hub.rooms ≡ Some place
+  -- there is no room of a name that was never opened
+  pub known : (name : List ℕ) (place : ℕ) → place_named name hub.rooms ≡ Some place → is_opened E name ≡ true
+  -- no edit was accepted in a room that does not exist
   pub others : (name : List ℕ) → place_named name hub.rooms ≡ None → documents E name ≡ null ∷ []
   -- the sessions that are open, with their views
   pub sessions : (s : ℕ) → HomeStands b.waiting (documents E) hub.rooms s (place_of hub s) (home E s) (watching b.epoch E s)
@@ -113,14 +114,14 @@ pub record StandsFor (b : Beginning) (E : Log) (hub : State) : Type 0 where
 
 -- each client that watches, and applies what was drawn for it and what waits, in order, holds exactly its view of the present
 -- document
-abbrev pub EachHoldsPresent : Beginning → Log → State → Type 0
-EachHoldsPresent b E hub = (s : ℕ) (name : List ℕ) (g : Group) (x : Session) (w : Watching)
+abbrev pub EachHoldsPresent : HubConfig → Log → State → Type 0
+EachHoldsPresent b E hub = (s : ℕ) (name : List ℕ) (g : RoomSessions) (x : Session) (w : Watching)
     → home_of hub s ≡ Some (name, g) → session_in g.sessions s ≡ Some x → watching b.epoch E s ≡ Some w
     → HoldsPresent (documents E name) w.view (client_after w.start (w.heard ++ later g.room w.view x.outbox))
 
--- and each of these messages leaves it at its view of the revision that the message names
-abbrev pub EachIsAtNamed : Beginning → Log → State → Type 0
-EachIsAtNamed b E hub = (s : ℕ) (name : List ℕ) (g : Group) (x : Session) (w : Watching) (before after : List Message) (m : Message)
+-- after each of these messages the client holds its view of the revision that the message names
+abbrev pub EachIsAtNamed : HubConfig → Log → State → Type 0
+EachIsAtNamed b E hub = (s : ℕ) (name : List ℕ) (g : RoomSessions) (x : Session) (w : Watching) (before after : List Message) (m : Message)
     → home_of hub s ≡ Some (name, g) → session_in g.sessions s ≡ Some x → watching b.epoch E s ≡ Some w
     → w.heard ++ later g.room w.view x.outbox ≡ before ++ m ∷ after
     → IsAtNamed (documents E name) w.view m (client_after w.start (before ++ m ∷ []))

@@ -1,60 +1,78 @@
 -- A hub as contracts see it: plain data, and how a session and a room are found in it.
-use Rattle.std.specs.Prelude.{◌≡◌, ⊤, ℕ, ◌≤◌, ◌==◌, nat_eq, Bool, List, [], ◌∷◌, Option, Some, None, option_and_then, map, find, position, slice_get, bytes_eq, refl}
+use Rattle.std.specs.Prelude.{◌≡◌, ⊤, ℕ, ◌≤◌, ◌==◌, nat_eq, nat_le, Bool, ◌&&◌, not, is_some, if◌then◌else◌, length, List, [], ◌∷◌, Option, Some, None, option_and_then, map, find, position, slice_get, bytes_eq, refl}
 use Rattle.std.specs.Coded.{Coded, code_by, coded×, coded_list, coded_ℕ}
 use Rattle.std.specs.List.Sorted.{IsStrictlyIncreasing}
 use Rattle.std.specs.Map.{lookup}
-use Rattle.relay_history.specs.declared.history.TheConstants.{MOST_REVISIONS}
-use Rattle.relay_outbox.specs.declared.outbox.TheConstants.{MOST_PATCHES}
+use Rattle.relay_history.specs.declared.history.TheConstants.{MAX_REVISIONS}
+use Rattle.relay_outbox.specs.declared.outbox.TheConstants.{MAX_PATCHES}
 use Rattle.relay_patch.specs.declared.change.Change.{Change}
-use Rattle.relay_room.specs.Room.{State as Room, state_code}
-use Rattle.relay_tree.specs.declared.count.TheConstants.{COUNT_MOST}
-use Rattle.relay_hub.specs.declared.beginning.Beginning.{Beginning}
+use Rattle.relay_room.specs.Room.{State as Room, state_code, revision}
+use Rattle.relay_tree.specs.declared.budget.Budget.TheVariants.{Unbounded}
+use Rattle.relay_tree.specs.declared.count.TheConstants.{MAX_COUNT}
+use Rattle.relay_hub.specs.Config.{config_code}
+use Rattle.relay_hub.specs.declared.config.HubConfig.{HubConfig}
+use Rattle.relay_hub.specs.declared.config.TheConstants.{DEFAULT_ROOMS, DEFAULT_SESSIONS, MAX_ROOMS, MAX_SESSIONS}
 use Rattle.relay_hub.specs.Session.{Session}
 
 -- a room with the sessions that are open in it
-pub record Group : Type 0 where
+pub record RoomSessions : Type 0 where
   pub room : Room
   pub sessions : List Session
 
-abbrev pub group : Room → List Session → Group
-group room sessions = record { room = room; sessions = sessions }
+abbrev pub room_sessions : Room → List Session → RoomSessions
+room_sessions room sessions = record { room = room; sessions = sessions }
 
--- what a hub is made with: its epoch, the number of its first session, how many revisions a room holds and how many patches may
--- wait for a session
-abbrev pub beginning : ℕ → ℕ → ℕ → ℕ → Beginning
-beginning epoch first history waiting = record { epoch = epoch; first = first; history = history; waiting = waiting }
+-- the configuration of a hub in which nothing is bounded by weight: its epoch, the number of its first session, the most revisions whose
+-- changes a room keeps, and the most patches that wait for a session
+abbrev pub config : ℕ → ℕ → ℕ → ℕ → HubConfig
+config epoch first history waiting = record {
+  epoch = epoch;
+  first = first;
+  rooms = DEFAULT_ROOMS;
+  sessions = DEFAULT_SESSIONS;
+  history = history;
+  waiting = waiting;
+  history_weight = Unbounded;
+  waiting_weight = Unbounded;
+}
 
--- what it may be made with: counts, and limits in their ranges
-pub record IsBeginning (made : Beginning) : Type 0 where
-  pub counts : (made.epoch ≤ COUNT_MOST) × (made.first ≤ COUNT_MOST)
-  pub history : (1 ≤ made.history) × (made.history ≤ MOST_REVISIONS)
-  pub waiting : (1 ≤ made.waiting) × (made.waiting ≤ MOST_PATCHES)
+-- a valid configuration: epoch and first session number are counts, and the limits are in their ranges
+pub record IsConfig (made : HubConfig) : Type 0 where
+  pub rooms : (1 ≤ made.rooms) × (made.rooms ≤ MAX_ROOMS)
+  pub sessions : (1 ≤ made.sessions) × (made.sessions ≤ MAX_SESSIONS)
+  pub counts : (made.epoch ≤ MAX_COUNT) × (made.first ≤ MAX_COUNT)
+  pub history : (1 ≤ made.history) × (made.history ≤ MAX_REVISIONS)
+  pub waiting : (1 ≤ made.waiting) × (made.waiting ≤ MAX_PATCHES)
 
--- what the hub was made with, the number of the next session, the rooms by name, in the order of their first openings, and for
--- each open session the place of its room
+-- the configuration, the number of the next session, the rooms by name, in the order in which they were first opened, and for each open
+-- session the place of its room
 pub record State : Type 0 where
-  pub made : Beginning
+  pub made : HubConfig
   pub next : ℕ
-  pub rooms : List (List ℕ × Group)
+  pub rooms : List (List ℕ × RoomSessions)
   pub homes : List (ℕ × ℕ)
 
--- a hub that nobody has called
-abbrev pub new_hub : ℕ → ℕ → ℕ → ℕ → State
-new_hub epoch first history waiting = record { made = beginning epoch first history waiting; next = first; rooms = []; homes = [] }
+-- a hub on which nothing was called yet
+abbrev pub made_with : HubConfig → State
+made_with c = record { made = c; next = c.first; rooms = []; homes = [] }
 
--- is it the session of that number
+-- the same of a hub in which nothing is bounded by weight
+abbrev pub new_hub : ℕ → ℕ → ℕ → ℕ → State
+new_hub epoch first history waiting = made_with (config epoch first history waiting)
+
+-- whether this is the session with that number
 abbrev pub is_number : ℕ → Session → Bool
 is_number s x = x.number == s
 
 abbrev pub session_in : List Session → ℕ → Option Session
 session_in sessions s = find (is_number s) sessions
 
--- no two sessions have one number
+-- no two sessions have the same number
 abbrev pub EachOnce : List Session → Type 0
 EachOnce [] = ⊤
 EachOnce (x ∷ xs) = (session_in xs x.number ≡ None) × EachOnce xs
 
--- their numbers, in order
+-- the numbers of sessions, in order
 abbrev pub numbers : List Session → List ℕ
 numbers sessions = map (λ x. x.number) sessions
 
@@ -67,60 +85,72 @@ abbrev pub place_of : State → ℕ → Option ℕ
 place_of hub s = lookup (nat_eq s) hub.homes
 
 -- a session's room, with its name
-abbrev pub home_of : State → ℕ → Option (List ℕ × Group)
+abbrev pub home_of : State → ℕ → Option (List ℕ × RoomSessions)
 home_of hub s = option_and_then (λ place. slice_get hub.rooms place) (place_of hub s)
 
 abbrev pub session_of : State → ℕ → Option Session
 session_of hub s = option_and_then (λ home. session_in home.1.sessions s) (home_of hub s)
 
 -- the place of the room of that name
-abbrev pub place_named : List ℕ → List (List ℕ × Group) → Option ℕ
+abbrev pub place_named : List ℕ → List (List ℕ × RoomSessions) → Option ℕ
 place_named name rooms = position (λ room. bytes_eq name room.0) rooms
 
+-- nobody is in it, and no edit was ever accepted
+abbrev pub is_untouched : RoomSessions → Bool
+is_untouched g = (revision g.room == 0) && (length g.sessions == 0)
+
+-- the place that a new room takes from another: that of the first room that is untouched, if all places are taken
+abbrev pub vacant_place : ℕ → List (List ℕ × RoomSessions) → Option ℕ
+vacant_place most rooms = if nat_le most (length rooms) then position (λ room. is_untouched room.1) rooms else None
+
+-- another room is wanted, all places are taken, and none is vacant
+abbrev pub is_crowded : Option ℕ → State → Bool
+is_crowded place hub = not (is_some place) && nat_le hub.made.rooms (length hub.rooms) && not (is_some (vacant_place hub.made.rooms hub.rooms))
+
 -- a room with its name, without its sessions
-abbrev pub without_sessions : List ℕ × Group → List ℕ × Room
+abbrev pub without_sessions : List ℕ × RoomSessions → List ℕ × Room
 without_sessions r = (r.0, r.1.room)
 
--- A room of a hub: its place, its name, and what stands there.
+-- A room of a hub: its place, its name, and what is stored there.
 pub record RoomOf (hub : State) : Type 0 where
   pub place : ℕ
   pub name : List ℕ
-  pub group : Group
-  pub there : slice_get hub.rooms place ≡ Some (name, group)
+  pub room_sessions : RoomSessions
+  pub there : slice_get hub.rooms place ≡ Some (name, room_sessions)
 
--- Session s is at home: its room, and the session in it.
+-- Session s is open: its room, and the session in it.
 pub record Home (hub : State) (s : ℕ) : Type 0 where
   pub room : RoomOf hub
   pub session : Session
   pub at : place_of hub s ≡ Some room.place
-  pub is : session_in room.group.sessions s ≡ Some session
+  pub is : session_in room.room_sessions.sessions s ≡ Some session
 
 -- What holds of each hub.
 pub record IsHub (hub : State) : Type 0 where
-  pub made : IsBeginning hub.made
+  pub made : IsConfig hub.made
   -- no session has the next number or a later one
   pub below : (t : ℕ) → hub.next ≤ t → place_of hub t ≡ None
-  -- an open session stands in its room
+  -- an open session is in its room
   pub homes : (t place : ℕ) → place_of hub t ≡ Some place → Home hub t
-  -- a session stands in its own room alone
-  pub members : (place : ℕ) (name : List ℕ) (g : Group) → slice_get hub.rooms place ≡ Some (name, g)
+  -- a session is in no room but its own
+  pub members : (place : ℕ) (name : List ℕ) (g : RoomSessions) → slice_get hub.rooms place ≡ Some (name, g)
       → (t : ℕ) (x : Session) → session_in g.sessions t ≡ Some x → place_of hub t ≡ Some place
-  -- and there once
-  pub once : (place : ℕ) (name : List ℕ) (g : Group) → slice_get hub.rooms place ≡ Some (name, g) → EachOnce g.sessions
+  -- and is there only once
+  pub once : (place : ℕ) (name : List ℕ) (g : RoomSessions) → slice_get hub.rooms place ≡ Some (name, g) → EachOnce g.sessions
 
 -- how the logic stores a hub
 
-abbrev pub group_code : Coded Change → Coded Session → Coded Group
-group_code change session = code_by (Room × List Session)
+abbrev pub room_sessions_code : Coded Change → Coded Session → Coded RoomSessions
+room_sessions_code change session = code_by (Room × List Session)
     (coded× (state_code change) (coded_list session))
     (λ g. (g.room, g.sessions))
-    (λ p. group p.0 p.1)
+    (λ p. room_sessions p.0 p.1)
     (λ _. refl)
 
 abbrev pub hub_code : Coded Change → Coded Session → Coded State
-hub_code change session = code_by (ℕ × (ℕ × (ℕ × (ℕ × (ℕ × (List (List ℕ × Group) × List (ℕ × ℕ)))))))
-    (coded× coded_ℕ (coded× coded_ℕ (coded× coded_ℕ (coded× coded_ℕ (coded× coded_ℕ
-    (coded× (coded_list (coded× (coded_list coded_ℕ) (group_code change session))) (coded_list (coded× coded_ℕ coded_ℕ))))))))
-    (λ h. (h.made.epoch, (h.made.first, (h.made.history, (h.made.waiting, (h.next, (h.rooms, h.homes)))))))
-    (λ p. record { made = beginning p.0 p.1.0 p.1.1.0 p.1.1.1.0; next = p.1.1.1.1.0; rooms = p.1.1.1.1.1.0; homes = p.1.1.1.1.1.1 })
+hub_code change session = code_by (HubConfig × (ℕ × (List (List ℕ × RoomSessions) × List (ℕ × ℕ))))
+    (coded× config_code (coded× coded_ℕ
+    (coded× (coded_list (coded× (coded_list coded_ℕ) (room_sessions_code change session))) (coded_list (coded× coded_ℕ coded_ℕ)))))
+    (λ h. (h.made, (h.next, (h.rooms, h.homes))))
+    (λ p. record { made = p.0; next = p.1.0; rooms = p.1.1.0; homes = p.1.1.1 })
     (λ _. refl)

@@ -1,8 +1,8 @@
--- One step of a hub: what an event answers, and what it leaves. What a case does not name stays the same.
-use Rattle.std.specs.Prelude.{ℕ, ◌≡◌, ◌+◌, ◌<◌, ◌==◌, Bool, true, false, List, [], ◌∷◌, ◌++◌, Option, Some, None, option_map, Result, Ok, Err, length, slice_get, slice_set, nat_lt, nat_le, not, is_some, ◌&&◌, if◌then◌else◌}
+-- One step of a hub: the answer to an event, and the state after it. What a case does not name is unchanged.
+use Rattle.std.specs.Prelude.{ℕ, ◌≡◌, ◌+◌, ◌<◌, ◌==◌, Bool, true, false, List, [], ◌∷◌, ◌++◌, Option, Some, None, option_map, Result, Ok, Err, length, slice_get, slice_set, nat_lt, nat_le, not, if◌then◌else◌}
 use Rattle.relay_history.specs.History.{with_revision}
 use Rattle.relay_outbox.specs.Outbox.{folded}
-use Rattle.relay_outbox.specs.declared.outbox.TheConstants.{REPLIES}
+use Rattle.relay_outbox.specs.declared.outbox.TheConstants.{MAX_REPLIES}
 use Rattle.relay_patch.specs.Change.{Leads, all_changes}
 use Rattle.relay_patch.specs.declared.change.Change.{Change}
 use Rattle.relay_patch.specs.declared.op.Op.{Op}
@@ -14,15 +14,17 @@ use Rattle.relay_proto.specs.declared.reply.Reply.{Reply}
 use Rattle.relay_proto.specs.declared.reply.Reply.TheVariants.{Done}
 use Rattle.relay_proto.specs.declared.request.Request.{Request}
 use Rattle.relay_proto.specs.declared.request.Request.TheVariants.{Edit, Watch, Resume, Unwatch}
-use Rattle.relay_room.specs.CatchUp.{caught_up, patch_or_nothing, MakesPresent, LeadsOn, Fits}
+use Rattle.relay_room.specs.CatchUp.{caught_up_within, patch_or_snapshot, MakesPresent, LeadsOn, Fits}
 use Rattle.relay_room.specs.Edit.{edited}
-use Rattle.relay_room.specs.Room.{State as Room, IsRoom, begun, revision}
+use Rattle.relay_room.specs.Room.{State as Room, IsRoom, begun, revision, trimmed}
 use Rattle.relay_room.specs.declared.catch_up.CatchUp.{CatchUp}
 use Rattle.relay_room.specs.declared.catch_up.CatchUp.TheVariants.{Snapshot}
 use Rattle.relay_room.specs.declared.fault.EditFault.{EditFault}
-use Rattle.relay_translate.specs.Translate.{local}
+use Rattle.relay_translate.specs.Translate.{local, afforded}
 use Rattle.relay_tree.specs.Document.{Document, null}
-use Rattle.relay_tree.specs.declared.count.TheConstants.{COUNT_MOST}
+use Rattle.relay_tree.specs.declared.budget.Budget.{Budget}
+use Rattle.relay_tree.specs.declared.count.TheConstants.{MAX_COUNT}
+use Rattle.relay_hub.specs.declared.config.HubConfig.{HubConfig}
 use Rattle.relay_hub.specs.declared.event.Answer.{Answer}
 use Rattle.relay_hub.specs.declared.event.Answer.TheVariants.{Opened, NotOpened, Heard, Drawn, Closed, NoSession}
 use Rattle.relay_hub.specs.declared.event.Event.{Event}
@@ -30,44 +32,43 @@ use Rattle.relay_hub.specs.declared.event.Event.TheVariants.{Open, Receive, Draw
 use Rattle.relay_hub.specs.declared.event.Heard.TheVariants.{Answered, Busy}
 use Rattle.relay_hub.specs.declared.fault.OpenFault.{OpenFault}
 use Rattle.relay_hub.specs.declared.fault.OpenFault.TheVariants.{RoomName, RoomsFull, SessionsFull, Exhausted}
-use Rattle.relay_hub.specs.declared.hub.TheConstants.{ROOMS_MOST, SESSIONS_MOST}
 use Rattle.relay_hub.specs.Refusal.{refused, edit_refusal, future_refusal}
 use Rattle.relay_hub.specs.Session.{Session, with_line, replied, newcomer, watches, unwatches, resumes, told_line, front_message, message_text, ReadsBack, drawn}
-use Rattle.relay_hub.specs.State.{Group, group, State, EachOnce, place_of, place_named, session_in}
+use Rattle.relay_hub.specs.State.{RoomSessions, room_sessions, State, EachOnce, place_of, place_named, vacant_place, is_crowded, session_in}
 
 -- Within a room.
 
--- of all sessions only that one differs, and is then x; and no two have one number, where no two had
+-- only that session differs, and is now x; and if no two sessions had the same number, none do now
 pub record OnlyAt (s : ℕ) (x : Option Session) (old new : List Session) : Type 0 where
   pub found : (t : ℕ) → session_in new t ≡ (if s == t then x else session_in old t)
   pub once : EachOnce old → EachOnce new
 
--- of all that a room holds only that session differs
-abbrev pub ChangesOnly : ℕ → Option Session → Group → Group → Type 0
+-- of a room with its sessions, only that session differs
+abbrev pub ChangesOnly : ℕ → Option Session → RoomSessions → RoomSessions → Type 0
 ChangesOnly s x old new = (new.room ≡ old.room) × OnlyAt s x old.sessions new.sessions
 
 -- An edit.
 
--- the room goes on to the document d by the changes of a patch, which lead there
+-- the room moves to the document d by the changes of a patch, which lead from the old document to d
 pub record GoesOn (old : Room) (patch : List Op) (d : Document) (new : Room) : Type 0 where
   pub document : new.document ≡ d
   pub history : new.history ≡ with_revision (all_changes old.document patch) old.history
   pub leads : Leads old.document (all_changes old.document patch) d
   pub is : IsRoom new
 
--- what an edit from the document d by some changes tells a view: nothing, or the local patch
-abbrev pub telling : List Change → Room → View → CatchUp
-telling changes room pointers = patch_or_nothing (local changes room.document pointers)
+-- what an edit by some changes means to a view: nothing, the local patch, or, if that is heavier than a budget pays for, a snapshot
+abbrev pub telling : Budget → List Change → Room → View → CatchUp
+telling budget changes room pointers = patch_or_snapshot (afforded budget (local changes room.document pointers))
 
--- a watcher is told of an edit, in one of three ways: its line stays, where its view does; a patch that leads its view to the
--- new one goes in line; or, where memory was refused, the line folds
+-- a watcher is notified of an edit in one of three ways: its outbox is unchanged, if its view is, or if a snapshot is due already; a patch
+-- that brings its view to the new one is added; or the outbox folds because memory ran out, and counts as short
 abbrev pub ToldView : Document → List Change → Room → View → Bool → Session → Session → Type 0
-ToldView d changes room pointers true x y = y ≡ with_line (folded x.outbox) x
+ToldView d changes room pointers true x y = (x.outbox.due ≡ false) × (y ≡ with_line (folded x.outbox) x)
 ToldView d changes room pointers false x y =
-    (y ≡ with_line (told_line (revision room) (telling changes room pointers) x.outbox) x)
-    × MakesPresent room pointers d (telling changes room pointers) × Fits (telling changes room pointers)
+    (y ≡ with_line (told_line x.budget (revision room) (telling x.budget changes room pointers) x.outbox) x)
+    × MakesPresent room pointers d (telling x.budget changes room pointers) × Fits (telling x.budget changes room pointers)
 
--- who watches nothing is told nothing
+-- a session that watches nothing is not notified
 abbrev pub ToldAs : Document → List Change → Room → Option View → Bool → Session → Session → Type 0
 ToldAs d changes room (Some pointers) short x y = ToldView d changes room pointers short x y
 ToldAs d changes room None short x y = (y ≡ x) × (short ≡ false)
@@ -75,7 +76,7 @@ ToldAs d changes room None short x y = (y ≡ x) × (short ≡ false)
 abbrev pub Told : Document → List Change → Room → Bool → Session → Session → Type 0
 Told d changes room short x y = ToldAs d changes room x.view short x y
 
--- all sessions are told, and so many of their lines folded because memory was refused
+-- each watcher is notified, no other session changes, and this many outboxes folded because memory ran out
 abbrev pub AllTold : Document → List Change → Room → List Session → List Session → ℕ → Type 0
 AllTold d changes room [] [] n = n ≡ 0
 AllTold d changes room (x ∷ xs) (y ∷ ys) n =
@@ -83,43 +84,45 @@ AllTold d changes room (x ∷ xs) (y ∷ ys) n =
 AllTold d changes room [] (y ∷ ys) n = ⊥
 AllTold d changes room (x ∷ xs) [] n = ⊥
 
--- an accepted edit of s, which is x: it is answered, and then all are told; a refused one is answered alone
-abbrev pub EditServed : ℕ → Session → ℕ → List Op → Result Document EditFault → ℕ → Group → Group → Type 0
-EditServed s x id patch (Ok d) short old new = GoesOn old.room patch d new.room
-    × (mid : List Session) × OnlyAt s (Some (replied (Done id (revision new.room)) x)) old.sessions mid
-    × AllTold old.room.document (all_changes old.room.document patch) new.room mid new.sessions short
-EditServed s x id patch (Err fault) short old new = (short ≡ 0)
+-- an edit of session s, which is x. If it is accepted: s gets a reply, then all watchers are notified, and then the room drops what its
+-- history may not hold. If it is refused: s gets a reply, and nothing else changes
+abbrev pub EditServed : Budget → ℕ → Session → ℕ → List Op → Result Document EditFault → ℕ → RoomSessions → RoomSessions → Type 0
+EditServed budget s x id patch (Ok d) short old new = (told : Room) × GoesOn old.room patch d told
+    × (mid : List Session) × OnlyAt s (Some (replied (Done id (revision told)) x)) old.sessions mid
+    × AllTold old.room.document (all_changes old.room.document patch) told mid new.sessions short
+    × (new.room ≡ trimmed budget told)
+EditServed budget s x id patch (Err fault) short old new = (short ≡ 0)
     × (r : Reply) × (edit_refusal id fault ≡ Some r) × ChangesOnly s (Some (replied r x)) old new
 
 -- Other requests.
 
--- a resume. Is the epoch the present one, and is there that revision
-abbrev pub ResumeServed : Bool → Bool → ℕ → ℕ → View → ℕ → Session → Group → Group → Type 0
+-- a resume. The two booleans: is the epoch the present one, and does the revision exist
+abbrev pub ResumeServed : Bool → Bool → ℕ → ℕ → View → ℕ → Session → RoomSessions → RoomSessions → Type 0
 ResumeServed false past id rev pointers s x old new = ChangesOnly s (Some (resumes (revision old.room) id pointers Snapshot x)) old new
 ResumeServed true false id rev pointers s x old new = ChangesOnly s (Some (replied (refused (future_refusal id)) x)) old new
 ResumeServed true true id rev pointers s x old new =
-    LeadsOn old.room rev pointers (caught_up old.room rev pointers) × Fits (caught_up old.room rev pointers)
-    × ChangesOnly s (Some (resumes (revision old.room) id pointers (caught_up old.room rev pointers) x)) old new
+    LeadsOn old.room rev pointers (caught_up_within x.budget old.room rev pointers) × Fits (caught_up_within x.budget old.room rev pointers)
+    × ChangesOnly s (Some (resumes (revision old.room) id pointers (caught_up_within x.budget old.room rev pointers) x)) old new
 
--- what a text does that session s sent, which is x
-abbrev pub Serves : ℕ → ℕ → Session → Result Request Refusal → ℕ → Group → Group → Type 0
-Serves epoch s x (Err r) short old new = (short ≡ 0) × ChangesOnly s (Some (replied (refused r) x)) old new
-Serves epoch s x (Ok (Watch id pointers)) short old new = (short ≡ 0) × ChangesOnly s (Some (watches id pointers x)) old new
-Serves epoch s x (Ok (Unwatch id)) short old new = (short ≡ 0) × ChangesOnly s (Some (unwatches id x)) old new
-Serves epoch s x (Ok (Resume id e rev pointers)) short old new =
-    (short ≡ 0) × ResumeServed (e == epoch) (nat_le rev (revision old.room)) id rev pointers s x old new
-Serves epoch s x (Ok (Edit id base patch)) short old new = EditServed s x id patch (edited old.room base patch) short old new
+-- the effect of a text that session s sent, which is x
+abbrev pub Serves : HubConfig → ℕ → Session → Result Request Refusal → ℕ → RoomSessions → RoomSessions → Type 0
+Serves made s x (Err r) short old new = (short ≡ 0) × ChangesOnly s (Some (replied (refused r) x)) old new
+Serves made s x (Ok (Watch id pointers)) short old new = (short ≡ 0) × ChangesOnly s (Some (watches id pointers x)) old new
+Serves made s x (Ok (Unwatch id)) short old new = (short ≡ 0) × ChangesOnly s (Some (unwatches id x)) old new
+Serves made s x (Ok (Resume id e rev pointers)) short old new =
+    (short ≡ 0) × ResumeServed (e == made.epoch) (nat_le rev (revision old.room)) id rev pointers s x old new
+Serves made s x (Ok (Edit id base patch)) short old new = EditServed made.history_weight s x id patch (edited old.room base patch) short old new
 
 -- The calls, within a room.
 
-abbrev pub Receives : ℕ → ℕ → Option Session → List ℕ → Answer → Group → Group → Type 0
-Receives epoch s None text NoSession old new = new ≡ old
-Receives epoch s (Some x) text (Heard Busy) old new = (length x.outbox.replies ≡ REPLIES) × (new ≡ old)
-Receives epoch s (Some x) text (Heard (Answered short)) old new =
-    (length x.outbox.replies < REPLIES) × Serves epoch s x (request_of_text text) short old new
-Receives epoch s x text answer old new = ⊥
+abbrev pub Receives : HubConfig → ℕ → Option Session → List ℕ → Answer → RoomSessions → RoomSessions → Type 0
+Receives made s None text NoSession old new = new ≡ old
+Receives made s (Some x) text (Heard Busy) old new = (length x.outbox.replies ≡ MAX_REPLIES) × (new ≡ old)
+Receives made s (Some x) text (Heard (Answered short)) old new =
+    (length x.outbox.replies < MAX_REPLIES) × Serves made s x (request_of_text text) short old new
+Receives made s x text answer old new = ⊥
 
-abbrev pub Draws : ℕ → Option Session → Answer → Group → Group → Type 0
+abbrev pub Draws : ℕ → Option Session → Answer → RoomSessions → RoomSessions → Type 0
 Draws s None NoSession old new = new ≡ old
 Draws s (Some x) (Drawn text) old new =
     (text ≡ option_map message_text (front_message old.room x)) × ChangesOnly s (Some (drawn x)) old new × ReadsBack (front_message old.room x)
@@ -127,49 +130,54 @@ Draws s x answer old new = ⊥
 
 -- The whole hub.
 
-abbrev pub with_group : ℕ → List ℕ → Group → State → State
-with_group place name g hub = record {
+abbrev pub with_room : ℕ → List ℕ → RoomSessions → State → State
+with_room place name g hub = record {
   made = hub.made;
   next = hub.next;
   rooms = slice_set hub.rooms place (name, g);
   homes = hub.homes;
 }
 
--- what happens in the room at a place; elsewhere nothing does
-abbrev pub InGroup : ℕ → Option (List ℕ × Group) → State → Answer → (Group → Group → Type 0) → State → Type 0
-InGroup place (Some home) old answer Does new = (g : Group) × Does home.1 g × (new ≡ with_group place home.0 g old)
-InGroup place None old answer Does new = (answer ≡ NoSession) × (new ≡ old)
+-- what happens in the room at a place; nothing else changes
+abbrev pub InRoom : ℕ → Option (List ℕ × RoomSessions) → State → Answer → (RoomSessions → RoomSessions → Type 0) → State → Type 0
+InRoom place (Some home) old answer Does new = (g : RoomSessions) × Does home.1 g × (new ≡ with_room place home.0 g old)
+InRoom place None old answer Does new = (answer ≡ NoSession) × (new ≡ old)
 
--- the same in the room of a session, where it has one
-abbrev pub AtPlace : Option ℕ → State → Answer → (Group → Group → Type 0) → State → Type 0
-AtPlace (Some place) old answer Does new = InGroup place (slice_get old.rooms place) old answer Does new
+-- the same in the room of a session, if it has one
+abbrev pub AtPlace : Option ℕ → State → Answer → (RoomSessions → RoomSessions → Type 0) → State → Type 0
+AtPlace (Some place) old answer Does new = InRoom place (slice_get old.rooms place) old answer Does new
 AtPlace None old answer Does new = (answer ≡ NoSession) × (new ≡ old)
 
-abbrev pub AtHome : ℕ → State → Answer → (Group → Group → Type 0) → State → Type 0
+abbrev pub AtHome : ℕ → State → Answer → (RoomSessions → RoomSessions → Type 0) → State → Type 0
 AtHome s old answer Does new = AtPlace (place_of old s) old answer Does new
 
 -- the first reason not to open a session in a room of that name
 abbrev pub open_fault : State → List ℕ → Option OpenFault
 open_fault hub name =
     if not (is_room_name name) then Some RoomName else
-    if not (is_some (place_named name hub.rooms)) && nat_le ROOMS_MOST (length hub.rooms) then Some RoomsFull else
-    if nat_le SESSIONS_MOST (length hub.homes) then Some SessionsFull else
-    if nat_lt COUNT_MOST hub.next then Some Exhausted else None
+    if is_crowded (place_named name hub.rooms) hub then Some RoomsFull else
+    if nat_le hub.made.sessions (length hub.homes) then Some SessionsFull else
+    if nat_lt MAX_COUNT hub.next then Some Exhausted else None
 
--- the newcomer, which is so made for a room of that revision, enters a room that is there, or a new one, whose document is null
--- at revision 0
-abbrev pub EntersRooms : ℕ → (ℕ → Session) → ℕ → List ℕ → Option ℕ → List (List ℕ × Group) → ℕ → List (List ℕ × Group) → Type 0
-EntersRooms n made history name (Some i) old place new = (place ≡ i)
-    × (known : List ℕ) × (g : Group) × (h : Group) × (slice_get old i ≡ Some (known, g))
+-- a new room, with its first session, is the last one, or takes the place of one that is untouched
+abbrev pub Founds : Option ℕ → List ℕ × RoomSessions → List (List ℕ × RoomSessions) → ℕ → List (List ℕ × RoomSessions) → Type 0
+Founds (Some i) room old place new = (place ≡ i) × (new ≡ slice_set old i room)
+Founds None room old place new = (place ≡ length old) × (new ≡ old ++ room ∷ [])
+
+-- the new session n, which `made` gives for the room's revision, enters a room that is there, or a new one, whose document is null at
+-- revision 0
+abbrev pub EntersRooms : ℕ → (ℕ → Session) → ℕ → ℕ → List ℕ → Option ℕ → List (List ℕ × RoomSessions) → ℕ → List (List ℕ × RoomSessions) → Type 0
+EntersRooms n made most history name (Some i) old place new = (place ≡ i)
+    × (known : List ℕ) × (g : RoomSessions) × (h : RoomSessions) × (slice_get old i ≡ Some (known, g))
     × (new ≡ slice_set old i (known, h))
     × ChangesOnly n (Some (made (revision g.room))) g h
-EntersRooms n made history name None old place new = (place ≡ length old)
-    × (new ≡ old ++ (name, group (begun null 0 history) (made 0 ∷ [])) ∷ [])
+EntersRooms n made most history name None old place new =
+    Founds (vacant_place most old) (name, room_sessions (begun null 0 history) (made 0 ∷ [])) old place new
 
--- the same in a hub, whose next session it is
+-- the same in a hub, for its next session
 abbrev pub Enters : ℕ → List ℕ → Option ℕ → State → ℕ → State → Type 0
 Enters n name at old place new =
-    EntersRooms n (λ rev. newcomer old.made.epoch rev n old.made.waiting) old.made.history name at old.rooms place new.rooms
+    EntersRooms n (λ rev. newcomer old.made rev n) old.made.rooms old.made.history name at old.rooms place new.rooms
 
 pub record Opens (old : State) (name : List ℕ) (n : ℕ) (new : State) : Type 0 where
   pub number : n ≡ old.next
@@ -180,34 +188,34 @@ pub record Opens (old : State) (name : List ℕ) (n : ℕ) (new : State) : Type 
   pub home : (t : ℕ) → place_of new t ≡ (if n == t then Some place else place_of old t)
   pub count : length new.homes ≡ length old.homes + 1
 
--- session s goes from its room, which stays, and is at home nowhere
-pub record Closes (s place : ℕ) (name : List ℕ) (g : Group) (old : State) (new : State) : Type 0 where
+-- session s is removed from its room, which stays, and is open nowhere
+pub record Closes (s place : ℕ) (name : List ℕ) (g : RoomSessions) (old : State) (new : State) : Type 0 where
   pub next : new.next ≡ old.next
   pub made : new.made ≡ old.made
-  pub left : Group
+  pub left : RoomSessions
   pub leaves : ChangesOnly s None g left
   pub rooms : new.rooms ≡ slice_set old.rooms place (name, left)
   pub home : (t : ℕ) → place_of new t ≡ (if s == t then None else place_of old t)
   pub count : length new.homes + 1 ≡ length old.homes
 
-abbrev pub ClosesIn : ℕ → ℕ → List ℕ → Group → Option Session → State → Answer → State → Type 0
+abbrev pub ClosesIn : ℕ → ℕ → List ℕ → RoomSessions → Option Session → State → Answer → State → Type 0
 ClosesIn s place name g None old NoSession new = new ≡ old
 ClosesIn s place name g (Some x) old Closed new = Closes s place name g old new
 ClosesIn s place name g x old answer new = ⊥
 
-abbrev pub ClosesGroup : ℕ → ℕ → Option (List ℕ × Group) → State → Answer → State → Type 0
-ClosesGroup s place (Some home) old answer new = ClosesIn s place home.0 home.1 (session_in home.1.sessions s) old answer new
-ClosesGroup s place None old answer new = (answer ≡ NoSession) × (new ≡ old)
+abbrev pub ClosesInRoom : ℕ → ℕ → Option (List ℕ × RoomSessions) → State → Answer → State → Type 0
+ClosesInRoom s place (Some home) old answer new = ClosesIn s place home.0 home.1 (session_in home.1.sessions s) old answer new
+ClosesInRoom s place None old answer new = (answer ≡ NoSession) × (new ≡ old)
 
 abbrev pub ClosesAt : ℕ → Option ℕ → State → Answer → State → Type 0
-ClosesAt s (Some place) old answer new = ClosesGroup s place (slice_get old.rooms place) old answer new
+ClosesAt s (Some place) old answer new = ClosesInRoom s place (slice_get old.rooms place) old answer new
 ClosesAt s None old answer new = (answer ≡ NoSession) × (new ≡ old)
 
--- An event with its answer takes the hub from the one state to the other.
+-- An event with its answer takes the hub from one state to the other.
 abbrev pub Step : State → Event → Answer → State → Type 0
 Step old (Open name) (Opened n) new = (open_fault old name ≡ None) × Opens old name n new
 Step old (Open name) (NotOpened fault) new = (open_fault old name ≡ Some fault) × (new ≡ old)
 Step old (Open name) answer new = ⊥
-Step old (Receive s text) answer new = AtHome s old answer (λ g h. Receives old.made.epoch s (session_in g.sessions s) text answer g h) new
+Step old (Receive s text) answer new = AtHome s old answer (λ g h. Receives old.made s (session_in g.sessions s) text answer g h) new
 Step old (Draw s) answer new = AtHome s old answer (λ g h. Draws s (session_in g.sessions s) answer g h) new
 Step old (Close s) answer new = ClosesAt s (place_of old s) old answer new

@@ -1,4 +1,4 @@
--- What a room's watch index says of its sessions, and who is told where it names them.
+-- What a room's watch index has of its sessions, and how the sessions that it names are notified.
 use Rattle.std.specs.Prelude.{ℕ, ◌≡◌, ◌+◌, Bool, true, false, List, [], ◌∷◌, Option, option_and_then, nat_eq, if◌then◌else◌}
 use Rattle.std.specs.List.{list_any}
 use Rattle.std.specs.FinMap as map
@@ -11,7 +11,7 @@ use Rattle.relay_hub.specs.Session.{Session}
 use Rattle.relay_hub.specs.State.{IsRising, session_in}
 use Rattle.relay_hub.specs.Step.{Told}
 
--- the view of session t, where it is there and watches
+-- the view of session t, if the session is there and watches
 abbrev pub view_in : List Session → ℕ → Option View
 view_in sessions t = option_and_then (λ x. x.view) (session_in sessions t)
 
@@ -19,17 +19,17 @@ view_in sessions t = option_and_then (λ x. x.view) (session_in sessions t)
 abbrev pub Agrees : Watches → List Session → Type 0
 Agrees watches sessions = (t : ℕ) → map.get watches t ≡ view_in sessions t
 
--- What holds of each room's sessions and their index: they stand in the order in which they came, so that their numbers rise.
+-- What holds of each room's sessions and their index: the sessions are in the order in which they were opened, so that their numbers rise.
 pub record IsIndexed (watches : Watches) (sessions : List Session) : Type 0 where
   pub rising : IsRising sessions
   pub agrees : Agrees watches sessions
 
--- one who is to be told is; another stays as it was
+-- a session that is to be notified is; any other is unchanged
 abbrev pub ToldIf : Bool → Document → List Change → Room → Bool → Session → Session → Type 0
 ToldIf true d changes room short x y = Told d changes room short x y
 ToldIf false d changes room short x y = (y ≡ x) × (short ≡ false)
 
--- the sessions of these numbers are told, and so many of their lines folded because memory was refused; no other differs
+-- the sessions with these numbers are notified, and this many of their outboxes folded because memory ran out; no other session differs
 abbrev pub ToldAmong : List ℕ → Document → List Change → Room → List Session → List Session → ℕ → Type 0
 ToldAmong numbers d changes room [] [] n = n ≡ 0
 ToldAmong numbers d changes room (x ∷ xs) (y ∷ ys) n =

@@ -1,96 +1,126 @@
-//! How a new session enters a room: all memory is taken before anything changes.
+//! Opening a session in a room. All memory is allocated before anything changes.
 ghost use Rattle.std.specs.Prelude.{◌≡◌, Some, None, [], ◌∷◌, ◌++◌, IfOk, OnOk, OnErr, length};
 ghost use Rattle.relay_room.specs.Room.{begun, revision};
 ghost use Rattle.relay_tree.specs.Document.{null};
 ghost use Rattle.relay_hub.specs.Call.{IsAbove, IsFresh};
-ghost use Rattle.relay_hub.specs.Kept.{rooms_of};
+ghost use Rattle.relay_hub.specs.Representation.{rooms_of};
 ghost use Rattle.relay_hub.specs.Session.{newcomer};
-ghost use Rattle.relay_hub.specs.State.{IsBeginning, group, place_named};
-ghost use Rattle.relay_hub.specs.Step.{ChangesOnly, EntersRooms};
+ghost use Rattle.relay_hub.specs.State.{IsConfig, room_sessions, place_named, vacant_place};
+ghost use Rattle.relay_hub.specs.Step.{ChangesOnly, EntersRooms, Founds};
 
-use crate::beginning::Beginning;
-use crate::group::Group;
+use crate::config::HubConfig;
+use crate::room_sessions::RoomSessions;
 use crate::session::Session;
 use indexmap::IndexMap;
 use relay_room::{Room, RoomFault};
 use std::alloc::{AllocError, Global};
 
-/// A session to be: its number, and what its hub was made with.
+/// A session to be opened: its number, and the configuration of its hub.
 #[derive(Clone, Copy)]
-pub struct Guest {
+pub struct NewSession {
     pub number: u64,
-    pub made: Beginning,
+    pub made: HubConfig,
 }
 
-impl Guest {
-    /// The session, for a room of revision `rev`.
+impl NewSession {
+    /// Makes the session, for a room at revision `rev`.
     fn session(self, alloc: Global, rev: u64) -> Result<Session, AllocError>
-        requires made { IsBeginning self.made }
-        ensures { IfOk result (λ x. x ≡ newcomer self.made.epoch rev self.number self.made.waiting) }
+        requires made { IsConfig self.made }
+        ensures { IfOk result (λ x. x ≡ newcomer self.made rev self.number) }
     {
-        Session::new(alloc, self.made.epoch, rev, self.number, self.made.waiting)
+        Session::new(alloc, self.made, rev, self.number)
     }
 }
 
-/// Lets a guest into the room at `place`, or, where there is none of that name, into a new one. The room's place.
-pub fn let_in(
+/// Opens a session in the room at `place`, or in a new room if `place` is `None`. Returns the room's place. Out of memory changes nothing.
+pub fn open_session(
     alloc: Global,
-    rooms: &mut IndexMap<String, Group>,
+    rooms: &mut IndexMap<String, RoomSessions>,
     name: &str,
     place: Option<usize>,
-    guest: Guest,
+    new_session: NewSession,
 ) -> Result<usize, AllocError>
     requires place { place ≡ place_named name.now (rooms_of rooms.old.entries) }
-    requires fresh { IsFresh guest.number (rooms_of rooms.old.entries) }
-    requires made { IsBeginning guest.made }
-    ensures ok { IfOk result (λ at. EntersRooms guest.number (λ rev. newcomer guest.made.epoch rev guest.number guest.made.waiting) guest.made.history
+    requires fresh { IsFresh new_session.number (rooms_of rooms.old.entries) }
+    requires made { IsConfig new_session.made }
+    ensures ok { IfOk result (λ at. EntersRooms new_session.number (λ rev. newcomer new_session.made rev new_session.number) new_session.made.rooms new_session.made.history
         name.now place (rooms_of rooms.old.entries) at (rooms_of rooms.new.entries)) }
     ensures err { OnErr result (rooms_of rooms.new.entries ≡ rooms_of rooms.old.entries) }
 {
     let Some(place) = place else {
-        return begin_room(alloc, rooms, name, guest);
+        return begin_room(alloc, rooms, name, new_session);
     };
-    let Some(group) = rooms.get_index_mut(place) else {
+    let Some(room_sessions) = rooms.get_index_mut(place) else {
         unreachable!()
     };
-    join_room(alloc, group, guest)?;
+    join_room(alloc, room_sessions, new_session)?;
     Ok(place)
 }
 
-/// Lets a guest into a room that is there.
-fn join_room(alloc: Global, group: &mut Group, guest: Guest) -> Result<(), AllocError>
-    requires fresh { IsAbove guest.number group.old.sessions }
-    requires made { IsBeginning guest.made }
-    ensures ok { OnOk result (ChangesOnly guest.number (Some (newcomer guest.made.epoch (revision group.old.room) guest.number guest.made.waiting))
-        group.old group.new) }
-    ensures err { OnErr result (group.new ≡ group.old) }
+/// Opens a session in a room that is there.
+fn join_room(
+    alloc: Global,
+    room_sessions: &mut RoomSessions,
+    new_session: NewSession,
+) -> Result<(), AllocError>
+    requires fresh { IsAbove new_session.number room_sessions.old.sessions }
+    requires made { IsConfig new_session.made }
+    ensures ok { OnOk result (ChangesOnly new_session.number (Some (newcomer new_session.made (revision room_sessions.old.room) new_session.number))
+        room_sessions.old room_sessions.new) }
+    ensures err { OnErr result (room_sessions.new ≡ room_sessions.old) }
 {
-    let session = guest.session(alloc, group.room().revision())?;
-    group.join(session)?;
+    let session = new_session.session(alloc, room_sessions.room().revision())?;
+    room_sessions.join(session)?;
     Ok(())
 }
 
-/// Makes a room for a guest. The room's place.
+/// Makes a room for a new session. Returns the room's place.
 fn begin_room(
     alloc: Global,
-    rooms: &mut IndexMap<String, Group>,
+    rooms: &mut IndexMap<String, RoomSessions>,
     name: &str,
-    guest: Guest,
+    new_session: NewSession,
 ) -> Result<usize, AllocError>
     requires absent { place_named name.now (rooms_of rooms.old.entries) ≡ None }
-    requires made { IsBeginning guest.made }
-    ensures place { IfOk result (λ at. at ≡ length (rooms_of rooms.old.entries)) }
-    ensures ok { OnOk result (rooms_of rooms.new.entries ≡ rooms_of rooms.old.entries
-        ++ (name.now, group (begun null 0 guest.made.history) (newcomer guest.made.epoch 0 guest.number guest.made.waiting ∷ [])) ∷ []) }
+    requires made { IsConfig new_session.made }
+    ensures ok { IfOk result (λ at. Founds (vacant_place new_session.made.rooms (rooms_of rooms.old.entries))
+        (name.now, room_sessions (begun null 0 new_session.made.history) (newcomer new_session.made 0 new_session.number ∷ []))
+        (rooms_of rooms.old.entries) at (rooms_of rooms.new.entries)) }
     ensures err { OnErr result (rooms_of rooms.new.entries ≡ rooms_of rooms.old.entries) }
 {
-    let room = match Room::new(alloc, guest.made.history) {
+    let room = match Room::new(alloc, new_session.made.history) {
         Ok(room) => room,
         Err(RoomFault::NoMemory) => return Err(AllocError),
         Err(_) => unreachable!(),
     };
-    let group = Group::begin(alloc, room, guest.session(alloc, 0)?)?;
-    let place = rooms.len();
-    rooms.insert(String::from_str(alloc, name)?, group)?;
-    Ok(place)
+    let room_sessions = RoomSessions::begin(alloc, room, new_session.session(alloc, 0)?)?;
+    let vacant = vacant_place(new_session.made.rooms, rooms);
+    let last = rooms.len();
+    rooms.insert(String::from_str(alloc, name)?, room_sessions)?;
+    match vacant {
+        Some(place) => {
+            let _ = rooms.swap_remove_index(place);
+            Ok(place)
+        }
+        None => Ok(last),
+    }
+}
+
+/// The place of the first room that makes place for another one, if there are as many as there may be: nobody is in it, and no edit was
+/// ever accepted.
+pub fn vacant_place(most: u64, rooms: &IndexMap<String, RoomSessions>) -> Option<usize>
+    ensures { result ≡ vacant_place most (rooms_of rooms.now.entries) }
+{
+    if (rooms.len() as u64) < most {
+        return None;
+    }
+    for place in 0..rooms.len() {
+        let Some((_, room_sessions)) = rooms.get_index(place) else {
+            unreachable!()
+        };
+        if room_sessions.is_untouched() {
+            return Some(place);
+        }
+    }
+    None
 }

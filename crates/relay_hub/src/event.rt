@@ -1,4 +1,4 @@
-//! What can happen to a hub, and what it answers.
+//! The events of a hub, and its answers.
 use crate::fault::OpenFault;
 use crate::text::Text;
 
@@ -11,23 +11,24 @@ pub enum Event {
     Close { session: u64 },
 }
 
-/// What became of a text that was received.
+/// The outcome of a received text.
 #[derive(Clone, Copy, Debug, PartialEq, Eq)]
 pub enum Heard {
-    /// One reply is in line. `short` is the number of watchers whose lines folded because telling them found no memory.
+    /// One reply was added to the outbox. `short` is the number of watchers whose outboxes folded because memory ran out while they were
+    /// notified.
     Answered { short: u64 },
-    /// 32 replies wait already; the text was not looked at.
+    /// 32 replies wait already. The text was not read.
     Busy,
 }
 
-/// What is answered to an event.
+/// The answer to an event.
 #[derive(Debug, Drop)]
 pub enum Answer {
-    /// The number of the session.
+    /// The number of the new session.
     Opened(u64),
     NotOpened(OpenFault),
     Heard(Heard),
-    /// The text at the front of the session's line; None where nothing waited.
+    /// The text at the front of the session's outbox; `None` if nothing waited.
     Drawn(Option<Text>),
     Closed,
     NoSession,

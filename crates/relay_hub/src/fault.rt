@@ -1,27 +1,27 @@
-//! Why a call of the hub is refused.
+//! The errors of the hub's calls.
 use crate::event::Answer;
 use thiserror::Error;
 
-/// Why there is no hub.
+/// Why a hub cannot be made.
 #[derive(Clone, Copy, Debug, PartialEq, Eq, Error)]
 pub enum HubNewFault {
-    /// The epoch or the first session number is no count, or H or K is out of its range.
+    /// `epoch` or `first` is not a count, or `history` or `waiting` is out of its range.
     #[error("a limit out of range")]
     BadLimit,
     #[error("out of memory")]
     NoMemory,
 }
 
-/// Why an opening is refused, in the order of the checks. The hub is as it was.
+/// Why a session cannot be opened, in the order of the checks. The hub is unchanged.
 #[derive(Clone, Copy, Debug, PartialEq, Eq, Error)]
 pub enum OpenFault {
-    /// No room name: 1 to 64 ASCII letters, digits, `-` and `_`.
+    /// The name is not 1 to 64 ASCII letters, digits, `-` and `_`.
     #[error("no name of a room")]
     RoomName,
-    /// A new name, and there are 64 rooms.
+    /// No room has this name, there are as many rooms as the configuration allows, and none of them is untouched.
     #[error("too many rooms")]
     RoomsFull,
-    /// 256 sessions are open.
+    /// As many sessions are open as the configuration allows.
     #[error("too many sessions")]
     SessionsFull,
     /// No session number is left.
@@ -31,7 +31,7 @@ pub enum OpenFault {
     NoMemory,
 }
 
-/// Why a session could not be served. The hub is as it was.
+/// Why a session cannot be served. The hub is unchanged.
 #[derive(Clone, Copy, Debug, PartialEq, Eq, Error)]
 pub enum HubFault {
     /// No open session has that number.
@@ -41,12 +41,12 @@ pub enum HubFault {
     NoMemory,
 }
 
-/// No open session has that number. The hub is as it was.
+/// No open session has that number. The hub is unchanged.
 #[derive(Clone, Copy, Debug, PartialEq, Eq, Error)]
 #[error("no such session")]
 pub struct NoSession;
 
-/// Memory was refused in a run: the events of the answers were done, and the next one changed nothing.
+/// A run stopped because memory ran out. The events of `answers` were done, and the next one changed nothing.
 #[derive(Drop)]
 pub struct RunFault {
     pub answers: Vec<Answer>,

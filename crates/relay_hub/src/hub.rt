@@ -1,53 +1,46 @@
-//! The hub: which rooms there are and who is open where, and what each call does.
+//! The hub: the rooms, the open sessions, and what each call does.
 //!
-//! Each call is a step (`specs/Step`), and a hub stands for the log of the calls that it answered (`specs/Stands`): it has the
-//! documents, sessions and views of the log, and every client that watches, and applies what was drawn for it and what
-//! waits, in order, holds exactly its view of the present document. A call that finds no memory changes nothing.
-ghost use Rattle.std.specs.Prelude.{◌≡◌, ◌≢◌, ◌<◌, ◌⊎◌, ◌↔◌, [], ◌∷◌, ℕ, Some, None, Ok, IfOk, IfErr, IsErrOf, IsSomeAnd, IsTrue, OnOk, OnErr, length, option_map, not, is_some, ◌&&◌, nat_le};
+//! Each call is a step (`specs/Step`). A hub agrees with the log of the calls that it answered (`specs/Stands`): it has the documents,
+//! sessions and views of the log, and every client that watches, and applies what was drawn for it and what waits, in order, holds exactly
+//! its view of the present document. A call that runs out of memory changes nothing.
+ghost use Rattle.std.specs.Prelude.{◌≡◌, ◌≢◌, ◌<◌, ◌⊎◌, ◌↔◌, [], ◌∷◌, ℕ, Some, None, Ok, IfOk, IfErr, IsErrOf, IsSomeAnd, IsTrue, OnOk, OnErr, length, option_map};
 ghost use Rattle.relay_hub.specs.Call.{StepIf, opening, receiving, drawing, closing, logged, done, followed, Runs};
 ghost use Rattle.relay_hub.specs.Log.{Log, entry};
-ghost use Rattle.relay_hub.specs.State.{beginning, place_named, session_of, new_hub};
+ghost use Rattle.relay_hub.specs.State.{config, place_named, is_crowded, session_of, made_with, new_hub};
 ghost use Rattle.relay_hub.specs.Session.{waiting};
+ghost use Rattle.relay_hub.specs.Shed.{shed};
 ghost use Rattle.relay_hub.specs.Stands.{StandsFor, EachHoldsPresent, EachIsAtNamed};
 ghost use Rattle.relay_hub.specs.Step.{Step, open_fault};
-ghost use Rattle.relay_hub.specs.Telling.{BadLimits, room_and_session, may_hear, truth, RefusesEdits};
-ghost use Rattle.relay_hub.specs.declared.beginning.Beginning.{Beginning};
+ghost use Rattle.relay_hub.specs.Queries.{BadLimits, room_and_session, may_hear, truth, RefusesEdits};
+ghost use Rattle.relay_hub.specs.declared.config.HubConfig.{HubConfig};
 ghost use Rattle.relay_hub.specs.declared.event.Event.TheVariants.{Open, Receive, Draw, Close};
 ghost use Rattle.relay_hub.specs.declared.event.Heard.TheVariants.{Answered};
-ghost use Rattle.relay_hub.specs.declared.hub.TheConstants.{ROOMS_MOST};
 ghost use Rattle.relay_hub.specs.declared.fault.HubNewFault.TheVariants.{BadLimit};
 
-use crate::beginning::Beginning;
-use crate::entering::{Guest, let_in};
+use crate::config::HubConfig;
+use crate::entering::{NewSession, open_session, vacant_place};
 use crate::event::{Answer, Event, Heard};
 use crate::fault::{HubFault, HubNewFault, NoSession, OpenFault, RunFault};
-use crate::group::Group;
+use crate::room_sessions::RoomSessions;
 use crate::session::Session;
+use crate::shed::{shed_budget, shed_rooms};
 use crate::text::Text;
 use indexmap::IndexMap;
-use relay_history::MOST_REVISIONS;
-use relay_outbox::MOST_PATCHES;
 use relay_proto::is_room_name;
 use relay_room::Room;
-use relay_tree::{COUNT_MOST, Tree};
+use relay_tree::{MAX_COUNT, Tree};
 use std::alloc::{AllocError, Global};
 use std::marker::Model;
 
-/// How many rooms there are at most.
-pub const ROOMS_MOST: usize = 64;
-
-/// How many sessions are open at most.
-pub const SESSIONS_MOST: usize = 256;
-
-/// Rooms and sessions.
+/// The rooms and the open sessions of a relay.
 #[derive(Drop)]
 pub struct Hub {
-    made: Beginning,
-    /// The number of the next session; above [`COUNT_MOST`] none is left.
+    made: HubConfig,
+    /// The number of the next session. If it is above [`MAX_COUNT`], no number is left.
     next: u64,
-    /// The rooms by name, in the order of their first openings. A room never goes.
-    rooms: IndexMap<String, Group>,
-    /// The place of each session's room, by the session's number.
+    /// The rooms by name, in the order in which they were first opened. A room is never removed.
+    rooms: IndexMap<String, RoomSessions>,
+    /// The place of each open session's room, by the session's number.
     homes: IndexMap<u64, usize>,
 }
 
@@ -55,7 +48,7 @@ impl Model for Hub {
     ghost use Rattle.relay_patch.specs.contracts.change.Change as change;
     ghost use Rattle.relay_hub.specs.contracts.session.Session as session;
     ghost use Rattle.relay_hub.specs.State.{State, IsHub, hub_code};
-    ghost use Rattle.relay_hub.specs.Kept.{hub_of};
+    ghost use Rattle.relay_hub.specs.Representation.{hub_of};
 
     ghost Value = { State };
 
@@ -67,9 +60,9 @@ impl Model for Hub {
 }
 
 impl Hub {
-    /// A hub with no room and no session, whose sessions are numbered from `first` on. `history` is how many revisions each
-    /// room is to hold (1 to 1,024), `waiting` how many patches wait for a session at most (1 to 256). BadLimit: one of them
-    /// is out of its range, or `epoch` or `first` is no count.
+    /// Makes a hub without rooms or sessions, with no bound on weight. Sessions are numbered from `first` on. Each room keeps the changes
+    /// of at most `history` revisions (1 to 1,024), and at most `waiting` patches wait for a session (1 to 256). `BadLimit`: one of them is
+    /// out of its range, or `epoch` or `first` is not a count.
     pub fn new(
         alloc: Global,
         epoch: u64,
@@ -78,54 +71,61 @@ impl Hub {
         waiting: u64,
     ) -> Result<Hub, HubNewFault>
         ensures empty { IfOk result (λ hub. hub ≡ new_hub epoch first history waiting) }
-        ensures stands { IfOk result (λ hub. StandsFor (beginning epoch first history waiting) [] hub) }
-        ensures bad_limit { IsErrOf result BadLimit ↔ BadLimits epoch first history waiting }
+        ensures stands { IfOk result (λ hub. StandsFor (config epoch first history waiting) [] hub) }
+        ensures bad_limit { IsErrOf result BadLimit ↔ BadLimits (config epoch first history waiting) }
     {
-        let counts = epoch <= COUNT_MOST && first <= COUNT_MOST;
-        let history_is_right = (1..=MOST_REVISIONS).contains(&history);
-        if !(counts && history_is_right && (1..=MOST_PATCHES).contains(&waiting)) {
-            return Err(HubNewFault::BadLimit);
-        }
-        let made = Beginning {
-            epoch,
-            first,
-            history,
-            waiting,
-        };
+        Hub::with_config(alloc, HubConfig::new(epoch, first, history, waiting))
+    }
+
+    /// Makes a hub without rooms or sessions. `BadLimit`: a number of the configuration is out of its range, or `epoch` or `first` is not a
+    /// count.
+    pub fn with_config(alloc: Global, made: HubConfig) -> Result<Hub, HubNewFault>
+        ensures empty { IfOk result (λ hub. hub ≡ made_with made) }
+        ensures stands { IfOk result (λ hub. StandsFor made [] hub) }
+        ensures bad_limit { IsErrOf result BadLimit ↔ BadLimits made }
+    {
+        made.check()?;
         Ok(Hub {
             made,
-            next: first,
+            next: made.first,
             rooms: IndexMap::new(alloc),
             homes: IndexMap::new(alloc),
         })
     }
 
-    /// Opens a session in a room, which is made where there is none of that name: with document null, at revision 0. Its
-    /// number, which is never used again; a `Welcome` is in its line. A fault leaves the hub as it was; NoMemory comes only where
-    /// no other one would.
+    /// The configuration that it was made with. Allocates nothing.
+    pub fn config(&self) -> HubConfig
+        ensures { result ≡ self.now.made }
+    {
+        self.made
+    }
+
+    /// Opens a session in a room, and returns its number, which is never used again. If there is no room of that name, it is made, with the
+    /// document `null` at revision 0. A `Welcome` waits in the session's outbox. An error leaves the hub unchanged. `NoMemory` comes only
+    /// if no other error does.
     pub fn open(&mut self, alloc: Global, room: &str) -> Result<u64, OpenFault>
         ensures step { StepIf self.old (Open room.now) (opening result) self.new }
-        ensures stands { (b : Beginning) (E : Log) → StandsFor b E self.old →
+        ensures stands { (b : HubConfig) (E : Log) → StandsFor b E self.old →
             StandsFor b (logged E (Open room.now) (opening result)) self.new }
         ensures no_memory { IsErrOf result OpenFault.NoMemory → open_fault self.old room.now ≡ None }
     {
         let place = self.admit(room)?;
-        let guest = Guest {
+        let new_session = NewSession {
             number: self.next,
             made: self.made,
         };
         if self.homes.reserve(1).is_err() {
             return Err(OpenFault::NoMemory);
         }
-        let Ok(place) = let_in(alloc, &mut self.rooms, room, place, guest) else {
+        let Ok(place) = open_session(alloc, &mut self.rooms, room, place, new_session) else {
             return Err(OpenFault::NoMemory);
         };
-        let _ = self.homes.insert(guest.number, place);
+        let _ = self.homes.insert(new_session.number, place);
         self.next += 1;
-        Ok(guest.number)
+        Ok(new_session.number)
     }
 
-    /// The place of the room of that name, where there is one, or the first reason not to open a session there.
+    /// Returns the place of the room of that name, if there is one, or the first reason not to open a session there.
     fn admit(&self, room: &str) -> Result<Option<usize>, OpenFault>
         ensures ok { IfOk result (λ place. place ≡ place_named room.now self.now.rooms) }
         ensures admitted { OnOk result (open_fault self.now room.now ≡ None) }
@@ -138,28 +138,30 @@ impl Hub {
         if self.is_crowded(place) {
             return Err(OpenFault::RoomsFull);
         }
-        if self.homes.len() >= SESSIONS_MOST {
+        if self.homes.len() as u64 >= self.made.sessions {
             return Err(OpenFault::SessionsFull);
         }
-        if self.next > COUNT_MOST {
+        if self.next > MAX_COUNT {
             return Err(OpenFault::Exhausted);
         }
         Ok(place)
     }
 
-    /// Whether there are 64 rooms already, and another one is wanted.
+    /// Whether another room is needed, there are 64 already, and none of them is untouched.
     fn is_crowded(&self, place: Option<usize>) -> bool
-        ensures { result ≡ (not (is_some place) && nat_le ROOMS_MOST (length self.now.rooms)) }
+        ensures { result ≡ is_crowded place self.now }
     {
-        place.is_none() && self.rooms.len() >= ROOMS_MOST
+        place.is_none()
+            && self.rooms.len() as u64 >= self.made.rooms
+            && vacant_place(self.made.rooms, &self.rooms).is_none()
     }
 
-    /// Takes a text from a session. Busy, with nothing changed, exactly where 32 replies wait for it, which is checked
-    /// before the text is read; else exactly one reply is put in its line. An edit that is refused changes no room and no other
-    /// session. NoMemory comes only where a text may be heard.
+    /// Serves a text from a session. `Busy`, with nothing changed, exactly if 32 replies wait for it, which is checked before the text is
+    /// read. Otherwise exactly one reply is added to its outbox. An edit that is refused changes no room and no other session. `NoMemory`
+    /// comes only if [`Hub::may_hear`] is true.
     pub fn receive(&mut self, alloc: Global, session: u64, text: &str) -> Result<Heard, HubFault>
         ensures step { StepIf self.old (Receive session text.now) (receiving result) self.new }
-        ensures stands { (b : Beginning) (E : Log) → StandsFor b E self.old →
+        ensures stands { (b : HubConfig) (E : Log) → StandsFor b E self.old →
             StandsFor b (logged E (Receive session text.now) (receiving result)) self.new }
         ensures refused { (short : ℕ) → result ≡ Ok (Answered short) → RefusesEdits session text.now self.old self.new }
         ensures no_memory { IsErrOf result HubFault.NoMemory → IsTrue (may_hear (session_of self.old session)) }
@@ -167,45 +169,54 @@ impl Hub {
         let Some(place) = self.homes.get(&session) else {
             return Err(HubFault::NoSession);
         };
-        let Some(group) = self.rooms.get_index_mut(*place) else {
+        let Some(room_sessions) = self.rooms.get_index_mut(*place) else {
             unreachable!()
         };
-        group.receive(alloc, self.made.epoch, session, text)
+        room_sessions.receive(alloc, self.made, session, text)
     }
 
-    /// The text at the front of a session's line, which leaves the line: replies first, then patches, then the due
-    /// snapshot, which is made of the present document. None where nothing waits. NoMemory comes only where something
-    /// waits, and the message is still in line.
+    /// Removes and returns the text at the front of a session's outbox: replies first, then patches, then the due snapshot, which is made
+    /// from the present document. `None` if nothing waits. `NoMemory` comes only if something waits, and leaves the message in the outbox.
     pub fn draw(&mut self, alloc: Global, session: u64) -> Result<Option<String>, HubFault>
         ensures step { StepIf self.old (Draw session) (drawing result) self.new }
-        ensures stands { (b : Beginning) (E : Log) → StandsFor b E self.old →
+        ensures stands { (b : HubConfig) (E : Log) → StandsFor b E self.old →
             StandsFor b (logged E (Draw session) (drawing result)) self.new }
         ensures no_memory { IsErrOf result HubFault.NoMemory → IsSomeAnd (option_map waiting (session_of self.old session)) (λ n. 0 < n) }
     {
         let Some(place) = self.homes.get(&session) else {
             return Err(HubFault::NoSession);
         };
-        let Some(group) = self.rooms.get_index_mut(*place) else {
+        let Some(room_sessions) = self.rooms.get_index_mut(*place) else {
             unreachable!()
         };
-        group.draw(alloc, session)
+        room_sessions.draw(alloc, session)
     }
 
-    /// Ends a session. Its room stays. No memory is taken.
+    /// Closes a session. Its room stays. Allocates nothing.
     pub fn close(&mut self, session: u64) -> Result<(), NoSession>
         ensures step { Step self.old (Close session) (closing result) self.new }
-        ensures stands { (b : Beginning) (E : Log) → StandsFor b E self.old →
+        ensures stands { (b : HubConfig) (E : Log) → StandsFor b E self.old →
             StandsFor b (entry (Close session) (closing result) ∷ E) self.new }
     {
         let Some(place) = self.homes.get(&session) else {
             return Err(NoSession);
         };
-        let Some(group) = self.rooms.get_index_mut(*place) else {
+        let Some(room_sessions) = self.rooms.get_index_mut(*place) else {
             unreachable!()
         };
-        group.leave(session);
+        room_sessions.leave(session);
         let _ = self.homes.swap_remove(&session);
         Ok(())
+    }
+
+    /// Gives memory back when there was none: each room forgets its history, if a weight bounds that, so that a resume is answered by a
+    /// snapshot; and the patches that wait for a session fold into one snapshot that is due. Documents, sessions and replies stay. Allocates
+    /// nothing.
+    pub fn shed(&mut self)
+        ensures shed { self.new ≡ shed self.old }
+        ensures stands { (b : HubConfig) (E : Log) → StandsFor b E self.old → StandsFor b E self.new }
+    {
+        shed_rooms(&mut self.rooms, shed_budget(self.made.history_weight));
     }
 
     /// The room of a session, and the session.
@@ -213,13 +224,13 @@ impl Hub {
         ensures { option_map (λ p. (p.0.now, p.1.now)) result ≡ room_and_session self.now session }
     {
         let place = self.homes.get(&session)?;
-        let Some((_, group)) = self.rooms.get_index(*place) else {
+        let Some((_, room_sessions)) = self.rooms.get_index(*place) else {
             unreachable!()
         };
-        Some((group.room(), group.session(session)))
+        Some((room_sessions.room(), room_sessions.session(session)))
     }
 
-    /// Whether a text of the session would be answered: it is open, and fewer than 32 replies wait. No memory is taken.
+    /// Whether a text of the session would be answered: it is open, and fewer than 32 replies wait. Allocates nothing.
     pub fn may_hear(&self, session: u64) -> bool
         ensures { result ≡ may_hear (session_of self.now session) }
     {
@@ -229,7 +240,8 @@ impl Hub {
         }
     }
 
-    /// How many draws would give a text now; None where the session is not open. No memory is taken.
+    /// How many messages wait for the session: the number of draws that would return a text now. `None` if it is not open. Allocates
+    /// nothing.
     pub fn waiting(&self, session: u64) -> Option<u64>
         ensures { result ≡ option_map waiting (session_of self.now session) }
     {
@@ -237,8 +249,8 @@ impl Hub {
         Some(session.waiting())
     }
 
-    /// The present revision and the session's view of the present document; None where it watches nothing.
-    /// NoSession: it is not open. NoMemory: there was none for the view.
+    /// The present revision and the session's view of the present document; `None` if it watches nothing. `NoSession`: it is not open.
+    /// `NoMemory`: there is not enough for the view.
     pub fn truth(&self, alloc: Global, session: u64) -> Result<Option<(u64, Tree)>, HubFault>
         ensures ok { IfOk result (λ shown. truth self.now session ≡ Some shown) }
         ensures no_session { IsErrOf result HubFault.NoSession ↔ (session_of self.now session ≡ None) }
@@ -256,18 +268,18 @@ impl Hub {
         }
     }
 
-    /// Carries events out, in order. Room for all answers is taken before the first event. Where memory is refused it
-    /// stops: the events of the fault's answers were done, and the next one changed nothing. Either way each client that
-    /// watches, and applies what was drawn for it and what waits, in order, holds exactly its view of the present document,
-    /// and after each of these messages its view of the revision that the message names.
+    /// Carries out events, in order. The space for all answers is allocated before the first event. If memory runs out the run stops: the
+    /// events of the fault's answers were done, and the next one changed nothing. Either way each client that watches, and applies what was
+    /// drawn for it and what waits, in order, holds exactly its view of the present document, and after each of these messages its view of
+    /// the revision that the message names.
     pub fn run(&mut self, alloc: Global, events: &[Event]) -> Result<Vec<Answer>, RunFault>
         ensures steps { IfOk result (λ answers. Runs self.old events.now answers.items self.new) }
         ensures all { IfOk result (λ answers. length answers.items ≡ length events.now) }
         ensures stopped { IfErr result (λ fault. Runs self.old events.now fault.answers.items self.new) }
         ensures before { IfErr result (λ fault. (length events.now ≡ 0) ⊎ (length fault.answers.items < length events.now)) }
-        ensures stands { (b : Beginning) (E : Log) → StandsFor b E self.old → StandsFor b (followed E events.now (done result)) self.new }
-        ensures exact { (b : Beginning) (E : Log) → StandsFor b E self.old → EachHoldsPresent b (followed E events.now (done result)) self.new }
-        ensures each { (b : Beginning) (E : Log) → StandsFor b E self.old → EachIsAtNamed b (followed E events.now (done result)) self.new }
+        ensures stands { (b : HubConfig) (E : Log) → StandsFor b E self.old → StandsFor b (followed E events.now (done result)) self.new }
+        ensures exact { (b : HubConfig) (E : Log) → StandsFor b E self.old → EachHoldsPresent b (followed E events.now (done result)) self.new }
+        ensures each { (b : HubConfig) (E : Log) → StandsFor b E self.old → EachIsAtNamed b (followed E events.now (done result)) self.new }
     {
         let Ok(mut answers) = Vec::with_capacity(alloc, events.len()) else {
             return Err(RunFault {
@@ -283,7 +295,7 @@ impl Hub {
         Ok(answers)
     }
 
-    /// Carries one event out.
+    /// Carries out one event.
     fn carry_out(&mut self, alloc: Global, event: &Event) -> Result<Answer, AllocError>
         ensures ok { IfOk result (λ answer. Step self.old event.now answer self.new) }
         ensures err { OnErr result (self.new ≡ self.old) }

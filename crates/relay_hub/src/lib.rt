@@ -1,25 +1,28 @@
-//! Rooms, sessions and events: the relay without sockets. One event is one call of [`Hub::open`], [`Hub::receive`],
-//! [`Hub::draw`] or [`Hub::close`]; nothing runs between the parts of an event, and concurrency is the free order of events.
+//! The relay without sockets: rooms, sessions and events. One event is one call of [`Hub::open`], [`Hub::receive`], [`Hub::draw`] or
+//! [`Hub::close`]. A call ends before the next one starts, so concurrent clients are events in any order.
 //!
-//! Several rooms stand by name, and stay when their sessions leave; a session belongs to one room.
+//! Rooms are kept by name, and stay when their sessions are closed. A session belongs to one room.
 #![tactic(auto)]
 
-mod beginning;
+mod broadcast;
+mod cached_update;
+mod config;
+mod encoded_patch;
 mod entering;
 mod event;
 mod fault;
-mod group;
 mod hub;
-mod news;
-mod posted;
-mod serve;
+mod load;
+mod requests;
+mod room_sessions;
 mod session;
 mod shared_view;
-mod tale;
-mod tell;
+mod shed;
 mod text;
+mod update;
 
+pub use config::{DEFAULT_ROOMS, DEFAULT_SESSIONS, HubConfig, MAX_ROOMS, MAX_SESSIONS};
 pub use event::{Answer, Event, Heard};
 pub use fault::{HubFault, HubNewFault, NoSession, OpenFault, RunFault};
-pub use hub::{Hub, ROOMS_MOST, SESSIONS_MOST};
+pub use hub::Hub;
 pub use text::Text;

@@ -1,64 +1,66 @@
-//! One session: its view, and what waits for it.
-use crate::news::News;
-use crate::posted::Posted;
+//! One session: its view and its outbox.
+use crate::config::HubConfig;
+use crate::encoded_patch::EncodedPatch;
+use crate::load;
 use crate::shared_view::SharedView;
+use crate::update::Update;
 use relay_outbox::{Front, Outbox, OutboxFault};
 use relay_proto::{Reply, shown_text};
 use relay_room::Room;
+use relay_tree::Budget;
 use std::alloc::{AllocError, Global};
 use std::marker::Model;
 
-/// A session that is open. Contracts see it as its number, the view that it watches, if it does, and the line of what waits for it.
-/// For one that watches nothing, nothing waits but replies.
+/// An open session. Contracts see it as its number, the view that it watches, if any, its outbox, and what the patches there may weigh. If
+/// it watches nothing, only replies wait.
 #[derive(Drop)]
 pub struct Session {
     number: u64,
     view: Option<SharedView>,
-    outbox: Outbox<Reply, Posted>,
+    outbox: Outbox<Reply, EncodedPatch>,
+    /// The most that the waiting patches may weigh together.
+    budget: Budget,
+    /// What the waiting patches weigh, counted only if they are bounded.
+    load: u64,
 }
 
 impl Model for Session {
     ghost use Rattle.relay_patch.specs.contracts.op.Op as op;
     ghost use Rattle.relay_proto.specs.contracts.reply.Reply as reply;
     ghost use Rattle.relay_view.specs.contracts.slot.Slot as slot;
-    ghost use Rattle.relay_hub.specs.Session.{Session, IsSession, session_with, session_code};
+    ghost use Rattle.relay_hub.specs.Load.{IsLoad};
+    ghost use Rattle.relay_hub.specs.Session.{Session, IsSession, session_code};
 
     ghost Value = { Session };
 
     ghost coded = { session_code slot.the_row.coded reply.the_row.coded op.the_row.coded };
 
-    ghost view = { λ x. session_with x.number x.view x.outbox };
+    ghost view = { λ x. record { number = x.number; view = x.view; outbox = x.outbox; budget = x.budget } };
 
-    ghost invariant = { λ x. IsSession (session_with x.number x.view x.outbox) };
+    ghost invariant = { λ x. IsSession (record { number = x.number; view = x.view; outbox = x.outbox; budget = x.budget }) × IsLoad x.budget x.load x.outbox };
 }
 
 impl Session {
     ghost use Rattle.std.specs.Prelude.{◌≡◌, ◌<◌, ◌≤◌, ℕ, nat_le, length, option_map, IfOk, OnOk, OnErr, IsSome, string_bytes};
-    ghost use Rattle.relay_outbox.specs.declared.outbox.TheConstants.{REPLIES, MOST_PATCHES};
+    ghost use Rattle.relay_outbox.specs.declared.outbox.TheConstants.{MAX_REPLIES, MAX_PATCHES};
     ghost use Rattle.relay_room.specs.declared.catch_up.CatchUp.{CatchUp};
-    ghost use Rattle.relay_hub.specs.News.{news_of, heard};
+    ghost use Rattle.relay_hub.specs.Update.{update_of, heard};
+    ghost use Rattle.relay_hub.specs.Shed.{shed_session};
     ghost use Rattle.relay_hub.specs.Session.{with_line, replied, newcomer, watches, unwatches, resumes, front_message, message_text, ReadsBack, waiting, drawn};
 
-    /// A session that was just opened in a room of revision `rev`: it watches nothing, and a `Welcome` is in its line, in
-    /// which at most `waiting` patches may wait.
-    pub fn new(
-        alloc: Global,
-        epoch: u64,
-        rev: u64,
-        number: u64,
-        waiting: u64,
-    ) -> Result<Session, AllocError>
-        requires some { 1 ≤ waiting }
-        requires not_too_many { waiting ≤ MOST_PATCHES }
-        ensures { IfOk result (λ x. x ≡ newcomer epoch rev number waiting) }
+    /// Makes a session in a room at revision `rev`. It watches nothing, and a `Welcome` waits in its outbox.
+    pub fn new(alloc: Global, made: HubConfig, rev: u64, number: u64) -> Result<Session, AllocError>
+        requires some { 1 ≤ made.waiting }
+        requires not_too_many { made.waiting ≤ MAX_PATCHES }
+        ensures { IfOk result (λ x. x ≡ newcomer made rev number) }
     {
-        let mut outbox = match Outbox::new(alloc, waiting) {
+        let mut outbox = match Outbox::new(alloc, made.waiting) {
             Ok(outbox) => outbox,
             Err(OutboxFault::NoMemory) => return Err(AllocError),
             Err(OutboxFault::BadLimit) => unreachable!(),
         };
         let welcome = Reply::Welcome {
-            epoch,
+            epoch: made.epoch,
             rev,
             session: number,
         };
@@ -69,34 +71,50 @@ impl Session {
             number,
             view: None,
             outbox,
+            budget: made.waiting_weight,
+            load: 0,
         })
     }
 
-    /// Its number.
+    /// The number of the session.
     pub fn number(&self) -> u64
         ensures { result ≡ self.now.number }
     {
         self.number
     }
 
-    /// What it watches, if it does.
+    /// The view that the session watches, if any.
     pub fn view(&self) -> Option<&SharedView>
         ensures { option_map (λ v. v.now) result ≡ self.now.view }
     {
         self.view.as_ref()
     }
 
-    /// Whether no further reply may wait.
-    pub fn is_full(&self) -> bool
-        ensures within { length self.now.outbox.replies ≤ REPLIES }
-        ensures full { result ≡ nat_le REPLIES (length self.now.outbox.replies) }
+    /// The most that the waiting patches may weigh together.
+    pub fn budget(&self) -> Budget
+        ensures { result ≡ self.now.budget }
     {
-        self.outbox.replies() >= relay_outbox::REPLIES
+        self.budget
     }
 
-    /// Puts a reply in line.
+    /// Whether a snapshot is due. It will show the document as it is when it is drawn.
+    pub fn is_due(&self) -> bool
+        ensures { result ≡ self.now.outbox.due }
+    {
+        self.outbox.is_due()
+    }
+
+    /// Whether no further reply may wait.
+    pub fn is_full(&self) -> bool
+        ensures within { length self.now.outbox.replies ≤ MAX_REPLIES }
+        ensures full { result ≡ nat_le MAX_REPLIES (length self.now.outbox.replies) }
+    {
+        self.outbox.replies() >= relay_outbox::MAX_REPLIES
+    }
+
+    /// Adds a reply to the outbox.
     pub fn reply(&mut self, reply: Reply)
-        requires { length self.old.outbox.replies < REPLIES }
+        requires { length self.old.outbox.replies < MAX_REPLIES }
         ensures { self.new ≡ replied reply self.old }
     {
         let Ok(()) = self.outbox.reply(reply) else {
@@ -104,56 +122,67 @@ impl Session {
         };
     }
 
-    /// Holds the view from now on; a snapshot is due.
+    /// Watches the view from now on. Adds the reply, and makes a snapshot due.
     pub fn watch(&mut self, id: u64, view: SharedView)
-        requires { length self.old.outbox.replies < REPLIES }
+        requires { length self.old.outbox.replies < MAX_REPLIES }
         ensures { self.new ≡ watches id view self.old }
     {
         self.reply(Reply::Watching { id });
-        self.outbox.fold();
+        load::fold(&mut self.outbox, &mut self.load);
         self.view = Some(view);
     }
 
-    /// Holds no view any more; nothing waits but replies.
+    /// Watches nothing from now on. Adds the reply, and only replies are left in the outbox.
     pub fn unwatch(&mut self, id: u64)
-        requires { length self.old.outbox.replies < REPLIES }
+        requires { length self.old.outbox.replies < MAX_REPLIES }
         ensures { self.new ≡ unwatches id self.old }
     {
         self.reply(Reply::Unwatched { id });
-        self.outbox.clear();
+        load::clear(&mut self.outbox, &mut self.load);
         self.view = None;
     }
 
-    /// Holds the view from now on, as one that goes on from an earlier revision: the news lead it to the present one.
-    pub fn resume(&mut self, id: u64, view: SharedView, news: News)
-        requires { length self.old.outbox.replies < REPLIES }
-        ensures resumed { (rev : ℕ) (how : CatchUp) → news ≡ news_of rev how → self.new ≡ resumes rev id view how self.old }
+    /// Watches the view from now on, as a client that holds it at an earlier revision. The update brings it to the present revision.
+    pub fn resume(&mut self, id: u64, view: SharedView, update: Update)
+        requires { length self.old.outbox.replies < MAX_REPLIES }
+        ensures resumed { (rev : ℕ) (how : CatchUp) → update ≡ update_of rev how → self.new ≡ resumes rev id view how self.old }
         ensures number { self.new.number ≡ self.old.number }
     {
         self.reply(Reply::Resumed {
             id,
-            how: news.word(),
+            how: update.word(),
         });
-        self.outbox.clear();
+        load::clear(&mut self.outbox, &mut self.load);
         self.view = Some(view);
-        self.hear(news);
+        self.take_update(update);
     }
 
-    /// Takes in what leads its view on: nothing, a patch that may wait in other lines too, or a snapshot in place of all patches. No
-    /// memory is taken.
-    pub fn hear(&mut self, news: News)
+    /// Applies an update: adds nothing, a patch, which may wait in other outboxes too, or a snapshot in place of all patches. The snapshot
+    /// also replaces them if they would weigh more than they may. Allocates nothing.
+    pub fn take_update(&mut self, update: Update)
         requires { IsSome self.old.view }
-        ensures { self.new ≡ with_line (heard news self.old.outbox) self.old }
+        ensures { self.new ≡ with_line (heard self.old.budget update self.old.outbox) self.old }
     {
-        match news {
-            News::Nothing => {}
-            News::Patch(posted) => self.outbox.patch(posted),
-            News::Snapshot => self.outbox.fold(),
+        match update {
+            Update::Nothing => {}
+            Update::Patch(encoded_patch) => {
+                load::put(&mut self.outbox, &mut self.load, self.budget, encoded_patch)
+            }
+            Update::Snapshot => load::fold(&mut self.outbox, &mut self.load),
         }
     }
 
-    /// The text at the front of the line, which leaves the line: a patch's is copied, a reply's is written, and a due snapshot is made
-    /// of the present document. After want of memory the message is still in line.
+    /// Folds the patches that wait, if there are any, into a snapshot that is due. Allocates nothing.
+    pub fn shed(&mut self)
+        ensures { self.new ≡ shed_session self.old }
+    {
+        if self.outbox.patches() > 0 {
+            load::fold(&mut self.outbox, &mut self.load);
+        }
+    }
+
+    /// Removes and returns the text at the front of the outbox; `None` if nothing waits. The text of a patch is copied, that of a reply is
+    /// written, and a due snapshot is made from the present document. Out of memory leaves the message in the outbox.
     pub fn draw(&mut self, alloc: Global, room: &Room) -> Result<Option<String>, AllocError>
         ensures text { IfOk result (λ text. option_map string_bytes text ≡ option_map message_text (front_message room.now self.old)) }
         ensures ok { OnOk result (self.new ≡ drawn self.old) }
@@ -162,7 +191,7 @@ impl Session {
         ensures no_memory { OnErr result (0 < waiting self.old) }
     {
         let text = self.front_text(alloc, room)?;
-        self.outbox.drop_front();
+        load::drop_front(&mut self.outbox, &mut self.load, self.budget);
         Ok(text)
     }
 
@@ -174,7 +203,7 @@ impl Session {
         match self.outbox.front() {
             Front::Nothing => Ok(None),
             Front::Reply(reply) => Ok(Some(reply.text(alloc)?)),
-            Front::Patch(posted) => Ok(Some(posted.text(alloc)?)),
+            Front::Patch(encoded_patch) => Ok(Some(encoded_patch.text(alloc)?)),
             Front::Snapshot => {
                 let Some(view) = &self.view else {
                     unreachable!()
@@ -185,7 +214,7 @@ impl Session {
         }
     }
 
-    /// How many draws would give a text now.
+    /// How many messages wait: the number of draws that would return a text now.
     pub fn waiting(&self) -> u64
         ensures { result ≡ waiting self.now }
     {

@@ -1,10 +1,10 @@
-//! A view that is shared by count.
+//! A reference-counted view.
 use relay_view::View;
 use std::alloc::{AllocError, Global};
 use std::marker::Model;
 use std::rc::Rc;
 
-/// A view, which is copied at no cost. Contracts see it as the view.
+/// A view that is shared by reference count, so that a copy costs nothing. Contracts see it as the view.
 #[derive(Drop)]
 pub struct SharedView {
     view: Rc<View>,
@@ -34,7 +34,7 @@ impl SharedView {
         }
     }
 
-    /// The same once more: a count, and no memory. AllocError: as many share it as can be counted.
+    /// Shares the view: raises the reference count and allocates nothing. `AllocError`: the count is at its maximum.
     pub fn share(&self) -> Result<SharedView, AllocError>
         ensures { IfOk result (λ shared. shared ≡ self.now) }
     {

@@ -1,7 +1,7 @@
-//! A text inside an event or an answer.
+//! The text of an event or an answer.
 use std::marker::Model;
 
-/// A text that is handed over. Contracts see its bytes alone.
+/// An owned text. Contracts see only its bytes.
 #[derive(Debug, Drop)]
 pub struct Text {
     value: String,
@@ -18,7 +18,7 @@ impl Model for Text {
 impl Text {
     ghost use Rattle.std.specs.Prelude.{◌≡◌, string_bytes};
 
-    /// The text of a string. No memory is taken.
+    /// The text of a string. Allocates nothing.
     pub fn of(value: String) -> Text
         ensures { result ≡ string_bytes value }
     {

@@ -1,31 +1,13 @@
-//! Histories whose revisions set the root to numbers, so that the numbers tell which changes are held.
-ghost use Rattle.std.specs.Prelude.{◌≡◌, map, IfOk, IfSome};
-ghost use Rattle.relay_history.specs.History.{changes_since};
-
-use relay_history::{History, HistoryFault, LAST_REVISION, MOST_REVISIONS};
+//! Tests of histories whose revisions set the root to numbers, so that the numbers show which changes are kept.
+use crate::shared::{gives, owned, words};
+use relay_history::{History, HistoryFault, LAST_REVISION, MAX_REVISIONS};
 use relay_patch::Change;
 use relay_pointer::Pointer;
-use relay_tree::{Node, Tree};
-use std::alloc::{AllocError, AllocGlobal, Global};
+use relay_tree::{Budget, Node, Tree};
+use std::alloc::{AllocGlobal, Global};
 use std::process::Abort;
-use std::test::Fail;
 
-/// All changes after a revision at once, as whoever translates them asks for them.
-fn gathered<'a>(
-    alloc: Global,
-    history: &'a History,
-    rev: u64,
-) -> Result<Option<Vec<&'a Change>>, AllocError>
-    ensures { IfOk result (λ found. IfSome found (λ changes.
-        map (λ change. change.now) changes.items ≡ changes_since rev history.now)) }
-{
-    match history.since(rev) {
-        None => Ok(None),
-        Some(since) => Ok(Some(since.collect(alloc)?)),
-    }
-}
-
-/// The root was set to a number.
+/// A change that sets the root to a number.
 fn set(alloc: Global, number: i64) -> Change {
     Change::Set {
         path: Pointer::root(alloc),
@@ -33,7 +15,7 @@ fn set(alloc: Global, number: i64) -> Change {
     }
 }
 
-/// The number that the root was set to.
+/// The number that a change sets the root to.
 fn number_of(change: &Change) -> Option<i64> {
     match change {
         Change::Set { value, .. } => match &value.node {
@@ -44,56 +26,42 @@ fn number_of(change: &Change) -> Option<i64> {
     }
 }
 
-/// The next revision, which sets the root to each of the numbers.
-fn push(alloc: Global, history: &mut History, numbers: &[i64]) -> Result<(), Fail> {
-    let mut changes = Vec::with_capacity(alloc, numbers.len())?;
-    for number in numbers {
-        changes.push(set(alloc, *number))?;
+/// Adds the next revision, if there is one left. It sets the root to a number `times` times.
+fn push(rt: &(impl Abort + AllocGlobal), history: &mut History, number: i64, times: u64) {
+    let mut changes = Vec::new(rt.alloc());
+    for _ in 0..times {
+        changes.push(set(rt.alloc(), number)).expect(rt, "memory");
     }
-    if history.newest() >= LAST_REVISION {
-        return Err(Fail::from("no revision is left"));
+    if history.newest() < LAST_REVISION {
+        history.push(changes);
     }
-    history.push(changes);
-    Ok(())
 }
 
-/// The numbers that the root was set to after a revision, in words.
-fn numbers_after(alloc: Global, history: &History, rev: u64) -> Result<String, AllocError> {
-    let Some(changes) = gathered(alloc, history, rev)? else {
-        return String::from_str(alloc, "none");
+/// The numbers that the root was set to after a revision, as text.
+fn numbers_after(rt: &(impl Abort + AllocGlobal), history: &History, rev: u64) -> String {
+    let Some(since) = history.since(rev) else {
+        return owned(rt, "none");
     };
-    let numbers: Vec<i64> = changes
-        .iter()
-        .filter_map(|change| number_of(*change))
-        .collect(alloc)?;
-    format!(in alloc; "{numbers:?}")
+    let numbers = since
+        .filter_map(|change| number_of(change))
+        .collect(rt.alloc());
+    let numbers: Vec<i64> = numbers.expect(rt, "memory");
+    words(rt, numbers)
 }
 
-/// A history of at most `h` revisions, after these from `start` on.
-fn history_of(alloc: Global, h: u64, start: u64, revisions: &[&[i64]]) -> Result<History, Fail> {
-    let mut history = History::new(alloc, h, start)?;
-    for numbers in revisions {
-        push(alloc, &mut history, *numbers)?;
-    }
-    Ok(history)
-}
-
-/// After each revision came the numbers beside it.
-fn tells(
-    rt: &(impl Abort + AllocGlobal),
-    history: &History,
-    rows: &[(u64, &str)],
-) -> Result<(), Fail> {
+/// Asserts the numbers that came after each revision.
+fn tells(rt: &(impl Abort + AllocGlobal), history: &History, rows: &[(u64, &str)]) {
     for (rev, expected) in rows {
-        let found = numbers_after(rt.alloc(), history, *rev)?;
-        assert_eq!(rt; found.as_str(), *expected, "after {rev}");
+        gives(rt, numbers_after(rt, history, *rev), expected, "a revision");
     }
-    Ok(())
 }
 
 #[test]
-fn gives_the_changes_after_a_revision_in_order(rt: HostRuntime) -> Result<(), Fail> {
-    let history = history_of(rt.alloc(), 2, 0, &[&[1], &[2], &[3], &[4], &[5]])?;
+fn gives_the_changes_after_a_revision_in_order(rt: HostRuntime) {
+    let mut history = History::new(rt.alloc(), 2, 0).expect(&rt, "a history");
+    for number in 1..6 {
+        push(&rt, &mut history, number, 1);
+    }
     assert_eq!(rt; (history.oldest(), history.newest()), (3, 5));
     tells(
         &rt,
@@ -107,68 +75,63 @@ fn gives_the_changes_after_a_revision_in_order(rt: HostRuntime) -> Result<(), Fa
             (6, "none"),
             (u64::MAX, "none"),
         ],
-    )
+    );
+}
+
+/// A history of five revisions that is trimmed to a budget. A whole number weighs 8 and the root's path nothing, so the third revision
+/// weighs 16 and the others 8.
+fn trimmed(rt: &(impl Abort + AllocGlobal), budget: Budget) -> History {
+    let mut history = History::new(rt.alloc(), 5, 0).expect(rt, "a history");
+    for (number, times) in [(1, 1), (2, 1), (3, 2), (4, 1), (5, 1)] {
+        push(rt, &mut history, number, times);
+    }
+    history.trim(budget);
+    history
 }
 
 #[test]
-fn gives_all_changes_of_each_revision(rt: HostRuntime) -> Result<(), Fail> {
-    let history = history_of(rt.alloc(), 64, 7, &[&[1, 2, 3], &[], &[], &[4, 5], &[]])?;
-    tells(
-        &rt,
-        &history,
-        &[
-            (6, "none"),
-            (7, "[1, 2, 3, 4, 5]"),
-            (8, "[4, 5]"),
-            (10, "[4, 5]"),
-            (11, "[]"),
-            (12, "[]"),
-            (13, "none"),
-        ],
-    )
-}
-
-#[test]
-fn refuses_limits_out_of_range(rt: HostRuntime) {
-    for (h, start) in [
-        (0, 0),
-        (MOST_REVISIONS + 1, 0),
-        (u64::MAX, 0),
-        (1, LAST_REVISION + 1),
+fn keeps_the_newest_revisions_within_a_budget(rt: HostRuntime) {
+    for (budget, oldest, expected) in [
+        (Budget::Unbounded, 0, "[1, 2, 3, 3, 4, 5]"),
+        (Budget::Left(48), 0, "[1, 2, 3, 3, 4, 5]"),
+        (Budget::Left(47), 1, "[2, 3, 3, 4, 5]"),
+        (Budget::Left(32), 2, "[3, 3, 4, 5]"),
+        (Budget::Left(31), 3, "[4, 5]"),
+        (Budget::Left(8), 4, "[5]"),
+        (Budget::Left(7), 5, "[]"),
+        (Budget::Left(0), 5, "[]"),
     ] {
-        assert_eq!(rt;
-            History::new(rt.alloc(), h, start).err(),
-            Some(HistoryFault::BadLimit),
-            "h {h} from {start}"
+        let history = trimmed(&rt, budget);
+        assert_eq!(rt; (history.oldest(), history.newest()), (oldest, 5));
+        gives(
+            &rt,
+            numbers_after(&rt, &history, oldest),
+            expected,
+            "a budget",
         );
     }
 }
 
-/// After 1,026 revisions of one number each: the newest, how many are held, and how many changes those made.
-fn held_after_many(alloc: Global, h: u64) -> Result<(u64, u64, usize), Fail> {
-    let mut history = History::new(alloc, h, 0)?;
-    for number in 0..1_026 {
-        push(alloc, &mut history, &[number])?;
-    }
-    let (oldest, newest) = (history.oldest(), history.newest());
-    let held = gathered(alloc, &history, oldest)?.ok_or("held")?.len();
-    Ok((newest, newest.wrapping_sub(oldest), held))
+/// The revision from which a history starts, or why it cannot be made.
+fn started(alloc: Global, h: u64, start: u64) -> Result<u64, HistoryFault> {
+    let history = History::new(alloc, h, start);
+    history.map(|history| history.newest())
 }
 
 #[test]
-fn holds_from_1_to_1024_revisions(rt: HostRuntime) -> Result<(), Fail> {
-    for (h, changes) in [(1, 1), (1_024, 1_024)] {
-        assert_eq!(rt; held_after_many(rt.alloc(), h)?, (1_026, h, changes));
+fn holds_from_1_to_1024_revisions(rt: HostRuntime) {
+    for (h, start, expected) in [
+        (0, 0, Err(HistoryFault::BadLimit)),
+        (MAX_REVISIONS + 1, 0, Err(HistoryFault::BadLimit)),
+        (u64::MAX, 0, Err(HistoryFault::BadLimit)),
+        (1, LAST_REVISION + 1, Err(HistoryFault::BadLimit)),
+        (1, LAST_REVISION, Ok(LAST_REVISION)),
+        (MAX_REVISIONS, 7, Ok(7)),
+    ] {
+        assert_eq!(rt;
+            started(rt.alloc(), h, start),
+            expected,
+            "h {h} from {start}"
+        );
     }
-    Ok(())
-}
-
-#[test]
-fn starts_from_any_count(rt: HostRuntime) -> Result<(), Fail> {
-    for start in [0, 7, LAST_REVISION] {
-        let history = History::new(rt.alloc(), 1, start)?;
-        assert_eq!(rt; (history.oldest(), history.newest()), (start, start));
-        tells(&rt, &history, &[(start, "[]")])?;
-    }
-    Ok(())
 }

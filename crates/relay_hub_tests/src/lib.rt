@@ -1,6 +1,8 @@
-//! Tests of rooms and sessions: histories, outboxes, rooms, messages, followers, handshakes, and the hub over them all.
+//! Tests of rooms and sessions: histories, outboxes, rooms, messages, followers, handshakes, and the hub.
 //!
-//! They stand in a crate of their own, over the public calls alone: a crate with tests is proved twice.
+//! They call each public function once with success, and show what no script can: limits that a caller chooses, the last revision, the
+//! bytes of a handshake, and runs of events. What sessions receive is data in `tests/scripts`. Most functions unwrap each result with
+//! `expect`, since a returned error is one more exit to prove.
 #![tactic(auto)]
 
 #[cfg(test)]
@@ -21,3 +23,7 @@ mod room;
 mod runs;
 #[cfg(test)]
 mod shake;
+#[cfg(test)]
+mod shared;
+#[cfg(test)]
+mod weights;

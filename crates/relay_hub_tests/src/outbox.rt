@@ -1,18 +1,9 @@
-//! What waits in an outbox, and in which order it is drawn.
-use relay_outbox::{Busy, Front, MOST_PATCHES, Outbox, OutboxFault, REPLIES};
+//! Tests of what waits in an outbox, and of the order in which it is drawn. How it affects sessions is data in `tests/scripts`.
+use relay_outbox::{Busy, Front, MAX_PATCHES, MAX_REPLIES, Outbox, OutboxFault};
 use std::alloc::{AllocGlobal, Global};
 use std::process::Abort;
-use std::test::Fail;
 
-/// The next reply; the number of one that finds no place comes back.
-fn reply(outbox: &mut Outbox<u64, u64>, number: u64) -> Option<u64> {
-    match outbox.reply(number) {
-        Ok(()) => None,
-        Err(Busy(number)) => Some(number),
-    }
-}
-
-/// What is drawn next, in words, with the number of the reply or the patch.
+/// Draws the next message, as its kind and the number of the reply or the patch.
 fn draw(outbox: &mut Outbox<u64, u64>) -> (&'static str, u64) {
     let front = match outbox.front() {
         Front::Reply(number) => ("reply", *number),
@@ -24,129 +15,89 @@ fn draw(outbox: &mut Outbox<u64, u64>) -> (&'static str, u64) {
     front
 }
 
-/// What is drawn, one after the other, is what the rows say.
+/// Asserts the messages that are drawn, in order.
 fn draws(rt: &impl Abort, outbox: &mut Outbox<u64, u64>, rows: &[(&'static str, u64)]) {
     for row in rows {
         assert_eq!(rt; draw(outbox), *row);
     }
 }
 
-#[test]
-fn folds_where_no_more_patches_may_wait(rt: HostRuntime) -> Result<(), Fail> {
-    let mut outbox: Outbox<u64, u64> = Outbox::new(rt.alloc(), 2)?;
-    for (rev, patches, is_due) in [(1, 1, false), (2, 2, false), (3, 0, true), (4, 0, true)] {
-        outbox.patch(rev);
-        assert_eq!(rt;
-            (outbox.patches(), outbox.is_due()),
-            (patches, is_due),
-            "after {rev}"
-        );
-    }
-    Ok(())
+/// Asserts how many replies and how many patches wait, and whether a snapshot is due.
+fn waits(rt: &impl Abort, outbox: &Outbox<u64, u64>, replies: u64, patches: u64, is_due: bool) {
+    let found = (outbox.replies(), outbox.patches(), outbox.is_due());
+    assert_eq!(rt; found, (replies, patches, is_due));
 }
 
-/// An outbox in which the replies 0 to 31 wait.
-fn full(alloc: Global) -> Result<Outbox<u64, u64>, Fail> {
-    let mut outbox = Outbox::new(alloc, 1)?;
-    for number in 0..REPLIES {
-        outbox.reply(number).ok().ok_or("a place")?;
-    }
-    Ok(outbox)
-}
-
-/// The replies 0 to 31 are drawn.
-fn draws_32_replies(rt: &impl Abort, outbox: &mut Outbox<u64, u64>) {
-    for number in 0..REPLIES {
-        assert_eq!(rt; draw(outbox), ("reply", number));
-    }
-    assert_eq!(rt; outbox.replies(), 0);
+fn of_two(rt: &(impl Abort + AllocGlobal)) -> Outbox<u64, u64> {
+    Outbox::new(rt.alloc(), 2).expect(rt, "an outbox")
 }
 
 #[test]
-fn gives_back_the_reply_that_finds_no_place(rt: HostRuntime) -> Result<(), Fail> {
-    let mut outbox = full(rt.alloc())?;
-    assert_eq!(rt; reply(&mut outbox, 33), Some(33));
-    draws_32_replies(&rt, &mut outbox);
-    Ok(())
-}
-
-#[test]
-fn keeps_the_replies_where_patches_go(rt: HostRuntime) -> Result<(), Fail> {
-    let mut outbox = full(rt.alloc())?;
-    outbox.fold();
-    assert_eq!(rt; (outbox.replies(), outbox.is_due()), (REPLIES, true));
-    outbox.clear();
-    assert_eq!(rt; (outbox.replies(), outbox.is_due()), (REPLIES, false));
-    draws_32_replies(&rt, &mut outbox);
-    Ok(())
-}
-
-/// An outbox in which two patches and two replies wait.
-fn mixed(alloc: Global) -> Result<Outbox<u64, u64>, Fail> {
-    let mut outbox = Outbox::new(alloc, 2)?;
-    for (rev, number) in [(5, 1), (6, 2)] {
-        outbox.patch(rev);
-        outbox.reply(number).ok().ok_or("a place")?;
-    }
-    Ok(outbox)
-}
-
-#[test]
-fn draws_replies_and_then_patches(rt: HostRuntime) -> Result<(), Fail> {
-    let mut outbox = mixed(rt.alloc())?;
+fn draws_replies_then_patches_then_the_snapshot(rt: HostRuntime) {
+    let mut outbox = of_two(&rt);
+    outbox.patch(5);
+    assert!(rt; outbox.reply(1).is_ok());
+    outbox.patch(6);
+    waits(&rt, &outbox, 1, 2, false);
     draws(
         &rt,
         &mut outbox,
-        &[
-            ("reply", 1),
-            ("reply", 2),
-            ("patch", 5),
-            ("patch", 6),
-            ("nothing", 0),
-            ("nothing", 0),
-        ],
+        &[("reply", 1), ("patch", 5), ("patch", 6), ("nothing", 0)],
     );
-    Ok(())
-}
-
-#[test]
-fn draws_the_snapshot_last(rt: HostRuntime) -> Result<(), Fail> {
-    let mut outbox = Outbox::new(rt.alloc(), 2)?;
     outbox.fold();
-    assert_eq!(rt; reply(&mut outbox, 3), None);
+    assert!(rt; outbox.reply(3).is_ok());
     draws(
         &rt,
         &mut outbox,
         &[("reply", 3), ("snapshot", 0), ("nothing", 0)],
     );
-    Ok(())
 }
 
 #[test]
-fn refuses_limits_out_of_range(rt: HostRuntime) {
-    for k in [0, MOST_PATCHES + 1, u64::MAX] {
-        let refused: Result<Outbox<u64, u64>, OutboxFault> = Outbox::new(rt.alloc(), k);
-        assert_eq!(rt; refused.err(), Some(OutboxFault::BadLimit), "k {k}");
-    }
-}
-
-/// An outbox of `k` patches, and how many it counted before each came.
-fn filled(rt: &(impl Abort + AllocGlobal), k: u64) -> Result<Outbox<u64, u64>, Fail> {
-    let mut outbox = Outbox::new(rt.alloc(), k)?;
-    for rev in 0..k {
-        assert_eq!(rt; outbox.patches(), rev, "k {k}");
+fn folds_where_no_more_patches_may_wait(rt: HostRuntime) {
+    let mut outbox = of_two(&rt);
+    for (rev, patches, is_due) in [(1, 1, false), (2, 2, false), (3, 0, true), (4, 0, true)] {
         outbox.patch(rev);
+        waits(&rt, &outbox, 0, patches, is_due);
     }
-    Ok(outbox)
+}
+
+/// Adds a reply. Returns its number if there is no space for it.
+fn reply(outbox: &mut Outbox<u64, u64>, number: u64) -> Option<u64> {
+    match outbox.reply(number) {
+        Ok(()) => None,
+        Err(Busy(number)) => Some(number),
+    }
 }
 
 #[test]
-fn holds_as_many_patches_as_it_may(rt: HostRuntime) -> Result<(), Fail> {
-    for k in [1, MOST_PATCHES] {
-        let mut outbox = filled(&rt, k)?;
-        assert_eq!(rt; (outbox.patches(), outbox.is_due()), (k, false));
-        outbox.patch(k);
-        assert_eq!(rt; (outbox.patches(), outbox.is_due()), (0, true));
+fn keeps_32_replies_where_patches_go(rt: HostRuntime) {
+    let mut outbox = of_two(&rt);
+    for number in 0..MAX_REPLIES {
+        assert_eq!(rt; reply(&mut outbox, number), None);
     }
-    Ok(())
+    assert_eq!(rt; reply(&mut outbox, 33), Some(33));
+    outbox.fold();
+    waits(&rt, &outbox, MAX_REPLIES, 0, true);
+    outbox.clear();
+    waits(&rt, &outbox, MAX_REPLIES, 0, false);
+}
+
+/// The fault of an outbox for `k` patches, if it cannot be made.
+fn fault_of(alloc: Global, k: u64) -> Option<OutboxFault> {
+    let outbox: Result<Outbox<u64, u64>, OutboxFault> = Outbox::new(alloc, k);
+    outbox.err()
+}
+
+#[test]
+fn holds_from_1_to_256_patches(rt: HostRuntime) {
+    for (k, fault) in [
+        (0, Some(OutboxFault::BadLimit)),
+        (1, None),
+        (MAX_PATCHES, None),
+        (MAX_PATCHES + 1, Some(OutboxFault::BadLimit)),
+        (u64::MAX, Some(OutboxFault::BadLimit)),
+    ] {
+        assert_eq!(rt; fault_of(rt.alloc(), k), fault, "k {k}");
+    }
 }

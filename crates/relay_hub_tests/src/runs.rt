@@ -1,6 +1,8 @@
-//! Runs of events, whole and stopped: what was done is what the answers say.
-use crate::hub::{EDIT, REFUSED, WATCH, seen};
+//! Tests of runs of events, complete and stopped: the events that have answers are those that were done. Errors are returned here, so that
+//! `tests/refuse-allocations` can distinguish out of memory from a wrong answer.
+use crate::hub::{EDIT, REFUSED, WATCH};
 use relay_hub::{Answer, Event, Hub, HubFault, Text};
+use relay_tree::Tree;
 use std::alloc::{AllocError, AllocGlobal, Global};
 use std::process::Abort;
 use std::test::Fail;
@@ -9,7 +11,7 @@ fn text_of(alloc: Global, text: &str) -> Result<Text, AllocError> {
     Ok(Text::of(String::from_str(alloc, text)?))
 }
 
-/// Session 1 watches, edits, is refused an edit, and draws until nothing waits.
+/// Session 1 watches, edits, has an edit refused, and draws until nothing waits.
 fn events(alloc: Global) -> Result<Vec<Event>, AllocError> {
     let mut events = Vec::new(alloc);
     let room = text_of(alloc, "r")?;
@@ -24,7 +26,7 @@ fn events(alloc: Global) -> Result<Vec<Event>, AllocError> {
     Ok(events)
 }
 
-/// What is answered to these events, in words.
+/// The answers to these events, as text.
 const ANSWERS: [&str; 10] = [
     "Opened(1)",
     "Heard(Answered { short: 0 })",
@@ -38,7 +40,7 @@ const ANSWERS: [&str; 10] = [
     "Drawn(None)",
 ];
 
-/// An answer, in words: of a draw the text itself, where there was one.
+/// An answer, as text. Of a draw it is the text itself, if there was one.
 fn in_words(alloc: Global, answer: &Answer) -> Result<String, AllocError> {
     match answer {
         Answer::Drawn(Some(text)) => String::from_str(alloc, text.as_str()),
@@ -46,7 +48,7 @@ fn in_words(alloc: Global, answer: &Answer) -> Result<String, AllocError> {
     }
 }
 
-/// The answers are the first of these.
+/// Asserts that the answers are the first of [`ANSWERS`].
 fn are_the_first(rt: &(impl Abort + AllocGlobal), answers: &[Answer]) -> Result<(), Fail> {
     assert!(rt; answers.len() <= ANSWERS.len());
     for (answer, wanted) in answers.iter().zip(ANSWERS) {
@@ -60,10 +62,17 @@ fn are_the_first(rt: &(impl Abort + AllocGlobal), answers: &[Answer]) -> Result<
 fn state(alloc: Global, hub: &Hub) -> Result<String, Fail> {
     let waiting = hub.waiting(1);
     let truth = match hub.truth(alloc, 1) {
+        Ok(Some((rev, view))) => revision_and_view(alloc, rev, &view)?,
+        Ok(None) => String::from_str(alloc, "nothing")?,
         Err(HubFault::NoMemory) => return Err(Fail::from("no memory")),
-        truth => seen(alloc, truth)?,
+        Err(fault) => format!(in alloc; "{fault:?}")?,
     };
     Ok(format!(in alloc; "{waiting:?} {truth}")?)
+}
+
+fn revision_and_view(alloc: Global, rev: u64, view: &Tree) -> Result<String, AllocError> {
+    let view = view.text(alloc)?;
+    format!(in alloc; "{rev} {view}")
 }
 
 #[test]
@@ -78,7 +87,7 @@ fn runs_the_first_script(rt: HostRuntime) -> Result<(), Fail> {
     are_the_first(&rt, answers.as_slice())
 }
 
-/// Runs events, as far as there is memory: how many were done, whose answers are as they should be.
+/// Runs events until memory runs out. Asserts the answers, and returns how many events were done.
 fn does(rt: &(impl Abort + AllocGlobal), hub: &mut Hub, events: &[Event]) -> Result<usize, Fail> {
     let run = hub.run(rt.alloc(), events);
     let answers = run.unwrap_or_else(|fault| fault.answers);
@@ -86,7 +95,7 @@ fn does(rt: &(impl Abort + AllocGlobal), hub: &mut Hub, events: &[Event]) -> Res
     Ok(answers.len())
 }
 
-/// Runs as many of the events.
+/// Runs the first `count` events on another hub.
 fn does_again(alloc: Global, twin: &mut Hub, events: &[Event], count: usize) -> Result<(), Fail> {
     let done = events.get(..count).unwrap_or(&[]);
     twin.run(alloc, done).ok().ok_or("no memory")?;
@@ -110,8 +119,8 @@ fn twin_follows(
     are_alike(rt, hub, twin)
 }
 
-/// A run that finds no memory stops: its answers are those of the events that were done, and another hub that does as many of
-/// them comes to the same. `tests/refuse-allocations` refuses each allocation in turn.
+/// A run that runs out of memory stops. Its answers are those of the events that were done, and another hub on which the same events are
+/// run reaches the same state. `tests/refuse-allocations` refuses each allocation in turn.
 #[test]
 fn a_run_did_what_its_answers_say(rt: HostRuntime) -> Result<(), Fail> {
     let mut hub = Hub::new(rt.alloc(), 1, 1, 64, 32)?;

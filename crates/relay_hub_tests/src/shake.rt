@@ -1,29 +1,29 @@
-//! What no clause says: that the definitions mean RFC 6455 and that the calls succeed.
+//! Tests of what no contract states: that the definitions mean RFC 6455, and that the calls succeed.
+use crate::shared::{gives, owned, repeated};
 use relay_shake::{Shake, refusal, shake};
-use std::alloc::{AllocError, AllocGlobal, Global};
+use std::alloc::AllocGlobal;
 use std::process::Abort;
-use std::test::Fail;
 
 const SAMPLE: &str =
     "GET /rooms/a HTTP/1.1\r\nHost: localhost\r\nUpgrade: websocket\r\nConnection: keep-alive, Upgrade\r\nSec-WebSocket-Key: dGhlIHNhbXBsZSBub25jZQ==\r\nSec-WebSocket-Version: 13\r\nSec-WebSocket-Extensions: permessage-deflate\r\n\r\n";
 
-/// What stands in an accepting reply before the accept value.
+/// The part of an accepting reply before the accept value.
 const SWITCH: &str =
     "HTTP/1.1 101 Switching Protocols\r\nUpgrade: websocket\r\nConnection: Upgrade\r\nSec-WebSocket-Accept: ";
 
 /// The sample's room, and the accept value of its key (RFC 6455, section 1.3).
 const ACCEPTED: &str = "a s3pPLMBiTxaQ9kYGzzhZRbK+xOo=";
 
-/// A line of the sample that has to stand once.
+/// A header line of the sample that must appear exactly once.
 const HOST: &str = "Host: localhost\r\n";
 
-/// Another.
+/// Another one.
 const KEY: &str = "Sec-WebSocket-Key: dGhlIHNhbXBsZSBub25jZQ==\r\n";
 
 /// A header line that is ignored.
 const LINE: &str = "X: y\r\n";
 
-/// The bytes of a refusal with that status.
+/// The bytes of a refusal with this status.
 fn refused(status: u16) -> &'static str {
     match status {
         404 => "HTTP/1.1 404 Not Found\r\nContent-Length: 0\r\nConnection: close\r\n\r\n",
@@ -41,57 +41,52 @@ fn refused(status: u16) -> &'static str {
     }
 }
 
-/// A refusal, in words: its status, where the reply has each of the bytes that belong to it.
-fn refusal_in_words(alloc: Global, status: u16, reply: &[u8]) -> Result<String, AllocError> {
-    if reply == refused(status).as_bytes() {
-        status.to_string(alloc)
+/// A refusal, as text: its status, if the reply has exactly the bytes for it.
+fn refusal_in_words(rt: &(impl Abort + AllocGlobal), status: u16, reply: &[u8]) -> String {
+    let told = if reply == refused(status).as_bytes() {
+        status.to_string(rt.alloc())
     } else {
-        format!(in alloc; "{status} {reply:?}")
-    }
+        format!(in rt.alloc(); "{status} {reply:?}")
+    };
+    told.expect(rt, "memory")
 }
 
-/// An acceptance, in words: the room and the accept value, where all else in the reply is as it has to be.
-fn acceptance_in_words(alloc: Global, room: &str, reply: &[u8]) -> Result<String, AllocError> {
-    let reply = String::from_utf8_lossy(alloc, reply)?;
+/// An acceptance, as text: the room and the accept value, if the rest of the reply is as it should be.
+fn acceptance_in_words(rt: &(impl Abort + AllocGlobal), room: &str, reply: &[u8]) -> String {
+    let reply = String::from_utf8_lossy(rt.alloc(), reply).expect(rt, "memory");
     let value = accept_value(reply.as_str()).unwrap_or("and another reply");
-    format!(in alloc; "{room} {value}")
+    format!(in rt.alloc(); "{room} {value}").expect(rt, "memory")
 }
 
 fn accept_value(reply: &str) -> Option<&str> {
     reply.strip_prefix(SWITCH)?.strip_suffix("\r\n\r\n")
 }
 
-/// What is answered to these bytes, in words.
-fn answer_to(alloc: Global, bytes: &[u8]) -> Result<String, AllocError> {
-    match shake(alloc, bytes)? {
-        Shake::More => String::from_str(alloc, "more"),
-        Shake::Accept { room, reply } => {
-            acceptance_in_words(alloc, room.as_str(), reply.as_slice())
-        }
-        Shake::Refuse { status, reply } => refusal_in_words(alloc, status, reply.as_slice()),
+/// The answer to these bytes, as text.
+fn answer_to(rt: &(impl Abort + AllocGlobal), bytes: &[u8]) -> String {
+    match shake(rt.alloc(), bytes).expect(rt, "memory") {
+        Shake::More => owned(rt, "more"),
+        Shake::Accept { room, reply } => acceptance_in_words(rt, room.as_str(), reply.as_slice()),
+        Shake::Refuse { status, reply } => refusal_in_words(rt, status, reply.as_slice()),
     }
 }
 
-/// The answer to the sample with another text in the place of one of its parts.
-fn answer_with(alloc: Global, part: &str, other: &str) -> Result<String, Fail> {
-    let (before, behind) = SAMPLE
-        .split_once(part)
-        .ok_or("the sample has no such part")?;
-    let head = format!(in alloc; "{before}{other}{behind}")?;
-    Ok(answer_to(alloc, head.as_bytes())?)
+/// The answer to the sample with one of its parts replaced by another text.
+fn answer_with(rt: &(impl Abort + AllocGlobal), part: &str, other: &str) -> String {
+    let (before, behind) = SAMPLE.split_once(part).expect(rt, "a part of the sample");
+    let head = format!(in rt.alloc(); "{before}{other}{behind}").expect(rt, "memory");
+    answer_to(rt, head.as_bytes())
 }
 
-/// To the sample with another text in the place of a part, the answer is as the row says.
-fn answers(rt: &(impl Abort + AllocGlobal), rows: &[(&str, &str, &str)]) -> Result<(), Fail> {
+/// Asserts the answer to the sample with a part replaced, as each row says.
+fn answers(rt: &(impl Abort + AllocGlobal), rows: &[(&str, &str, &str)]) {
     for (part, other, expected) in rows {
-        let found = answer_with(rt.alloc(), *part, *other)?;
-        assert_eq!(rt; found.as_str(), *expected, "with {other}");
+        gives(rt, answer_with(rt, part, other), expected, other);
     }
-    Ok(())
 }
 
 #[test]
-fn accepts_handshakes(rt: HostRuntime) -> Result<(), Fail> {
+fn accepts_handshakes(rt: HostRuntime) {
     answers(
         &rt,
         &[
@@ -115,11 +110,11 @@ fn accepts_handshakes(rt: HostRuntime) -> Result<(), Fail> {
             ),
             ("Sec-WebSocket-Key", "sec-websocket-key", ACCEPTED),
         ],
-    )
+    );
 }
 
 #[test]
-fn refuses_by_the_first_check_that_fails(rt: HostRuntime) -> Result<(), Fail> {
+fn refuses_by_the_first_check_that_fails(rt: HostRuntime) {
     answers(
         &rt,
         &[
@@ -145,73 +140,56 @@ fn refuses_by_the_first_check_that_fails(rt: HostRuntime) -> Result<(), Fail> {
                 "426",
             ),
         ],
-    )
+    );
 }
 
 #[test]
-fn refuses_a_header_that_stands_twice(rt: HostRuntime) -> Result<(), Fail> {
+fn refuses_a_header_that_stands_twice(rt: HostRuntime) {
     for line in [HOST, KEY] {
-        let twice = line.repeat(rt.alloc(), 2)?;
-        let answer = answer_with(rt.alloc(), line, twice.as_str())?;
-        assert_eq!(rt; answer.as_str(), "400", "with {line}");
+        let twice = repeated(&rt, line, 2);
+        answers(&rt, &[(line, twice.as_str(), "400")]);
     }
-    Ok(())
 }
 
 #[test]
-fn waits_for_the_rest_of_a_head(rt: HostRuntime) -> Result<(), Fail> {
+fn waits_for_the_rest_of_a_head(rt: HostRuntime) {
     let bytes = SAMPLE.as_bytes();
     for len in 0..bytes.len() {
-        let answer = answer_to(rt.alloc(), &bytes[..len])?;
-        assert_eq!(rt; answer.as_str(), "more", "after {len} bytes");
+        gives(&rt, answer_to(&rt, &bytes[..len]), "more", "a part");
     }
-    Ok(())
 }
 
-/// The answer to so many bytes of which the last header line does not end.
-fn answer_to_unfinished(alloc: Global, len: usize) -> Result<String, AllocError> {
-    let mut head = String::from_str(alloc, "GET /rooms/a HTTP/1.1\r\nX: ")?;
-    for _ in head.len()..len {
-        head.push('a')?;
-    }
-    answer_to(alloc, head.as_bytes())
+/// The answer to `len` bytes whose last header line does not end.
+fn answer_to_unfinished(rt: &(impl Abort + AllocGlobal), len: usize) -> String {
+    let mut head = owned(rt, "GET /rooms/a HTTP/1.1\r\nX: ");
+    let rest = repeated(rt, "a", len.saturating_sub(head.len()));
+    head.push_str(rest.as_str()).expect(rt, "memory");
+    answer_to(rt, head.as_bytes())
 }
 
 #[test]
-fn waits_for_8192_bytes_at_most(rt: HostRuntime) -> Result<(), Fail> {
-    for (len, expected) in [(8_192, "more"), (8_193, "431")] {
-        let answer = answer_to_unfinished(rt.alloc(), len)?;
-        assert_eq!(rt; answer.as_str(), expected, "to {len} bytes");
-    }
-    Ok(())
-}
-
-/// The answer to the sample with so many more header lines.
-fn answer_with_lines(alloc: Global, count: usize) -> Result<String, Fail> {
-    let lines = LINE.repeat(alloc, count)?;
-    let host = format!(in alloc; "{HOST}{lines}")?;
-    answer_with(alloc, HOST, host.as_str())
+fn waits_for_8192_bytes_at_most(rt: HostRuntime) {
+    gives(&rt, answer_to_unfinished(&rt, 8_192), "more", "8,192 bytes");
+    gives(&rt, answer_to_unfinished(&rt, 8_193), "431", "8,193 bytes");
 }
 
 #[test]
-fn takes_32_header_lines_at_most(rt: HostRuntime) -> Result<(), Fail> {
+fn takes_32_header_lines_at_most(rt: HostRuntime) {
     for (more_than_6, expected) in [(0, ACCEPTED), (26, ACCEPTED), (27, "431")] {
-        let answer = answer_with_lines(rt.alloc(), more_than_6)?;
-        assert_eq!(rt; answer.as_str(), expected, "with {more_than_6} more");
+        let mut host = owned(&rt, HOST);
+        let lines = repeated(&rt, LINE, more_than_6);
+        host.push_str(lines.as_str()).expect(&rt, "memory");
+        answers(&rt, &[(HOST, host.as_str(), expected)]);
     }
-    Ok(())
 }
 
 #[test]
-fn no_head_begins_with_a_byte_0(rt: HostRuntime) -> Result<(), Fail> {
-    let answer = answer_to(rt.alloc(), "\0".as_bytes())?;
-    assert_eq!(rt; answer.as_str(), "400");
-    Ok(())
+fn no_head_begins_with_a_byte_0(rt: HostRuntime) {
+    gives(&rt, answer_to(&rt, "\0".as_bytes()), "400", "a byte 0");
 }
 
 #[test]
-fn refuses_where_there_is_no_room(rt: HostRuntime) -> Result<(), Fail> {
-    let reply = refusal(rt.alloc(), 503)?;
+fn refuses_where_there_is_no_room(rt: HostRuntime) {
+    let reply = refusal(rt.alloc(), 503).expect(&rt, "memory");
     assert_eq!(rt; reply.as_slice(), refused(503).as_bytes());
-    Ok(())
 }

@@ -1,4 +1,4 @@
--- Lemmas on what a follower hears.
+-- Lemmas about the texts that a follower receives.
 use Rattle.std.proofs.Common.{◌≡◌, ◌≢◌, ℕ, List, Bool, true, Option, Some, None, option_map, Result, Ok, Err, nat_lt, if◌then◌else◌, refl, OnOk, OnErr, IfErr}
 use Rattle.std.specs.Result.{result_err}
 use Rattle.std.specs.Str.{IsUtf8}
@@ -14,18 +14,18 @@ use Rattle.relay_follow.specs.declared.fault.HearFault.{HearFault}
 use Rattle.relay_follow.specs.declared.fault.HearFault.TheVariants.{Order, NoMemory}
 use Rattle.relay_lines.specs.Follow.{Takes}
 
--- no follower is lost
+-- the client of a follower is not lost
 not_lost : (next : Option (ℕ × Document)) → lost ≡ as_client next → ⊥
 not_lost None e = cc
 not_lost (Some held) e = cc
 
--- a patch that led somewhere had no fault
+-- a patch that gives a next state has no fault
 patched_well : (later : Bool) (rev : ℕ) (made : Result Document ApplyFault) (next : Option (ℕ × Document))
     → (if later then led_to rev made else lost) ≡ as_client next → (if later then apply_fault made else Some Order) ≡ None
 patched_well true rev (Ok tree) next e = refl
 patched_well _ rev _ next e = absurd (not_lost next e)
 
--- nor had a message
+-- a message that gives a next state has no fault
 followed_well : (held : Option (ℕ × Document)) (m : Message) (next : Option (ℕ × Document)) → client (as_client held) m ≡ as_client next
     → message_fault held m ≡ None
 followed_well None (Patch rev ops) next e = absurd (not_lost next e)
@@ -37,12 +37,12 @@ read_well : (held : Option (ℕ × Document)) (read : Option Message) (next : Op
 read_well held None next e = cc
 read_well held (Some m) next e = followed_well held m next (cc)
 
--- a text that led to what is held had no fault
+-- a text that gives a next state has no fault
 pub heard_well : (held : Option (ℕ × Document)) (text : List ℕ) (next : Option (ℕ × Document)) → told (as_client held) text ≡ Some (as_client next)
     → hear_fault held text ≡ None
 heard_well held text next e = read_well held (message_of_text text) next e
 
--- a text that was heard was taken, or was not
+-- a text that was received was applied, or was refused with its fault
 pub Takes-heard : (held : Option (ℕ × Document)) (text : List ℕ) (r : Result (Unit {0}) HearFault) (next : Option (ℕ × Document)) → IsUtf8 text
     → OnOk r (told (as_client held) text ≡ Some (as_client next)) → IfErr r (λ fault. fault ≢ NoMemory → hear_fault held text ≡ Some fault)
     → OnErr r (next ≡ held) → Takes held text (result_err r) next

@@ -1,7 +1,7 @@
--- A limit out of range is found at the beginning.
+-- A limit that is out of range is detected before a run begins.
 use Rattle.std.proofs.Common.{◌≡◌, ◌↔◌, Result, Ok, Err, IsErrOf}
 
--- where a job was begun, and no such fault came later, no limit is out of range
+-- if a job began, and no such fault came later, no limit is out of range
 pub limits_kept : {A B E F : Type 0} (begun : A) (ended : Result B F) (early : E) (late : F) (bad : Type 0) → (IsErrOf (Ok begun) early ↔ bad)
     → (ended ≡ Err late → ⊥) → IsErrOf ended late ↔ bad
 limits_kept begun ended early late bad limits none = (λ e. absurd (none e), λ b. absurd (let e : Ok begun ≡ Err early = limits.1 b in cc))

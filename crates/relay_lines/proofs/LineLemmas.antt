@@ -1,4 +1,4 @@
--- Lemmas on the lines of a text.
+-- Lemmas about the lines of a text.
 use Rattle.std.proofs.Common.{◌≡◌, ◌≢◌, ℕ, ◌+◌, ◌-◌, ◌<◌, ◌≤◌, List, [], ◌∷◌, ◌++◌, length, take, drop, Bool, true, false, cond, ne_eqb, refl, sym, ◌∙◌, ap, subst, arith, not, ◌==◌, length-append, append_assoc, append-nil, Option, Some, None}
 use Rattle.std.proofs.lemmas.List.{drop-take, drop-drop}
 use Rattle.std.proofs.lemmas.List.Elements.{All-head, All-tail, All-append}
@@ -12,7 +12,7 @@ lines_of-line (b ∷ part) rest h =
     ap (λ t. cond t ([] ∷ lines_of (part ++ 10 ∷ rest)) (onto_first b (lines_of (part ++ 10 ∷ rest)))) (ne_eqb b 10 (All-head (λ y. y ≢ 10) b part h))
     ∙ ap (onto_first b) (lines_of-line part rest (All-tail (λ y. y ≢ 10) b part h))
 
--- where a byte is, a line is
+-- with a byte there is a line
 onto_first-some : (b : ℕ) (lines : List (List ℕ)) → onto_first b lines ≢ []
 onto_first-some b [] e = cc
 onto_first-some b (line ∷ lines) e = cc
@@ -24,7 +24,7 @@ lines_of-some b rest = go (b == 10)
     go true e = cc
     go false e = onto_first-some b (lines_of rest) e
 
--- what begins a line stands at the front of the first line
+-- a part without a line feed is at the front of the first line
 pub lines_of-part : (b : ℕ) (part rest : List ℕ) → HasNoBreak (b ∷ part)
     → (line : List ℕ) × (lines : List (List ℕ)) × (lines_of ((b ∷ part) ++ rest) ≡ ((b ∷ part) ++ line) ∷ lines)
 lines_of-part b [] rest h = first (lines_of rest) refl
@@ -50,7 +50,7 @@ lines_of-last b (c ∷ part) h =
     ap (λ t. cond t ([] ∷ lines_of (c ∷ part)) (onto_first b (lines_of (c ∷ part)))) (ne_eqb b 10 (All-head (λ y. y ≢ 10) b (c ∷ part) h))
     ∙ ap (onto_first b) (lines_of-last c part (All-tail (λ y. y ≢ 10) b (c ∷ part) h))
 
--- what is left of a window once its first `k` are taken
+-- what is left of a window after its first `k` bytes are consumed
 pub window_rest : (start end k : ℕ) (bytes : List ℕ) → start + k ≤ end
     → drop k (take (end - start) (drop start bytes)) ≡ take (end - (start + k)) (drop (start + k) bytes)
 window_rest start end k bytes within =
@@ -58,7 +58,7 @@ window_rest start end k bytes within =
     let long : end - start ≡ k + rest = omega arith in
     ap (λ n. drop k (take n (drop start bytes))) long ∙ drop-take k rest (drop start bytes) ∙ ap (take rest) (drop-drop k start bytes)
 
--- the input ends behind what was read of a line, which is the last line if it has a byte
+-- the input ends after the bytes read of a line; they are the last line unless there are none
 pub TakesLine-end : (old new : Option (List ℕ)) (line : List ℕ) (n : ℕ) → n ≡ length line → HasNoBreak line → Consumes old new line → IsAtEnd new
     → TakesLine old new (not (n == 0)) line
 TakesLine-end None new line n long h p e = tt

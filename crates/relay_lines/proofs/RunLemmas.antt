@@ -1,4 +1,4 @@
--- Lemmas on runs over the lines of an input.
+-- Lemmas about runs over the lines of an input.
 use Rattle.std.proofs.Common.{◌≡◌, ◌⊎◌, ◌≢◌, ℕ, ◌+◌, ◌<◌, List, [], ◌∷◌, ◌++◌, length, take, refl, sym, ◌∙◌, ap, subst, append_assoc, append-nil, length-append, Option, Some, None, IfSome, OnOk, IfErr, Result, Ok, Err, true, inl, inr, arith}
 use Rattle.std.specs.Bool.{⊤}
 use Rattle.std.specs.Io.KnownBytes.{Appends, Keeps, prepend_known}
@@ -6,18 +6,18 @@ use Rattle.std.proofs.KnownBytes.{Appends-trans, Appends-nil}
 use Rattle.std.proofs.lemmas.List.Elements.{All-nil}
 use Rattle.relay_lines.specs.declared.fault.ScriptFault.{ScriptFault}
 use Rattle.relay_lines.specs.declared.fault.ScriptFault.TheVariants.{BadLimit, Input, Output, LineTooLong, TooManyLines, NoMemory}
-use Rattle.relay_lines.specs.declared.input.TheConstants.{LINE_MOST}
-use Rattle.relay_lines.specs.declared.run.TheConstants.{LINES_MOST}
+use Rattle.relay_lines.specs.declared.input.TheConstants.{MAX_LINE}
+use Rattle.relay_lines.specs.declared.run.TheConstants.{MAX_LINES}
 use Rattle.relay_lines.specs.Lines.{lines_of, TakesLine, BeginsTooLong, AppendsPart}
 use Rattle.relay_lines.specs.Respond.{Answering, Runs, start, step, TakesLines, AreWithin, StopsAfter, StopsBefore, AnswersAll, AnswersSome}
 use Rattle.relay_lines.proofs.LineLemmas.{lines_of-some}
 
--- nothing was taken
+-- no line was read
 pub TakesLines-start : (input : Option (List ℕ)) → TakesLines input (prepend_known [] input) []
 TakesLines-start None = tt
 TakesLines-start (Some bytes) = refl
 
--- one line more
+-- one more line was read
 pub TakesLines-more : (input old new : Option (List ℕ)) (lines : List (List ℕ)) (line : List ℕ) → TakesLines input old lines → TakesLine old new true line
     → TakesLines input new (lines ++ line ∷ [])
 TakesLines-more None old new lines line p q = tt
@@ -25,26 +25,26 @@ TakesLines-more (Some xs) None new lines line p q = absurd p
 TakesLines-more (Some xs) (Some ys) None lines line p q = absurd q
 TakesLines-more (Some xs) (Some ys) (Some zs) lines line p q = p ∙ ap (λ l. lines ++ l) q ∙ sym (append_assoc lines (line ∷ []) (lines_of zs))
 
--- lines that were taken stand at the front
+-- the lines that were read are the first of the input
 pub TakesLines-front : (input ahead : Option (List ℕ)) (lines : List (List ℕ)) → TakesLines input ahead lines
     → IfSome input (λ bytes. (rest : List (List ℕ)) × (lines_of bytes ≡ lines ++ rest))
 TakesLines-front None ahead lines p = tt
 TakesLines-front (Some xs) None lines p = absurd p
 TakesLines-front (Some xs) (Some ys) lines p = (lines_of ys, p)
 
--- what was read ahead of them changes no line
+-- reading ahead changes no line
 pub TakesLines-kept : (input old new : Option (List ℕ)) (lines : List (List ℕ)) → TakesLines input old lines → Keeps old new → TakesLines input new lines
 TakesLines-kept None old new lines p keeps = tt
 TakesLines-kept (Some xs) None new lines p keeps = absurd p
 TakesLines-kept (Some xs) (Some ys) None lines p keeps = absurd keeps
 TakesLines-kept (Some xs) (Some ys) (Some zs) lines p keeps = p ∙ ap (λ bytes. lines ++ lines_of bytes) (sym keeps)
 
--- A fault after these lines, and before those of the bytes ahead.
+-- a fault after these lines, and before the lines of the bytes that are not yet read
 pub record Stops (fault : ScriptFault) (lines : List (List ℕ)) (ahead : Option (List ℕ)) : Type 0 where
   pub count : StopsAfter fault (length lines)
   pub next : IfSome ahead (λ bytes. StopsBefore fault (lines_of bytes))
 
--- what stands behind the lines is what is ahead
+-- the lines that follow are those of the bytes that are not yet read
 pub StopsBefore-front : (fault : ScriptFault) (input ahead : Option (List ℕ)) (lines : List (List ℕ)) → TakesLines input ahead lines
     → IfSome ahead (λ bytes. StopsBefore fault (lines_of bytes))
     → IfSome input (λ bytes. (rest : List (List ℕ)) × (lines_of bytes ≡ lines ++ rest) × StopsBefore fault rest)
@@ -66,9 +66,9 @@ Stops-output lines ahead = record { count = tt; next = unsaid ahead }
 pub Stops-no_memory : (lines : List (List ℕ)) (ahead : Option (List ℕ)) → Stops NoMemory lines ahead
 Stops-no_memory lines ahead = record { count = tt; next = unsaid ahead }
 
--- the next line cannot be read
-pub Stops-reading : (fault : ScriptFault) (lines : List (List ℕ)) (ahead : Option (List ℕ)) → length lines < LINES_MOST
-    → (fault ≡ Input) ⊎ (fault ≡ LineTooLong) ⊎ (fault ≡ NoMemory) → (fault ≡ LineTooLong → BeginsTooLong LINE_MOST ahead) → Stops fault lines ahead
+-- a fault that comes while the next line is read
+pub Stops-reading : (fault : ScriptFault) (lines : List (List ℕ)) (ahead : Option (List ℕ)) → length lines < MAX_LINES
+    → (fault ≡ Input) ⊎ (fault ≡ LineTooLong) ⊎ (fault ≡ NoMemory) → (fault ≡ LineTooLong → BeginsTooLong MAX_LINE ahead) → Stops fault lines ahead
 Stops-reading BadLimit lines ahead few which long = record { count = tt; next = unsaid ahead }
 Stops-reading Input lines ahead few which long = Stops-input lines ahead
 Stops-reading Output lines ahead few which long = Stops-output lines ahead
@@ -76,25 +76,25 @@ Stops-reading LineTooLong lines ahead few which long = record { count = few; nex
 Stops-reading TooManyLines lines ahead few which long = elim which [ inl e ↦ cc | inr (inl e) ↦ cc | inr (inr e) ↦ cc ]
 Stops-reading NoMemory lines ahead few which long = Stops-no_memory lines ahead
 
--- there is a line more than there may be
-pub Stops-too_many : (lines : List (List ℕ)) (unread : List ℕ) (rest : Option (List ℕ)) → length lines ≡ LINES_MOST → 0 < length unread
+-- the input has more than `MAX_LINES` lines
+pub Stops-too_many : (lines : List (List ℕ)) (unread : List ℕ) (rest : Option (List ℕ)) → length lines ≡ MAX_LINES → 0 < length unread
     → Stops TooManyLines lines (prepend_known unread rest)
 Stops-too_many lines [] rest all some = absurd (omega arith)
 Stops-too_many lines (b ∷ unread) None all some = record { count = all; next = tt }
 Stops-too_many lines (b ∷ unread) (Some bytes) all some = record { count = all; next = lines_of-some b (unread ++ bytes) }
 
-longer : (lines rest : List (List ℕ)) → length lines ≡ LINES_MOST → rest ≢ [] → LINES_MOST < length (lines ++ rest)
+longer : (lines rest : List (List ℕ)) → length lines ≡ MAX_LINES → rest ≢ [] → MAX_LINES < length (lines ++ rest)
 longer lines [] all some = absurd (some refl)
 longer lines (line ∷ rest) all some = omega (arith, all, length-append lines (line ∷ rest))
 
--- so the input has more than there may be
+-- at `TooManyLines` the input has more than `MAX_LINES` lines
 pub Stops-more : (input ahead : Option (List ℕ)) (lines : List (List ℕ)) → TakesLines input ahead lines → Stops TooManyLines lines ahead
-    → IfSome input (λ bytes. LINES_MOST < length (lines_of bytes))
+    → IfSome input (λ bytes. MAX_LINES < length (lines_of bytes))
 Stops-more None ahead lines p stops = tt
 Stops-more (Some xs) None lines p stops = absurd p
 Stops-more (Some xs) (Some ys) lines p stops = rw p (longer lines (lines_of ys) stops.count stops.next)
 
--- what follows from a success, or from a fault, follows from the one that there is
+-- consequences of a success, or of a fault, of a result
 pub on_success : {A E P Q : Type 0} (r : Result A E) → (P → Q) → OnOk r P → OnOk r Q
 on_success (Ok x) f p = f p
 on_success (Err e) f p = tt
@@ -103,12 +103,12 @@ pub if_fault : {A E : Type 0} (r : Result A E) {P Q : E → Type 0} → ((e : E)
 if_fault (Ok x) f p = tt
 if_fault (Err e) f p = f e p
 
--- no line is too long, and none too many
+-- no lines are within the limits
 none_within : AreWithin []
 none_within = record { few = omega arith; short = All-nil _ }
 
 module _ {S : Type 0} (answers : Answering S) where
-  -- one line more, by its number
+  -- one more line, by its number
   pub step_at : {from mid to : S} {lines : List (List ℕ)} {line written answer : List ℕ} (number : ℕ) → Runs answers from lines mid written
       → number ≡ length lines + 1 → answers mid number line to answer → Runs answers from (lines ++ line ∷ []) to (written ++ answer)
   step_at {mid = mid} {to = to} {line = line} {answer = answer} number run count answered = step run (subst (λ n. answers mid n line to answer) count answered)
@@ -120,7 +120,7 @@ module _ {S : Type 0} (answers : Answering S) where
   AnswersSome-whole fault from input ahead old new lines written to run taken wrote within stops =
       (lines, written, [], to, run, subst (Appends old new) (sym (append-nil written)) wrote, within, stops.count, StopsBefore-front fault input ahead lines taken stops.next, inl refl)
 
-  -- memory was refused before the first line
+  -- out of memory before the first line
   pub AnswersSome-none : (from : S) (input old : Option (List ℕ)) → AnswersSome answers NoMemory from input old old
   AnswersSome-none from None old = ([], [], [], from, start, Appends-nil old, none_within, tt, tt, inl refl)
   AnswersSome-none from (Some xs) old = ([], [], [], from, start, Appends-nil old, none_within, tt, (lines_of xs, refl, tt), inl refl)
@@ -142,7 +142,8 @@ module _ {S : Type 0} (answers : Answering S) where
     inr (refl, (line, answer, later, part.0, subst (λ n. answers to n line later answer) count answered, refl, TakesLines-front input next (lines ++ line ∷ []) (TakesLines-more input ahead next lines line taken found))),
   )
 
--- a run of one machine is a run of another that sees each of its states, and answers as it does
+-- A run of one machine is a run of another, if a view maps the states of the first to those of the second, and each answer of the
+-- first is one of the second.
 module _ {S T : Type 0} (answers : Answering S) (others : Answering T) (view : S → T)
     (same : (old new : S) (number : ℕ) (line answer : List ℕ) → answers old number line new answer → others (view old) number line (view new) answer) where
   Runs-seen : {from to : S} {lines : List (List ℕ)} {written : List ℕ} → Runs answers from lines to written → Runs others (view from) lines (view to) written

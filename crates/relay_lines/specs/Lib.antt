@@ -1,9 +1,9 @@
 pub mod Faults
 pub mod Follow
-pub mod Kept
+pub mod Representation
 pub mod Line
 pub mod Lines
 pub mod Respond
 pub mod Script
-pub mod Sockets
+pub mod Transport
 pub mod Words

@@ -1,4 +1,4 @@
--- What a line of a script asks for: `NAME WORD` or `NAME WORD REST`, with single spaces.
+-- The lines of a script: `NAME WORD` or `NAME WORD REST`, with single spaces.
 use Rattle.std.specs.Prelude.{◌≡◌, ℕ, List, [], ◌∷◌, length, Bool, true, false, ◌&&◌, ◌==◌, nat_eq, nat_le, nat_lt, bytes_eq, codes, Option, Some, None, if◌then◌else◌}
 use Rattle.std.specs.Char.{is_ascii_alphanumeric}
 use Rattle.std.specs.List.{list_all, position_or_len, before_first, after_first}
@@ -6,10 +6,10 @@ use Rattle.std.specs.Str.{IsUtf8}
 use Rattle.relay_lines.specs.declared.line.Asks.{Asks}
 use Rattle.relay_lines.specs.declared.line.Asks.TheVariants as asks
 use Rattle.relay_lines.specs.declared.line.Line.{Line}
-use Rattle.relay_lines.specs.declared.line.TheConstants.{NAME_MOST}
+use Rattle.relay_lines.specs.declared.line.TheConstants.{MAX_NAME}
 use Rattle.relay_lines.specs.declared.line.Line.TheVariants as line
 
--- what a name is to do
+-- the command for a name
 pub data Act : Type 0 where
   opens : List ℕ → Act
   says : List ℕ → Act
@@ -18,7 +18,7 @@ pub data Act : Type 0 where
   shows : Act
   tells : Act
 
--- nothing, for an empty line or a comment; something of no known form; or an act of a name
+-- the form of a line: blank, for an empty line or a comment; unknown; or a command for a name
 pub data Form : Type 0 where
   blank : Form
   unknown : Form
@@ -30,11 +30,11 @@ is_space b = nat_eq b 32
 abbrev pub has_space : List ℕ → Bool
 has_space s = nat_lt (position_or_len is_space s) (length s)
 
--- ASCII letters or digits, one at least and not too many
+-- 1 to `MAX_NAME` bytes, each an ASCII letter or digit
 abbrev pub is_name : List ℕ → Bool
-is_name s = nat_le 1 (length s) && nat_le (length s) NAME_MOST && list_all is_ascii_alphanumeric s
+is_name s = nat_le 1 (length s) && nat_le (length s) MAX_NAME && list_all is_ascii_alphanumeric s
 
--- a word that stands alone, and one with more behind it
+-- the command of a word that stands alone, and of one that is followed by more
 
 abbrev pub alone : List ℕ → Option Act
 alone word =
@@ -60,12 +60,12 @@ abbrev pub form_of : List ℕ → Form
 form_of s =
     if has_space s then (if is_name (before_first is_space s) then named_form (before_first is_space s) (act_in (after_first is_space s)) else unknown) else unknown
 
--- bytes that are no UTF-8 have no known form
+-- the form of bytes that are not blank: `unknown` if they are not UTF-8
 pub record IsForm (s : List ℕ) (form : Form) : Type 0 where
   pub text : IsUtf8 s → form ≡ form_of s
   pub other : (IsUtf8 s → ⊥) → form ≡ unknown
 
--- the form of a line: nothing, where it is empty or begins with `#`
+-- the form of a line: `blank` if it is empty or begins with `#`
 abbrev pub LineBegins : Bool → List ℕ → Form → Type 0
 LineBegins true s form = form ≡ blank
 LineBegins false s form = IsForm s form
@@ -74,7 +74,7 @@ abbrev pub LineIs : List ℕ → Form → Type 0
 LineIs [] form = form ≡ blank
 LineIs (b ∷ s) form = LineBegins (b == 35) (b ∷ s) form
 
--- what the code reads, as plain data
+-- the code's types as plain data
 
 abbrev pub act_of : Asks → Act
 act_of (asks.Open room) = opens room.now

@@ -1,4 +1,4 @@
-//! A follower of texts, one a line: what it holds after each.
+//! A follower as a line filter: each line is a text, and its answer is the view that the follower holds then.
 ghost use Rattle.std.specs.Prelude.{◌≡◌, IfOk, string_bytes};
 ghost use Rattle.std.specs.Result.{result_err};
 ghost use Rattle.relay_lines.specs.Follow.{Takes, taken_text};
@@ -44,7 +44,7 @@ impl Respond for Following {
     }
 }
 
-/// Has a follower hear the text of a line.
+/// Applies the text of a line to a follower.
 fn take(alloc: Global, follower: &mut Follower, line: &[u8]) -> Result<(), HearFault>
     ensures { Takes follower.old line.now (result_err result) follower.new }
 {

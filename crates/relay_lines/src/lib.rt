@@ -1,31 +1,29 @@
-//! Lines in, lines out (`docs/PROTOCOL.md`): scripts, the same scripts through loopback sockets, and followers, over any reader
-//! and writer.
+//! Scripts and followers as line filters (`docs/PROTOCOL.md`): they read lines from any reader and write answers to any writer. A
+//! script runs over any transport to a hub.
 #![tactic(auto)]
 
-mod client;
-mod connection;
-mod ear;
 mod fault;
 mod follow;
 mod input;
 mod line;
-mod looped;
+mod outcome;
 mod output;
-mod player;
+mod over_hub;
 mod respond;
+mod retrying_follower;
 mod run;
 mod script;
-mod sockets;
+mod script_client;
+mod transport;
 mod whole;
 mod words;
 
-pub use client::{Client, Knocking};
-pub use fault::{ScriptFault, ServeFault};
-pub use input::LINE_MOST;
-pub use looped::Looped;
+pub use fault::ScriptFault;
+pub use input::MAX_LINE;
+pub use outcome::Outcome;
 pub use output::write_whole;
 pub use respond::Respond;
-pub use run::{LINES_MOST, run_lines};
-pub use script::Script;
-pub use sockets::{FIRST, listen};
+pub use run::{MAX_LINES, run_lines};
+pub use script::{FIRST_SESSION, Script};
+pub use transport::Transport;
 pub use whole::{run_follow, run_script};

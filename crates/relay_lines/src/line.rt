@@ -4,37 +4,37 @@ ghost use Rattle.relay_lines.specs.Line.{LineIs, form_of, with_rest, alone, act_
 
 use std::str;
 
-/// What one line asks for.
+/// A parsed line.
 #[derive(Clone, Copy, Debug, PartialEq, Eq)]
 pub enum Line<'a> {
-    /// Nothing: the line is empty, or a comment that begins with `#`.
+    /// The line is empty, or a comment that begins with `#`.
     Blank,
-    /// It is of no known form, or no UTF-8.
+    /// The line has no known form, or is not UTF-8.
     Unknown,
     Named { name: &'a str, asks: Asks<'a> },
 }
 
-/// What a name is to do.
+/// The command for a name.
 #[derive(Clone, Copy, Debug, PartialEq, Eq)]
 pub enum Asks<'a> {
-    /// Opens a session in a room.
+    /// Opens a session in the named room.
     Open(&'a str),
     /// Sends a text.
     Say(&'a str),
-    /// Draws the next text that waits for it; its follower hears it.
+    /// Draws the next text from the session's outbox, and applies it to the name's follower.
     Draw,
-    /// Ends its session.
+    /// Closes the session.
     Close,
-    /// Shows what its follower holds.
+    /// Shows what the follower holds.
     Held,
-    /// Shows what its follower should hold.
+    /// Shows what the follower should hold.
     Truth,
 }
 
-/// How many bytes a name has at most.
-const NAME_MOST: usize = 16;
+/// The maximum length of a name, in bytes.
+const MAX_NAME: usize = 16;
 
-/// What a line asks for. Its bytes are those before the line feed.
+/// Parses a line. `bytes` are those before the line feed.
 pub fn line_of(bytes: &[u8]) -> Line<'_>
     ensures { LineIs bytes.now (shown result) }
 {
@@ -70,7 +70,7 @@ fn words_of<'a>(name: &'a str, words: &'a str) -> Line<'a>
     }
 }
 
-/// What a word with more behind it asks for.
+/// The command of a word that is followed by more.
 fn with_rest<'a>(word: &str, rest: &'a str) -> Option<Asks<'a>>
     ensures { option_map act_of result ≡ with_rest word.now rest.now }
 {
@@ -81,7 +81,7 @@ fn with_rest<'a>(word: &str, rest: &'a str) -> Option<Asks<'a>>
     }
 }
 
-/// What a word that stands alone asks for.
+/// The command of a word that stands alone.
 fn alone<'a>(word: &str) -> Option<Asks<'a>>
     ensures { option_map act_of result ≡ alone word.now }
 {
@@ -94,11 +94,11 @@ fn alone<'a>(word: &str) -> Option<Asks<'a>>
     }
 }
 
-/// 1 to 16 ASCII letters or digits.
+/// Whether the text is 1 to 16 ASCII letters or digits.
 fn is_name(name: &str) -> bool
     ensures { result ≡ is_name name.now }
 {
-    if name.is_empty() || name.len() > NAME_MOST {
+    if name.is_empty() || name.len() > MAX_NAME {
         return false;
     }
     name.as_bytes()

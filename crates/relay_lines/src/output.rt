@@ -1,4 +1,4 @@
-//! Whole writes to a writer of bytes.
+//! Complete writes to a writer of bytes.
 ghost use Rattle.std.specs.Prelude.{◌≡◌, ℕ, ◌+◌, ◌-◌, ◌<◌, ◌≤◌, List, [], ◌++◌, take, drop, length, IfOk, IfErr, OnOk, OnErr};
 ghost use Rattle.std.specs.Io.KnownBytes.{Keeps, Appends};
 ghost use Rattle.relay_lines.specs.Lines.{AppendsPart};
@@ -6,9 +6,9 @@ ghost use Rattle.relay_lines.specs.Lines.{AppendsPart};
 use crate::fault::ScriptFault;
 use std::io::{ErrorKind, Write};
 
-const INTERRUPTIONS_MOST: u32 = 1_000;
+const MAX_INTERRUPTIONS: u32 = 1_000;
 
-/// One write that takes at least one byte. An interrupted one is tried again, up to a limit.
+/// Writes once, at least one byte. An interrupted write is retried, with at most 1,000 attempts in all.
 pub fn write_some<W: Write>(writer: &mut W, bytes: &[u8]) -> Result<usize, ScriptFault>
     ensures within { IfOk result (λ n. n ≤ length bytes.now) }
     ensures some { IfOk result (λ n. 0 < n) }
@@ -16,7 +16,7 @@ pub fn write_some<W: Write>(writer: &mut W, bytes: &[u8]) -> Result<usize, Scrip
     ensures err { OnErr result (Keeps (W.contents writer.old) (W.contents writer.new)) }
     ensures fault { IfErr result (λ fault. fault ≡ ScriptFault.Output) }
 {
-    for _ in 0..INTERRUPTIONS_MOST {
+    for _ in 0..MAX_INTERRUPTIONS {
         match writer.write(bytes) {
             Ok(0) => return Err(ScriptFault::Output),
             Ok(n) => return Ok(n),
@@ -30,7 +30,7 @@ pub fn write_some<W: Write>(writer: &mut W, bytes: &[u8]) -> Result<usize, Scrip
     Err(ScriptFault::Output)
 }
 
-/// Writes all the bytes, or, where the writer fails, a part at their front.
+/// Writes all the bytes. After an error a prefix of them was written.
 pub fn write_whole<W: Write>(writer: &mut W, bytes: &[u8]) -> Result<(), ScriptFault>
     ensures ok { OnOk result (Appends (W.contents writer.old) (W.contents writer.new) bytes.now) }
     ensures err { OnErr result (AppendsPart (W.contents writer.old) (W.contents writer.new) bytes.now) }

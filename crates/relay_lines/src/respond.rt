@@ -1,15 +1,15 @@
-//! Whatever answers one line after another.
+//! The trait of a state that answers lines.
 ghost use Rattle.std.specs.Prelude.{IfOk, List, ℕ, string_bytes};
 
 use std::alloc::{AllocError, Global};
 
-/// Answers lines, each by what came before.
+/// Answers lines in order. An answer may depend on the lines before it.
 pub trait Respond {
-    // From a state over the line of a number to the next state, with the bytes of the answer.
+    // The state before the line, the line's number and bytes, the state after it, and the bytes of the answer.
     ghost answers: { Self → ℕ → List ℕ → Self → List ℕ → Type 0 };
 
-    /// The answer to the next line, whose number counts from 1, and whose bytes are those before the line feed: whole
-    /// lines, or nothing.
+    /// Answers the next line: with whole lines, or with nothing. `number` counts from 1, and `line` has the bytes before the line
+    /// feed.
     fn respond(&mut self, alloc: Global, number: u32, line: &[u8]) -> Result<String, AllocError>
         ensures { IfOk result (λ answer. answers self.old number line.now self.new (string_bytes answer)) };
 }

@@ -1,51 +1,48 @@
-//! A script, or the texts for a follower, from the first line to the last.
+//! Complete runs: a script, or a follower, from the first line of an input to the last.
 ghost use Rattle.std.specs.Prelude.{◌≡◌, ◌≢◌, ◌<◌, ◌↔◌, length, OnOk, IfErr, IfSome, IsErrOf, None};
 ghost use Rattle.std.specs.Io.KnownBytes.{IsAtEnd};
-ghost use Rattle.relay_hub.specs.Telling.{BadLimits};
+ghost use Rattle.relay_hub.specs.Queries.{BadLimits};
 ghost use Rattle.relay_lines.specs.Follow as follow;
 ghost use Rattle.relay_lines.specs.Lines.{lines_of};
 ghost use Rattle.relay_lines.specs.Respond.{AnswersAll, AnswersSome, HasLongLine};
-ghost use Rattle.relay_lines.specs.Script as script;
-ghost use Rattle.relay_lines.specs.Script.{new_stage};
-ghost use Rattle.relay_lines.specs.declared.input.TheConstants.{LINE_MOST};
-ghost use Rattle.relay_lines.specs.declared.run.TheConstants.{LINES_MOST};
+ghost use Rattle.relay_lines.specs.Script.{HubAnswers, new_stage};
+ghost use Rattle.relay_lines.specs.declared.input.TheConstants.{MAX_LINE};
+ghost use Rattle.relay_lines.specs.declared.run.TheConstants.{MAX_LINES};
 
 use crate::fault::ScriptFault;
 use crate::follow::Following;
 use crate::run::run_lines;
 use crate::script::Script;
+use relay_hub::{Hub, HubConfig};
 use std::alloc::Global;
 use std::io::{Read, Write};
 
-/// Carries out the lines of a script, and writes their answers, over a new hub of this epoch whose rooms hold `history`
-/// revisions, and where at most `outbox` patches wait for a session. At `BadLimit` nothing was read and nothing written. The
-/// lines before another fault were carried out and their answers written: at `TooManyLines` as many as there may be, and at
-/// `LineTooLong` those before the first that is too long. After `Output` the last answer may be cut.
+/// Carries out the lines of a script over a new hub, and writes their answers. At `BadLimit` nothing was read or written. The lines
+/// before any other fault were carried out and their answers written: at `TooManyLines` the first 65,536, and at `LineTooLong`
+/// those before the first line that is too long. After `Output` the last answer may be cut.
 pub fn run_script<R: Read, W: Write>(
     alloc: Global,
     reader: &mut R,
     writer: &mut W,
-    epoch: u64,
-    history: u64,
-    outbox: u64,
+    made: HubConfig,
 ) -> Result<(), ScriptFault>
-    ensures done { OnOk result (AnswersAll script.Answers (new_stage epoch history outbox) (R.remaining reader.old) (W.contents writer.old) (W.contents writer.new)) }
+    ensures done { OnOk result (AnswersAll HubAnswers (new_stage made) (R.remaining reader.old) (W.contents writer.old) (W.contents writer.new)) }
     ensures read { OnOk result (IsAtEnd (R.remaining reader.new)) }
-    ensures bad_limit { IsErrOf result ScriptFault.BadLimit ↔ BadLimits epoch 1 history outbox }
+    ensures bad_limit { IsErrOf result ScriptFault.BadLimit ↔ BadLimits made }
     ensures untouched { IfErr result (λ fault. fault ≡ ScriptFault.BadLimit → (reader.new ≡ reader.old) × (writer.new ≡ writer.old)) }
     ensures stopped { IfErr result (λ fault. fault ≢ ScriptFault.BadLimit
-        → AnswersSome script.Answers fault (new_stage epoch history outbox) (R.remaining reader.old) (W.contents writer.old) (W.contents writer.new)) }
+        → AnswersSome HubAnswers fault (new_stage made) (R.remaining reader.old) (W.contents writer.old) (W.contents writer.new)) }
     ensures too_long { IfErr result (λ fault. fault ≡ ScriptFault.LineTooLong
-        → IfSome (R.remaining reader.old) (λ bytes. HasLongLine LINE_MOST (lines_of bytes))) }
+        → IfSome (R.remaining reader.old) (λ bytes. HasLongLine MAX_LINE (lines_of bytes))) }
     ensures too_many { IfErr result (λ fault. fault ≡ ScriptFault.TooManyLines
-        → IfSome (R.remaining reader.old) (λ bytes. LINES_MOST < length (lines_of bytes))) }
+        → IfSome (R.remaining reader.old) (λ bytes. MAX_LINES < length (lines_of bytes))) }
 {
-    let mut script = Script::new(alloc, epoch, history, outbox)?;
-    run_lines(alloc, &mut script, reader, writer)
+    let hub = Hub::with_config(alloc, made)?;
+    run_lines(alloc, &mut Script::new(alloc, hub), reader, writer)
 }
 
-/// Hears the texts of an input, one a line, and writes what is held after each. The same limits and faults as for a script;
-/// there is no limit to be out of range.
+/// Applies the texts of an input, one per line, to a follower, and writes what it holds after each. Limits and faults are those of
+/// [`run_script`], but `BadLimit` never comes.
 pub fn run_follow<R: Read, W: Write>(
     alloc: Global,
     reader: &mut R,
@@ -56,9 +53,9 @@ pub fn run_follow<R: Read, W: Write>(
     ensures limits { IfErr result (λ fault. fault ≢ ScriptFault.BadLimit) }
     ensures stopped { IfErr result (λ fault. AnswersSome follow.Answers fault None (R.remaining reader.old) (W.contents writer.old) (W.contents writer.new)) }
     ensures too_long { IfErr result (λ fault. fault ≡ ScriptFault.LineTooLong
-        → IfSome (R.remaining reader.old) (λ bytes. HasLongLine LINE_MOST (lines_of bytes))) }
+        → IfSome (R.remaining reader.old) (λ bytes. HasLongLine MAX_LINE (lines_of bytes))) }
     ensures too_many { IfErr result (λ fault. fault ≡ ScriptFault.TooManyLines
-        → IfSome (R.remaining reader.old) (λ bytes. LINES_MOST < length (lines_of bytes))) }
+        → IfSome (R.remaining reader.old) (λ bytes. MAX_LINES < length (lines_of bytes))) }
 {
     run_lines(alloc, &mut Following::new(), reader, writer)
 }

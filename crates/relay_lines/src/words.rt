@@ -1,13 +1,14 @@
-//! The texts of answers (`docs/PROTOCOL.md`): `NAME` and what became of its line, with a line feed behind.
-ghost use Rattle.std.specs.Prelude.{◌≡◌, ◌≢◌, Some, IfOk, string_bytes};
-ghost use Rattle.relay_hub.specs.Call.{opening, not_opened, receiving, drawing, closing};
+//! The texts of answers (`docs/PROTOCOL.md`): `NAME`, the result of its line, and a line feed.
+ghost use Rattle.std.specs.Prelude.{◌≡◌, IfOk, string_bytes};
 ghost use Rattle.relay_hub.specs.declared.event.Answer.TheVariants as answer;
 ghost use Rattle.relay_hub.specs.declared.event.Heard.TheVariants as heard;
 ghost use Rattle.relay_lines.specs.Script.{after_hearing};
-ghost use Rattle.relay_lines.specs.Words.{unknown_text, no_memory_text, form_text, taken_text, open_word, opened_text, said_text, drawn_text, closed_text, hear_word, off_text, view_text};
+ghost use Rattle.relay_lines.specs.Words.{unknown_text, no_memory_text, form_text, taken_text, open_word, answer_text, outcome_text, hear_word, off_text, view_text, truth_text, shown_text};
 
+use crate::outcome::Outcome;
 use relay_follow::{Follower, HearFault};
-use relay_hub::{Heard, HubFault, NoSession, OpenFault};
+use relay_hub::{Answer, Heard, HubFault, OpenFault};
+use relay_tree::Tree;
 use std::alloc::{AllocError, Global};
 
 pub fn unknown(alloc: Global, name: &str) -> Result<String, AllocError>
@@ -22,7 +23,7 @@ pub fn no_memory(alloc: Global, name: &str) -> Result<String, AllocError>
     format!(in alloc; "{name} no-memory\n")
 }
 
-/// A line of no known form, by its number.
+/// The answer to a line of no known form, by its number.
 pub fn unknown_form(alloc: Global, number: u32) -> Result<String, AllocError>
     ensures { IfOk result (λ text. string_bytes text ≡ form_text number) }
 {
@@ -35,43 +36,42 @@ pub fn taken(alloc: Global, name: &str) -> Result<String, AllocError>
     format!(in alloc; "{name} refused name-taken\n")
 }
 
-pub fn opened(
-    alloc: Global,
-    name: &str,
-    opened: &Result<u64, OpenFault>,
-) -> Result<String, AllocError>
-    ensures { IfOk result (λ text. string_bytes text ≡ opened_text name.now (opening opened.now)) }
+/// The answer for the outcome of a line's event.
+pub fn outcome(alloc: Global, name: &str, outcome: &Outcome) -> Result<String, AllocError>
+    ensures { IfOk result (λ text. string_bytes text ≡ outcome_text name.now outcome.now) }
 {
-    match opened {
-        Ok(session) => entered(alloc, name, *session),
-        Err(fault) => refused(alloc, name, *fault),
+    match outcome {
+        Outcome::Answered(answer) => answered(alloc, name, answer),
+        Outcome::NoMemory => no_memory(alloc, name),
+        Outcome::Rejected(status) => format!(in alloc; "{name} refused {status}\n"),
+        Outcome::Stuck => format!(in alloc; "{name} stuck\n"),
     }
 }
 
-/// The number of a session that was opened.
-pub fn entered(alloc: Global, name: &str, session: u64) -> Result<String, AllocError>
-    ensures { IfOk result (λ text. string_bytes text ≡ opened_text name.now (Some (answer.Opened session))) }
+/// The answer for an answer of the hub.
+fn answered(alloc: Global, name: &str, answer: &Answer) -> Result<String, AllocError>
+    ensures { IfOk result (λ text. string_bytes text ≡ answer_text name.now answer.now) }
 {
-    format!(in alloc; "{name} opened {session}\n")
-}
-
-/// Why an opening was refused.
-#[tactic(auto, using(crate::proofs::WordLemmas::refused_text))]
-pub fn refused(alloc: Global, name: &str, fault: OpenFault) -> Result<String, AllocError>
-    ensures { IfOk result (λ text. string_bytes text ≡ opened_text name.now (not_opened fault)) }
-{
-    match fault {
-        OpenFault::NoMemory => no_memory(alloc, name),
-        _ => {
-            let word = open_word(fault);
+    match answer {
+        Answer::Opened(session) => format!(in alloc; "{name} opened {session}\n"),
+        Answer::NotOpened(fault) => {
+            let word = open_word(*fault);
             format!(in alloc; "{name} refused {word}\n")
         }
+        Answer::Heard(Heard::Answered { short }) => heard(alloc, name, *short),
+        Answer::Heard(Heard::Busy) => format!(in alloc; "{name} busy\n"),
+        Answer::Drawn(Some(text)) => {
+            let text = text.as_str();
+            format!(in alloc; "{name} {text}\n")
+        }
+        Answer::Drawn(None) => format!(in alloc; "{name} nothing\n"),
+        Answer::Closed => format!(in alloc; "{name} closed\n"),
+        Answer::NoSession => unknown(alloc, name),
     }
 }
 
-/// The word of a refusal. Want of memory refuses nothing.
+/// The word for a refused opening.
 fn open_word(fault: OpenFault) -> &'static str
-    requires { fault ≢ OpenFault.NoMemory }
     ensures { result.now ≡ open_word fault }
 {
     match fault {
@@ -79,29 +79,14 @@ fn open_word(fault: OpenFault) -> &'static str
         OpenFault::RoomsFull => "rooms-full",
         OpenFault::SessionsFull => "sessions-full",
         OpenFault::Exhausted => "exhausted",
-        OpenFault::NoMemory => unreachable!(),
+        OpenFault::NoMemory => "no-memory",
     }
 }
 
-pub fn said(
-    alloc: Global,
-    name: &str,
-    heard: &Result<Heard, HubFault>,
-) -> Result<String, AllocError>
-    ensures { IfOk result (λ text. string_bytes text ≡ said_text name.now (receiving heard.now)) }
-{
-    match heard {
-        Ok(Heard::Answered { short }) => answered(alloc, name, *short),
-        Ok(Heard::Busy) => format!(in alloc; "{name} busy\n"),
-        Err(HubFault::NoSession) => unknown(alloc, name),
-        Err(HubFault::NoMemory) => no_memory(alloc, name),
-    }
-}
-
-/// That a text was answered, and how many watchers were not told for want of memory.
+/// The answer for a text that the hub answered. `short` counts the watchers whose outboxes folded because memory ran out.
 #[tactic(auto, using(crate::proofs::WordLemmas::short_text))]
-fn answered(alloc: Global, name: &str, short: u64) -> Result<String, AllocError>
-    ensures { IfOk result (λ text. string_bytes text ≡ said_text name.now (Some (answer.Heard (heard.Answered short)))) }
+fn heard(alloc: Global, name: &str, short: u64) -> Result<String, AllocError>
+    ensures { IfOk result (λ text. string_bytes text ≡ answer_text name.now (answer.Heard (heard.Answered short))) }
 {
     if short == 0 {
         format!(in alloc; "{name} answered\n")
@@ -110,35 +95,33 @@ fn answered(alloc: Global, name: &str, short: u64) -> Result<String, AllocError>
     }
 }
 
-pub fn drawn(
+/// The line that shows what a name's follower should hold.
+pub fn shown(
     alloc: Global,
     name: &str,
-    drawn: &Result<Option<String>, HubFault>,
+    shown: Result<Option<(u64, Tree)>, HubFault>,
 ) -> Result<String, AllocError>
-    ensures { IfOk result (λ text. string_bytes text ≡ drawn_text name.now (drawing drawn.now)) }
+    ensures { IfOk result (λ text. string_bytes text ≡ shown_text name.now shown) }
 {
-    match drawn {
-        Ok(Some(text)) => format!(in alloc; "{name} {text}\n"),
-        Ok(None) => format!(in alloc; "{name} nothing\n"),
+    match shown {
+        Ok(shown) => truth(alloc, name, shown),
         Err(HubFault::NoSession) => unknown(alloc, name),
         Err(HubFault::NoMemory) => no_memory(alloc, name),
     }
 }
 
-pub fn closed(
-    alloc: Global,
-    name: &str,
-    closed: &Result<(), NoSession>,
-) -> Result<String, AllocError>
-    ensures { IfOk result (λ text. string_bytes text ≡ closed_text name.now (closing closed.now)) }
+fn truth(alloc: Global, name: &str, shown: Option<(u64, Tree)>) -> Result<String, AllocError>
+    ensures { IfOk result (λ text. string_bytes text ≡ truth_text name.now shown) }
 {
-    match closed {
-        Ok(()) => format!(in alloc; "{name} closed\n"),
-        Err(NoSession) => unknown(alloc, name),
-    }
+    let follower = match shown {
+        Some((rev, view)) => Follower::from_view(rev, view),
+        None => Follower::new(),
+    };
+    let shown = view(alloc, "truth", &follower)?;
+    format!(in alloc; "{name} {shown}")
 }
 
-/// The line that a follower's fault adds.
+/// The line that reports a follower's fault.
 pub fn off(alloc: Global, name: &str, fault: HearFault) -> Result<String, AllocError>
     ensures { IfOk result (λ text. string_bytes text ≡ off_text name.now fault) }
 {
@@ -146,7 +129,7 @@ pub fn off(alloc: Global, name: &str, fault: HearFault) -> Result<String, AllocE
     format!(in alloc; "{name} off {word}\n")
 }
 
-/// That line, where there is a fault.
+/// That line, or nothing if there is no fault.
 pub fn after_hearing(
     alloc: Global,
     name: &str,
@@ -160,7 +143,7 @@ pub fn after_hearing(
     }
 }
 
-/// The word of a follower's fault.
+/// The word for a follower's fault.
 pub fn hear_word(fault: HearFault) -> &'static str
     ensures { result.now ≡ hear_word fault }
 {
@@ -173,7 +156,7 @@ pub fn hear_word(fault: HearFault) -> &'static str
     }
 }
 
-/// A word and what a follower holds: revision and view, or nothing.
+/// A word, then what a follower holds: its revision and view, or `nothing`.
 pub fn view(alloc: Global, word: &str, follower: &Follower) -> Result<String, AllocError>
     ensures { IfOk result (λ text. string_bytes text ≡ view_text word.now follower.now) }
 {

@@ -1,4 +1,4 @@
--- A session that a link had and has no longer was closed on the way.
+-- A session that a link had and no longer has was closed on the way.
 use Rattle.std.proofs.Common.{◌≡◌, ◌⊎◌, inl, inr, ℕ, List, [], ◌∷◌, ◌++◌, Option, Some, None, sym, subst}
 use Rattle.std.specs.List.{Contains}
 use Rattle.std.proofs.lemmas.List.Elements.{Contains-append_left, Contains-push}
@@ -7,11 +7,11 @@ use Rattle.relay_hub.specs.declared.event.Event.{Event}
 use Rattle.relay_hub.specs.declared.event.Event.TheVariants.{Open, Receive, Draw, Close}
 use Rattle.relay_link.specs.Follows.{Point, IsOwn, session_after, Follows, stays, makes}
 
--- the session is still there, or its close was made
+-- the link still has the session, or its close was made
 abbrev pub IsKept : ℕ → Option ℕ → List Event → Type 0
 IsKept s session made = (session ≡ Some s) ⊎ Contains made (Close s)
 
--- one more event keeps it so
+-- one more event preserves this
 kept_on : (s : ℕ) (session : Option ℕ) (made : List Event) (event : Event) (answer : Answer) → session ≡ Some s → IsOwn session event
     → IsKept s (session_after session event answer) (made ++ event ∷ [])
 kept_on s session made (Open room) answer h own = cc
@@ -21,7 +21,7 @@ kept_on s session made (Close t) answer h own =
     let same : t ≡ s = cc in
     inr (subst (λ x. Contains (made ++ Close x ∷ []) (Close s)) (sym same) (Contains-push made (Close s)))
 
--- from a point with session s on it is there, or its close was made
+-- after a point with session s the link still has s, or its close was made
 pub kept : {p q : Point} → Follows p q → (s : ℕ) → p.session ≡ Some s → IsKept s q.session q.made
 kept stays s h = inl h
 kept (makes {q = q} event answer f own step) s h = elim (kept f s h) [
@@ -29,6 +29,6 @@ kept (makes {q = q} event answer f own step) s h = elim (kept f s h) [
   | inr closed ↦ inr (Contains-append_left q.made (event ∷ []) (Close s) closed)
 ]
 
--- where the session is gone its close was made
+-- if the session is gone, its close was made
 pub closed : {p q : Point} → Follows p q → (s : ℕ) → p.session ≡ Some s → q.session ≡ None → Contains q.made (Close s)
 closed f s h gone = elim (kept f s h) [ inl there ↦ cc | inr made ↦ made ]

@@ -1,4 +1,4 @@
--- How points follow one another.
+-- Lemmas about `Follows`.
 use Rattle.std.proofs.Common.{◌≡◌, ℕ, true, false, List, [], ◌∷◌, ◌++◌, Option, Some, None, is_some, refl, sym, subst, subst₂}
 use Rattle.relay_hub.specs.Call.{StepIf, not_opened}
 use Rattle.relay_hub.specs.State.{State}
@@ -11,13 +11,13 @@ use Rattle.relay_hub.specs.declared.fault.OpenFault.{OpenFault}
 use Rattle.relay_hub.specs.declared.fault.OpenFault.TheVariants as fault
 use Rattle.relay_link.specs.Follows.{Point, at, IsOwn, session_after, Follows, stays, makes}
 
--- nothing was done
+-- no event was made
 pub follows_same : (old new : State) (session mine : Option ℕ) (before after : List Event) → new ≡ old → mine ≡ session → after ≡ before
     → Follows (at old session before) (at new mine after)
 follows_same old new session mine before after h k m =
     subst (λ x. Follows (at old session before) (at new x after)) (sym k) (subst₂ (λ x y. Follows (at old session before) (at x session y)) (sym h) (sym m) stays)
 
--- one event was done
+-- one event was made
 pub follows_one : (old new : State) (session : Option ℕ) (before after : List Event) (event : Event) (answer : Answer)
     → after ≡ before ++ event ∷ [] → IsOwn session event → Step old event answer new
     → Follows (at old session before) (at new (session_after session event answer) after)
@@ -34,7 +34,7 @@ pub unanswered : (old new : State) (event : Event) (answer : Option Answer) → 
 unanswered old new event None e s = s
 unanswered old new event (Some answer) e s = cc
 
--- an opening that was refused with an answer is one event, and gives no session
+-- an opening that was refused with an answer is one event, and opens no session
 pub follows_refused : (old new : State) (before after : List Event) (room : List ℕ) (fault : OpenFault)
     → after ≡ before ++ Open room ∷ [] → true ≡ is_some (not_opened fault) → StepIf old (Open room) (not_opened fault) new
     → Follows (at old None before) (at new None after)

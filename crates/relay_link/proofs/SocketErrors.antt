@@ -1,4 +1,4 @@
--- The calls of a socket give errors of a socket.
+-- The errors that calls of a socket return are errors of a socket.
 use Rattle.std.proofs.Common.{◌≡◌, inl, inr, ℕ, List, Option, Result, Ok, Err, IfErr, sym, subst}
 use Rattle.websocket.specs.Connection.{Connection, Effect}
 use Rattle.websocket.specs.declared.error.Error.{Error as FrameError}
@@ -9,7 +9,7 @@ use Rattle.tungstenite.specs.Failure.{of_frame, IsOutside, ReadFails, WriteFails
 use Rattle.tungstenite.specs.Socket.{Socket, Reads}
 use Rattle.relay_link.specs.SocketError.{IsOfSocket}
 
--- what is wrong with a frame
+-- an error of a frame
 of_frames : (x : FrameError) → IsOfSocket (of_frame x)
 of_frames frame.ConnectionClosed = tt
 of_frames frame.AlreadyClosed = tt
@@ -21,7 +21,7 @@ of_frames frame.OutOfMemory = tt
 as_frame : (error : Error) (x : FrameError) → error ≡ of_frame x → IsOfSocket error
 as_frame error x e = subst IsOfSocket (sym e) (of_frames x)
 
--- the stream, or want of memory
+-- an error of the stream, or out of memory
 of_outside : (error : Error) → IsOutside error → IsOfSocket error
 of_outside ConnectionClosed h = tt
 of_outside AlreadyClosed h = tt

@@ -1,9 +1,9 @@
--- How many events a turn makes.
+-- The number of events that a turn makes.
 use Rattle.std.specs.Prelude.{ℕ, ◌+◌, ◌≤◌, Bool, true, false, List, length, count_by}
 use Rattle.relay_hub.specs.declared.event.Event.{Event}
 use Rattle.relay_hub.specs.declared.event.Event.TheVariants.{Receive, Draw}
-use Rattle.relay_link.specs.declared.part.Part.{Part}
-use Rattle.relay_link.specs.declared.part.Part.TheVariants.{Hear, Tell, Both}
+use Rattle.relay_link.specs.declared.turn_phase.TurnPhase.{TurnPhase}
+use Rattle.relay_link.specs.declared.turn_phase.TurnPhase.TheVariants.{Read, Write, Both}
 
 abbrev pub is_receive : Event → Bool
 is_receive (Receive s text) = true
@@ -13,20 +13,20 @@ abbrev pub is_draw : Event → Bool
 is_draw (Draw s) = true
 is_draw _ = false
 
--- how many of the events hand a text over, and how many draw one
+-- how many of the events pass a text to the hub, and how many are draws
 abbrev pub receives : List Event → ℕ
 receives made = count_by is_receive made
 
 abbrev pub draws : List Event → ℕ
 draws made = count_by is_draw made
 
--- how many texts a turn hands over at most
-abbrev pub texts_of : Part → ℕ
-texts_of Hear = 1
-texts_of Tell = 0
+-- the maximum number of texts that a turn passes to the hub
+abbrev pub texts_of : TurnPhase → ℕ
+texts_of Read = 1
+texts_of Write = 0
 texts_of Both = 1
 
--- at most so many events joined, with at most so many receives and draws among them
+-- From `before` to `after` the list grows by at most `all` events, with at most `in_of` receives and `out_of` draws among them.
 pub record Adds (all in_of out_of : ℕ) (before after : List Event) : Type 0 where
   pub events : length after ≤ length before + all
   pub receives_of : receives after ≤ receives before + in_of

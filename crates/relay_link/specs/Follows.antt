@@ -1,4 +1,4 @@
--- How a link changes the hub: by its events, one step after another.
+-- The changes of the hub by a link: its events, one step after another.
 use Rattle.std.specs.Prelude.{◌≡◌, ℕ, List, [], ◌∷◌, ◌++◌, Option, Some, None}
 use Rattle.relay_hub.specs.State.{State}
 use Rattle.relay_hub.specs.Step.{Step}
@@ -23,20 +23,20 @@ IsOwn session (Receive s text) = session ≡ Some s
 IsOwn session (Draw s) = session ≡ Some s
 IsOwn session (Close s) = session ≡ Some s
 
--- the link's session after an event with that answer: the one that was opened, until it is closed
+-- the link's session after an event with its answer: the one that was opened, until it is closed
 abbrev pub session_after : Option ℕ → Event → Answer → Option ℕ
 session_after session (Open room) (Opened s) = Some s
 session_after session (Close s) answer = None
 session_after session event answer = session
 
--- The second point is reached from the first by the events that joined. Each is a step of the hub with some answer, which is
--- never want of memory, and is the link's own.
+-- The second point is reached from the first by the events that were appended. Each is the link's own, and is a step of the hub
+-- with some answer, which is never out of memory.
 pub data Follows : Point → Point → Type 0 where
   stays : {p : Point} → Follows p p
   makes : {p q : Point} {hub : State} (event : Event) (answer : Answer) → Follows p q → IsOwn q.session event → Step q.hub event answer hub
       → Follows p (at hub (session_after q.session event answer) (q.made ++ event ∷ []))
 
--- the one event that ends a session, where there is one
+-- the one event that closes a session, if there is one
 abbrev pub closing_of : Option ℕ → List Event
 closing_of (Some s) = Close s ∷ []
 closing_of None = []

@@ -1,4 +1,4 @@
--- Which errors a socket can give whose handshake is done.
+-- The errors that a socket can return once its handshake is done.
 use Rattle.std.specs.Prelude.{⊤}
 use Rattle.tungstenite.specs.declared.error.Error.{Error}
 use Rattle.tungstenite.specs.declared.error.Error.TheVariants.{AttackAttempt, Handshake, HandshakeIncomplete, JunkAfterRequest, CustomResponseSuccessful, Url, Http, Refused}

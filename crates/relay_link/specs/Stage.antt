@@ -10,7 +10,7 @@ use Rattle.relay_link.specs.declared.stage.Stage.TheVariants as stage
 use Rattle.relay_link.specs.declared.state.State.{State}
 use Rattle.relay_link.specs.declared.state.State.TheVariants.{Head, Replying, Open, Closing, Gone}
 
--- the session that a reply speaks of
+-- the session that a reply reports as opened
 abbrev pub entered : Verdict → Option ℕ
 entered (Entered s) = Some s
 entered (Refused status) = None
@@ -28,18 +28,18 @@ module _ {S : Type 0} where
   session_of (Open socket s) = Some s
   session_of _ = None
 
-  -- nothing is left to go on with until the stream is ready or a message waits
-  abbrev pub rests : State S → Bool
-  rests (Head stream bytes) = not (writer_inner stream.writer).restless
-  rests (Replying stream reply) = not (writer_inner stream.writer).restless
-  rests (Open socket s) = not (writer_inner socket.stream.writer).restless
-  rests (Closing socket turns) = not (writer_inner socket.stream.writer).restless
-  rests Gone = true
+  -- nothing has asked for another turn: there is no work until the stream is ready or a message waits for the session
+  abbrev pub is_idle : State S → Bool
+  is_idle (Head stream bytes) = not (writer_inner stream.writer).wants_poll
+  is_idle (Replying stream reply) = not (writer_inner stream.writer).wants_poll
+  is_idle (Open socket s) = not (writer_inner socket.stream.writer).wants_poll
+  is_idle (Closing socket turns) = not (writer_inner socket.stream.writer).wants_poll
+  is_idle Gone = true
 
-  -- something was said that is held back
-  abbrev pub has_held : State S → Bool
-  has_held (Open socket s) = socket.stream.holds && not (length (writer_buffer socket.stream.writer) == 0)
-  has_held _ = false
+  -- the link is open, and its output buffer is corked and not empty
+  abbrev pub has_corked_output : State S → Bool
+  has_corked_output (Open socket s) = socket.stream.holds && not (length (writer_buffer socket.stream.writer) == 0)
+  has_corked_output _ = false
 
 -- the order of the stages
 abbrev pub place : Stage → ℕ
@@ -52,8 +52,8 @@ place stage.Gone = 3
 abbrev pub IsForward : Stage → Stage → Type 0
 IsForward old new = place old ≤ place new
 
--- a link that goes from the first stage to the second has a cause: a handshake that ends without opening it, an open link that
--- closes or goes, a closing link that goes
+-- whether a link that passes from the first stage to the second has a cause: a handshake that ends without opening it, an open
+-- link that becomes closing or gone, a closing link that becomes gone
 abbrev pub leaves : Stage → Stage → Bool
 leaves stage.Head stage.Gone = true
 leaves stage.Open stage.Closing = true
@@ -67,7 +67,7 @@ is_over stage.Closing = true
 is_over stage.Gone = true
 is_over _ = false
 
--- the cause of an end: none where the link was gone already
+-- the cause of an end: none if the link was already gone
 abbrev pub ended : Stage → Option Cause
 ended stage.Gone = None
 ended _ = Some cause.Ended

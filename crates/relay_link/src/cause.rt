@@ -2,22 +2,22 @@
 use tungstenite::Error;
 use websocket::error::ProtocolError;
 
-/// Why a link was not opened, is no longer open, or is gone.
+/// Why a link failed to open, is no longer open, or is gone.
 #[derive(Clone, Copy, Debug, PartialEq, Eq)]
 pub enum Cause {
-    /// The other side closed, or its bytes ended.
+    /// The other side closed the connection, or its bytes ended.
     Peer,
-    /// A binary message came; the relay speaks in texts alone.
+    /// A binary message was received; the relay accepts only texts.
     Binary,
-    /// Frames against RFC 6455, a text that is not UTF-8, or a message that is too large.
+    /// Frames violate RFC 6455, a text is not UTF-8, or a message is too large.
     Broken,
-    /// A call on the stream failed, or a write to it took no byte.
+    /// A call on the stream failed, or a write to it accepted no byte.
     Stream,
-    /// Memory was refused inside the link or its socket, or for a text that came.
+    /// Out of memory in the link or its socket, or for an incoming text.
     Memory,
-    /// The socket's output was full.
+    /// The socket's output buffer was full.
     Full,
-    /// The other side did not answer a close.
+    /// The other side did not answer a close frame.
     Silent,
     /// The link was ended from this side.
     Ended,
@@ -28,7 +28,7 @@ pub enum Cause {
 impl Cause {
     ghost use Rattle.relay_link.specs.SocketError.{IsOfSocket};
 
-    /// The cause that an error is of a socket whose handshake is done.
+    /// The cause for an error of a socket whose handshake is done.
     pub(crate) fn of(error: &Error) -> Cause
         requires { IsOfSocket error.now }
     {

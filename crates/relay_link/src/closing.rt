@@ -1,38 +1,38 @@
-//! A closing link: its session is closed, and the other side's close frame is awaited.
+//! The turn of a closing link, whose session is closed and which waits for the other side's close frame.
 ghost use Rattle.std.specs.Prelude.{◌≡◌, is_some, None};
 ghost use Rattle.relay_link.specs.Stage.{leaves, stage_of, session_of, IsForward};
 ghost use Rattle.relay_link.specs.declared.stage.Stage.TheVariants.{Closing};
 
 use crate::cause::Cause;
-use crate::next::Next;
 use crate::socket::{Socket, flush, read};
 use crate::state::State;
+use crate::transition::Transition;
 use std::io::{Read, Write};
 
-/// In how many turns the other side may answer.
-pub(crate) const TURNS_MOST: u64 = 16;
+/// The number of turns in which the other side may answer.
+pub(crate) const MAX_TURNS: u64 = 16;
 
-/// A turn of a closing link, in which one message is read and let go. `turns` are left, with this one.
-pub(crate) fn turn<S: Read + Write + Drop>(mut socket: Socket<S>, turns: u64) -> Next<S>
+/// A turn of a closing link: it reads one message and drops it. `turns` turns are left, including this one.
+pub(crate) fn turn<S: Read + Write + Drop>(mut socket: Socket<S>, turns: u64) -> Transition<S>
     ensures session { session_of result.state ≡ None }
     ensures cause { is_some result.cause ≡ leaves Closing (stage_of result.state) }
     ensures forward { IsForward Closing (stage_of result.state) }
 {
-    socket.get_mut().renew();
+    socket.get_mut().begin_poll();
     if let Err(cause) = let_go(&mut socket) {
-        return Next::gone(cause);
+        return Transition::gone(cause);
     }
     if turns > 1 {
-        Next::on(State::Closing {
+        Transition::on(State::Closing {
             socket,
             turns: turns - 1,
         })
     } else {
-        Next::gone(Cause::Silent)
+        Transition::gone(Cause::Silent)
     }
 }
 
-/// Sends what waits, and reads one message that nobody hears.
+/// Sends pending output, then reads one message and drops it.
 fn let_go<S: Read + Write + Drop>(socket: &mut Socket<S>) -> Result<(), Cause> {
     if socket.get_ref().has_output() {
         flush(socket)?;

@@ -1,18 +1,18 @@
-//! The calls of the hub that a link makes. Each is noted as an event.
+//! The hub calls that a link makes, each recorded as an event.
 ghost use Rattle.std.specs.Prelude.{◌≡◌, ◌<◌, [], ◌∷◌, ◌++◌, length, is_some, Some, None};
 ghost use Rattle.relay_hub.specs.Call.{not_opened};
 ghost use Rattle.relay_link.specs.Follows.{Follows, at, closing_of};
 ghost use Rattle.relay_hub.specs.declared.event.Event.TheVariants.{Close};
 ghost use Rattle.relay_link.specs.Adds.{Adds};
-ghost use Rattle.relay_link.specs.declared.made.TheConstants.{EVENTS_MOST};
+ghost use Rattle.relay_link.specs.declared.event_log.TheConstants.{MAX_EVENTS};
 
-use crate::made::Made;
+use crate::event_log::EventLog;
 use relay_hub::{Event, Hub, HubFault, NoSession, OpenFault, Text};
 use std::alloc::{AllocError, Global};
 
-/// Opens the link's session in a room. None where the hub has no place for it; want of memory is no event.
-pub(crate) fn open(alloc: Global, hub: &mut Hub, room: String, made: &mut Made) -> Option<u64>
-    requires { length made.old < EVENTS_MOST }
+/// Opens the link's session in a room. `None` if the hub refuses it or is out of memory; only the refusal is recorded as an event.
+pub(crate) fn open(alloc: Global, hub: &mut Hub, room: String, made: &mut EventLog) -> Option<u64>
+    requires { length made.old < MAX_EVENTS }
     ensures follows { Follows (at hub.old None made.old) (at hub.new result made.new) }
     ensures adds { Adds 1 0 0 made.old made.new }
 {
@@ -30,7 +30,7 @@ pub(crate) fn open(alloc: Global, hub: &mut Hub, room: String, made: &mut Made) 
     opened
 }
 
-/// Whether a fault answers the opening; want of memory does not.
+/// Whether a fault is an answer of the hub. `NoMemory` is not.
 fn is_answer(fault: OpenFault) -> bool
     ensures { result ≡ is_some (not_opened fault) }
 {
@@ -43,15 +43,15 @@ fn is_answer(fault: OpenFault) -> bool
     }
 }
 
-/// Hands the hub a text of the link's session. After want of memory nothing has changed.
+/// Passes a text of the link's session to the hub. After `AllocError` nothing has changed.
 pub(crate) fn receive(
     alloc: Global,
     hub: &mut Hub,
     session: u64,
     text: String,
-    made: &mut Made,
+    made: &mut EventLog,
 ) -> Result<(), AllocError>
-    requires { length made.old < EVENTS_MOST }
+    requires { length made.old < MAX_EVENTS }
     ensures follows { Follows (at hub.old (Some session) made.old) (at hub.new (Some session) made.new) }
     ensures adds { Adds 1 1 0 made.old made.new }
 {
@@ -65,14 +65,14 @@ pub(crate) fn receive(
     Ok(())
 }
 
-/// Draws a text that waits for the link's session. After want of memory nothing has changed.
+/// Draws a text from the outbox of the link's session. `None` if there is none. After `AllocError` nothing has changed.
 pub(crate) fn draw(
     alloc: Global,
     hub: &mut Hub,
     session: u64,
-    made: &mut Made,
+    made: &mut EventLog,
 ) -> Result<Option<String>, AllocError>
-    requires { length made.old < EVENTS_MOST }
+    requires { length made.old < MAX_EVENTS }
     ensures follows { Follows (at hub.old (Some session) made.old) (at hub.new (Some session) made.new) }
     ensures adds { Adds 1 0 1 made.old made.new }
 {
@@ -85,9 +85,9 @@ pub(crate) fn draw(
     Ok(text)
 }
 
-/// Closes the link's session. No memory is taken.
-pub(crate) fn close(hub: &mut Hub, session: u64, made: &mut Made)
-    requires { length made.old < EVENTS_MOST }
+/// Closes the link's session. Allocates nothing.
+pub(crate) fn close(hub: &mut Hub, session: u64, made: &mut EventLog)
+    requires { length made.old < MAX_EVENTS }
     ensures follows { Follows (at hub.old (Some session) made.old) (at hub.new None made.new) }
     ensures adds { Adds 1 0 0 made.old made.new }
     ensures made { made.new ≡ made.old ++ Close session ∷ [] }
@@ -97,10 +97,10 @@ pub(crate) fn close(hub: &mut Hub, session: u64, made: &mut Made)
     }
 }
 
-/// Closes the link's session, where it has one.
+/// Closes the link's session, if it has one.
 #[tactic(auto, using(crate::proofs::Following::follows_same))]
-pub(crate) fn end(hub: &mut Hub, session: Option<u64>, made: &mut Made)
-    requires { length made.old < EVENTS_MOST }
+pub(crate) fn end(hub: &mut Hub, session: Option<u64>, made: &mut EventLog)
+    requires { length made.old < MAX_EVENTS }
     ensures follows { Follows (at hub.old session made.old) (at hub.new None made.new) }
     ensures made { made.new ≡ made.old ++ closing_of session }
 {

@@ -1,36 +1,35 @@
-//! One socket's turns between a stream and the hub: a handshake, then messages, then a closing handshake (RFC 6455).
+//! The link between one socket and the hub, as turns: a handshake, then messages, then a closing handshake (RFC 6455).
 //!
 //! The promise: a turn changes the hub by exactly the events that it reports, in their order, and each of them names the
-//! link's own session or opens it. A link that is closing or gone has no session. What the other side does can end its own
-//! link alone.
+//! link's own session or opens it. A link that is closing or gone has no session. What the other side does can end no link
+//! but its own.
 //!
-//! Nothing here waits. A stream that has "nothing now", or that interrupts, ends a turn early and is asked again in the next.
+//! No call blocks. A stream that returns `WouldBlock`, or is interrupted, ends the turn early and is tried again in the next.
 //!
-//! A link costs, besides its stream, about 21 KB while it is quiet: 4 KiB that one read fills, up to twice as much for bytes
-//! that are no whole message yet, 8 KiB for what goes out, and a few hundred bytes of state; a handshake takes 90 KB more while
-//! it is judged. What is longer comes on top while it is there, and its room is kept: a message that comes in (64 MiB at most,
-//! in frames of 16 MiB at most), and what goes out: texts up to 64 KiB together, and one more, since a link draws no further
-//! text while output waits.
+//! Besides its stream, an idle link costs about 21 KB: 4 KiB that one read fills, up to twice as much for bytes of an
+//! incomplete message, 8 KiB of output buffer, and a few hundred bytes of state. A handshake takes 90 KB more while it is
+//! checked. Longer messages come on top, and their capacity is kept: one incoming message (at most 1,056,768 bytes), and
+//! outgoing texts of up to 64 KiB together plus one more, since a link draws no further text while output is pending.
 #![tactic(auto)]
 
 mod cause;
 mod closing;
+mod corked_writer;
+mod event_log;
 mod events;
 mod head;
-mod held;
 mod link;
-mod made;
-mod next;
+mod non_blocking;
 mod opened;
-mod part;
-mod polled;
 mod reply;
 mod socket;
 mod stage;
 mod state;
+mod transition;
 mod turn;
+mod turn_phase;
 
 pub use cause::Cause;
-pub use link::{DRAWS_MOST, Link};
+pub use link::{Link, MAX_DRAWS};
 pub use stage::Stage;
 pub use turn::Turn;

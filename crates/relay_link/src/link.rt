@@ -1,21 +1,21 @@
-//! A link: the turns of one socket.
+//! A link: one socket, driven by turns.
 ghost use Rattle.std.specs.Prelude.{◌≡◌, ◌+◌, ◌≤◌, [], None, is_some, IfOk, OnOk, OnErr, length};
 ghost use Rattle.relay_link.specs.Adds.{Adds, texts_of};
 ghost use Rattle.relay_link.specs.Follows.{Follows, at, closing_of};
-ghost use Rattle.relay_link.specs.Stage.{stage_of, session_of, has_held, rests, leaves, ended, IsForward};
+ghost use Rattle.relay_link.specs.Stage.{stage_of, session_of, has_corked_output, is_idle, leaves, ended, IsForward};
 ghost use Rattle.relay_link.specs.Turns.{Turns};
-ghost use Rattle.relay_link.specs.declared.made.TheConstants.{EVENTS_MOST};
+ghost use Rattle.relay_link.specs.declared.event_log.TheConstants.{MAX_EVENTS};
 ghost use Rattle.relay_link.specs.declared.stage.Stage.TheVariants.{Head, Gone};
 
 use crate::cause::Cause;
-use crate::held::Held;
-use crate::made::Made;
-use crate::next::Next;
-use crate::part::Part;
+use crate::corked_writer::CorkedWriter;
+use crate::event_log::EventLog;
 use crate::socket::close;
 use crate::stage::Stage;
 use crate::state::State;
+use crate::transition::Transition;
 use crate::turn::Turn;
+use crate::turn_phase::TurnPhase;
 use crate::{closing, events, head, opened};
 use relay_hub::Hub;
 use std::alloc::{AllocError, Global};
@@ -24,13 +24,13 @@ use std::marker::Model;
 use std::mem;
 use tungstenite::CloseCode;
 
-/// How many messages a turn draws at most.
-pub const DRAWS_MOST: u64 = 32;
+/// The maximum number of messages that a turn draws.
+pub const MAX_DRAWS: u64 = 32;
 
-/// How many bytes of a head there is room for from the first on.
+/// The initial capacity for a head, in bytes.
 const HEAD_ROOM: usize = 512;
 
-/// A stream and its place in the hub. Contracts see its state, and of that its stage and its session.
+/// A stream and its session in the hub. Contracts see its state: its stage, its session, and whether it is idle or corked.
 #[derive(Drop)]
 pub struct Link<S: Write + Drop> {
     state: State<S>,
@@ -45,101 +45,110 @@ impl<S: Write + Drop> Model for Link<S> {
 }
 
 impl<S: Read + Write + Drop> Link<S> {
-    /// A link that awaits a handshake, and has no session. After `AllocError` the stream is let go.
+    /// A link that waits for a handshake, and has no session. After `AllocError` the stream is dropped.
     pub fn new(alloc: Global, stream: S) -> Result<Link<S>, AllocError>
         ensures stage { IfOk result (λ link. stage_of link ≡ Head) }
         ensures session { IfOk result (λ link. session_of link ≡ None) }
     {
         Ok(Link {
             state: State::Head {
-                stream: Held::new(alloc, stream)?,
+                stream: CorkedWriter::new(alloc, stream)?,
                 bytes: Vec::with_capacity(alloc, HEAD_ROOM)?,
             },
         })
     }
 
-    /// The session that the link has in the hub. No memory is taken.
+    /// The session that the link has in the hub, if any. Allocates nothing.
     pub fn session(&self) -> Option<u64>
         ensures { result ≡ session_of self.now }
     {
         self.state.session()
     }
 
-    /// How far the link has come. No memory is taken.
+    /// The stage of the link. Allocates nothing.
     pub fn stage(&self) -> Stage
         ensures { result ≡ stage_of self.now }
     {
         self.state.stage()
     }
 
-    /// Whether a turn would find nothing to do until the stream is ready for more or a message waits for the session. Not where
-    /// the last turn that hears read a byte, since another message may have come with it, or a turn since then met want of memory
-    /// or an interruption.
-    pub fn may_rest(&self) -> bool
-        ensures { result ≡ rests self.now }
+    /// Whether a turn has no work until the stream is ready again or a message waits for the session. `false` if the last read turn
+    /// read a byte, since another message may have arrived with it, or if a turn since then was interrupted or out of memory.
+    pub fn is_idle(&self) -> bool
+        ensures { result ≡ is_idle self.now }
     {
-        self.state.rests()
+        self.state.is_idle()
     }
 
-    /// Whether something was said in [`Link::hear`] that is held back. No memory is taken.
-    pub fn has_held(&self) -> bool
-        ensures { result ≡ has_held self.now }
+    /// Whether output of [`Link::read_turn`] is corked. Allocates nothing.
+    pub fn has_corked_output(&self) -> bool
+        ensures { result ≡ has_corked_output self.now }
     {
-        self.state.has_held()
+        self.state.has_corked_output()
     }
 
-    /// One turn. It reads a little, changes the hub by the events that it reports, and writes until output waits; at most
-    /// `draws` messages are drawn, and at most 32. `AllocError` comes before anything was read, written or changed.
+    /// Runs one turn: it reads a little, changes the hub by the events that it reports, and writes until output is pending. It
+    /// draws at most `draws` messages, and at most 32. `AllocError` comes before anything is read, written or changed.
     ///
-    /// - Head: a reply that is not out yet is written on. Else up to 4,096 bytes are read, and all that came so far is judged
-    ///   as a handshake. A good one opens a session; where the hub has no place the answer is 503. Once the reply is out the
-    ///   link is Open, or Gone with [`Cause::Refused`].
-    /// - Open: while output waits a turn only sends. Else, where the hub may hear the session, one message is read: a text goes
-    ///   to the hub, a ping is answered, a pong does nothing, a binary message is closed with 1003 and a close is answered.
-    ///   Then messages are drawn, and sent together, 64 KiB at a time, until output waits; a draw that finds no memory ends
-    ///   the turn. After a binary message or a close the link is Closing. Where the bytes end, the stream fails, frames break
-    ///   the protocol or memory is refused it is Gone.
-    /// - Closing: one message is read and let go. A link that has not heard the other side's close after 16 such turns is Gone
-    ///   with [`Cause::Silent`].
-    /// - Gone: nothing.
+    /// - Head: the turn writes the rest of an unfinished reply. Otherwise it reads up to 4,096 bytes, and checks all bytes
+    ///   received so far as a handshake. A valid one opens a session; if the hub opens none the reply is 503. Once the reply is
+    ///   written the link is Open, or Gone with [`Cause::Refused`].
+    /// - Open: while output is pending the turn only sends. Otherwise, if the hub accepts a request of the session, it reads one
+    ///   message: a text is passed to the hub, a ping is answered, a pong has no effect, a binary message is answered by a close
+    ///   with 1003, and a close is answered. Then it draws messages, and sends them together, 64 KiB at a time, until output is
+    ///   pending; a draw that is out of memory ends the turn. After a binary message or a close the link is Closing. If the
+    ///   bytes end, the stream fails, frames violate the protocol, or memory runs out, it is Gone.
+    /// - Closing: the turn reads one message and drops it. If the other side's close has not arrived after 16 such turns, the
+    ///   link is Gone with [`Cause::Silent`].
+    /// - Gone: the turn does nothing.
     ///
-    /// A cause is there exactly where the turn ended Head without Open, left Open, or ended Closing. [`Cause::Stream`] comes
-    /// only where, in this very turn, a call on the stream failed or a write took no byte.
+    /// The turn has a cause exactly if it ended Head without Open, left Open, or ended Closing. [`Cause::Stream`] comes only if
+    /// in this very turn a call on the stream failed or a write accepted no byte.
     pub fn turn(&mut self, alloc: Global, hub: &mut Hub, draws: u64) -> Result<Turn, AllocError>
         ensures turns { IfOk result (Turns 1 draws hub.old self.old hub.new self.new) }
         ensures forward { IsForward (stage_of self.old) (stage_of self.new) }
         ensures unchanged { OnErr result (self.new ≡ self.old) }
         ensures hub_unchanged { OnErr result (hub.new ≡ hub.old) }
     {
-        self.take(alloc, Part::Both, hub, draws)
+        self.take(alloc, TurnPhase::Both, hub, draws)
     }
 
-    /// The first part of a turn, for a link that is heard more than once before it is told: as [`Link::turn`], but what an open
-    /// link says, up to 8 KiB, is held back for [`Link::tell`]. A link that parts sends it first.
-    pub fn hear(&mut self, alloc: Global, hub: &mut Hub, draws: u64) -> Result<Turn, AllocError>
+    /// Runs the read part of a turn, for a link that reads more than once before it writes. As [`Link::turn`], but up to 8 KiB of
+    /// an open link's output are corked until [`Link::write_turn`]. A link that ends sends its output first.
+    pub fn read_turn(
+        &mut self,
+        alloc: Global,
+        hub: &mut Hub,
+        draws: u64,
+    ) -> Result<Turn, AllocError>
         ensures turns { IfOk result (Turns 1 draws hub.old self.old hub.new self.new) }
         ensures forward { IsForward (stage_of self.old) (stage_of self.new) }
         ensures unchanged { OnErr result (self.new ≡ self.old) }
         ensures hub_unchanged { OnErr result (hub.new ≡ hub.old) }
     {
-        self.take(alloc, Part::Hear, hub, draws)
+        self.take(alloc, TurnPhase::Read, hub, draws)
     }
 
-    /// The other part of a turn, in which nothing is read: a reply that is not out yet is written on, and an open link draws, and
-    /// sends what was held back and what it drew as in [`Link::turn`]. All else is left as it is. `AllocError` comes before
-    /// anything was written or changed.
-    pub fn tell(&mut self, alloc: Global, hub: &mut Hub, draws: u64) -> Result<Turn, AllocError>
+    /// Runs the write part of a turn, which reads nothing: it writes the rest of an unfinished reply, and an open link draws
+    /// messages, and sends them and its corked output as in [`Link::turn`]. A link in any other state is unchanged. `AllocError`
+    /// comes before anything is written or changed.
+    pub fn write_turn(
+        &mut self,
+        alloc: Global,
+        hub: &mut Hub,
+        draws: u64,
+    ) -> Result<Turn, AllocError>
         ensures turns { IfOk result (Turns 0 draws hub.old self.old hub.new self.new) }
         ensures forward { IsForward (stage_of self.old) (stage_of self.new) }
         ensures unchanged { OnErr result (self.new ≡ self.old) }
         ensures hub_unchanged { OnErr result (hub.new ≡ hub.old) }
     {
-        self.take(alloc, Part::Tell, hub, draws)
+        self.take(alloc, TurnPhase::Write, hub, draws)
     }
 
-    /// Ends the link: its session is closed, if it has one, and it is Gone with [`Cause::Ended`]. An open link tries once to
-    /// send a close frame with 1001. A link that is Gone already stays so, without a cause. `AllocError` comes before anything
-    /// was written or changed.
+    /// Ends the link: closes its session, if it has one, and leaves it Gone with [`Cause::Ended`]. An open link tries once to
+    /// send a close frame with 1001. A link that is already Gone is unchanged, and has no cause. `AllocError` comes before
+    /// anything is written or changed.
     pub fn end(&mut self, alloc: Global, hub: &mut Hub) -> Result<Turn, AllocError>
         ensures follows { IfOk result (λ turn. Follows (at hub.old (session_of self.old) []) (at hub.new (session_of self.new) turn.made.items)) }
         ensures closes { IfOk result (λ turn. turn.made.items ≡ closing_of (session_of self.old)) }
@@ -150,7 +159,7 @@ impl<S: Read + Write + Drop> Link<S> {
         ensures unchanged { OnErr result (self.new ≡ self.old) }
         ensures hub_unchanged { OnErr result (hub.new ≡ hub.old) }
     {
-        let mut made = Made::new(alloc)?;
+        let mut made = EventLog::new(alloc)?;
         events::end(hub, self.session(), &mut made);
         let cause = match mem::replace(&mut self.state, State::Gone) {
             State::Gone => None,
@@ -170,23 +179,23 @@ impl<S: Read + Write + Drop> Link<S> {
         })
     }
 
-    /// A turn, or a part of one.
+    /// Runs a turn, or a part of one.
     fn take(
         &mut self,
         alloc: Global,
-        part: Part,
+        phase: TurnPhase,
         hub: &mut Hub,
         draws: u64,
     ) -> Result<Turn, AllocError>
-        ensures turns { IfOk result (Turns (texts_of part) draws hub.old self.old hub.new self.new) }
+        ensures turns { IfOk result (Turns (texts_of phase) draws hub.old self.old hub.new self.new) }
         ensures forward { IsForward (stage_of self.old) (stage_of self.new) }
         ensures unchanged { OnErr result (self.new ≡ self.old) }
         ensures hub_unchanged { OnErr result (hub.new ≡ hub.old) }
     {
-        let mut made = Made::new(alloc)?;
+        let mut made = EventLog::new(alloc)?;
         let state = mem::replace(&mut self.state, State::Gone);
-        let draws = draws.min(DRAWS_MOST);
-        let next = advance(alloc, state, part, draws, hub, &mut made);
+        let draws = draws.min(MAX_DRAWS);
+        let next = advance(alloc, state, phase, draws, hub, &mut made);
         self.state = next.state;
         Ok(Turn {
             made: made.into_events(),
@@ -196,19 +205,19 @@ impl<S: Read + Write + Drop> Link<S> {
     }
 }
 
-/// A turn, by the stage of the link. Where nothing is read a link that has nothing to say stays as it is.
+/// Runs a turn by the state of the link. In a write turn a link that waits for a head or a close is unchanged.
 #[tactic(auto, using(crate::proofs::Following::follows_same))]
 fn advance<S: Read + Write + Drop>(
     alloc: Global,
     state: State<S>,
-    part: Part,
+    phase: TurnPhase,
     draws: u64,
     hub: &mut Hub,
-    made: &mut Made,
-) -> Next<S>
-    requires { length made.old + draws + 2 ≤ EVENTS_MOST }
+    made: &mut EventLog,
+) -> Transition<S>
+    requires { length made.old + draws + 2 ≤ MAX_EVENTS }
     ensures follows { Follows (at hub.old (session_of state) made.old) (at hub.new (session_of result.state) made.new) }
-    ensures adds { Adds (draws + 2) (texts_of part) draws made.old made.new }
+    ensures adds { Adds (draws + 2) (texts_of phase) draws made.old made.new }
     ensures cause { is_some result.cause ≡ leaves (stage_of state) (stage_of result.state) }
     ensures forward { IsForward (stage_of state) (stage_of result.state) }
     ensures gone { stage_of state ≡ Gone → (made.new ≡ made.old) × (result.state ≡ state) }
@@ -216,12 +225,14 @@ fn advance<S: Read + Write + Drop>(
     match state {
         State::Replying { stream, reply } => head::reply(alloc, stream, reply, hub, made),
         State::Open { socket, session } => {
-            opened::turn(alloc, socket, session, part, draws, hub, made)
+            opened::turn(alloc, socket, session, phase, draws, hub, made)
         }
-        State::Head { stream, bytes } if part != Part::Tell => {
+        State::Head { stream, bytes } if phase != TurnPhase::Write => {
             head::listen(alloc, stream, bytes, hub, made)
         }
-        State::Closing { socket, turns } if part != Part::Tell => closing::turn(socket, turns),
-        State::Head { .. } | State::Closing { .. } | State::Gone => Next::on(state),
+        State::Closing { socket, turns } if phase != TurnPhase::Write => closing::turn(
+            socket, turns,
+        ),
+        State::Head { .. } | State::Closing { .. } | State::Gone => Transition::on(state),
     }
 }

@@ -1,27 +1,27 @@
-//! An open link: what waits is sent, a message is heard, and messages are drawn and sent.
+//! The turn of an open link: it sends pending output, reads a message, then draws and sends messages.
 ghost use Rattle.std.specs.Prelude.{◌≡◌, ◌+◌, ◌≤◌, length, is_some, Some, None};
 ghost use Rattle.relay_link.specs.Adds.{Adds, texts_of};
 ghost use Rattle.relay_link.specs.Follows.{Follows, at};
 ghost use Rattle.relay_link.specs.Stage.{leaves, stage_of, session_of, IsForward};
-ghost use Rattle.relay_link.specs.declared.made.TheConstants.{EVENTS_MOST};
+ghost use Rattle.relay_link.specs.declared.event_log.TheConstants.{MAX_EVENTS};
 ghost use Rattle.relay_link.specs.declared.stage.Stage.TheVariants.{Open};
 
 use crate::cause::Cause;
+use crate::event_log::EventLog;
 use crate::events;
-use crate::made::Made;
-use crate::next::Next;
-use crate::part::Part;
 use crate::socket::{Socket, close, flush, read, write};
 use crate::state::State;
+use crate::transition::Transition;
+use crate::turn_phase::TurnPhase;
 use relay_hub::Hub;
 use std::alloc::Global;
 use std::io::{Read, Write};
 use tungstenite::{CloseCode, Message, Utf8Bytes};
 
-/// How the link is no longer open.
+/// How an open link ends.
 #[derive(Clone, Copy)]
 enum Parting {
-    /// The closing handshake goes on.
+    /// The link waits for the other side's close.
     Closing(Cause),
     Gone(Cause),
 }
@@ -42,21 +42,21 @@ pub(crate) fn turn<S: Read + Write + Drop>(
     alloc: Global,
     mut socket: Socket<S>,
     session: u64,
-    part: Part,
+    phase: TurnPhase,
     draws: u64,
     hub: &mut Hub,
-    made: &mut Made,
-) -> Next<S>
-    requires { length made.old + draws + 2 ≤ EVENTS_MOST }
+    made: &mut EventLog,
+) -> Transition<S>
+    requires { length made.old + draws + 2 ≤ MAX_EVENTS }
     ensures follows { Follows (at hub.old (Some session) made.old) (at hub.new (session_of result.state) made.new) }
-    ensures adds { Adds (draws + 2) (texts_of part) draws made.old made.new }
+    ensures adds { Adds (draws + 2) (texts_of phase) draws made.old made.new }
     ensures cause { is_some result.cause ≡ leaves Open (stage_of result.state) }
     ensures forward { IsForward Open (stage_of result.state) }
 {
-    if part != Part::Tell {
-        socket.get_mut().renew();
+    if phase != TurnPhase::Write {
+        socket.get_mut().begin_poll();
     }
-    let talked = talk(alloc, &mut socket, session, part, draws, hub, made);
+    let talked = talk(alloc, &mut socket, session, phase, draws, hub, made);
     settle(talked, socket, session, hub, made)
 }
 
@@ -67,50 +67,50 @@ fn settle<S: Read + Write + Drop>(
     socket: Socket<S>,
     session: u64,
     hub: &mut Hub,
-    made: &mut Made,
-) -> Next<S>
-    requires { length made.old + 1 ≤ EVENTS_MOST }
+    made: &mut EventLog,
+) -> Transition<S>
+    requires { length made.old + 1 ≤ MAX_EVENTS }
     ensures follows { Follows (at hub.old (Some session) made.old) (at hub.new (session_of result.state) made.new) }
     ensures adds { Adds 1 0 0 made.old made.new }
     ensures cause { is_some result.cause ≡ leaves Open (stage_of result.state) }
     ensures forward { IsForward Open (stage_of result.state) }
 {
     match turned {
-        Ok(()) => Next::on(State::Open { socket, session }),
+        Ok(()) => Transition::on(State::Open { socket, session }),
         Err(parting) => {
             events::close(hub, session, made);
             match parting {
-                Parting::Closing(cause) => Next::closing(socket, cause),
-                Parting::Gone(cause) => Next::gone(cause),
+                Parting::Closing(cause) => Transition::closing(socket, cause),
+                Parting::Gone(cause) => Transition::gone(cause),
             }
         }
     }
 }
 
-/// Sends what waits and is not held back. Where nothing waits any more a message may be heard and messages are drawn, and what
-/// comes of it is sent, or held back for a turn that tells.
+/// Sends pending output that is not corked. When none is left, the link may read a message and draws messages; its output is sent,
+/// or corked until a write turn.
 #[tactic(auto, using(crate::proofs::Following::follows_same, crate::proofs::Following::follows_then))]
 fn talk<S: Read + Write + Drop>(
     alloc: Global,
     socket: &mut Socket<S>,
     session: u64,
-    part: Part,
+    phase: TurnPhase,
     draws: u64,
     hub: &mut Hub,
-    made: &mut Made,
+    made: &mut EventLog,
 ) -> Result<(), Parting>
-    requires { length made.old + draws + 1 ≤ EVENTS_MOST }
+    requires { length made.old + draws + 1 ≤ MAX_EVENTS }
     ensures follows { Follows (at hub.old (Some session) made.old) (at hub.new (Some session) made.new) }
-    ensures adds { Adds (draws + 1) (texts_of part) draws made.old made.new }
+    ensures adds { Adds (draws + 1) (texts_of phase) draws made.old made.new }
 {
     if !flush(socket)? {
         return Ok(());
     }
-    let exchanged = exchange(alloc, socket, session, part, draws, hub, made);
-    // What was framed before a link parts goes out as well.
+    let exchanged = exchange(alloc, socket, session, phase, draws, hub, made);
+    // A link that ends still sends the messages that were framed before.
     socket
         .get_mut()
-        .hold(part == Part::Hear && exchanged.is_ok());
+        .hold(phase == TurnPhase::Read && exchanged.is_ok());
     let sent = flush(socket);
     if !matches!(exchanged, Err(Parting::Gone(_))) {
         sent?;
@@ -118,38 +118,38 @@ fn talk<S: Read + Write + Drop>(
     exchanged
 }
 
-/// Hears a message, where that is to be done and the hub has room for an answer, and frames what waits.
+/// Reads a message, if the phase reads and the hub has space for a reply, then draws messages and frames them.
 #[tactic(auto, using(crate::proofs::Following::follows_same, crate::proofs::Following::follows_then))]
 fn exchange<S: Read + Write + Drop>(
     alloc: Global,
     socket: &mut Socket<S>,
     session: u64,
-    part: Part,
+    phase: TurnPhase,
     draws: u64,
     hub: &mut Hub,
-    made: &mut Made,
+    made: &mut EventLog,
 ) -> Result<(), Parting>
-    requires { length made.old + draws + 1 ≤ EVENTS_MOST }
+    requires { length made.old + draws + 1 ≤ MAX_EVENTS }
     ensures follows { Follows (at hub.old (Some session) made.old) (at hub.new (Some session) made.new) }
-    ensures adds { Adds (draws + 1) (texts_of part) draws made.old made.new }
+    ensures adds { Adds (draws + 1) (texts_of phase) draws made.old made.new }
 {
-    if part != Part::Tell && hub.may_hear(session) {
-        hear(alloc, socket, session, hub, made)?;
+    if phase != TurnPhase::Write && hub.may_hear(session) {
+        receive_message(alloc, socket, session, hub, made)?;
     }
     gather(alloc, socket, session, draws, hub, made)?;
     Ok(())
 }
 
-/// Reads one message, and hands a text to the hub.
+/// Reads one message. A text is passed to the hub.
 #[tactic(auto, using(crate::proofs::Following::follows_same))]
-fn hear<S: Read + Write + Drop>(
+fn receive_message<S: Read + Write + Drop>(
     alloc: Global,
     socket: &mut Socket<S>,
     session: u64,
     hub: &mut Hub,
-    made: &mut Made,
+    made: &mut EventLog,
 ) -> Result<(), Parting>
-    requires { length made.old + 1 ≤ EVENTS_MOST }
+    requires { length made.old + 1 ≤ MAX_EVENTS }
     ensures follows { Follows (at hub.old (Some session) made.old) (at hub.new (Some session) made.new) }
     ensures adds { Adds 1 1 0 made.old made.new }
 {
@@ -175,7 +175,8 @@ fn hear<S: Read + Write + Drop>(
     }
 }
 
-/// Draws up to so many messages and frames each, until output waits. Where a draw finds no memory it ends the turn.
+/// Draws up to `draws` messages and frames each, until output is pending. A draw that is out of memory ends the turn, and asks for
+/// another.
 #[tactic(auto, using(crate::proofs::Following::follows_same, crate::proofs::Following::follows_then))]
 fn gather<S: Read + Write + Drop>(
     alloc: Global,
@@ -183,9 +184,9 @@ fn gather<S: Read + Write + Drop>(
     session: u64,
     draws: u64,
     hub: &mut Hub,
-    made: &mut Made,
+    made: &mut EventLog,
 ) -> Result<(), Cause>
-    requires { length made.old + draws ≤ EVENTS_MOST }
+    requires { length made.old + draws ≤ MAX_EVENTS }
     ensures follows { Follows (at hub.old (Some session) made.old) (at hub.new (Some session) made.new) }
     ensures adds { Adds draws 0 draws made.old made.new }
 {
@@ -194,7 +195,7 @@ fn gather<S: Read + Write + Drop>(
             Ok(Some(text)) => text,
             Ok(None) => return Ok(()),
             Err(_) => {
-                socket.get_mut().stir();
+                socket.get_mut().request_poll();
                 return Ok(());
             }
         };

@@ -1,16 +1,16 @@
-//! The reply to a handshake, as it goes out.
+//! The reply to a handshake, while it is being written.
 use std::io::{Error, ErrorKind, Result, Write};
 
-/// What the reply says.
+/// The outcome that the reply reports.
 #[derive(Clone, Copy, Debug, PartialEq, Eq)]
 pub(crate) enum Verdict {
-    /// The session that was opened.
+    /// The handshake opened this session.
     Entered(u64),
-    /// The status.
+    /// The handshake was refused with this status.
     Refused(u16),
 }
 
-/// A reply with the bytes of it that are still to be written.
+/// A reply, with its bytes that are still to be written.
 #[derive(Drop)]
 pub(crate) struct Reply {
     pub rest: Vec<u8>,
@@ -20,7 +20,7 @@ pub(crate) struct Reply {
 impl Reply {
     ghost use Rattle.std.specs.Prelude.{◌≡◌};
 
-    /// Writes what is left, and flushes. After an error the rest is what was not yet written.
+    /// Writes the rest of the reply, and flushes. After an error `rest` is what was not written yet.
     pub(crate) fn send<W: Write>(&mut self, stream: &mut W) -> Result<()>
         ensures { self.new.verdict ≡ self.old.verdict }
     {

@@ -1,41 +1,51 @@
-//! The WebSocket of a link, as a turn uses it: no call waits.
+//! The WebSocket of a link. No call blocks.
 ghost use Rattle.std.specs.Prelude.{IfErr};
 ghost use Rattle.relay_link.specs.SocketError.{IsOfSocket};
 
 use crate::cause::Cause;
-use crate::held::Held;
-use crate::polled::is_nothing_now;
+use crate::corked_writer::CorkedWriter;
+use crate::non_blocking::is_nothing_now;
 use std::alloc::Global;
 use std::io::{Read, Write};
 use tungstenite::{
     CloseCode, CloseFrame, Error, Message, NoMask, Role, Utf8Bytes, WebSocket, WebSocketConfig,
 };
 
-/// A WebSocket of the relay's side, whose frames have no mask.
-pub(crate) type Socket<S> = WebSocket<Held<S>, NoMask>;
+/// A WebSocket on the server side, whose frames are not masked.
+pub(crate) type Socket<S> = WebSocket<CorkedWriter<S>, NoMask>;
 
-/// How many bytes one read asks for. The crate's own 128 KiB are much for sockets of which many are held.
-pub(crate) const READ_MOST: usize = 4_096;
+/// The size of one read, in bytes. The default of `tungstenite`, 128 KiB, is too much if many sockets are held.
+pub(crate) const MAX_READ: usize = 4_096;
 
-/// How many bytes of output are gathered before they are written.
-const GATHERED_MOST: usize = 65_536;
+/// The maximum size of an incoming message and of each of its frames, in bytes. It is a little more than the longest request, so
+/// that a request that is slightly too long still gets a reply. A longer message ends the link with [`Cause::Broken`].
+const MAX_MESSAGE: usize = 1_056_768;
 
-/// The socket of a stream whose handshake is done.
-pub(crate) fn socket_on<S: Read + Write + Drop>(alloc: Global, stream: Held<S>) -> Socket<S> {
+/// How many bytes of output are collected before they are written.
+const MAX_GATHERED: usize = 65_536;
+
+/// A socket on a stream whose handshake is done.
+pub(crate) fn socket_on<S: Read + Write + Drop>(
+    alloc: Global,
+    stream: CorkedWriter<S>,
+) -> Socket<S> {
     let config = WebSocketConfig::default()
-        .read_buffer_size(READ_MOST)
-        .write_buffer_size(GATHERED_MOST);
+        .read_buffer_size(MAX_READ)
+        .write_buffer_size(MAX_GATHERED)
+        .max_message_size(Some(MAX_MESSAGE))
+        .max_frame_size(Some(MAX_MESSAGE));
     WebSocket::from_raw_socket(alloc, stream, NoMask, Role::Server, Some(config))
 }
 
-/// Reads one message. None where no whole message is there for now. Where there was one another may be there already.
+/// Reads one message. `None` if no complete message is available now. After a message the socket asks for another turn, since the
+/// next one may already be buffered.
 #[tactic(auto, using(crate::proofs::SocketErrors::read_error))]
 pub(crate) fn read<S: Read + Write + Drop>(
     socket: &mut Socket<S>,
 ) -> Result<Option<Message>, Cause> {
     match socket.read() {
         Ok(message) => {
-            socket.get_mut().stir();
+            socket.get_mut().request_poll();
             Ok(Some(message))
         }
         Err(Error::Io(error)) if is_nothing_now(&error) => Ok(None),
@@ -43,14 +53,13 @@ pub(crate) fn read<S: Read + Write + Drop>(
     }
 }
 
-/// Sends what waits. False where output still waits, and so for the other calls that send.
+/// Sends pending output. `false` if output is still pending; so for `write` and `close`.
 #[tactic(auto, using(crate::proofs::SocketErrors::flush_error))]
 pub(crate) fn flush<S: Read + Write + Drop>(socket: &mut Socket<S>) -> Result<bool, Cause> {
     is_sent(socket.flush())
 }
 
-/// Frames a text behind the output that was gathered. Once there are 64 KiB all of it is sent: false where output still waits
-/// then.
+/// Appends a text frame to the collected output. At 64 KiB all of it is sent; `false` if output is still pending then.
 #[tactic(auto, using(crate::proofs::SocketErrors::write_error))]
 pub(crate) fn write<S: Read + Write + Drop>(
     socket: &mut Socket<S>,
@@ -59,7 +68,7 @@ pub(crate) fn write<S: Read + Write + Drop>(
     is_sent(socket.write(Message::Text(words)))
 }
 
-/// Sends a close frame with no reason.
+/// Sends a close frame with an empty reason.
 #[tactic(auto, using(crate::proofs::SocketErrors::write_error))]
 pub(crate) fn close<S: Read + Write + Drop>(
     socket: &mut Socket<S>,
@@ -69,7 +78,7 @@ pub(crate) fn close<S: Read + Write + Drop>(
     is_sent(socket.close(Some(CloseFrame { code, reason })))
 }
 
-/// Whether a call has sent all that waited.
+/// Whether a call has sent all pending output.
 fn is_sent(sent: Result<(), Error>) -> Result<bool, Cause>
     requires { IfErr sent IsOfSocket }
 {

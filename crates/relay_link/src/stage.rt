@@ -1,14 +1,14 @@
-//! How far a link has come.
+//! The stages of a link.
 
-/// The stages of a link, in their order. A link never goes back.
+/// The stage of a link, in order. A link never returns to an earlier stage.
 #[derive(Clone, Copy, Debug, PartialEq, Eq)]
 pub enum Stage {
-    /// The handshake: its head is awaited, or its reply goes out.
+    /// The handshake: the link waits for the request head, or writes the reply.
     Head,
-    /// Messages go both ways.
+    /// Messages pass in both directions.
     Open,
-    /// The session is closed, and the other side's part of the closing handshake is awaited.
+    /// The session is closed, and the link waits for the other side's part of the closing handshake.
     Closing,
-    /// The stream is let go.
+    /// The stream is dropped.
     Gone,
 }

@@ -1,8 +1,8 @@
-//! What a link holds, by its stage.
+//! The state of a link, by stage.
 ghost use Rattle.std.specs.Prelude.{◌≡◌};
-ghost use Rattle.relay_link.specs.Stage.{stage_of, session_of, has_held, rests};
+ghost use Rattle.relay_link.specs.Stage.{stage_of, session_of, has_corked_output, is_idle};
 
-use crate::held::Held;
+use crate::corked_writer::CorkedWriter;
 use crate::reply::{Reply, Verdict};
 use crate::socket::Socket;
 use crate::stage::Stage;
@@ -10,13 +10,25 @@ use std::io::Write;
 
 #[derive(Drop)]
 pub(crate) enum State<S: Write + Drop> {
-    /// The bytes that came so far are no whole head.
-    Head { stream: Held<S>, bytes: Vec<u8> },
-    /// The reply to the head goes out.
-    Replying { stream: Held<S>, reply: Reply },
-    Open { socket: Socket<S>, session: u64 },
-    /// How many turns are left in which the other side may answer.
-    Closing { socket: Socket<S>, turns: u64 },
+    /// The bytes received so far are an incomplete head.
+    Head {
+        stream: CorkedWriter<S>,
+        bytes: Vec<u8>,
+    },
+    /// The reply to the head is being written.
+    Replying {
+        stream: CorkedWriter<S>,
+        reply: Reply,
+    },
+    Open {
+        socket: Socket<S>,
+        session: u64,
+    },
+    /// The other side may answer in the next `turns` turns.
+    Closing {
+        socket: Socket<S>,
+        turns: u64,
+    },
     Gone,
 }
 
@@ -45,24 +57,24 @@ impl<S: Write + Drop> State<S> {
         }
     }
 
-    /// Whether something was said that is held back.
-    pub(crate) fn has_held(&self) -> bool
-        ensures { result ≡ has_held self.now }
+    /// Whether an open link has corked output.
+    pub(crate) fn has_corked_output(&self) -> bool
+        ensures { result ≡ has_corked_output self.now }
     {
         match self {
-            State::Open { socket, .. } => socket.get_ref().has_held(),
+            State::Open { socket, .. } => socket.get_ref().has_corked_output(),
             _ => false,
         }
     }
 
-    pub(crate) fn rests(&self) -> bool
-        ensures { result ≡ rests self.now }
+    pub(crate) fn is_idle(&self) -> bool
+        ensures { result ≡ is_idle self.now }
     {
         match self {
-            State::Head { stream, .. } => stream.rests(),
-            State::Replying { stream, .. } => stream.rests(),
-            State::Open { socket, .. } => socket.get_ref().rests(),
-            State::Closing { socket, .. } => socket.get_ref().rests(),
+            State::Head { stream, .. } => stream.is_idle(),
+            State::Replying { stream, .. } => stream.is_idle(),
+            State::Open { socket, .. } => socket.get_ref().is_idle(),
+            State::Closing { socket, .. } => socket.get_ref().is_idle(),
             State::Gone => true,
         }
     }

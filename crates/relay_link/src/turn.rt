@@ -1,15 +1,39 @@
-//! What a turn of a link did.
+//! The result of one turn of a link.
+ghost use Rattle.std.specs.Prelude.{◌≡◌};
+ghost use Rattle.std.specs.List.{list_any};
+ghost use Rattle.relay_link.specs.Adds.{is_receive, is_draw};
+
 use crate::cause::Cause;
 use crate::stage::Stage;
 use relay_hub::Event;
 
-/// What a turn did, and where it left the link.
+/// What a turn did, and the stage that it left the link in.
 #[derive(Drop)]
 pub struct Turn {
-    /// The events of the hub that the turn made, in their order: 34 at most.
+    /// The hub events that the turn made, in order: at most 34.
     pub made: Vec<Event>,
     /// The link's stage after the turn.
     pub stage: Stage,
-    /// Why, where the turn ended the handshake without opening the link, ended the link's session, or ended its closing.
+    /// The cause, if the turn ended the handshake without opening the link, ended an open link, or ended its closing.
     pub cause: Option<Cause>,
+}
+
+impl Turn {
+    /// Whether the turn passed a text to the hub. Allocates nothing.
+    pub fn has_received(&self) -> bool
+        ensures { result ≡ list_any is_receive self.now.made.items }
+    {
+        self.made
+            .iter()
+            .any(|event| matches!(event, Event::Receive { .. }))
+    }
+
+    /// Whether the turn made a draw, with or without a text. Allocates nothing.
+    pub fn has_drawn(&self) -> bool
+        ensures { result ≡ list_any is_draw self.now.made.items }
+    {
+        self.made
+            .iter()
+            .any(|event| matches!(event, Event::Draw { .. }))
+    }
 }

@@ -1,22 +1,21 @@
-//! How a link ends in each stage: from this side, and where its stream ends or fails.
+//! The end of a link in each stage: from this side, or because its stream ends or fails.
 use crate::frames::BINARY;
-use crate::side::Act::{Comes, Draws, End, Ends, Idle, Reads, Says, Writes};
-use crate::side::{Row, SAMPLE, play, play_after};
-use relay_wire::Trick::{End as Ending, Fail as Failing, Nothing};
+use crate::link_fixture::Act::{Comes, Draws, End, Ends, Idle, Reads, Says, Writes};
+use crate::link_fixture::{Row, SAMPLE, play, play_after};
+use relay_wire::InjectedFault::{End as Ending, Fail as Failing, Nothing};
 use std::alloc::AllocGlobal;
 use std::process::Abort;
-use std::test::Fail;
 
 const ENTERS: Row = (1, Comes(SAMPLE), "open a; Open as 1 > switched");
 
 const QUIET: Row = (1, Draws(0), "Open as 1");
 
-/// Nothing came yet.
+/// Nothing has arrived yet.
 const NEW: &[Row] = &[];
 
 const IN_HEAD: &[Row] = &[(1, Comes(b"GET /rooms/a"), "Head")];
 
-/// The session is open, and the reply is not out.
+/// The session is open, and the reply is not written yet.
 const IN_REPLY: &[Row] = &[
     (1, Writes(Some(Nothing)), "Head"),
     (1, Comes(SAMPLE), "open a; Head as 1"),
@@ -24,7 +23,7 @@ const IN_REPLY: &[Row] = &[
 
 const IN_OPEN: &[Row] = &[ENTERS, QUIET];
 
-/// A frame has a head, and its mask is still to come.
+/// The head of a frame has arrived, but not its mask.
 const IN_FRAME: &[Row] = &[ENTERS, QUIET, (1, Comes(b"\x81\x85"), "Open as 1")];
 
 const IN_OUTPUT: &[Row] = &[
@@ -38,7 +37,7 @@ const IN_CLOSING: &[Row] = &[
     (1, Comes(BINARY), "close 1; Closing by Binary > close 1003"),
 ];
 
-/// What comes then ends the link, and nothing more happens to it.
+/// The rows that end a link, each after the rows that lead to its stage.
 const ENDINGS: &[(&[Row], Row)] = &[
     (NEW, (1, End, "Gone by Ended")),
     (NEW, (1, Ends(b""), "Gone by Peer")),
@@ -65,7 +64,7 @@ const ENDINGS: &[(&[Row], Row)] = &[
         IN_FRAME,
         (1, Reads(Some(Failing)), "close 1; Gone by Stream"),
     ),
-    // A close frame is tried once.
+    // The link tries once to send a close frame.
     (IN_OUTPUT, (1, End, "close 1; Gone by Ended")),
     (IN_CLOSING, (1, End, "Gone by Ended")),
     (IN_CLOSING, (1, Ends(b""), "Gone by Peer")),
@@ -74,19 +73,18 @@ const ENDINGS: &[(&[Row], Row)] = &[
 ];
 
 #[test]
-fn ends_in_each_stage(rt: HostRuntime) -> Result<(), Fail> {
-    end_all(&rt, ENDINGS)
+fn ends_in_each_stage(rt: HostRuntime) {
+    end_all(&rt, ENDINGS);
 }
 
-fn end_all(rt: &(impl Abort + AllocGlobal), endings: &[(&[Row], Row)]) -> Result<(), Fail> {
+fn end_all(rt: &(impl Abort + AllocGlobal), endings: &[(&[Row], Row)]) {
     for (beginning, ending) in endings {
-        end(rt, *beginning, *ending)?;
+        end(rt, *beginning, *ending);
     }
-    Ok(())
 }
 
-/// A link that is ended stays so.
-fn end(rt: &(impl Abort + AllocGlobal), beginning: &[Row], ending: Row) -> Result<(), Fail> {
+/// Asserts that the row ends the link, and that it stays ended.
+fn end(rt: &(impl Abort + AllocGlobal), beginning: &[Row], ending: Row) {
     play_after(
         rt,
         beginning,
@@ -96,12 +94,12 @@ fn end(rt: &(impl Abort + AllocGlobal), beginning: &[Row], ending: Row) -> Resul
             (1, End, "Gone"),
             (1, Idle, "Gone"),
         ],
-    )
+    );
 }
 
-/// What came before the end is answered.
+/// Requests that arrived before the end of the input are answered.
 #[test]
-fn answers_a_client_that_is_half_closed(rt: HostRuntime) -> Result<(), Fail> {
+fn answers_a_client_that_is_half_closed(rt: HostRuntime) {
     play(
         &rt,
         &[
@@ -123,5 +121,5 @@ fn answers_a_client_that_is_half_closed(rt: HostRuntime) -> Result<(), Fail> {
             ),
             (1, Idle, "close 1; Gone by Peer"),
         ],
-    )
+    );
 }

@@ -1,6 +1,6 @@
-//! Tests of links: which cause a turn gives, what is written, and that links go on beside one that fails.
+//! Tests of links: the cause of each turn, the bytes written, and that links keep working beside one that fails.
 //!
-//! Each is a table of rows, played to a link over a scripted wire: what comes, and what the turn says.
+//! Each test is a table of rows, played to a link over a scripted wire: the input, and the expected result of the turn.
 #![tactic(auto)]
 
 #[cfg(test)]
@@ -16,12 +16,12 @@ mod handshake;
 #[cfg(test)]
 mod large;
 #[cfg(test)]
-mod others;
+mod link_fixture;
 #[cfg(test)]
-mod side;
+mod others;
 #[cfg(test)]
 mod streams;
 #[cfg(test)]
-mod telling;
+mod write_turns;
 #[cfg(test)]
 mod written;

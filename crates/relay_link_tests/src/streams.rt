@@ -1,22 +1,21 @@
-//! Streams that interrupt, that move a byte at a time, and that have no end.
+//! Streams that interrupt, that move one byte at a time, or that never end.
 use crate::frames::{BINARY, CLOSE};
-use crate::side::Act::{Comes, Draws, Fills, Idle, Reads, Says, Writes};
-use crate::side::{SAMPLE, play, play_open};
-use relay_wire::Trick;
-use std::test::Fail;
+use crate::link_fixture::Act::{Comes, Draws, Fills, Idle, Reads, Says, Writes};
+use crate::link_fixture::{SAMPLE, play, play_open};
+use relay_wire::InjectedFault;
 
 #[test]
-fn writes_that_are_interrupted_hang_no_turn(rt: HostRuntime) -> Result<(), Fail> {
+fn writes_that_are_interrupted_hang_no_turn(rt: HostRuntime) {
     play(
         &rt,
         &[
-            (1, Writes(Some(Trick::Interrupt)), "Head"),
+            (1, Writes(Some(InjectedFault::Interrupt)), "Head"),
             (1, Comes(SAMPLE), "open a; Head as 1"),
             (9, Idle, "Head as 1"),
             (1, Writes(None), "Open as 1 > switched"),
             (
                 1,
-                Writes(Some(Trick::Interrupt)),
+                Writes(Some(InjectedFault::Interrupt)),
                 "draw 1; draw 1; Open as 1",
             ),
             (9, Idle, "Open as 1"),
@@ -26,31 +25,31 @@ fn writes_that_are_interrupted_hang_no_turn(rt: HostRuntime) -> Result<(), Fail>
                 r#"draw 1; Open as 1 > {"epoch":1,"kind":"welcome","rev":0,"session":1}"#,
             ),
         ],
-    )
+    );
 }
 
 #[test]
-fn reads_that_are_interrupted_hang_no_turn(rt: HostRuntime) -> Result<(), Fail> {
+fn reads_that_are_interrupted_hang_no_turn(rt: HostRuntime) {
     play(
         &rt,
         &[
-            (1, Reads(Some(Trick::Interrupt)), "Head"),
+            (1, Reads(Some(InjectedFault::Interrupt)), "Head"),
             (1, Comes(SAMPLE), "Head"),
             (1_000, Idle, "Head"),
             (1, Reads(None), "open a; Open as 1 > switched"),
             (1, Draws(0), "Open as 1"),
-            (1, Reads(Some(Trick::Interrupt)), "Open as 1"),
+            (1, Reads(Some(InjectedFault::Interrupt)), "Open as 1"),
             (1, Comes(CLOSE), "Open as 1"),
             (1_000, Idle, "Open as 1"),
             (1, Reads(None), "close 1; Closing by Peer > close 1000"),
         ],
-    )
+    );
 }
 
-/// Interruptions for ever are as silent as nothing.
+/// A stream that interrupts forever counts as silent, as one that is never ready.
 #[test]
-fn a_closing_link_waits_16_turns(rt: HostRuntime) -> Result<(), Fail> {
-    for trick in [Trick::Interrupt, Trick::Nothing] {
+fn a_closing_link_waits_16_turns(rt: HostRuntime) {
+    for trick in [InjectedFault::Interrupt, InjectedFault::Nothing] {
         play_open(
             &rt,
             &[
@@ -59,17 +58,16 @@ fn a_closing_link_waits_16_turns(rt: HostRuntime) -> Result<(), Fail> {
                 (14, Idle, "Closing"),
                 (1, Comes(CLOSE), "Gone by Silent"),
             ],
-        )?;
+        );
     }
-    Ok(())
 }
 
 #[test]
-fn writes_a_byte_at_a_time(rt: HostRuntime) -> Result<(), Fail> {
+fn writes_a_byte_at_a_time(rt: HostRuntime) {
     play(
         &rt,
         &[
-            (1, Writes(Some(Trick::OneByte)), "Head"),
+            (1, Writes(Some(InjectedFault::OneByte)), "Head"),
             (1, Comes(SAMPLE), "open a; Open as 1 > switched"),
             (
                 1,
@@ -78,27 +76,27 @@ fn writes_a_byte_at_a_time(rt: HostRuntime) -> Result<(), Fail> {
             ),
             (1, Comes(CLOSE), "close 1; Closing by Peer > close 1000"),
         ],
-    )
+    );
 }
 
-/// A turn makes 1,024 reads at most.
+/// A turn makes at most 32 reads.
 #[test]
-fn a_flood_ends_a_turn(rt: HostRuntime) -> Result<(), Fail> {
+fn a_flood_ends_a_turn(rt: HostRuntime) {
     play_open(
         &rt,
         &[
-            (1, Reads(Some(Trick::OneByte)), "Open as 1"),
-            (1, Comes(b"\x81\xfe\x0b\xb8\x00\x00\x00\x00"), "Open as 1"),
-            (1, Fills(3_000), "Open as 1"),
-            (1, Idle, "Open as 1"),
+            (1, Reads(Some(InjectedFault::OneByte)), "Open as 1"),
+            (1, Comes(b"\x81\xfe\x00\x80\x00\x00\x00\x00"), "Open as 1"),
+            (1, Fills(128), "Open as 1"),
+            (2, Idle, "Open as 1"),
             (1, Idle, "receive 1; Open as 1"),
         ],
-    )
+    );
 }
 
-/// Where 32 replies wait nothing is read.
+/// If 32 replies wait, nothing is read.
 #[test]
-fn hears_no_more_than_it_can_answer(rt: HostRuntime) -> Result<(), Fail> {
+fn reads_no_more_than_it_can_answer(rt: HostRuntime) {
     play_open(
         &rt,
         &[
@@ -120,5 +118,5 @@ fn hears_no_more_than_it_can_answer(rt: HostRuntime) -> Result<(), Fail> {
                 r#"receive 1; draw 1; Open as 1 > {"id":1,"kind":"unwatched"}"#,
             ),
         ],
-    )
+    );
 }

@@ -1,7 +1,8 @@
-//! What a link writes, in words: the replies to a handshake byte for byte, and the frames behind them (RFC 6455, section 5.2).
-use std::alloc::{AllocError, Global};
+//! The output of a link, in words: handshake replies, compared byte for byte, and the frames after them (RFC 6455, section 5.2).
+use std::alloc::AllocGlobal;
+use std::process::Abort;
 
-/// The replies that are written out in the protocol, and what the rows call them.
+/// The replies that the protocol spells out, and their names in the rows.
 const REPLIES: [(&str, &str); 3] = [
     (
         "switched",
@@ -17,21 +18,21 @@ const REPLIES: [(&str, &str); 3] = [
     ),
 ];
 
-/// What was written from that place on: each reply and each frame behind a ` > `.
-pub(crate) fn words(alloc: Global, bytes: &[u8], from: usize) -> Result<String, AllocError> {
-    let mut words = String::new(alloc);
+/// The output from an offset on: each reply and each frame, after a ` > `.
+pub(crate) fn words(rt: &(impl Abort + AllocGlobal), bytes: &[u8], from: usize) -> String {
+    let mut words = String::new(rt.alloc());
     let mut rest = bytes.get(from..).unwrap_or(&[]);
     for _ in from..bytes.len() {
         if !rest.is_empty() {
             let len = item_len(rest).min(rest.len());
-            say(alloc, &mut words, &rest[..len])?;
+            say(rt, &mut words, &rest[..len]);
             rest = &rest[len..];
         }
     }
-    Ok(words)
+    words
 }
 
-/// How long the reply or the frame is that stands first.
+/// The length of the first reply or frame.
 fn item_len(bytes: &[u8]) -> usize {
     match bytes {
         [b'H', ..] => reply_at(bytes).1.len(),
@@ -41,7 +42,7 @@ fn item_len(bytes: &[u8]) -> usize {
     }
 }
 
-/// The reply that stands first, and what the rows call it.
+/// The name and the bytes of the first reply.
 fn reply_at(bytes: &[u8]) -> (&'static str, &'static str) {
     let mut found = ("no reply", "HTTP");
     for (name, reply) in REPLIES {
@@ -52,23 +53,25 @@ fn reply_at(bytes: &[u8]) -> (&'static str, &'static str) {
     found
 }
 
-/// Says what a reply or a frame is. Only whole frames, of the relay's side, that say no more than they have to, have words.
-fn say(alloc: Global, words: &mut String, item: &[u8]) -> Result<(), AllocError> {
-    match item {
+/// Appends the words for a reply or a frame. Only complete, unmasked frames have words, and closes and pongs only without further data.
+fn say(rt: &(impl Abort + AllocGlobal), words: &mut String, item: &[u8]) {
+    let said = match item {
         [b'H', ..] => write!(words, " > {}", reply_at(item).0),
         [0x81, 126, high, low, text @ ..]
             if text.len() == usize::from(u16::from_be_bytes([*high, *low])) => {
-            say_text(alloc, words, text)
+            write!(words, " > {}", text_of(rt, text))
         }
-        [0x81, len, text @ ..] if text.len() == usize::from(*len) => say_text(alloc, words, text),
+        [0x81, len, text @ ..] if text.len() == usize::from(*len) => {
+            write!(words, " > {}", text_of(rt, text))
+        }
         [0x88, 0] => write!(words, " > close"),
         [0x88, 2, high, low] => write!(words, " > close {}", u16::from_be_bytes([*high, *low])),
         [0x8a, 0] => write!(words, " > pong"),
         _ => write!(words, " > {} bytes", item.len()),
-    }
+    };
+    said.expect(rt, "memory");
 }
 
-fn say_text(alloc: Global, words: &mut String, text: &[u8]) -> Result<(), AllocError> {
-    words.push_str(" > ")?;
-    words.push_str(String::from_utf8_lossy(alloc, text)?.as_str())
+fn text_of(rt: &(impl Abort + AllocGlobal), bytes: &[u8]) -> String {
+    String::from_utf8_lossy(rt.alloc(), bytes).expect(rt, "memory")
 }

@@ -1,21 +1,25 @@
--- The ranges of the numbers that the options give.
+-- The ranges of the options' numbers.
 use Rattle.std.specs.Prelude.{◌≤◌, ⊤}
 use Rattle.relay_options.specs.declared.job.Job.{Job}
 use Rattle.relay_options.specs.declared.job.Job.TheVariants.{Script, Loop, Follow, Serve}
 use Rattle.relay_options.specs.declared.settings.Settings.{Settings}
-use Rattle.relay_options.specs.declared.settings.TheConstants.{HISTORY_MOST, OUTBOX_MOST, EPOCH_MOST, TURNS_MOST, PORT_MOST}
+use Rattle.relay_options.specs.declared.settings.TheConstants.{MAX_HISTORY, MAX_OUTBOX, MAX_ROOMS, MAX_SESSIONS, MAX_EPOCH, MAX_TURNS, MAX_PORT}
 
--- numbers that a hub can be made with
+-- settings that are in range for a hub
 pub record AreSettings (settings : Settings) : Type 0 where
   pub some_history : 1 ≤ settings.history
-  pub history : settings.history ≤ HISTORY_MOST
+  pub history : settings.history ≤ MAX_HISTORY
   pub some_outbox : 1 ≤ settings.outbox
-  pub outbox : settings.outbox ≤ OUTBOX_MOST
-  pub epoch : settings.epoch ≤ EPOCH_MOST
+  pub outbox : settings.outbox ≤ MAX_OUTBOX
+  pub some_rooms : 1 ≤ settings.rooms
+  pub rooms : settings.rooms ≤ MAX_ROOMS
+  pub some_sessions : 1 ≤ settings.sessions
+  pub sessions : settings.sessions ≤ MAX_SESSIONS
+  pub epoch : settings.epoch ≤ MAX_EPOCH
 
--- a job whose numbers are all within their ranges
+-- a job whose numbers are all in range
 abbrev pub IsPossible : Job → Type 0
 IsPossible (Script settings) = AreSettings settings
 IsPossible (Loop settings) = AreSettings settings
 IsPossible Follow = ⊤
-IsPossible (Serve port turns log settings) = (port ≤ PORT_MOST) × (1 ≤ turns) × (turns ≤ TURNS_MOST) × AreSettings settings
+IsPossible (Serve port turns log settings) = (port ≤ MAX_PORT) × (1 ≤ turns) × (turns ≤ MAX_TURNS) × AreSettings settings

@@ -1,34 +1,34 @@
-//! What the program is to do, or why it does nothing.
+//! The job of the program, or the reason why there is none.
 use crate::settings::Settings;
 use std::alloc::AllocError;
 
-/// What the words ask for.
+/// The job that the arguments ask for.
 #[derive(Clone, Copy, Debug, PartialEq, Eq)]
 pub enum Job {
-    /// `relay`, or `relay script`: carry out a script.
+    /// `relay`, or `relay script`: run a script.
     Script(Settings),
-    /// `relay loop`: carry out a script through loopback sockets.
+    /// `relay loop`: run a script through loopback sockets.
     Loop(Settings),
-    /// `relay follow`: hear texts, one a line.
+    /// `relay follow`: apply texts to a follower, one per line.
     Follow,
     /// `relay serve`: listen on a port, for a number of rounds.
     Serve {
-        /// 0 lets the system choose.
+        /// The port. For 0 the system chooses one.
         port: u16,
-        /// How many rounds, 1 to 10^12.
+        /// The number of rounds, 1 to 10^12.
         turns: u64,
-        /// Whether the server tells of its links.
+        /// Whether the server logs its connections.
         log: bool,
         settings: Settings,
     },
 }
 
-/// Why there is nothing to do.
+/// Why there is no job.
 #[derive(Debug, Drop)]
 pub enum Stop {
-    /// Help or the version, where one of them was asked for, for standard output.
+    /// The requested help or version, for standard output.
     Help(String),
-    /// What is wrong with the words, for standard error.
+    /// What is wrong with the arguments, for standard error.
     Misuse(String),
     NoMemory,
 }

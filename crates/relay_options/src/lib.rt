@@ -1,5 +1,5 @@
-//! The command line of the program `relay`, read by `clap`: which job the words ask for, with its numbers, each of
-//! which is proved to be within its range. A crate of its own, so that what stands beside it is checked without `clap`.
+//! The command line of the program `relay`, parsed by `clap` into a job whose numbers are each proved to be in range. It is a crate
+//! of its own so that the other crates can be checked without `clap`.
 #![tactic(auto)]
 
 mod job;
@@ -8,4 +8,6 @@ mod settings;
 
 pub use job::{Job, Stop};
 pub use reading::job_of;
-pub use settings::{EPOCH_MOST, HISTORY_MOST, OUTBOX_MOST, PORT_MOST, Settings, TURNS_MOST};
+pub use settings::{
+    MAX_EPOCH, MAX_HISTORY, MAX_OUTBOX, MAX_PORT, MAX_ROOMS, MAX_SESSIONS, MAX_TURNS, Settings,
+};

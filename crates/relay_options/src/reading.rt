@@ -1,16 +1,19 @@
-//! The options as `clap` has them.
+//! The parser of the command line, by `clap`.
 ghost use Rattle.std.specs.Prelude.{IfOk, ◌≤◌};
 ghost use Rattle.relay_options.specs.Ranges.{AreSettings, IsPossible};
 
 use crate::job::{Job, Stop};
-use crate::settings::{EPOCH_MOST, HISTORY_MOST, OUTBOX_MOST, PORT_MOST, Settings, TURNS_MOST};
+use crate::settings::{
+    MAX_EPOCH, MAX_HISTORY, MAX_OUTBOX, MAX_PORT, MAX_ROOMS, MAX_SESSIONS, MAX_TURNS,
+    MAX_WEIGHT_LIMIT, Settings,
+};
 use clap::builder::ValueParser;
 use clap::error::ErrorKind;
 use clap::{Arg, ArgAction, ArgMatches, Command, Error};
 use std::alloc::{AllocError, Global};
 
-/// The version of the program, and the line by which the kit that proves it names itself (`rt version`).
-const VERSION: &str = "0.1.0\nrattle-kit-13f logic dac8208d650f15bf";
+/// The version of the program, and the version line of the kit that proves it (`rt version`).
+const VERSION: &str = "0.2.0\nrattle-kit-13f logic dac8208d650f15bf";
 
 const ABOUT: &str =
     "Keeps shared JSON documents in rooms, and tells each watcher what changed in the parts that it watches";
@@ -45,11 +48,21 @@ const HISTORY: &str = "64";
 
 const OUTBOX: &str = "32";
 
+const ROOMS: &str = "64";
+
+const SESSIONS: &str = "256";
+
 const EPOCH: &str = "1";
 
 const TURNS: &str = "1000000000000";
 
-/// What the words ask for; the first of them is the program's name. Each number of a job is within its range.
+/// The default of `--max-history-weight` for a server: the weight of a largest document.
+const HISTORY_WEIGHT: &str = "262144";
+
+/// The default of `--max-waiting-weight` for a server: a quarter of that.
+const WAITING_WEIGHT: &str = "65536";
+
+/// Parses the arguments `words`, of which the first is the program's name. Each number of the job is in range.
 pub fn job_of(alloc: Global, words: &[String]) -> Result<Job, Stop>
     ensures { IfOk result IsPossible }
 {
@@ -75,21 +88,25 @@ fn script<'a>(alloc: Global) -> Result<Command<'a>, AllocError> {
     let script = Command::new(alloc, "script")
         .about(SCRIPT_ABOUT)
         .after_help(SCRIPT_EXAMPLE);
-    with_settings(alloc, script)
+    with_settings(alloc, script)?
+        .arg(history_weight(alloc))?
+        .arg(waiting_weight(alloc))
 }
 
 fn looped<'a>(alloc: Global) -> Result<Command<'a>, AllocError> {
     let looped = Command::new(alloc, "loop")
         .about(LOOP_ABOUT)
         .after_help(LOOP_EXAMPLE);
-    with_settings(alloc, looped)
+    with_settings(alloc, looped)?
+        .arg(history_weight(alloc))?
+        .arg(waiting_weight(alloc))
 }
 
 fn serve<'a>(alloc: Global) -> Result<Command<'a>, AllocError> {
-    let port = number(alloc, "port", ValueParser::unsigned(0, PORT_MOST))
+    let port = number(alloc, "port", ValueParser::unsigned(0, MAX_PORT))
         .help("The port, 0 to 65535; 0 lets the system choose")
         .required(true);
-    let turns = number(alloc, "turns", ValueParser::unsigned(1, TURNS_MOST))
+    let turns = number(alloc, "turns", ValueParser::unsigned(1, MAX_TURNS))
         .help("How many rounds to make, 1 to 1000000000000; a round sleeps while nothing happens")
         .default_value(TURNS);
     let log = Arg::new(alloc, "log")
@@ -99,7 +116,12 @@ fn serve<'a>(alloc: Global) -> Result<Command<'a>, AllocError> {
     let serve = Command::new(alloc, "serve")
         .about(SERVE_ABOUT)
         .after_help(SERVE_EXAMPLE);
-    with_settings(alloc, serve)?.arg(port)?.arg(turns)?.arg(log)
+    with_settings(alloc, serve)?
+        .arg(history_weight(alloc).default_value(HISTORY_WEIGHT))?
+        .arg(waiting_weight(alloc).default_value(WAITING_WEIGHT))?
+        .arg(port)?
+        .arg(turns)?
+        .arg(log)
 }
 
 fn follow<'a>(alloc: Global) -> Command<'a> {
@@ -109,16 +131,51 @@ fn follow<'a>(alloc: Global) -> Command<'a> {
 }
 
 fn with_settings<'a>(alloc: Global, command: Command<'a>) -> Result<Command<'a>, AllocError> {
-    let history = number(alloc, "history", ValueParser::unsigned(1, HISTORY_MOST))
+    let history = number(alloc, "history", ValueParser::unsigned(1, MAX_HISTORY))
         .help("How many revisions each room holds, 1 to 1024")
         .default_value(HISTORY);
-    let outbox = number(alloc, "outbox", ValueParser::unsigned(1, OUTBOX_MOST))
+    let outbox = number(alloc, "outbox", ValueParser::unsigned(1, MAX_OUTBOX))
         .help("How many patches wait for a session at most, 1 to 256")
         .default_value(OUTBOX);
-    let epoch = number(alloc, "epoch", ValueParser::unsigned(0, EPOCH_MOST))
+    let rooms = number(alloc, "rooms", ValueParser::unsigned(1, MAX_ROOMS))
+        .help("How many rooms there are at most, 1 to 65536; an idle room takes about 25 KiB")
+        .default_value(ROOMS);
+    let sessions = number(alloc, "sessions", ValueParser::unsigned(1, MAX_SESSIONS))
+        .help(
+            "How many sessions are open at most, 1 to 65536; an idle one takes about 40 KiB with its connection",
+        )
+        .default_value(SESSIONS);
+    let epoch = number(alloc, "epoch", ValueParser::unsigned(0, MAX_EPOCH))
         .help("Which run of the relay this is, 0 to 9007199254740991")
         .default_value(EPOCH);
-    command.arg(history)?.arg(outbox)?.arg(epoch)
+    command
+        .arg(history)?
+        .arg(outbox)?
+        .arg(rooms)?
+        .arg(sessions)?
+        .arg(epoch)
+}
+
+fn history_weight<'a>(alloc: Global) -> Arg<'a> {
+    number(
+        alloc,
+        "max-history-weight",
+        ValueParser::unsigned(0, MAX_WEIGHT_LIMIT),
+    )
+    .help(
+        "How much the changes that each room holds weigh together at most; a script's may weigh any",
+    )
+}
+
+fn waiting_weight<'a>(alloc: Global) -> Arg<'a> {
+    number(
+        alloc,
+        "max-waiting-weight",
+        ValueParser::unsigned(0, MAX_WEIGHT_LIMIT),
+    )
+    .help(
+        "How much the patches that wait for a session weigh together at most; a script's may weigh any",
+    )
 }
 
 /// An option that takes a number.
@@ -130,7 +187,7 @@ fn number<'a>(alloc: Global, name: &'a str, parser: ValueParser<'a>) -> Arg<'a> 
         .value_parser(parser)
 }
 
-/// The job of the subcommand that was chosen.
+/// The job of the given subcommand.
 fn chosen(alloc: Global, matches: &ArgMatches<'_>) -> Result<Job, Stop>
     ensures { IfOk result IsPossible }
 {
@@ -140,8 +197,8 @@ fn chosen(alloc: Global, matches: &ArgMatches<'_>) -> Result<Job, Stop>
         Some(("loop", given)) => Ok(Job::Loop(settings_of(alloc, given)?)),
         Some(("follow", _)) => Ok(Job::Follow),
         Some(("serve", given)) => Ok(Job::Serve {
-            port: number_of(alloc, given, "port", 0, PORT_MOST)? as u16,
-            turns: number_of(alloc, given, "turns", 1, TURNS_MOST)?,
+            port: number_of(alloc, given, "port", 0, MAX_PORT)? as u16,
+            turns: number_of(alloc, given, "turns", 1, MAX_TURNS)?,
             log: given.get_flag("log"),
             settings: settings_of(alloc, given)?,
         }),
@@ -155,14 +212,18 @@ fn settings_of(alloc: Global, given: &ArgMatches<'_>) -> Result<Settings, Stop>
     ensures { IfOk result AreSettings }
 {
     Ok(Settings {
-        history: number_of(alloc, given, "history", 1, HISTORY_MOST)?,
-        outbox: number_of(alloc, given, "outbox", 1, OUTBOX_MOST)?,
-        epoch: number_of(alloc, given, "epoch", 0, EPOCH_MOST)?,
+        history: number_of(alloc, given, "history", 1, MAX_HISTORY)?,
+        outbox: number_of(alloc, given, "outbox", 1, MAX_OUTBOX)?,
+        rooms: number_of(alloc, given, "rooms", 1, MAX_ROOMS)?,
+        sessions: number_of(alloc, given, "sessions", 1, MAX_SESSIONS)?,
+        epoch: number_of(alloc, given, "epoch", 0, MAX_EPOCH)?,
+        history_weight: given.get_one::<u64>("max-history-weight"),
+        waiting_weight: given.get_one::<u64>("max-waiting-weight"),
     })
 }
 
-/// The number of an option. `clap` refuses one that is out of range in words of its own; it is judged here as well, since
-/// `clap` promises nothing of what a subcommand's options hold.
+/// The number of an option. `clap` already refuses a number that is out of range, with a message of its own. It is checked again,
+/// since the contract of `clap` says nothing about the values of a subcommand's options.
 fn number_of(
     alloc: Global,
     given: &ArgMatches<'_>,

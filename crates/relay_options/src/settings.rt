@@ -1,36 +1,57 @@
-//! What a hub is made with.
+//! The settings of a hub.
 
-/// How many revisions a room holds at most.
-pub const HISTORY_MOST: u64 = 1_024;
+/// The largest `--history`, in revisions.
+pub const MAX_HISTORY: u64 = 1_024;
 
-/// How many patches may wait for a session at most.
-pub const OUTBOX_MOST: u64 = 256;
+/// The largest `--outbox`, in patches.
+pub const MAX_OUTBOX: u64 = 256;
 
-/// The last epoch: a program in JavaScript reads each number up to 2^53 - 1 as it is.
-pub const EPOCH_MOST: u64 = 9_007_199_254_740_991;
+/// The largest `--rooms`.
+pub const MAX_ROOMS: u64 = 65_536;
 
-/// How many rounds a server makes at most.
-pub const TURNS_MOST: u64 = 1_000_000_000_000;
+/// The largest `--sessions`.
+pub const MAX_SESSIONS: u64 = 65_536;
 
-/// The last port.
-pub const PORT_MOST: u64 = 65_535;
+/// The largest epoch, 2^53 - 1: JavaScript reads every number up to it exactly.
+pub const MAX_EPOCH: u64 = 9_007_199_254_740_991;
 
-/// The numbers of a hub. Those of a job are within their ranges.
+/// The largest weight that an option accepts.
+pub const MAX_WEIGHT_LIMIT: u64 = 9_007_199_254_740_991;
+
+/// The largest number of rounds of a server.
+pub const MAX_TURNS: u64 = 1_000_000_000_000;
+
+/// The largest port.
+pub const MAX_PORT: u64 = 65_535;
+
+/// The settings of a hub. Those of a job are in range.
 #[derive(Clone, Copy, Debug, PartialEq, Eq)]
 pub struct Settings {
-    /// `--history`: how many revisions each room holds, 1 to 1,024.
+    /// `--history`: the number of revisions that each room holds, 1 to 1,024.
     pub history: u64,
-    /// `--outbox`: how many patches wait for a session at most, 1 to 256.
+    /// `--outbox`: the number of patches that may wait for a session, 1 to 256.
     pub outbox: u64,
-    /// `--epoch`: which run of the program this is, 0 to 2^53 - 1.
+    /// `--rooms`: the number of rooms that there may be, 1 to 65,536.
+    pub rooms: u64,
+    /// `--sessions`: the number of sessions that may be open at once, 1 to 65,536.
+    pub sessions: u64,
+    /// `--epoch`: the number of this run of the program, 0 to 2^53 - 1.
     pub epoch: u64,
+    /// `--max-history-weight`: the maximum total weight of the changes that each room holds. `None` means no limit.
+    pub history_weight: Option<u64>,
+    /// `--max-waiting-weight`: the maximum total weight of the patches that wait for a session. `None` means no limit.
+    pub waiting_weight: Option<u64>,
 }
 
 impl Settings {
-    /// What stands without options.
+    /// The defaults of a script.
     pub const DEFAULT: Settings = Settings {
         history: 64,
         outbox: 32,
+        rooms: 64,
+        sessions: 256,
         epoch: 1,
+        history_weight: None,
+        waiting_weight: None,
     };
 }

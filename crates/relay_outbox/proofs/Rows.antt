@@ -1,9 +1,9 @@
--- What the definitions give for small lines.
+-- The definitions computed for small outboxes.
 use Rattle.std.specs.Prelude.{◌≡◌, true, false, [], ◌∷◌, refl}
 use Rattle.relay_outbox.specs.Outbox.{line, reply, patch, snapshot, nothing, empty, with_reply, with_patch, folded, cleared, front_of, without_front}
 
 module _ {R P : Type 0} (r s : R) (p q : P) where
-  -- of two patches that may wait both do, the third folds them, and the fourth changes nothing
+  -- with a limit of two, two patches wait, the third folds them, and the fourth changes nothing
   waits : with_patch q (with_patch p (empty {R = R} 2)) ≡ line [] (p ∷ q ∷ []) false 2
   waits = refl
 
@@ -13,7 +13,7 @@ module _ {R P : Type 0} (r s : R) (p q : P) where
   stays : with_patch q (line {R = R} [] [] true 2) ≡ line [] [] true 2
   stays = refl
 
-  -- a fold and a clear leave the replies
+  -- folding and clearing keep the replies
   keeps_replies : cleared (folded (with_reply s (with_reply r (empty {P = P} 2)))) ≡ line (r ∷ s ∷ []) [] false 2
   keeps_replies = refl
 
@@ -27,7 +27,7 @@ module _ {R P : Type 0} (r s : R) (p q : P) where
   snapshot_last : front_of (line {R = R} {P = P} [] [] true 2) ≡ snapshot
   snapshot_last = refl
 
-  -- what is drawn goes alone
+  -- only the front is removed
   reply_goes : without_front (line {P = P} (r ∷ s ∷ []) [] true 2) ≡ line (s ∷ []) [] true 2
   reply_goes = refl
 

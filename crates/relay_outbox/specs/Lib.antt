@@ -1,3 +1,3 @@
 pub mod Front
-pub mod Kept
+pub mod Representation
 pub mod Outbox

@@ -1,16 +1,16 @@
--- What waits for a session, as contracts see an outbox.
+-- An outbox as contracts see it: the messages that wait for a session.
 use Rattle.std.specs.Prelude.{◌≡◌, ℕ, ◌≤◌, Bool, true, false, List, [], ◌∷◌, ◌++◌, length, nat_lt, if◌then◌else◌, refl}
 use Rattle.std.specs.Coded.{Coded, code_by, coded×, coded_list, coded_ℕ, coded_bool}
-use Rattle.relay_outbox.specs.declared.outbox.TheConstants.{REPLIES, MOST_PATCHES}
+use Rattle.relay_outbox.specs.declared.outbox.TheConstants.{MAX_REPLIES, MAX_PATCHES}
 
--- the replies, the patches, whether a snapshot is due, and how many patches may wait
+-- the replies, the patches, whether a snapshot is due, and the most patches that may wait
 pub record Line (R P : Type 0) : Type 0 where
   pub replies : List R
   pub patches : List P
   pub due : Bool
   pub limit : ℕ
 
--- what stands at the front of a line
+-- the message at the front of an outbox
 pub data Foremost (R P : Type 0) : Type 0 where
   reply : R → Foremost R P
   patch : P → Foremost R P
@@ -18,61 +18,61 @@ pub data Foremost (R P : Type 0) : Type 0 where
   nothing : Foremost R P
 
 module _ {R P : Type 0} where
-  -- a line of these parts
+  -- the outbox with these parts
   abbrev pub line : List R → List P → Bool → ℕ → Line R P
   line replies patches due limit = record { replies = replies; patches = patches; due = due; limit = limit }
 
-  -- what holds of each outbox: no more wait than may, and patches and a due snapshot never wait together
+  -- the invariant of an outbox: replies and patches are within their limits, and no patch waits while a snapshot is due
   pub record IsOutbox (o : Line R P) : Type 0 where
-    pub replies : length o.replies ≤ REPLIES
+    pub replies : length o.replies ≤ MAX_REPLIES
     pub patches : length o.patches ≤ o.limit
-    pub limited : (1 ≤ o.limit) × (o.limit ≤ MOST_PATCHES)
+    pub limited : (1 ≤ o.limit) × (o.limit ≤ MAX_PATCHES)
     pub either : o.due ≡ true → o.patches ≡ []
 
-  -- nothing waits
+  -- the empty outbox
   abbrev pub empty : ℕ → Line R P
   empty limit = line [] [] false limit
 
-  -- a reply waits behind the other replies
+  -- the outbox with a reply after the others
   abbrev pub with_reply : R → Line R P → Line R P
   with_reply r o = line (o.replies ++ r ∷ []) o.patches o.due o.limit
 
-  -- the patches go, and a snapshot is due
+  -- the outbox folded: no patches, and a snapshot is due
   abbrev pub folded : Line R P → Line R P
   folded o = line o.replies [] true o.limit
 
-  -- the patches go, and none is due
+  -- the outbox without patches and without a due snapshot
   abbrev pub cleared : Line R P → Line R P
   cleared o = line o.replies [] false o.limit
 
-  -- a due snapshot tells of the patch too; else the patch waits behind the others, or they fold where no more may wait
+  -- if a snapshot is due, nothing changes; else the patch is added after the others, or the outbox folds if the limit is reached
   abbrev pub with_patch : P → Line R P → Line R P
   with_patch p o =
       if o.due then o else
       (if nat_lt (length o.patches) o.limit then line o.replies (o.patches ++ p ∷ []) o.due o.limit else folded o)
 
-  -- of replies, patches and whether a snapshot is due, what comes first
+  -- the first message of these replies, these patches and a snapshot that may be due
   abbrev pub first_of : List R → List P → Bool → Foremost R P
   first_of (r ∷ replies) patches due = reply r
   first_of [] (p ∷ patches) due = patch p
   first_of [] [] true = snapshot
   first_of [] [] false = nothing
 
-  -- what is drawn next: the first reply, else the first patch, else the due snapshot
+  -- the next message: the first reply, else the first patch, else the due snapshot
   abbrev pub front_of : Line R P → Foremost R P
   front_of o = first_of o.replies o.patches o.due
 
-  -- the line of what comes behind
+  -- the outbox without that first message
   abbrev pub rest_of : List R → List P → Bool → ℕ → Line R P
   rest_of (r ∷ replies) patches due limit = line replies patches due limit
   rest_of [] (p ∷ patches) due limit = line [] patches due limit
   rest_of [] [] due limit = line [] [] false limit
 
-  -- the line once its front is drawn
+  -- the outbox without its front
   abbrev pub without_front : Line R P → Line R P
   without_front o = rest_of o.replies o.patches o.due o.limit
 
-  -- how the logic stores a line
+  -- how the logic encodes an outbox
   abbrev pub line_code : Coded R → Coded P → Coded (Line R P)
   line_code r p = code_by (List R × (List P × (Bool × ℕ)))
       (coded× (coded_list r) (coded× (coded_list p) (coded× coded_bool coded_ℕ)))

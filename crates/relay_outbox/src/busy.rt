@@ -1,5 +1,5 @@
-//! A reply that found no place.
+//! The error of adding a reply to a full outbox.
 
-/// [`REPLIES`](crate::REPLIES) replies wait, so this one was not taken in and comes back.
+/// [`MAX_REPLIES`](crate::MAX_REPLIES) replies wait already, so this one was not added and is returned.
 #[derive(Debug, Drop)]
 pub struct Busy<R>(pub R);

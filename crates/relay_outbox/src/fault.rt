@@ -1,8 +1,8 @@
-//! Why there is no outbox.
+//! The errors of creating an outbox.
 use std::alloc::AllocError;
 use thiserror::Error;
 
-/// Why [`Outbox::new`](crate::Outbox::new) makes none, in the order of the checks.
+/// The reason why [`Outbox::new`](crate::Outbox::new) fails, in the order of the checks.
 #[derive(Clone, Copy, Debug, PartialEq, Eq, Error)]
 pub enum OutboxFault {
     /// The limit of waiting patches is not 1 to 256.

@@ -1,11 +1,11 @@
-//! The message that is drawn next.
+//! The next message of an outbox.
 
-/// What stands at the front of an outbox, lent so that it can be written out before it is taken away.
+/// The message at the front of an outbox, borrowed so that it can be written before it is removed.
 #[derive(Drop)]
 pub enum Front<'a, R, P> {
     Reply(&'a R),
     Patch(&'a P),
-    /// A snapshot is due, to be made of the present document.
+    /// A snapshot of the present document is due.
     Snapshot,
     /// Nothing waits.
     Nothing,

@@ -1,8 +1,9 @@
-//! What waits for a session: replies, and the patches or the snapshot that keep its view current.
+//! The outbox of a session: the replies that wait for it, and the patches or the snapshot that keep its view current.
 //!
-//! The promise: memory is bounded and its meaning is exact. An [`Outbox`] takes all its room in [`Outbox::new`]; from then
-//! on at most [`REPLIES`] wait, and as many patches as it was made for. A patch that finds no place folds them all into one due snapshot,
-//! which says what they said, and no reply is ever lost. Contracts see an outbox as a `Line` of `specs/`.
+//! The promise: memory is bounded and its meaning is exact. An [`Outbox`] allocates its rings in [`Outbox::new`]. From then on at most
+//! [`MAX_REPLIES`] replies wait, and at most as many patches as the limit it was created with. If a patch exceeds the limit, the
+//! outbox folds all its patches into one due snapshot, which shows their result. No reply is ever lost. Contracts see an outbox as a
+//! `Line` of `specs/`.
 #![tactic(auto)]
 
 mod busy;
@@ -13,4 +14,4 @@ mod outbox;
 pub use busy::Busy;
 pub use fault::OutboxFault;
 pub use front::Front;
-pub use outbox::{MOST_PATCHES, Outbox, REPLIES};
+pub use outbox::{MAX_PATCHES, MAX_REPLIES, Outbox};

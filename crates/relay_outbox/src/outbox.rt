@@ -1,5 +1,5 @@
-//! Two rings whose room is taken once, one for replies and one for patches, and a flag that stands for patches that found
-//! no room: a slow reader costs a fixed number of messages, and one snapshot in place of all that it missed.
+//! Two ring buffers, one for replies and one for patches, allocated once, and a flag for a due snapshot, which replaces patches that
+//! did not fit. So a slow reader costs a fixed number of messages, and one snapshot in place of all that it missed.
 use crate::busy::Busy;
 use crate::fault::OutboxFault;
 use crate::front::Front;
@@ -7,14 +7,14 @@ use circular_buffer::HeapCircularBuffer;
 use std::alloc::Global;
 use std::marker::Model;
 
-/// How many replies may wait.
-pub const REPLIES: u64 = 32;
+/// The most replies that may wait.
+pub const MAX_REPLIES: u64 = 32;
 
 /// The most patches that an outbox may be asked to hold.
-pub const MOST_PATCHES: u64 = 256;
+pub const MAX_PATCHES: u64 = 256;
 
-/// What waits for one session: replies `R` and patches `P`, each patch as its session's hub keeps it. Contracts see it as a `Line`:
-/// its replies, its patches, whether a snapshot is due, and how many patches may wait.
+/// The messages that wait for one session: replies `R` and patches `P`, in the form in which the hub stores patches. Contracts see it
+/// as a `Line`: its replies, its patches, whether a snapshot is due, and the most patches that may wait.
 #[derive(Drop)]
 pub struct Outbox<R, P> {
     replies: HeapCircularBuffer<R>,
@@ -25,17 +25,17 @@ pub struct Outbox<R, P> {
 impl<R, P> Model for Outbox<R, P> {
     ghost use Rattle.std.specs.Prelude.{◌≡◌};
     ghost use Rattle.relay_outbox.specs.Outbox.{Line, IsOutbox, line_code};
-    ghost use Rattle.relay_outbox.specs.declared.outbox.TheConstants.{REPLIES};
+    ghost use Rattle.relay_outbox.specs.declared.outbox.TheConstants.{MAX_REPLIES};
 
     ghost Value = { Line R P };
 
     ghost coded = { line_code R.code P.code };
 
-    ghost use Rattle.relay_outbox.specs.Kept.{line_of};
+    ghost use Rattle.relay_outbox.specs.Representation.{line_of};
 
     ghost view = { line_of };
 
-    ghost invariant = { λ o. (o.replies.capacity ≡ REPLIES) × IsOutbox (line_of o) };
+    ghost invariant = { λ o. (o.replies.capacity ≡ MAX_REPLIES) × IsOutbox (line_of o) };
 }
 
 impl<R: Drop, P: Drop> Outbox<R, P> {
@@ -43,16 +43,16 @@ impl<R: Drop, P: Drop> Outbox<R, P> {
     ghost use Rattle.relay_outbox.specs.Outbox.{IsOutbox, empty, with_reply, with_patch, folded, cleared, front_of, without_front};
     ghost use Rattle.relay_outbox.specs.Front.{shown};
 
-    /// An empty outbox in which at most `limit` patches may wait.
-    /// BadLimit: `limit` is not 1 to [`MOST_PATCHES`].
+    /// Creates an empty outbox in which at most `limit` patches may wait. Allocates all the memory that its rings need. Returns
+    /// `BadLimit` if `limit` is not 1 to [`MAX_PATCHES`], and `NoMemory` if memory runs out.
     pub fn new(alloc: Global, limit: u64) -> Result<Outbox<R, P>, OutboxFault>
         ensures ok { IfOk result (λ outbox. outbox ≡ empty limit) }
-        ensures bad_limit { IsErrOf result OutboxFault.BadLimit ↔ ((limit < 1) ⊎ (MOST_PATCHES < limit)) }
+        ensures bad_limit { IsErrOf result OutboxFault.BadLimit ↔ ((limit < 1) ⊎ (MAX_PATCHES < limit)) }
     {
-        if limit < 1 || limit > MOST_PATCHES {
+        if limit < 1 || limit > MAX_PATCHES {
             return Err(OutboxFault::BadLimit);
         }
-        let replies = HeapCircularBuffer::with_capacity(alloc, REPLIES as usize)?;
+        let replies = HeapCircularBuffer::with_capacity(alloc, MAX_REPLIES as usize)?;
         let patches = HeapCircularBuffer::with_capacity(alloc, limit as usize)?;
         Ok(Outbox {
             replies,
@@ -61,18 +61,19 @@ impl<R: Drop, P: Drop> Outbox<R, P> {
         })
     }
 
-    /// Puts a reply behind the others. Busy: [`REPLIES`] wait already, and nothing changes. No memory is taken.
+    /// Adds a reply after the others. Returns `Busy` with the reply if [`MAX_REPLIES`] wait already; nothing changes then. Allocates
+    /// nothing.
     pub fn reply(&mut self, reply: R) -> Result<(), Busy<R>>
         ensures ok { OnOk result (self.new ≡ with_reply reply self.old) }
-        ensures busy { IsErr result ↔ (length self.old.replies ≡ REPLIES) }
+        ensures busy { IsErr result ↔ (length self.old.replies ≡ MAX_REPLIES) }
         ensures given_back { IfErr result (λ back. back.0 ≡ reply) }
         ensures unchanged { OnErr result (self.new ≡ self.old) }
     {
         self.replies.try_push_back(reply).map_err(Busy)
     }
 
-    /// Puts a patch behind the others. Where `limit` wait already they fold, and where a snapshot is due nothing changes, since it
-    /// will say what the patch says. No memory is taken.
+    /// Adds a patch after the others. If a snapshot is due, nothing changes, since the snapshot will include the patch. If `limit`
+    /// patches wait already, the outbox folds, which drops this patch too. Allocates nothing.
     pub fn patch(&mut self, patch: P)
         ensures { self.new ≡ with_patch patch self.old }
     {
@@ -81,7 +82,7 @@ impl<R: Drop, P: Drop> Outbox<R, P> {
         }
     }
 
-    /// The patches go, and a snapshot is due. The replies stay. No memory is taken.
+    /// Drops the patches and makes a snapshot due in their place. The replies stay. Allocates nothing.
     pub fn fold(&mut self)
         ensures { self.new ≡ folded self.old }
     {
@@ -89,7 +90,7 @@ impl<R: Drop, P: Drop> Outbox<R, P> {
         self.due = true;
     }
 
-    /// The patches go, and no snapshot is due. The replies stay. No memory is taken.
+    /// Drops the patches and the due snapshot. The replies stay. Allocates nothing.
     pub fn clear(&mut self)
         ensures { self.new ≡ cleared self.old }
     {
@@ -97,7 +98,7 @@ impl<R: Drop, P: Drop> Outbox<R, P> {
         self.due = false;
     }
 
-    /// What is drawn next: the first reply, else the first patch, else the due snapshot. No memory is taken.
+    /// Returns the next message: the first reply, else the first patch, else the due snapshot. Allocates nothing.
     pub fn front(&self) -> Front<'_, R, P>
         ensures { shown result ≡ front_of self.now }
     {
@@ -114,7 +115,7 @@ impl<R: Drop, P: Drop> Outbox<R, P> {
         }
     }
 
-    /// Takes away what [`Outbox::front`] shows, and nothing where nothing waits. No memory is taken.
+    /// Removes the message that [`Outbox::front`] returns; changes nothing if nothing waits. Allocates nothing.
     pub fn drop_front(&mut self)
         ensures { self.new ≡ without_front self.old }
     {
@@ -123,7 +124,7 @@ impl<R: Drop, P: Drop> Outbox<R, P> {
         }
     }
 
-    /// Whether a snapshot is due. No patch waits then. No memory is taken.
+    /// Returns whether a snapshot is due. If it is, no patch waits. Allocates nothing.
     pub fn is_due(&self) -> bool
         ensures kept { IsOutbox self.now }
         ensures due { result ≡ self.now.due }
@@ -131,7 +132,7 @@ impl<R: Drop, P: Drop> Outbox<R, P> {
         self.due
     }
 
-    /// How many replies wait. No memory is taken.
+    /// Returns the number of waiting replies. Allocates nothing.
     pub fn replies(&self) -> u64
         ensures kept { IsOutbox self.now }
         ensures count { result ≡ length self.now.replies }
@@ -139,7 +140,7 @@ impl<R: Drop, P: Drop> Outbox<R, P> {
         self.replies.len() as u64
     }
 
-    /// How many patches wait. No memory is taken.
+    /// Returns the number of waiting patches. Allocates nothing.
     pub fn patches(&self) -> u64
         ensures kept { IsOutbox self.now }
         ensures count { result ≡ length self.now.patches }

@@ -26,7 +26,7 @@ at_passes act before t d c there acted =
     let a = some_ok (act t c) acted in
     is_ok_then _ _ (at_ok act before t d c a.0 (put d before a.0) there a.1 (replaced-put before a.0 d c there))
 
--- what an act that passes stands on
+-- the container in which an act passes
 pub record Passed (act : Act) (before : Path) (t : Token) (d : Document) : Type 0 where
   pub container : Document
   pub there : walk d before ≡ Ok container
@@ -40,7 +40,7 @@ passed act before t d h =
     let a = then_ok (act t w.0) (λ c'. replaced before c' d) r.0 w.2 in
     record { container = w.0; there = w.1; passes = is_ok_then _ a.0 a.1 }
 
--- a child can be dropped where it is there
+-- a child that is there can be dropped
 
 drops_element : (ds : Items) (t : Token) (o : Option ℕ) → IsOk (element ds t o) → IsOk (drop_element ds t o)
 drops_element ds t None h = cc
@@ -76,15 +76,13 @@ drop_refused (object ms) t e h = go (member_at ms t) refl h
     go (Some c) g k = cc
 drop_refused _ t e h = h
 
--- and what can be dropped is there
+-- a child that can be dropped is there
 pub droppable : (d : Document) (t : Token) → IsOk (drop_child t d) → IsOk (step d t)
 droppable d t h = go (step d t) refl
   where
     go : (r : Result Document Cause) → step d t ≡ r → IsOk r
     go (Ok c) e = refl
     go (Err c) e = let k = rw (drop_refused d t c e) at h in cc
-
--- the container is taken out, changed and put back
 
 -- an act below a part
 pub acts_below : (act : Act) (d c n later : Document) (t u : Token) (p : Path) → step d t ≡ Ok c → n ≡ with_child d t later → at_path act (u ∷ p) c ≡ Ok later → at_path act (t ∷ u ∷ p) d ≡ Ok n

@@ -1,4 +1,4 @@
--- What a change makes of a document, carried out.
+-- The document that results from making a change.
 use Rattle.std.proofs.Common.{◌≡◌, [], ◌∷◌, Bool, true, false, not, ◌&&◌, Option, Some, None, if◌then◌else◌, Result, Ok, IsOk, refl, sym, ap, subst, ◌∙◌, option_and_then}
 use Rattle.std.specs.Result.{result_ok}
 use Rattle.relay_tree.specs.Document.{Document, list, object}
@@ -14,7 +14,7 @@ use Rattle.relay_tree.proofs.Outcomes.{is_ok_then, some_ok}
 use Rattle.relay_patch.proofs.Parts.{at_index}
 use Rattle.relay_patch.proofs.Inside.{was_inside}
 
--- an act in one kind of container is the act
+-- an act that is restricted to one kind of container, and passes, is the act
 list_act : (act : Act) (t : Token) (d d' : Document) → in_list act t d ≡ Ok d' → act t d ≡ Ok d'
 list_act act t (list ds) d' h = (at_index act t (list ds) d' (index_of t) h).2
 list_act act t _ d' h = cc
@@ -47,7 +47,7 @@ inserts_plainly true path v d d' h = adds true path v d d' h
 inserts_plainly false [] v d d' h = h
 inserts_plainly false (t ∷ path) v d d' h = adds false (t ∷ path) v d d' h
 
--- what a change comes to, whatever the kinds of the containers
+-- the result of a change, for any kind of container
 abbrev pub made : Document → Change → Result Document Cause
 made d (change.Set path v) = replaced path v d
 made d (change.AddMember path v) = added path v d
@@ -83,7 +83,7 @@ makes_as c e d n is m h = makes_so c d m.0 n m.1 (rw is h)
 pub moves_as : (c : Change) (d : Document) (from to : Place) (v : Document) → c ≡ change.Move from to v → (m : CanMake d c) → Moves d from to v m.0
 moves_as c d from to v is m = subst (λ e. Makes d e m.0) is m.1
 
--- a move that carries nothing away is one within a list
+-- a move that carries nothing is one within a list
 pub stays_in_list : (c : Change) (from to : Place) (v : Document) → c ≡ change.Move from to v → carries c ≡ false → in_one_list from to ≡ true
 stays_in_list c from to v is stays = go (in_one_list from to) (rw is at stays)
   where
@@ -91,11 +91,11 @@ stays_in_list c from to v is stays = go (in_one_list from to) (rw is at stays)
     go true h = refl
     go false h = cc
 
--- what such a move gives is what the change makes
+-- the result of such a move is what the change makes
 pub slid_makes : (c : Change) (d : Document) (from to : Place) (v n : Document) → c ≡ change.Move from to v → CanMake d c → ((w next : Document) → Moves d from to w next → n ≡ next) → Makes d c n
 slid_makes c d from to v n is m made = subst (λ e. Makes d c e) (sym (made v m.0 (moves_as c d from to v is m))) m.1
 
--- it takes nothing away
+-- such a move removes and replaces nothing
 pub slid_gone : (c : Change) (d : Document) (from to : Place) (v : Document) → c ≡ change.Move from to v → carries c ≡ false → None ≡ gone d c
 slid_gone c d from to v is stays = rw is (go from.item to.item (beside from.path to.path) (stays_in_list c from to v is stays) (result_ok (at_path drop_child from.path d)))
   where
@@ -105,7 +105,7 @@ slid_gone c d from to v is stays = rw is (go from.item to.item (beside from.path
     go true false z h r = cc
     go false y z h r = cc
 
--- what goes where a value lands, in the document without it
+-- the value that a moved one replaces, in the document without the moved one
 pub move_gone : (c : Change) (d : Document) (from to : Place) (v b : Document) → c ≡ change.Move from to v → dropped from d ≡ Ok b → displaced to b ≡ gone d c
 move_gone c d from to v b is went = rw (is, plainly from.item drop_child from.path d b went) refl
 
@@ -113,7 +113,7 @@ pub move_made : (c : Change) (d : Document) (from to : Place) (v b n : Document)
 move_made c d from to v b n is m went came =
     makes_as c (change.Move from to v) d n is m (rw (plainly from.item drop_child from.path d b went) (inserts_plainly to.item to.path v b n came))
 
--- What a removal or an insertion gives, whatever the kinds of the containers.
+-- The result of a removal or an insertion, for any kind of container.
 
 pub drops_plainly : (item : Bool) (path : Path) (d : Document) → IsOk (at_path (placed item drop_child) path d) → IsOk (at_path drop_child path d)
 drops_plainly item path d h = let s = some_ok _ h in is_ok_then _ s.0 (plainly item drop_child path d s.0 s.1)

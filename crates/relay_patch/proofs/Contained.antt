@@ -1,4 +1,4 @@
--- Insertions and removals in a vector of documents, and in a map's entries.
+-- Insertions and removals in a queue of documents, and in a map's entries.
 use Rattle.std.proofs.Common.{◌≡◌, ℕ, ◌<◌, ◌≤◌, List, length, get_or, Bool, true, false, Option, Some, None, Ok, Err, IsOk, ok_or, String, Global, BTreeMap, string_bytes, refl, sym, ap, ◌∙◌, nat_le, nat_cmp, arith, slice_get}
 use Rattle.std.specs.declared.collections.VecDeque.{VecDeque}
 use Rattle.std.specs.List.{insert, remove}
@@ -89,13 +89,13 @@ member_is es k there = go (member_at (members_of es) k) there
 pub member_drops : (es : List Entry) (k : List ℕ) (v : Document) → member_at (members_of es) k ≡ Some v → drop_child k (object (members_of es)) ≡ Ok (object (members_of (remove_entry (is_at (λ l. slice_cmp nat_cmp k (string_bytes l))) es)))
 member_drops es k v there = rw (dropped_member es k v there) refl
 
--- a node that holds nothing has no part
+-- a node that is neither a list nor an object has no parts
 pub no_parts : (n : Node) (t : Token) → ((x : VecDeque Document Global) → n ≡ node.List x → ⊥) → ((x : BTreeMap (String Global) Document) → n ≡ node.Members x → ⊥) → IsOk (step (document_of n) t) → ⊥
 no_parts (node.List v) t l m h = l v refl
 no_parts (node.Members x) t l m h = m x refl
 no_parts _ t l m h = cc
 
--- what a map gives is the member
+-- a map returns the member
 pub member_taken : (es : List Entry) (k : List ℕ) (r : Option Document) → IsOk (step (object (members_of es)) k) → r ≡ lookup (is_at (λ l. slice_cmp nat_cmp k (string_bytes l))) es → (v : Document) × (r ≡ Some v) × (member_at (members_of es) k ≡ Some v)
 member_taken es k r there is =
     let m = member_is es k there in

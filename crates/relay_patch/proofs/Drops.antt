@@ -1,4 +1,4 @@
--- A container that loses a part.
+-- A container from which a part is removed.
 use Rattle.std.proofs.Common.{◌≡◌, ℕ, suc, ◌+◌, ◌-◌, ◌<◌, ◌≤◌, Bool, true, false, Option, Some, None, Ok, refl, sym, ap, ◌∙◌, bytes_eq, nat_le, nat_lt, ok_or, arith}
 use Rattle.std.proofs.lemmas.Bool.Decides.{nat_tests}
 use Rattle.relay_tree.specs.Document.{Document, list, object, Items, Members}
@@ -6,7 +6,7 @@ use Rattle.relay_tree.specs.Part.{items_length, item_at, drop_item, drop_member,
 use Rattle.relay_tree.proofs.Elements.{item_at-past, item_at-drop_below, drop_item-shorter, item_at-drop_behind}
 use Rattle.relay_tree.proofs.Members.{member_at-drop_other}
 use Rattle.relay_pointer.specs.Index.{Token, index_of}
-use Rattle.relay_patch.specs.declared.applying.spot.Spot.TheVariants as spot
+use Rattle.relay_patch.specs.declared.applying.insert_target.InsertTarget.TheVariants as insert_target
 use Rattle.relay_patch.specs.Walk.{Missing, then_do, element, step}
 use Rattle.relay_patch.specs.Patch.{drop_child, drop_element}
 use Rattle.relay_patch.specs.Steps.{insertion_index, landing_in, shifted, shifted_index}
@@ -14,7 +14,7 @@ use Rattle.relay_patch.proofs.Refusals.{then_ok, ok_or_some}
 
 -- Lists.
 
--- a list that lost an element
+-- a list from which an element was removed
 pub record Shorter (ds : Items) (t : Token) (rest : Document) : Type 0 where
   pub index : ℕ
   pub items : Items
@@ -32,7 +32,7 @@ shorter ds t rest h = go (index_of t) refl h
         let whole : Ok (list s.0) ≡ Ok rest = s.2 in
         record { index = i; items = s.0; named = e; gone = ok_or_some _ _ _ s.1; is = cc }
 
--- an object that lost a member
+-- an object from which a member was removed
 pub record Fewer (ms : Members) (t : Token) (rest : Document) : Type 0 where
   pub members : Members
   pub gone : drop_member ms t ≡ Some members
@@ -46,7 +46,7 @@ fewer ms t rest h =
 
 -- Where a token inserts.
 
-pub lands_in_shorter : (d : Document) (n k : ℕ) (gone t : Token) (rest : Document) → list_len d ≡ Some n → k ≡ n - 1 → drop_child gone d ≡ Ok rest → then_do (insertion_index k t) (λ i. Ok (spot.Item i)) ≡ landing_in rest t
+pub lands_in_shorter : (d : Document) (n k : ℕ) (gone t : Token) (rest : Document) → list_len d ≡ Some n → k ≡ n - 1 → drop_child gone d ≡ Ok rest → then_do (insertion_index k t) (λ i. Ok (insert_target.Item i)) ≡ landing_in rest t
 lands_in_shorter (list ds) n k gone t rest len one h =
     let s = shorter ds gone rest h in
     let shorter_by = (drop_item-shorter ds s.index s.items s.gone).0 in
@@ -71,7 +71,7 @@ shifts n i j k h = go (nat_le i j) (nat_lt j n) refl refl
     go true false e f = let none : None ≡ Some k = rw (e, f) at h in cc
     go false y e f = let none : None ≡ Some k = rw e at h in cc
 
--- an index that is not behind the element is before it, or past the end
+-- an index that does not shift is before the removed element or past the end, and names the same element
 stays_put : (ds es : Items) (i j : ℕ) → drop_item ds i ≡ Some es → shifted_index (items_length ds) (Some i) (Some j) ≡ None → item_at es j ≡ item_at ds j
 stays_put ds es i j gone h = go (nat_le i j) (nat_lt j (items_length ds)) refl refl
   where

@@ -1,4 +1,4 @@
--- What an exchange of a part does, and an act at a path as an exchange of the container.
+-- The effect of replacing a part, and an act at a path as a replacement of the container.
 use Rattle.std.proofs.Common.{◌≡◌, [], ◌∷◌, ◌++◌, Option, Some, Result, Ok, Err, IsOk, refl, sym, ap, ◌∙◌, IfSome}
 use Rattle.relay_tree.specs.Document.{Document}
 use Rattle.relay_pointer.specs.Index.{Token}
@@ -15,7 +15,7 @@ pub replaced-step : (t : Token) (p : Path) (v d : Document) → replaced (t ∷ 
 replaced-step t [] v d = refl
 replaced-step t (u ∷ p) v d = refl
 
--- where something stands, it can be exchanged
+-- a value that is there can be replaced
 pub replaced-put : (p : Path) (v d c : Document) → walk d p ≡ Ok c → replaced p v d ≡ Ok (put d p v)
 replaced-put [] v d c h = refl
 replaced-put (t ∷ p) v d c h =
@@ -28,7 +28,7 @@ walk-replaced (t ∷ p) v d e h =
     let w = was_inside (replaced p v) t d e (rw (replaced-step t p v d) at h) in
     rw (step-was_inside (replaced p v) t d e w) (walk-replaced p v w.before w.later w.changed)
 
--- an act at a path exchanges the container
+-- an act at a path replaces the container
 pub at_end : (act : Act) (before : Path) (t : Token) (d : Document) → at_path act (before ++ t ∷ []) d ≡ then_do (walk d before) (λ c. then_do (act t c) (λ c'. replaced before c' d))
 at_end act [] t d = go (act t d)
   where
@@ -71,14 +71,14 @@ replaced_needs p v d h = go (walk d p) refl
 pub replaced_passes : (p : Path) (v d c : Document) → walk d p ≡ Ok c → IsOk (replaced p v d)
 replaced_passes p v d c h = rw (replaced-put p v d c h) refl
 
--- what an exchange of the part at a path puts there
+-- a replacement of the part at a path puts the value there
 pub replaced-is : (p : Path) (v d e : Document) → replaced p v d ≡ Ok e → (c : Document) × (at d p ≡ Some c) × (e ≡ put d p v)
 replaced-is p v d e h =
     let c = some_ok (walk d p) (replaced_needs p v d (is_ok_then _ e h)) in
     let same : Ok e ≡ Ok (put d p v) = sym h ∙ replaced-put p v d c.0 c.1 in
     (c.0, at_reached p d c.0 c.1, cc)
 
--- a second value at the same place
+-- a second replacement at the same place
 pub replaced-twice : (p : Path) (v w d e f : Document) → replaced p v d ≡ Ok e → replaced p w e ≡ Ok f → replaced p w d ≡ Ok f
 replaced-twice p v w d e f h k =
     let c = some_ok (walk d p) (replaced_needs p v d (is_ok_then _ e h)) in
@@ -87,7 +87,7 @@ replaced-twice p v w d e f h k =
     let whole : f ≡ put d p w = second.2 ∙ ap (λ x. put x p w) first.2 ∙ put-twice d p first.0 v w first.1 in
     replaced-put p w d c.0 c.1 ∙ ap Ok (sym whole)
 
--- what the exchange of a part that is there gives
+-- the result of replacing a part that is there
 pub exchanged : (p : Path) (v d e : Document) (r : Option Document) (c : Document) → r ≡ at d p → r ≡ Some c → IfSome r (λ _. e ≡ put d p v) → IsOk (walk d p) → replaced p v d ≡ Ok e
 exchanged p v d e r c is some new there =
     let w = some_ok (walk d p) there in

@@ -1,4 +1,4 @@
--- What a change tells stands in the document before it or after it, so it is as short and as flat as these are.
+-- The paths and values of a change occur in the document before or after it, so they are within the depth of these.
 use Rattle.std.proofs.Common.{◌≡◌, ℕ, suc, ◌-◌, ◌^◌, ◌<◌, ◌≤◌, min, List, [], ◌∷◌, ◌++◌, Bool, true, false, Option, Some, None, ok_or, Ok, Err, refl, sym, ap, subst, ◌∙◌, nat_lt, if◌then◌else◌, arith}
 use Rattle.std.specs.Bool.{⊤}
 use Rattle.std.specs.List.{AllByRecursion}
@@ -27,7 +27,7 @@ use Rattle.relay_patch.proofs.Made.{effect_leads, within_same, went_on}
 use Rattle.relay_tree.proofs.Outcomes.{is_ok_then, some_ok}
 use Rattle.relay_tree.proofs.Elements.{item_at-insert_same}
 
--- What was inserted stands.
+-- An inserted value is there.
 
 element_stands : (v : Document) (t : Token) (ds es : Items) (i : ℕ) (c' : Document) → index_of t ≡ Some i → insert_item ds i v ≡ Some es → c' ≡ list es → step c' t ≡ Ok v
 element_stands v t ds es i c' named inserted is = rw (is, named, item_at-insert_same ds i v es inserted) refl
@@ -61,7 +61,7 @@ inserted_stands true path v d e h = stands_at true v path d e h
 inserted_stands false [] v d e h = sym h
 inserted_stands false (t ∷ path) v d e h = stands_at false v (t ∷ path) d e h
 
--- What was taken away stood.
+-- A removed value was there.
 pub stood_at : (b : Bool) (path : Path) (d e : Document) → at_path (placed b drop_child) path d ≡ Ok e → (v : Document) × (walk d path ≡ Ok v)
 stood_at b [] d e h = cc
 stood_at b (t ∷ path) d e h =
@@ -112,7 +112,7 @@ leads_fit [] most d e one h before later = tt
 leads_fit (c ∷ []) most d e one h before later = (makes_fit c most d h.0 h.1 before (let same = ap depth h.2 in omega (arith, same, later)), tt)
 leads_fit (c ∷ x ∷ cs) most d e one h before later = absurd one
 
--- All of them.
+-- All changes.
 
 All-append : (most : ℕ) (a b : List Change) → AllByRecursion (ChangeFits most most) a → AllByRecursion (ChangeFits most most) b → AllByRecursion (ChangeFits most most) (a ++ b)
 All-append most [] b h k = k

@@ -8,7 +8,7 @@ use Rattle.relay_patch.specs.Form.{op_at, patch_of, op_members, ops_items}
 use Rattle.relay_patch.specs.declared.limits.PatchFault.TheVariants.{TooManyOps}
 use Rattle.relay_patch.specs.declared.op.Op.{Op}
 
--- A list of few elements is read one by one; one of many is not looked at.
+-- A list within the limit is read element by element; a longer one is refused at once.
 
 pub few : (ops tokens : ℕ) (items : List Document) → length items ≤ ops → patch_of ops tokens (list (items_of items)) ≡ each_from (op_at tokens) 0 (items_of items)
 few ops tokens items h = let test : nat_lt ops (length items) ≡ false = grind (arith, nat_tests) in rw (items_length-items_of items, test) refl

@@ -1,4 +1,4 @@
--- What was done inside a part.
+-- Acts inside a part.
 use Rattle.std.proofs.Common.{◌≡◌, Result, Ok}
 use Rattle.relay_tree.specs.Document.{Document}
 use Rattle.relay_pointer.specs.Index.{Token}

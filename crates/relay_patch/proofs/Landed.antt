@@ -1,4 +1,4 @@
--- What the spot of an insertion or a removal says of the operation.
+-- What the target of an insertion or a removal implies for the operation.
 use Rattle.std.proofs.Common.{◌≡◌, ℕ, ◌<◌, [], ◌∷◌, ◌++◌, Bool, true, false, Option, Some, None, is_some, ok_or, Result, Ok, Err, IsOk, refl, sym, ap, subst, ◌∙◌, nat_le, if◌then◌else◌, arith}
 use Rattle.std.specs.Result.{result_ok}
 use Rattle.std.proofs.lemmas.Bool.Decides.{nat_tests}
@@ -11,8 +11,8 @@ use Rattle.relay_patch.specs.Place.{parent, last, place_within, place_of}
 use Rattle.relay_patch.specs.Patch.{at_path, added, insert_child, insert_element, drop_child}
 use Rattle.relay_patch.specs.Change.{added_change, removed_change}
 use Rattle.relay_patch.specs.declared.change.Change.TheVariants as change
-use Rattle.relay_patch.specs.declared.applying.spot.Spot.TheVariants as spot
-use Rattle.relay_patch.specs.Steps.{Spot, index_within, insertion_index, landing_in, landing, is_list, standing_in, standing, final, is_item, landed, insertion, removal}
+use Rattle.relay_patch.specs.declared.applying.insert_target.InsertTarget.TheVariants as insert_target
+use Rattle.relay_patch.specs.Steps.{InsertTarget, index_within, insertion_index, landing_in, landing, is_list, standing_in, standing, final, is_item, landed, insertion, removal}
 use Rattle.relay_patch.proofs.Refusals.{then_ok, ok_or_found}
 use Rattle.relay_patch.proofs.Walks.{at_reached}
 use Rattle.relay_patch.proofs.Parts.{no_dash}
@@ -66,19 +66,19 @@ not_then : {A B : Type 0} (r : Result A Cause) (f : A → Result B Cause) (e : C
 not_then (Ok x) f e h never = absurd (never x h)
 not_then (Err c) f e h never = cc
 
-landing_in_passes : (c : Document) (t : Token) (s : Spot) → landing_in c t ≡ Ok s → (v : Document) → IsOk (insert_child v t c)
-landing_in_passes (list ds) t s h v = let r = then_ok (insertion_index (items_length ds) t) (λ i. Ok (spot.Item i)) s h in list_passes ds t r.0 r.1 v
+landing_in_passes : (c : Document) (t : Token) (s : InsertTarget) → landing_in c t ≡ Ok s → (v : Document) → IsOk (insert_child v t c)
+landing_in_passes (list ds) t s h v = let r = then_ok (insertion_index (items_length ds) t) (λ i. Ok (insert_target.Item i)) s h in list_passes ds t r.0 r.1 v
 landing_in_passes (object ms) t s h v = refl
 landing_in_passes _ t s h v = cc
 
 landing_in_refuses : (c : Document) (t : Token) (e : Cause) → landing_in c t ≡ Err e → (v : Document) → insert_child v t c ≡ Err e
-landing_in_refuses (list ds) t e h v = list_refuses ds t e (not_then (insertion_index (items_length ds) t) (λ i. Ok (spot.Item i)) e h (λ i k. cc)) v
+landing_in_refuses (list ds) t e h v = list_refuses ds t e (not_then (insertion_index (items_length ds) t) (λ i. Ok (insert_target.Item i)) e h (λ i k. cc)) v
 landing_in_refuses (object ms) t e h v = cc
 landing_in_refuses _ t e h v = let same : NoContainer ≡ e = cc in ap Err same
 
 -- Insertions at a path.
 
-pub landing_passes : (path : Path) (d : Document) (s : Spot) → landing d path ≡ Ok s → (v : Document) → IsOk (added path v d)
+pub landing_passes : (path : Path) (d : Document) (s : InsertTarget) → landing d path ≡ Ok s → (v : Document) → IsOk (added path v d)
 landing_passes [] d s h v = refl
 landing_passes (t ∷ path) d s h v =
     let r = then_ok (walk d (parent t path)) (λ c. landing_in c (last t path)) s h in
@@ -92,56 +92,56 @@ landing_refuses (t ∷ path) d e h v = subst (λ p. at_path (insert_child v) p d
     go (Ok c) there k = at_stops (insert_child v) (parent t path) (last t path) d c e there (landing_in_refuses c (last t path) e k v)
     go (Err x) there k = let same : x ≡ e = cc in at_no_container (insert_child v) (parent t path) (last t path) d e (there ∙ ap Err same)
 
-abbrev SpotIs : ℕ → Spot → Type 0
-SpotIs i s = spot.Item i ≡ s
+abbrev SpotIs : ℕ → InsertTarget → Type 0
+SpotIs i s = insert_target.Item i ≡ s
 
-landed_in : (c : Document) (before : Path) (t : Token) (s : Spot) → landing_in c t ≡ Ok s → record { path = before ++ final s t ∷ []; item = is_item s } ≡ place_within (Some c) before t
-landed_in (list ds) before t s h = let r = then_ok (insertion_index (items_length ds) t) (λ i. Ok (spot.Item i)) s h in let k = r.2 in let is : spot.Item r.0 ≡ s = cc in go (is_dash t) refl r.0 r.1 is
+landed_in : (c : Document) (before : Path) (t : Token) (s : InsertTarget) → landing_in c t ≡ Ok s → record { path = before ++ final s t ∷ []; item = is_item s } ≡ place_within (Some c) before t
+landed_in (list ds) before t s h = let r = then_ok (insertion_index (items_length ds) t) (λ i. Ok (insert_target.Item i)) s h in let k = r.2 in let is : insert_target.Item r.0 ≡ s = cc in go (is_dash t) refl r.0 r.1 is
   where
     go : (x : Bool) → is_dash t ≡ x → (i : ℕ) → insertion_index (items_length ds) t ≡ Ok i → SpotIs i s → record { path = before ++ final s t ∷ []; item = is_item s } ≡ place_within (Some (list ds)) before t
     go true e i k w =
-        let is : s ≡ spot.Item i = sym w in
+        let is : s ≡ insert_target.Item i = sym w in
         let end : Ok (items_length ds) ≡ Ok i = rw e at k in
         let same : i ≡ items_length ds = cc in
         rw (is, same, e) refl
-    go false e i k w = let is : s ≡ spot.Item i = sym w in rw (is, e) refl
-landed_in (object ms) before t s h = let is : s ≡ spot.Member (is_some (member_at ms t)) = cc in rw is refl
+    go false e i k w = let is : s ≡ insert_target.Item i = sym w in rw (is, e) refl
+landed_in (object ms) before t s h = let is : s ≡ insert_target.Member (is_some (member_at ms t)) = cc in rw is refl
 landed_in null before t s h = cc
 landed_in (truth b) before t s h = cc
 landed_in (whole z) before t s h = cc
 landed_in (text x) before t s h = cc
 
-pub landed-place : (path : Path) (d : Document) (s : Spot) → landing d path ≡ Ok s → landed s path ≡ place_of d path
-landed-place [] d s h = let is : s ≡ spot.Root = cc in rw is refl
+pub landed-place : (path : Path) (d : Document) (s : InsertTarget) → landing d path ≡ Ok s → landed s path ≡ place_of d path
+landed-place [] d s h = let is : s ≡ insert_target.Root = cc in rw is refl
 landed-place (t ∷ path) d s h =
     let r = then_ok (walk d (parent t path)) (λ c. landing_in c (last t path)) s h in
     rw (at_reached (parent t path) d r.0 r.1) (landed_in r.0 (parent t path) (last t path) s r.2)
 
-there_in : (c : Document) (t : Token) (b : Bool) → landing_in c t ≡ Ok (spot.Member b) → is_some (result_ok (step c t)) ≡ b
+there_in : (c : Document) (t : Token) (b : Bool) → landing_in c t ≡ Ok (insert_target.Member b) → is_some (result_ok (step c t)) ≡ b
 there_in (object ms) t b h = let is : is_some (member_at ms t) ≡ b = cc in ap is_some (ok_or_found (member_at ms t) Missing) ∙ is
-there_in (list ds) t b h = let r = then_ok (insertion_index (items_length ds) t) (λ i. Ok (spot.Item i)) (spot.Member b) h in let k = r.2 in cc
+there_in (list ds) t b h = let r = then_ok (insertion_index (items_length ds) t) (λ i. Ok (insert_target.Item i)) (insert_target.Member b) h in let k = r.2 in cc
 there_in _ t b h = cc
 
-no_root_in : (c : Document) (t : Token) → landing_in c t ≡ Ok spot.Root → ⊥
-no_root_in (list ds) t h = let r = then_ok (insertion_index (items_length ds) t) (λ i. Ok (spot.Item i)) spot.Root h in let k = r.2 in cc
+no_root_in : (c : Document) (t : Token) → landing_in c t ≡ Ok insert_target.Root → ⊥
+no_root_in (list ds) t h = let r = then_ok (insertion_index (items_length ds) t) (λ i. Ok (insert_target.Item i)) insert_target.Root h in let k = r.2 in cc
 no_root_in _ t h = cc
 
 -- the change of an addition
-pub insertion-change : (path : Path) (d : Document) (s : Spot) (v : Document) → landing d path ≡ Ok s → insertion s (landed s path).path v ≡ added_change d path (place_of d path) v
-insertion-change [] d s v h = let is : s ≡ spot.Root = cc in rw is refl
+pub insertion-change : (path : Path) (d : Document) (s : InsertTarget) (v : Document) → landing d path ≡ Ok s → insertion s (landed s path).path v ≡ added_change d path (place_of d path) v
+insertion-change [] d s v h = let is : s ≡ insert_target.Root = cc in rw is refl
 insertion-change (t ∷ path) d s v h = rw (← landed-place (t ∷ path) d s h) (go s h)
   where
-    go : (s : Spot) → landing d (t ∷ path) ≡ Ok s → insertion s (landed s (t ∷ path)).path v ≡ added_change d (t ∷ path) (landed s (t ∷ path)) v
-    go spot.Root h = let r = then_ok (walk d (parent t path)) (λ c. landing_in c (last t path)) spot.Root h in absurd (no_root_in r.0 (last t path) r.2)
-    go (spot.Member true) h =
-        let r = then_ok (walk d (parent t path)) (λ c. landing_in c (last t path)) (spot.Member true) h in
+    go : (s : InsertTarget) → landing d (t ∷ path) ≡ Ok s → insertion s (landed s (t ∷ path)).path v ≡ added_change d (t ∷ path) (landed s (t ∷ path)) v
+    go insert_target.Root h = let r = then_ok (walk d (parent t path)) (λ c. landing_in c (last t path)) insert_target.Root h in absurd (no_root_in r.0 (last t path) r.2)
+    go (insert_target.Member true) h =
+        let r = then_ok (walk d (parent t path)) (λ c. landing_in c (last t path)) (insert_target.Member true) h in
         let there : is_some (at d (t ∷ path)) ≡ true = ap is_some (at_last d r.0 t path r.1) ∙ there_in r.0 (last t path) true r.2 in
         rw (there, parent-last t path) refl
-    go (spot.Member false) h =
-        let r = then_ok (walk d (parent t path)) (λ c. landing_in c (last t path)) (spot.Member false) h in
+    go (insert_target.Member false) h =
+        let r = then_ok (walk d (parent t path)) (λ c. landing_in c (last t path)) (insert_target.Member false) h in
         let there : is_some (at d (t ∷ path)) ≡ false = ap is_some (at_last d r.0 t path r.1) ∙ there_in r.0 (last t path) false r.2 in
         rw (there, parent-last t path) refl
-    go (spot.Item i) h = refl
+    go (insert_target.Item i) h = refl
 
 -- Removals.
 
@@ -192,6 +192,6 @@ removal-change path d b h = rw (standing-place path d b h) (go b)
     go true = refl
     go false = refl
 
-pub placed_at : (s : Spot) (path before made : Path) (t : Token) → path ≡ before ++ t ∷ [] → made ≡ before ++ final s t ∷ [] → record { path = made; item = is_item s } ≡ landed s path
+pub placed_at : (s : InsertTarget) (path before made : Path) (t : Token) → path ≡ before ++ t ∷ [] → made ≡ before ++ final s t ∷ [] → record { path = made; item = is_item s } ≡ landed s path
 placed_at s path [] made t is h = rw (is, h) refl
 placed_at s path (u ∷ before) made t is h = rw (is, h, parent_end u before t, last_end u before t) refl

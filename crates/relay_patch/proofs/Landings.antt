@@ -1,4 +1,4 @@
--- Where an insertion goes in a document that lost a part.
+-- Where an insertion goes in a document from which a part was removed.
 use Rattle.std.proofs.Common.{◌≡◌, [], ◌∷◌, Bool, true, false, Result, Ok, Err, refl, sym, ap, ◌∙◌, bytes_eq}
 use Rattle.relay_tree.specs.Document.{Document, list, object}
 use Rattle.relay_tree.proofs.Names.{equal_bytes}
@@ -7,15 +7,13 @@ use Rattle.relay_pointer.specs.Path.{Path, with_child}
 use Rattle.relay_patch.specs.Walk.{Cause, then_do, step, walk}
 use Rattle.relay_patch.specs.Place.{parent, last}
 use Rattle.relay_patch.specs.Patch.{at_path, below, drop_child}
-use Rattle.relay_patch.specs.Steps.{Spot, landing_in, landing}
+use Rattle.relay_patch.specs.Steps.{InsertTarget, landing_in, landing}
 use Rattle.relay_patch.proofs.Parts.{step-with_other}
 use Rattle.relay_patch.proofs.Inside.{was_inside, step-was_inside}
 use Rattle.relay_pointer.proofs.Puts.{put_element-length}
 use Rattle.relay_tree.proofs.Members.{set_member-names}
 
--- Slices of tokens.
-
--- A part that was exchanged leaves its container's length and names.
+-- Replacing a part keeps the length and the names of its container.
 landing_in-with_child : (d : Document) (g u : Token) (e : Document) → landing_in (with_child d g e) u ≡ landing_in d u
 landing_in-with_child (list ds) g u e = rw (put_element-length ds (index_of g) e) refl
 landing_in-with_child (object ms) g u e = rw (set_member-names ms g u e) refl
@@ -30,18 +28,18 @@ landing-step d u w ws = go (step d u)
 
 -- The cases of both paths.
 
-pub path_ends : (from path : Path) (g h u : Token) (hs : Path) (d : Document) (r : Result Spot Cause) → from ≡ g ∷ h ∷ hs → path ≡ u ∷ [] → r ≡ landing_in d u → (rest : Document) → at_path drop_child from d ≡ Ok rest → r ≡ landing rest path
+pub path_ends : (from path : Path) (g h u : Token) (hs : Path) (d : Document) (r : Result InsertTarget Cause) → from ≡ g ∷ h ∷ hs → path ≡ u ∷ [] → r ≡ landing_in d u → (rest : Document) → at_path drop_child from d ≡ Ok rest → r ≡ landing rest path
 path_ends from path g h u hs d r is goes lands rest dropped =
     let w = was_inside (below drop_child h hs) g d rest (rw is at dropped) in
     rw (goes, w.whole, landing_in-with_child d g u w.later) lands
 
-pub from_ends : (from path : Path) (g u w : Token) (ws : Path) (d part : Document) (r : Result Spot Cause) → from ≡ g ∷ [] → path ≡ u ∷ w ∷ ws → ((rest : Document) → drop_child g d ≡ Ok rest → step rest u ≡ Ok part) → r ≡ landing part (w ∷ ws) → (rest : Document) → at_path drop_child from d ≡ Ok rest → r ≡ landing rest path
+pub from_ends : (from path : Path) (g u w : Token) (ws : Path) (d part : Document) (r : Result InsertTarget Cause) → from ≡ g ∷ [] → path ≡ u ∷ w ∷ ws → ((rest : Document) → drop_child g d ≡ Ok rest → step rest u ≡ Ok part) → r ≡ landing part (w ∷ ws) → (rest : Document) → at_path drop_child from d ≡ Ok rest → r ≡ landing rest path
 from_ends from path g u w ws d part r is goes steps lands rest dropped = rw (goes, landing-step rest u w ws, steps rest (rw is at dropped)) lands
 
 pub from_ends_refused : (from path : Path) (g u w : Token) (ws : Path) (d : Document) (e : Cause) → from ≡ g ∷ [] → path ≡ u ∷ w ∷ ws → ((rest : Document) → drop_child g d ≡ Ok rest → step rest u ≡ Err e) → (rest : Document) → at_path drop_child from d ≡ Ok rest → Err e ≡ landing rest path
 from_ends_refused from path g u w ws d e is goes steps rest dropped = rw (goes, landing-step rest u w ws, steps rest (rw is at dropped)) refl
 
-pub both_go_on : (from path : Path) (g h u w : Token) (hs ws : Path) (d part : Document) (r : Result Spot Cause) → from ≡ g ∷ h ∷ hs → path ≡ u ∷ w ∷ ws → g ≡ u → step d u ≡ Ok part → ((rest : Document) → at_path drop_child (h ∷ hs) part ≡ Ok rest → r ≡ landing rest (w ∷ ws)) → (rest : Document) → at_path drop_child from d ≡ Ok rest → r ≡ landing rest path
+pub both_go_on : (from path : Path) (g h u w : Token) (hs ws : Path) (d part : Document) (r : Result InsertTarget Cause) → from ≡ g ∷ h ∷ hs → path ≡ u ∷ w ∷ ws → g ≡ u → step d u ≡ Ok part → ((rest : Document) → at_path drop_child (h ∷ hs) part ≡ Ok rest → r ≡ landing rest (w ∷ ws)) → (rest : Document) → at_path drop_child from d ≡ Ok rest → r ≡ landing rest path
 both_go_on from path g h u w hs ws d part r is goes same there lands rest dropped =
     let i = was_inside (below drop_child h hs) g d rest (rw is at dropped) in
     let stood : Ok i.before ≡ Ok part = sym i.stood ∙ ap (step d) same ∙ there in
@@ -54,7 +52,7 @@ apart_step from g h u hs d rest is other dropped =
     let i = was_inside (below drop_child h hs) g d rest (rw is at dropped) in
     rw i.whole (step-with_other d g u i.later other)
 
-pub paths_part : (from path : Path) (g h u w : Token) (hs ws : Path) (d part : Document) (r : Result Spot Cause) → from ≡ g ∷ h ∷ hs → path ≡ u ∷ w ∷ ws → bytes_eq g u ≡ false → step d u ≡ Ok part → r ≡ landing part (w ∷ ws) → (rest : Document) → at_path drop_child from d ≡ Ok rest → r ≡ landing rest path
+pub paths_part : (from path : Path) (g h u w : Token) (hs ws : Path) (d part : Document) (r : Result InsertTarget Cause) → from ≡ g ∷ h ∷ hs → path ≡ u ∷ w ∷ ws → bytes_eq g u ≡ false → step d u ≡ Ok part → r ≡ landing part (w ∷ ws) → (rest : Document) → at_path drop_child from d ≡ Ok rest → r ≡ landing rest path
 paths_part from path g h u w hs ws d part r is goes other there lands rest dropped =
     rw (goes, landing-step rest u w ws, apart_step from g h u hs d rest is other dropped, there) lands
 

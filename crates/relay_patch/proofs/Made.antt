@@ -30,7 +30,7 @@ some_place : (v : Document) (ds : Items) (o : Option ℕ) (d : Document) → ins
 some_place v ds None d h = cc
 some_place v ds (Some i) d h = (i, refl)
 
--- an insertion into a list is one at the canonical index
+-- an insertion into a list is an insertion at the canonical index
 insert_canonical : (v : Document) (ds : Items) (t : Token) (d : Document) → insert_child v t (list ds) ≡ Ok d → in_list (insert_child v) (canonical ds t) (list ds) ≡ Ok d
 insert_canonical v ds t d h =
     let s = some_place v ds (place_in ds t) d h in
@@ -63,7 +63,7 @@ drop_in_list ds t d h = let s = some_index ds t (index_of t) d h in rw s.1 h
 canonical_index : (ds : Items) (t : Token) (d : Document) → drop_child t (list ds) ≡ Ok d → canonical ds t ≡ t
 canonical_index ds t d h = let s = some_index ds t (index_of t) d h in rw (no_dash t s.0 s.1) refl
 
--- what is dropped is at a canonical path
+-- a part that is dropped is at a canonical path
 pub record DropsAt (place : Place) (path : Path) (d d' : Document) : Type 0 where
   pub plain : place.path ≡ path
   pub gone : dropped place d ≡ Ok d'
@@ -90,7 +90,7 @@ pub at_last : (d c : Document) (t : Token) (path : Path) → walk d (parent t pa
 at_last d c t path h =
     ap (at d) (sym (parent-last t path)) ∙ (sym (at-walk (parent t path ++ last t path ∷ []) d) ∙ ap result_ok (walk-append (parent t path) (last t path ∷ []) d) ∙ rw h (ap result_ok (then_itself (step c (last t path)))))
 
--- a path at which something stands, or stood not, in an object
+-- an addition in an object that has or lacks a member of that name
 add_in_object : (v d d' : Document) (t : Token) (path : Path) (ms : Members) (later : Document) (found : Option Document) → member_at ms (last t path) ≡ found → at d (t ∷ path) ≡ found → insert_child v (last t path) (object ms) ≡ Ok later → ((other : Act) (u : Token) → other u (object ms) ≡ Ok later → at_path other (parent t path ++ u ∷ []) d ≡ Ok d') → Makes d (if is_some (at d (t ∷ path)) then change.Set (t ∷ path) v else change.AddMember (t ∷ path) v) d'
 add_in_object v d d' t path ms later None here there h alike =
     rw there (there, subst (λ p. at_path (in_object (insert_child v)) p d ≡ Ok d') (parent-last t path) (alike (in_object (insert_child v)) (last t path) h))

@@ -1,4 +1,4 @@
--- How deep and how heavy a document is after a change, from what the change brought and took.
+-- The depth and the weight of a document after a change, from what the change added and removed.
 use Rattle.std.proofs.Common.{◌≡◌, ℕ, suc, ◌+◌, ◌-◌, ◌^◌, ◌<◌, ◌≤◌, max, List, [], ◌∷◌, ◌++◌, length, Bool, true, false, Option, Some, None, Result, Ok, Err, ok_or, refl, sym, ap, subst, ◌∙◌, bytes_eq, if◌then◌else◌, nat_lt, IsOk, String, Global, string_bytes, get_or, take, OnOk, arith, IfOk}
 use Rattle.relay_tree.specs.Document.{Document, null, list, object, Items, Members, no_members, member, depth, weight, items_weight, members_weight}
 use Rattle.relay_tree.specs.Part.{insert_item, drop_item, member_at, set_member, put_member, drop_member}
@@ -28,7 +28,7 @@ use Rattle.relay_pointer.proofs.Tokens.{tokens_back}
 use Rattle.relay_tree.proofs.Sizes.{weight-least, put_item-weight, insert_item-sizes, add_member-weight, put_member-depth, drop_item-sizes, drop_member-sizes}
 use Rattle.relay_pointer.proofs.Puts.{with_child-depth}
 
--- A part exchanged.
+-- A part replaced.
 
 member_weighs : (ms : Members) (k : List ℕ) (c e : Document) → member_at ms k ≡ Some c → members_weight (set_member ms k e) + weight c ≡ members_weight ms + weight e
 member_weighs no_members k c e h = cc
@@ -47,7 +47,7 @@ child_weighs (list ds) t c e h = let w = element_weighs ds t (index_of t) c e h 
 child_weighs (object ms) t c e h = let w = member_weighs ms t c e (ok_or_some _ _ _ h) in omega (arith, w)
 child_weighs _ t c e h = cc
 
--- the whole changes by what the part changes
+-- the weight of the whole changes by as much as that of the part
 pub replaced_weighs : (p : Path) (v d c e : Document) → walk d p ≡ Ok c → replaced p v d ≡ Ok e → weight e + weight c ≡ weight d + weight v
 replaced_weighs [] v d c e h k = let a : d ≡ c = cc in let b : v ≡ e = cc in let x = ap weight a in let y = ap weight b in omega (arith, x, y)
 replaced_weighs (t ∷ p) v d c e h k =
@@ -55,7 +55,7 @@ replaced_weighs (t ∷ p) v d c e h k =
     let there : walk w.before p ≡ Ok c = rw w.stood at h in
     omega (arith, replaced_weighs p v w.before c w.later there w.changed, child_weighs d t w.before w.later w.stood, ap weight w.whole)
 
--- a document within a bound stays within it where the new part, at its place, does
+-- the document is no deeper than before, or than the new part at its place reaches
 pub replaced_deep : (p : Path) (v d e : Document) → replaced p v d ≡ Ok e → depth e ≤ max (depth d) (length p + depth v)
 replaced_deep [] v d e k = let b : v ≡ e = cc in let y = ap depth b in omega (arith, y)
 replaced_deep (t ∷ p) v d e k =
@@ -71,9 +71,8 @@ name_weight-end (u ∷ before) t = ap length (last_end u before t)
 pub tokens_named : (ts : List (String Global)) (t : String Global) → 1 ≤ length ts → t ≡ get_or ts (length ts - 1) t → name_weight (path_of ts) ≡ length (string_bytes t)
 tokens_named ts t h is = ap name_weight (tokens_back ts t h is) ∙ name_weight-end (path_of (take (length ts - 1) ts)) (string_bytes t)
 
--- An element or a member inserted.
+-- An element or a member inserted or dropped.
 
--- An element or a member dropped.
 -- In a container.
 inserted_in_list : (v : Document) (t : Token) (c c' : Document) → in_list (insert_child v) t c ≡ Ok c' → (weight c' ≡ weight c + weight v) × (depth c' ≤ max (depth c) (suc (depth v)))
 inserted_in_list v t (list ds) c' h =
@@ -124,7 +123,7 @@ parent_length : (t : Token) (path : Path) → length (parent t path) ≡ length 
 parent_length t [] = refl
 parent_length t (u ∷ path) = ap suc (parent_length u path)
 
--- the container that was exchanged for another
+-- the container that was replaced by another
 record Ended (act : Act) (t : Token) (path : Path) (d e : Document) : Type 0 where
   pub container : Document
   pub later : Document
@@ -140,7 +139,7 @@ ended act t path d e h =
     let a = then_ok (act (last t path) w.0) (λ c'. replaced (parent t path) c' d) e w.2 in
     record { container = w.0; later = a.0; there = w.1; acted = a.1; back = a.2 }
 
--- the whole gains and loses what the container does
+-- the whole gains and loses as much as the container
 ended_weighs : (act : Act) (t : Token) (path : Path) (d e : Document) → (m : Ended act t path d e) → weight e + weight m.container ≡ weight d + weight m.later
 ended_weighs act t path d e m = replaced_weighs (parent t path) m.later d m.container e m.there m.back
 
@@ -197,7 +196,7 @@ dropped_weighs false (t ∷ path) d e v h there =
     let c = dropped_from_object (last t path) m.container m.later v m.acted (step_last t path d m.container v m.there there) in
     (omega (arith, ended_weighs (in_object drop_child) t path d e m, c.0), ended_flat (in_object drop_child) t path d e m c.1)
 
--- What a path leads to weighs no more than the whole.
+-- The value to which a path leads weighs no more than the whole.
 
 part_fits : (path : Path) (d v : Document) → walk d path ≡ Ok v → weight v ≤ weight d
 part_fits path d v h =
@@ -248,7 +247,7 @@ makes_weigh (change.DropItem path) d e m =
 makes_weigh (change.Move from to v) d e m = move_weighs from to v d e m
 makes_weigh (change.Copy from to v) d e m = let w = inserted_weighs to v d e m.1 in (displaced_fits to d, omega (arith, w))
 
--- no deeper than the document before, or than what came stands
+-- the document is no deeper than before, or than the added value reaches
 makes_deep : (c : Change) (d e : Document) → Makes d c e → depth e ≤ max (depth d) (reach c)
 makes_deep (change.Set path v) d e m = replaced_deep path v d e m
 makes_deep (change.AddMember path v) d e m = member_deeper path m.1
@@ -263,7 +262,7 @@ makes_deep (change.Move from to v) d e m =
     omega (arith, (dropped_weighs from.item from.path d m.between v m.went m.there).1, inserted_deep to.item to.path v m.between e m.came)
 makes_deep (change.Copy from to v) d e m = inserted_deep to.item to.path v d e m.1
 
--- what came stands
+-- the document is at least as deep as the added value reaches
 makes_stand : (c : Change) (d e : Document) → Makes d c e → reach c ≤ depth e
 makes_stand (change.Set path v) d e m = walk_depth path e v (walk-replaced path v d e m)
 makes_stand (change.AddMember path v) d e m = walk_depth path e v (stands_at false v path d e m.1)
@@ -287,7 +286,7 @@ unbounded most a b h =
     let y : exceeds most b ≡ false = grind (arith, nat_tests) in
     x ∙ sym y
 
--- a document within the bounds is within them after a change where the change is
+-- a document that was within the bounds is within them after a change exactly if the change is judged to be
 judgement : (c : Change) (bounds : Bounds) (d e : Document) (n : ℕ) → Makes d c e → within bounds d ≡ Ok d → (bounds.weight < 2 ^ 64 - 1 → weight e ≡ n) → within bounds e ≡ then_do (judged bounds c n) (λ _. Ok e)
 judgement c bounds d e n m kept known =
     let flat = (not_refused (exceeds bounds.depth (depth d)) TooDeep (if exceeds bounds.weight (weight d) then Err TooHeavy else Ok d) d kept).0 in
@@ -302,7 +301,7 @@ judgement c bounds d e n m kept known =
     go false true = refl
     go _ _ = refl
 
--- A document of which the weight before the change is known.
+-- A document whose weight before the change is known.
 
 pub lost_known : (bounds : Bounds) (n : ℕ) (c : Change) (went : Option Document) (d : Document) → Became bounds (Some n) c went d → bounds.weight < 2 ^ 64 - 1 → lost c went ≤ n
 lost_known bounds n c went d b small =
@@ -322,7 +321,7 @@ judged_fit bounds n c went d b h = let s = some_ok _ h in judged_known bounds n 
 pub judged_excess : (bounds : Bounds) (n : ℕ) (c : Change) (went : Option Document) (d : Document) (cause : Cause) → Became bounds (Some n) c went d → judged bounds c (n - lost c went + gained c went) ≡ Err cause → within bounds d ≡ Err cause
 judged_excess bounds n c went d cause b h = judged_known bounds n c went d b ∙ rw h refl
 
--- what a judgement foresees
+-- what a judgement predicts
 pub foreseen : (bounds : Bounds) (n : ℕ) (c : Change) (went : Option Document) (r : Result ℕ Cause) → OnOk r (IsOk (judged bounds c (n - lost c went + gained c went))) → IfOk r (λ m. bounds.weight < 2 ^ 64 - 1 → m ≡ n - lost c went + gained c went) → IfOk r (λ m. (next : Document) → Became bounds (Some n) c went next → Known bounds next (Some m))
 foreseen bounds n c went (Ok m) fits same = λ next b. (judged_fit bounds n c went next b fits, λ small. same small ∙ sym (weight_known bounds n c went next b small))
 foreseen bounds n c went (Err e) fits same = tt

@@ -1,4 +1,4 @@
--- What a move did.
+-- The effect of a move.
 use Rattle.std.proofs.Common.{◌≡◌, ◌∷◌, false, Ok, Err, if◌then◌else◌}
 use Rattle.relay_tree.specs.Document.{Document}
 use Rattle.relay_pointer.specs.Index.{Token}
@@ -8,7 +8,7 @@ use Rattle.relay_patch.specs.Place.{place_of}
 use Rattle.relay_patch.specs.Patch.{below, drop_child, added, moved, effect, Move}
 use Rattle.relay_patch.proofs.Refusals.{then_ok, not_refused}
 
--- what a move that passes did
+-- the effect of a move that passes
 pub record DidMove (f : Token) (from : Path) (path : Path) (c c' : Document) : Type 0 where
   pub value : Document
   pub between : Document

@@ -1,4 +1,4 @@
--- Which operation a fault names: one of the patch. And how many operations a patch has that was read.
+-- A fault names an operation of the patch, and a patch that was read is within its limit of operations.
 use Rattle.std.proofs.Common.{◌≡◌, ℕ, suc, ◌+◌, ◌<◌, ◌≤◌, List, [], ◌∷◌, length, Bool, true, false, Option, Some, None, Result, Ok, Err, nat_le, if◌then◌else◌, refl, subst, arith, IfOk, IfErr, codes}
 use Rattle.relay_tree.specs.Document.{Document, list}
 use Rattle.relay_tree.specs.Part.{object_member, text_in}
@@ -30,8 +30,6 @@ pub after-place : (d : Document) (ops : List Op) (bounds : Bounds) (fault : Appl
 after-place d ops bounds fault h =
     let place : fault.at < 0 + length ops = subst (λ r. IfErr r (λ e. e.at < 0 + length ops)) h (after_from-place 0 bounds d ops) in
     omega (arith, place)
-
--- A list that is read element by element, where each refused element is named by its place.
 
 -- A document that is read as a patch.
 
@@ -80,18 +78,18 @@ kind-names kind.Move most n value from path = sourced-names most n from path _
 kind-names kind.Copy most n value from path = sourced-names most n from path _
 kind-names _ most n value from path = valued-names most n value path _
 
--- an element that is no operation is named by its place
+-- the fault of an element that is not an operation names its place
 op_at-names : (most n : ℕ) (d : Document) → IfErr (op_at most n d) (Names n)
 op_at-names most n d =
     part-names n (text_in d (codes "op")) (Shape (Some n)) _ refl (λ name. part-names n (kind_of name) (UnknownOp n) _ refl (λ k.
     part-names n (text_in d (codes "path")) (Shape (Some n)) _ refl (λ path. kind-names k most n (object_member d (codes "value")) (text_in d (codes "from")) path)))
 
--- a patch that was read has no more operations than it may
+-- a patch that was read has no more operations than its limit
 pub patch_of-length : (ops tokens : ℕ) (d : Document) → IfOk (patch_of ops tokens d) (λ xs. length xs ≤ ops)
 patch_of-length ops tokens (list ds) = few-length (op_at tokens) ops TooManyOps ds
 patch_of-length ops tokens _ = tt
 
--- one that was refused for an operation, for one of so many
+-- a fault of an operation names one within the limit
 pub patch_of-place : (ops tokens : ℕ) (d : Document) → IfErr (patch_of ops tokens d) (λ fault. IsBelow ops (place fault))
 patch_of-place ops tokens (list ds) = few-place (op_at tokens) place (op_at-names tokens) ops TooManyOps tt ds
 patch_of-place ops tokens _ = tt

@@ -1,4 +1,4 @@
--- A value put where a member stands.
+-- A value put at a place that has a member.
 use Rattle.std.proofs.Common.{◌≡◌, [], ◌∷◌, Bool, true, false, Option, Some, None, Ok, IsOk, refl, sym, subst, ◌∙◌, if◌then◌else◌, is_some}
 use Rattle.relay_tree.specs.Document.{Document, object}
 use Rattle.relay_tree.specs.Part.{set_member}
@@ -17,7 +17,7 @@ use Rattle.relay_patch.proofs.Walks.{was_found, at_reached}
 use Rattle.relay_patch.proofs.Exchanges.{replaced_needs}
 use Rattle.relay_tree.proofs.Outcomes.{some_ok, is_ok_then}
 
--- to put a member that is there is to set it
+-- putting a member that exists sets it
 put_sets : (v : Document) (t : Token) (c c' w : Document) → in_object (insert_child v) t c ≡ Ok c' → step c t ≡ Ok w → set_child v t c ≡ Ok c'
 put_sets v t (object ms) c' w h there =
     let found = ok_or_some _ _ _ there in
@@ -52,7 +52,7 @@ taken_put place v d n is h new =
     let e = some_ok _ h in
     inserts_plainly place.item place.path v d e.0 e.1 ∙ (sym (sets place v d e.0 w.0 w.1 e.1) ∙ new)
 
--- what stood there
+-- the value that was there
 pub taken_is : (place : Place) (d w : Document) → is_some (displaced place d) ≡ true → walk d place.path ≡ Ok w → Some w ≡ displaced place d
 taken_is place d w is there = go place.item is
   where

@@ -1,4 +1,4 @@
--- What the checks of a replacement, a copy and a move say of the operation and its change.
+-- What the checks of a replacement, a copy and a move imply for the operation and its change.
 use Rattle.std.proofs.Common.{◌≡◌, [], ◌∷◌, ◌++◌, Bool, true, false, Ok, Err, IsOk, refl, sym, ap, subst, ◌∙◌}
 use Rattle.relay_tree.specs.Document.{Document}
 use Rattle.relay_pointer.specs.Index.{Token}
@@ -8,7 +8,7 @@ use Rattle.relay_patch.specs.Place.{parent, last, place_of}
 use Rattle.relay_patch.specs.Patch.{at_path, drop_child, added, effect, Move, Copy}
 use Rattle.relay_patch.specs.Change.{changes_of}
 use Rattle.relay_patch.specs.declared.change.Change.TheVariants as change
-use Rattle.relay_patch.specs.Steps.{Spot, landing, landed}
+use Rattle.relay_patch.specs.Steps.{InsertTarget, landing, landed}
 use Rattle.relay_patch.proofs.Refusals.{then_ok, then_itself}
 use Rattle.relay_patch.proofs.Walks.{at_reached, walk-append}
 use Rattle.relay_patch.proofs.Sites.{parent-last}
@@ -22,18 +22,18 @@ use Rattle.relay_tree.proofs.Outcomes.{is_ok_then, some_ok}
 copy_is : (from path : Path) (d v : Document) → walk d from ≡ Ok v → effect d (Copy from path) ≡ added path v d
 copy_is from path d v there = rw there refl
 
-pub copy_passes : (from path : Path) (d v : Document) (s : Spot) → walk d from ≡ Ok v → landing d path ≡ Ok s → IsOk (effect d (Copy from path))
+pub copy_passes : (from path : Path) (d v : Document) (s : InsertTarget) → walk d from ≡ Ok v → landing d path ≡ Ok s → IsOk (effect d (Copy from path))
 copy_passes from path d v s there lands = subst IsOk (sym (copy_is from path d v there)) (landing_passes path d s lands v)
 
 pub copy_refuses : (from path : Path) (d v : Document) (e : Cause) → walk d from ≡ Ok v → landing d path ≡ Err e → effect d (Copy from path) ≡ Err e
 copy_refuses from path d v e there lands = copy_is from path d v there ∙ landing_refuses path d e lands v
 
-pub copy-change : (from path : Path) (d v : Document) (s : Spot) → walk d from ≡ Ok v → landing d path ≡ Ok s → change.Copy from (landed s path) v ∷ [] ≡ changes_of d (Copy from path)
+pub copy-change : (from path : Path) (d v : Document) (s : InsertTarget) → walk d from ≡ Ok v → landing d path ≡ Ok s → change.Copy from (landed s path) v ∷ [] ≡ changes_of d (Copy from path)
 copy-change from path d v s there lands = rw (at_reached from d v there) (ap (λ p. change.Copy from p v ∷ []) (landed-place path d s lands))
 
 -- Moves.
 
--- what stands can be taken away
+-- a value that is there can be removed
 left : (f : Token) (fs : Path) (d v : Document) → walk d (f ∷ fs) ≡ Ok v → (rest : Document) × (at_path drop_child (f ∷ fs) d ≡ Ok rest)
 left f fs d v h =
     let before = parent f fs in
@@ -52,7 +52,7 @@ move_stays (f ∷ fs) path d v b there outside place stays =
     let plain = (drops_at f fs d l.0 l.1).plain in
     (rw (there, outside, l.1, same) refl, rw (at_reached (f ∷ fs) d v there, l.1, plain, same) refl)
 
-pub move_passes : (from path : Path) (d v : Document) (s : Spot) → walk d from ≡ Ok v → is_proper_prefix from path ≡ false → ((rest : Document) → at_path drop_child from d ≡ Ok rest → false ≡ same_path from (place_of rest path).path) → ((rest : Document) → at_path drop_child from d ≡ Ok rest → Ok s ≡ landing rest path) → IsOk (effect d (Move from path))
+pub move_passes : (from path : Path) (d v : Document) (s : InsertTarget) → walk d from ≡ Ok v → is_proper_prefix from path ≡ false → ((rest : Document) → at_path drop_child from d ≡ Ok rest → false ≡ same_path from (place_of rest path).path) → ((rest : Document) → at_path drop_child from d ≡ Ok rest → Ok s ≡ landing rest path) → IsOk (effect d (Move from path))
 move_passes [] path d v s there outside goes lands = rw outside refl
 move_passes (f ∷ fs) path d v s there outside goes lands =
     let l = left f fs d v there in
@@ -65,7 +65,7 @@ move_refuses (f ∷ fs) path d v e there outside other goes lands =
     let l = left f fs d v there in
     rw (there, outside, l.1, ← goes l.0 l.1) (landing_refuses path l.0 e (sym (lands l.0 l.1)) v)
 
-pub move-change : (from path : Path) (d v : Document) (s : Spot) (item : Bool) → walk d from ≡ Ok v → is_proper_prefix from path ≡ false → same_path from path ≡ false → item ≡ (place_of d from).item → ((rest : Document) → at_path drop_child from d ≡ Ok rest → false ≡ same_path from (place_of rest path).path) → ((rest : Document) → at_path drop_child from d ≡ Ok rest → Ok s ≡ landing rest path) → change.Move (record { path = from; item = item }) (landed s path) v ∷ [] ≡ changes_of d (Move from path)
+pub move-change : (from path : Path) (d v : Document) (s : InsertTarget) (item : Bool) → walk d from ≡ Ok v → is_proper_prefix from path ≡ false → same_path from path ≡ false → item ≡ (place_of d from).item → ((rest : Document) → at_path drop_child from d ≡ Ok rest → false ≡ same_path from (place_of rest path).path) → ((rest : Document) → at_path drop_child from d ≡ Ok rest → Ok s ≡ landing rest path) → change.Move (record { path = from; item = item }) (landed s path) v ∷ [] ≡ changes_of d (Move from path)
 move-change [] [] d v s item there outside other kind goes lands = cc
 move-change [] (u ∷ path) d v s item there outside other kind goes lands = cc
 move-change (f ∷ fs) path d v s item there outside other kind goes lands =

@@ -25,7 +25,7 @@ pub not_refused : (b : Bool) (e : Cause) (r : Result Document Cause) (d : Docume
 not_refused true e r d h = cc
 not_refused false e r d h = (refl, h)
 
--- Clauses on a result.
+-- Clauses about a result.
 pub if_found : {D : Type 0} {Q : Bor D → Type 0} (r : Result (Bor D) Cause) (o : Option (Bor D)) (e : Cause) (s : Option D) → r ≡ ok_or o e → option_copied o ≡ s → ((part : Bor D) → ok_or s e ≡ Ok part.now → Q part) → IfOk r Q
 if_found (Ok x) (Some y) e s h k f = let same : x ≡ y = cc in f x (rw (← k, same) refl)
 if_found (Ok x) None e s h k f = cc
@@ -40,7 +40,7 @@ pub on_both : {A E : Type 0} {P Q R : Type 0} (r : Result A E) → OnOk r P → 
 on_both (Ok x) p q f = f p q
 on_both (Err e) p q f = tt
 
--- A fault is a refusal, or want of memory in a step that passes.
+-- A fault is a refusal, or out of memory in a step that passes.
 
 pub refused_by : (r : Result Document Cause) (cause : Cause) → r ≡ Err cause → cause ≢ NoMemory → Refuses r cause
 refused_by r cause h other = (λ _. h, λ e. absurd (other e))

@@ -1,4 +1,4 @@
--- What was taken out of a container, and stands there again.
+-- A part that was removed from a container and is restored.
 use Rattle.std.specs.List.{insert}
 use Rattle.std.proofs.Common.{◌≡◌, ℕ, zero, suc, List, length, ◌≤◌, [], ◌∷◌, ◌++◌, Bool, true, false, Option, Some, None, Ok, refl, sym, ◌∙◌, ◌<◌, ◌^◌, IsOk, nat_lt, if◌then◌else◌, arith}
 use Rattle.std.proofs.lemmas.Bool.Decides.{nat_tests}
@@ -19,7 +19,7 @@ use Rattle.relay_patch.proofs.Exchanges.{at_end, replaced-is, replaced_needs, wa
 use Rattle.relay_tree.proofs.Outcomes.{is_ok_then, some_ok}
 use Rattle.relay_patch.proofs.Drops.{shorter}
 
--- an element that was dropped is inserted again
+-- inserting an element that was dropped restores the list
 pub insert_item-drop : (ds : Items) (i : ℕ) (e : Document) (es : Items) → item_at ds i ≡ Some e → drop_item ds i ≡ Some es → insert_item es i e ≡ Some ds
 insert_item-drop no_items i e es was h = cc
 insert_item-drop (item d ds) zero e es was h =
@@ -35,7 +35,7 @@ insert_item-drop (item d ds) (suc i) e es was h = go (drop_item ds i) refl (inse
         let is : es ≡ item d fs = cc in
         rw (is, ih fs was f) refl
 
--- A list that is filled again, as a vector holds it.
+-- A list that is refilled, in terms of its queue.
 
 pub no_room : (xs : List Document) (room i : ℕ) (e : Document) → room ≤ length xs → items_of xs ≡ refilled_items room i e (items_of xs)
 no_room xs room i e full =
@@ -54,7 +54,7 @@ with_room xs room i e large inside =
     let fits : nat_lt (length xs) room ≡ true = grind (arith, nat_tests) in
     rw (items_length-items_of xs, fits, insert_item-items_of xs i e inside) refl
 
--- A part taken out of its container, which is exchanged for a copy without it.
+-- A part removed by replacing its container with a copy without it.
 
 -- the container without the part
 pub record Leaves (before : Path) (t : Token) (d n : Document) : Type 0 where
@@ -86,7 +86,7 @@ leaves_so path before t d e n is h went new =
     let same : l.rest ≡ e = cc in
     s.1 ∙ (sym l.new ∙ rw same new)
 
--- An element taken out of its list.
+-- An element removed from its list.
 
 refills : (ds es : Items) (i room : ℕ) (e : Document) → drop_item ds i ≡ Some es → item_at ds i ≡ Some e → room ≡ items_length ds → refilled room i e (list es) ≡ list ds
 refills ds es i room e went was large =
@@ -94,7 +94,7 @@ refills ds es i room e went was large =
     let fits : nat_lt (items_length es) room ≡ true = grind (arith, nat_tests) in
     rw (fits, insert_item-drop ds i e es was went) refl
 
--- the element of a list, which stands where its index says
+-- an element of a list, at the place that its index names
 pub record Taken (before : Path) (t : Token) (d d' e : Document) : Type 0 where
   pub items : Items
   pub rest : Items
@@ -128,7 +128,7 @@ taken_again before t d d' e room x large =
     let again : put d' before (list x.items) ≡ d = rw r.2 (put-back d before (list x.items) (list x.rest) there) in
     rw (now, refills x.items x.rest x.index room e x.went x.was large) again
 
--- the same of what a path and numbers of 64 bits say
+-- the same in terms of a path and numbers of 64 bits
 pub item_again : (path before : Path) (t : Token) (d d' e : Document) (n i room : ℕ) → path ≡ before ++ t ∷ [] → at_path (in_list drop_child) path d ≡ Ok d' → walk d path ≡ Ok e → n < 2 ^ 64 → ((ds : Items) → walk d before ≡ Ok (list ds) → n ≡ items_length ds) → room ≡ n → ((j : ℕ) → index_of t ≡ Some j → j < 2 ^ 64 → i ≡ j) → with_part (refilled room i e) before (at d' before) d' ≡ d
 item_again path before t d d' e n i room is h was few long large at_it =
     let x = taken before t d d' e (rw is at h) (rw is at was) in

@@ -1,4 +1,4 @@
--- The container in which an act at a path is done.
+-- The container in which an act at a path takes place.
 use Rattle.std.proofs.Common.{◌≡◌, [], ◌∷◌, ◌++◌, Bool, true, false, Option, Some, None, Ok, refl, sym, ap, ◌∙◌}
 use Rattle.relay_tree.specs.Document.{Document, list}
 use Rattle.relay_pointer.specs.Index.{Token, index_of}
@@ -15,7 +15,7 @@ pub parent-last : (t : Token) (path : Path) → parent t path ++ last t path ∷
 parent-last t [] = refl
 parent-last t (u ∷ path) = ap (λ p. t ∷ p) (parent-last u path)
 
--- the tokens of a path in front of its last one, and that one
+-- the tokens of a path before its last one, and the last one
 
 parent-append : (u : Token) (before : Path) (t : Token) → parent u (before ++ t ∷ []) ≡ u ∷ before
 parent-append u [] t = refl
@@ -39,7 +39,7 @@ beside-append [] (y ∷ parent) t u = rw (parent-append y parent u) refl
 beside-append (x ∷ before) [] t u = rw (parent-append x before t) refl
 beside-append (x ∷ before) (y ∷ parent) t u = rw (parent-append x before t, parent-append y parent u) refl
 
--- where an act below some tokens was done: another act that does the same there does the same
+-- the container in which an act below some tokens took place; another act with the same result there has the same result as a whole
 pub record Site (act : Act) (t : Token) (path : Path) (d d' : Document) : Type 0 where
   pub container : Document
   pub later : Document

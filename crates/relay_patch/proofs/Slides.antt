@@ -1,4 +1,5 @@
--- An element that slides within its list: what a turn of the part between both places makes, that this is the move, and that it slides back.
+-- An element that slides within its list, past one neighbour at a time: this equals its removal and insertion, it is the move, and the
+-- element slides back.
 use Rattle.std.proofs.Common.{◌≡◌, ℕ, zero, suc, List, length, get_or, set, ◌≤◌, [], ◌∷◌, ◌++◌, Bool, true, ◌&&◌, Option, Some, None, ok_or, Ok, String, Global, refl, sym, ap, subst, ◌∙◌, ◌<◌, ◌^◌, max, arith, option_and_then}
 use Rattle.std.specs.List.{insert, remove, swap}
 use Rattle.std.proofs.lemmas.List.{get_or_default}
@@ -25,7 +26,7 @@ use Rattle.relay_patch.proofs.Regained.{insert_item-drop, taken}
 
 -- Items.
 
--- where one of both places is past the end, nothing slides
+-- if either place is past the end, nothing slides
 pub slides_nowhere : (ds : Items) (i j : ℕ) → items_length ds ≤ max i j → slid_items i j ds ≡ ds
 slides_nowhere ds i j h = go (item_at ds i) (drop_item ds i) refl
   where
@@ -36,11 +37,11 @@ slides_nowhere ds i j h = go (item_at ds i) (drop_item ds i) refl
         let s = drop_item-shorter ds i es f in
         rw (insert_item-none es j e (omega (arith, h, s.0, s.1))) refl
 
--- where both are there: the others, with the element inserted
+-- if both places exist, the result is the others with the element inserted
 slides_there : (ds es fs : Items) (i j : ℕ) (e : Document) → item_at ds i ≡ Some e → drop_item ds i ≡ Some es → insert_item es j e ≡ Some fs → slid_items i j ds ≡ fs
 slides_there ds es fs i j e there rest came = rw (there, rest, came) refl
 
--- the elements when the i-th has come to the place j
+-- the elements after the i-th was moved to the place j
 abbrev pub moved : List Document → ℕ → ℕ → List Document
 moved xs i j = insert (remove xs i) j (get_or xs i null)
 
@@ -51,9 +52,9 @@ slides xs i j there within =
     let room : j ≤ length (remove xs i) = omega (arith, length-remove xs i there) in
     sym (slides_there (items_of xs) (items_of (remove xs i)) (items_of (moved xs i j)) i j e stands (drop_item-items_of xs i there) (insert_item-items_of (remove xs i) j e room))
 
--- Places changed with a neighbour.
+-- Exchanges with a neighbour.
 
--- the k-th element and the next in each other's place
+-- the list with the k-th element and the next one exchanged
 abbrev crossed : List Document → ℕ → List Document
 crossed xs k = set (set xs k (get_or xs (suc k) null)) (suc k) (get_or xs k null)
 
@@ -73,11 +74,6 @@ length-moved xs i j there within =
     let whole = length-insert (remove xs i) j (get_or xs i null) (omega (arith, left)) in
     omega (arith, left, whole)
 
-pub moved_nowhere : (xs : List Document) (i : ℕ) → i < length xs → xs ≡ moved xs i i
-moved_nowhere [] i h = absurd (omega arith)
-moved_nowhere (x ∷ xs) zero h = refl
-moved_nowhere (x ∷ xs) (suc i) h = ap (λ ys. x ∷ ys) (moved_nowhere xs i (omega arith))
-
 module _ (xs : List Document) (i k : ℕ) (there : i < length xs) (within : suc k < length xs) where
   pub moved_up : swap (moved xs i k) k (suc k) ≡ moved xs i (suc k)
   moved_up =
@@ -93,7 +89,7 @@ module _ (xs : List Document) (i k : ℕ) (there : i < length xs) (within : suc 
 
 -- A move within one list.
 
--- the list in which an element goes from one place to another
+-- the list in which an element moves from one place to another
 record Slide (p q : Path) (d n : Document) : Type 0 where
   items : Items
   later : Items
@@ -162,11 +158,11 @@ slide_of : (x y : Bool) (p q : Path) (d b v n : Document) → (x && y && beside 
 slide_of true true (t ∷ p) (u ∷ q) d b v n one went there came = slide_at t u p q d b v n (equal_paths (parent t p) (parent u q) one) went there came
 slide_of _ _ _ _ d b v n one went there came = cc
 
--- the indexes of both places, as 64 bits hold them
+-- the index of a place, if it fits in 64 bits
 abbrev pub Reads : Path → ℕ → Type 0
 Reads p a = (i : ℕ) → index_of (last_of p) ≡ Some i → i < 2 ^ 64 → a ≡ i
 
--- what slides is moved, and slides back
+-- an element that slides is moved, and slides back
 pub slides_so : (from to : Place) (d v n e : Document) (path : Path) (a b : ℕ) → in_one_list from to ≡ true → Moves d from to v n → path ≡ front from.path → Reads from.path a → Reads to.path b → ((ds : Items) → at d path ≡ Some (list ds) → items_length ds < 2 ^ 64) → e ≡ with_part (slid a b) path (at d path) d → (e ≡ n) × (with_part (slid b a) path (at e path) e ≡ d)
 slides_so from to d v n e path a b one m here low high few made = go (slide_of from.item to.item from.path to.path d m.between v n one m.went m.there m.came)
   where
@@ -180,7 +176,7 @@ slides_so from to d v n e path a b one m here low high few made = go (slide_of f
         let old : with_part (slid b a) path (at e path) e ≡ d = rw (new, at-put d path (list s.items) (list s.later) there, first, second, s.back) (put-back d path (list s.items) (list s.later) there) in
         (new ∙ rw here (sym s.new), old)
 
--- Paths of no token.
+-- Empty paths.
 
 no_index : (i : ℕ) → index_of [] ≡ Some i → ⊥
 unfolding index_of

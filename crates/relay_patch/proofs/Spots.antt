@@ -1,4 +1,4 @@
--- Where an operation takes hold, found at the end of a walk.
+-- The place on which an operation acts, found at the end of a walk.
 use Rattle.std.proofs.Common.{◌≡◌, ◌-◌, ◌≤◌, List, [], ◌∷◌, ◌++◌, length, take, get_or, Bool, true, false, Option, Some, None, is_some, Bor, Ok, Err, String, Global, string_bytes, refl, option_copied}
 use Rattle.std.specs.declared.collections.VecDeque.{VecDeque}
 use Rattle.relay_tree.specs.Document.{Document, list, object, Items, Members}
@@ -11,7 +11,7 @@ use Rattle.relay_tree.specs.Part.{member_at, object_member}
 use Rattle.relay_pointer.specs.Index.{Token}
 use Rattle.relay_pointer.specs.Path.{Path, path_of}
 use Rattle.relay_patch.specs.Walk.{Cause, then_do, walk}
-use Rattle.relay_patch.specs.declared.applying.spot.Spot.TheVariants as spot
+use Rattle.relay_patch.specs.declared.applying.insert_target.InsertTarget.TheVariants as insert_target
 use Rattle.relay_patch.specs.Steps.{landing_in, landing, standing_in, standing}
 use Rattle.relay_patch.proofs.Tokens.{place_of-end, parent_end, last_end}
 use Rattle.relay_pointer.proofs.Tokens.{tokens_back, tokens_last}
@@ -36,7 +36,7 @@ stands_in ts s d c u h is there named = rw (tokens_back ts s h is, standing_end 
 pub stands_nowhere : (ts : List (String Global)) (s : String Global) (d : Document) (e : Cause) → 1 ≤ length ts → s ≡ get_or ts (length ts - 1) s → walk d (path_of (take (length ts - 1) ts)) ≡ Err e → Err e ≡ standing d (path_of ts)
 stands_nowhere ts s d e h is there = rw (tokens_back ts s h is, standing_end d (path_of (take (length ts - 1) ts)) (string_bytes s), there) refl
 
-pub lands_in_object : (r : Option (Bor Document)) (b : Bool) (d : Document) (ms : Members) (t : Token) → object ms ≡ d → option_copied r ≡ object_member d t → b ≡ is_some r → Ok (spot.Member b) ≡ landing_in d t
+pub lands_in_object : (r : Option (Bor Document)) (b : Bool) (d : Document) (ms : Members) (t : Token) → object ms ≡ d → option_copied r ≡ object_member d t → b ≡ is_some r → Ok (insert_target.Member b) ≡ landing_in d t
 lands_in_object None b d ms t is found known = let none : None ≡ member_at ms t = rw (← is) at found in rw (← is, ← none, known) refl
 lands_in_object (Some x) b d ms t is found known = let there : Some x.now ≡ member_at ms t = rw (← is) at found in rw (← is, ← there, known) refl
 

@@ -1,4 +1,4 @@
--- Whether a part comes to the place that it had.
+-- Whether a moved part returns to the place that it had.
 use Rattle.std.proofs.Common.{◌≡◌, ℕ, suc, [], ◌∷◌, ◌++◌, Bool, true, false, ◌&&◌, ◌||◌, Some, Result, Ok, refl, sym, ap, ◌∙◌, bytes_eq, nat_eq, ◌==◌, ◌<◌, ◌-◌, ◌+◌, ◌^◌, min, List, length, if◌then◌else◌, arith}
 use Rattle.std.proofs.lemmas.Bool.Decides.{nat_tests}
 use Rattle.relay_tree.specs.Document.{Document, null, list, object, Items, items_of}
@@ -79,7 +79,7 @@ other_end from path before parent t l r is goes other = rw (is, goes, same_path-
     never true = refl
     never false = refl
 
--- the last element of a vector
+-- the last element of a queue
 pub is_end-items_of : (xs : List Document) (t : Token) (n k : ℕ) → length xs < 2 ^ 63 → Some n ≡ number_of t → k ≡ min (n + 1) (2 ^ 64 - 1) → nat_eq k (length xs) ≡ is_end (list (items_of xs)) t
 is_end-items_of xs t n k few is more =
     let s = some_index (index_of t) n is in

@@ -1,4 +1,4 @@
--- A change that is kept leaves what taking back gives.
+-- A change whose record is kept does not alter the document that taking back restores.
 use Rattle.std.proofs.Common.{◌≡◌, ℕ, List, [], ◌∷◌, ◌++◌, Bool, true, false, Option, Some, None, Result, Ok, Err, ok_or, is_ok, IsOk, refl, sym, ap, subst, ◌∙◌, if◌then◌else◌, IsNone, IfSome, option_to_list}
 use Rattle.std.specs.Result.{result_ok}
 use Rattle.relay_tree.specs.Document.{Document, list, object, Items}
@@ -15,7 +15,7 @@ use Rattle.relay_patch.specs.Patch.{Act, replaced, insert_child, insert_element,
 use Rattle.relay_patch.specs.Change.{Change, Makes, in_list, in_object, inserted, inserted_at}
 use Rattle.relay_patch.specs.Measure.{displaced, gone}
 use Rattle.relay_patch.specs.Undo.{target, brought, or_same, undone, taken_back}
-use Rattle.relay_patch.specs.declared.applying.undo.Kept.{Kept}
+use Rattle.relay_patch.specs.declared.applying.undo.Undo.{Undo}
 use Rattle.relay_patch.specs.declared.change.Change.TheVariants as change
 use Rattle.relay_patch.proofs.Refusals.{then_ok, ok_or_some}
 use Rattle.relay_patch.proofs.Parts.{at_index, place_in_at_index}
@@ -72,7 +72,7 @@ object_back v [] d d' none h = cc
 object_back v (t ∷ path) d d' none h =
     below_back (in_object (insert_child v)) t path d d' h (λ c c' there acted. member_back v (last t path) c c' (sym (at_last d c t path there) ∙ none) acted)
 
--- A change that only brings something, taken back.
+-- A change that only puts a value at a path, taken back.
 
 pub exchange_back : (path : Path) (v d d' w : Document) → at d path ≡ Some w → replaced path v d ≡ Ok d' → undone (brought path (Some w)) d' ≡ d
 exchange_back path v d d' w there h =
@@ -108,28 +108,28 @@ change_back (change.AddItem path v) p d d' is m = at_target path p None d d' is 
 change_back (change.Copy from to v) p d d' is m = at_target to.path p (displaced to d) d d' is (copied_back to v d d' m.1)
 change_back _ p d d' is m = cc
 
--- Lists of what is kept.
+-- Lists of records.
 
-taken_back-more : (d : Document) (kept : List Kept) (k : Kept) → taken_back d (kept ++ k ∷ []) ≡ taken_back (undone k d) kept
+taken_back-more : (d : Document) (kept : List Undo) (k : Undo) → taken_back d (kept ++ k ∷ []) ≡ taken_back (undone k d) kept
 taken_back-more d [] k = refl
 taken_back-more d (x ∷ kept) k = ap (undone x) (taken_back-more d kept k)
 
--- after a change that is kept, taking back gives what it gave before
-pub kept_back : (d d' : Document) (old new : List Kept) (k : Kept) → undone k d' ≡ d → new ≡ old ++ k ∷ [] → taken_back d' new ≡ taken_back d old
+-- after a change whose record is kept, taking back gives the same document as before it
+pub kept_back : (d d' : Document) (old new : List Undo) (k : Undo) → undone k d' ≡ d → new ≡ old ++ k ∷ [] → taken_back d' new ≡ taken_back d old
 kept_back d d' old new k back more = rw more (taken_back-more d' old k ∙ ap (λ e. taken_back e old) back)
 
--- what is kept last is taken back first
-pub one_back : (d n w : Document) (all kept : List Kept) (o : Option Kept) (k : Kept) → o ≡ Some k → all ≡ kept ++ option_to_list o → n ≡ undone k d → taken_back d all ≡ w → taken_back n kept ≡ w
+-- the last record is taken back first
+pub one_back : (d n w : Document) (all kept : List Undo) (o : Option Undo) (k : Undo) → o ≡ Some k → all ≡ kept ++ option_to_list o → n ≡ undone k d → taken_back d all ≡ w → taken_back n kept ≡ w
 one_back d n w all kept o k is split new back =
     let whole : all ≡ kept ++ k ∷ [] = rw is at split in
     ap (λ e. taken_back e kept) new ∙ sym (taken_back-more d kept k) ∙ sym (ap (taken_back d) whole) ∙ back
 
--- an exchange puts the value, whether or not one stood there
+-- an exchange results in `put`, whether or not a value was there
 pub puts_always : (d n v : Document) (path : Path) (o : Option Document) → o ≡ at d path → (IsNone o → n ≡ d) → IfSome o (λ _. n ≡ put d path v) → n ≡ put d path v
 puts_always d n v path None is missing found = missing refl ∙ sym (put-missing d path v (sym is))
 puts_always d n v path (Some w) is missing found = found
 
--- Where something stands, it can be dropped.
+-- A value that is there can be dropped.
 
 pub stands_drops : (r : Result Bool Cause) (path : Path) (d : Document) → r ≡ standing d path → is_ok r ≡ true → IsOk (at_path drop_child path d)
 stands_drops (Ok b) path d is h = standing_passes path d b (sym is)

@@ -1,4 +1,4 @@
--- The walk that says why it ends early beside the value at a path.
+-- The walk that gives the cause if it ends early, compared with the value at a path.
 use Rattle.std.proofs.Common.{◌≡◌, ℕ, [], ◌∷◌, ◌++◌, Option, Some, None, option_and_then, Result, Ok, Err, refl, sym, ap, ◌∙◌}
 use Rattle.std.specs.Result.{result_ok}
 use Rattle.relay_tree.specs.Document.{Document, list, object, Items}

@@ -1,4 +1,4 @@
--- What an accepted operation changed, and where.
+-- The changes that accepted operations make, and their places.
 use Rattle.std.specs.Prelude.{ℕ, List, [], ◌∷◌, ◌++◌, Bool, true, false, Option, Some, None, Result, Ok, Err, ◌≡◌, if◌then◌else◌, is_some}
 use Rattle.std.specs.Result.{result_ok}
 use Rattle.relay_tree.specs.Document.{Document, list, object}
@@ -27,12 +27,12 @@ abbrev pub in_object : Act → Act
 in_object act t (object ms) = act t (object ms)
 in_object act t _ = Err NoContainer
 
--- an act where the container is as the place says
+-- an act in a list if the place is an item, and in an object otherwise
 abbrev pub placed : Bool → Act → Act
 placed true act = in_list act
 placed false act = in_object act
 
--- the document without what stands at the place
+-- the document without the part at the place
 abbrev pub dropped : Place → Document → Result Document Cause
 dropped place d = at_path (placed place.item drop_child) place.path d
 
@@ -47,7 +47,7 @@ inserted place v d = inserted_at place.item place.path v d
 
 -- What a change makes of a document.
 
--- v goes from one place to another
+-- v moves from one place to another, which takes the document d to d'
 pub record Moves (d : Document) (from to : Place) (v : Document) (d' : Document) : Type 0 where
   pub elsewhere : same_path from.path to.path ≡ false
   pub outside : is_proper_prefix from.path to.path ≡ false
@@ -83,7 +83,7 @@ removed_change place = if place.item then change.DropItem place.path else change
 abbrev pub moved_change : Place → Place → Document → List Change
 moved_change from to v = if same_path from.path to.path then [] else change.Move from to v ∷ []
 
--- the place to which a value goes is one of the document without it
+-- the new place of a moved value is a place in the document without that value
 abbrev pub moved_changes : Place → Path → Option Document → Option Document → List Change
 moved_changes from path (Some v) (Some e) = moved_change from (place_of e path) v
 moved_changes from path _ _ = []

@@ -1,4 +1,4 @@
--- How a document reads as a patch, or its first fault, and how a patch is written (RFC 6902, sections 3 and 4).
+-- How a document is read as a patch or refused with its first fault, and how a patch is written (RFC 6902, sections 3 and 4).
 use Rattle.std.specs.Prelude.{ℕ, List, [], ◌∷◌, length, codes, bytes_eq, Option, Some, None, Result, Ok, Err, nat_le, nat_lt, if◌then◌else◌}
 use Rattle.relay_tree.specs.Document.{Document, text, list, object, Items, no_items, item, Members, no_members, member}
 use Rattle.relay_tree.specs.Each.{each_from}
@@ -14,7 +14,7 @@ use Rattle.relay_patch.specs.declared.limits.PatchFault.TheVariants.{TooManyOps,
 
 -- Reading.
 
--- what follows where a part is there, and else the fault
+-- the continuation applied to a part, or the fault if there is no part
 abbrev pub with_part : {A B : Type 0} → Option A → PatchFault → (A → Result B PatchFault) → Result B PatchFault
 with_part (Some x) fault f = f x
 with_part None fault f = Err fault
@@ -36,11 +36,11 @@ abbrev pub path_within : ℕ → ℕ → Option Path → Result Path PatchFault
 path_within most n None = Err (Pointer n)
 path_within most n (Some path) = if nat_le (length path) most then Ok path else Err (Pointer n)
 
--- the path that a text spells in the operation at place n, of at most so many tokens
+-- the path that a text spells, of at most `most` tokens, or else the fault of the operation at place n
 abbrev pub path_in : ℕ → ℕ → List ℕ → Result Path PatchFault
 path_in most n s = path_within most n (path_of_text s)
 
--- an operation with a value, and one with a source, of what the members of those names are
+-- an operation with a value, and one with a source, built from the members that it needs
 abbrev pub valued : ℕ → ℕ → Option Document → List ℕ → (Path → Document → Op) → Result Op PatchFault
 valued most n value path make = with_part value (Shape (Some n)) (λ v. and_then (path_in most n path) (λ p. Ok (make p v)))
 
@@ -55,7 +55,7 @@ op_of_kind kind.Move most n value from path = sourced most n from path op.Move
 op_of_kind kind.Copy most n value from path = sourced most n from path op.Copy
 op_of_kind kind.Test most n value from path = valued most n value path op.Test
 
--- the operation that the element at place n is: its members are looked at in the order of this line
+-- the element at place n read as an operation: its members are checked in the order in which they are written here
 abbrev pub op_at : ℕ → ℕ → Document → Result Op PatchFault
 op_at most n d =
     with_part (text_in d (codes "op")) (Shape (Some n)) (λ name.

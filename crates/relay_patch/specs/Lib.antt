@@ -4,6 +4,7 @@ pub mod Patch
 pub mod Change
 pub mod Sizes
 pub mod Measure
+pub mod Weight
 pub mod Undo
 pub mod Steps
 pub mod Form

@@ -35,26 +35,26 @@ abbrev pub drop_element : Items → Token → Option ℕ → Result Document Cau
 drop_element ds t None = Err (no_element t)
 drop_element ds t (Some i) = then_do (ok_or (drop_item ds i) Missing) (λ es. Ok (list es))
 
--- the part taken away
+-- the container without the part
 abbrev pub drop_child : Act
 drop_child t (list ds) = drop_element ds t (index_of t)
 drop_child t (object ms) = then_do (ok_or (drop_member ms t) Missing) (λ ns. Ok (object ns))
 drop_child t _ = Err NoContainer
 
--- the document with a part changed
+-- the document with the part that a token names changed
 abbrev pub inside : (Document → Result Document Cause) → Token → Document → Result Document Cause
 inside change t d = then_do (step d t) (λ c. then_do (change c) (λ c'. Ok (with_child d t c')))
 
--- v in the place of the part
+-- the document with v in place of the part
 abbrev pub set_child : Document → Act
 set_child v t d = inside (λ c. Ok v) t d
 
--- an act at the last of the tokens t, path
+-- an act at the last token of t followed by path
 abbrev pub below : Act → Token → Path → Document → Result Document Cause
 below act t [] d = act t d
 below act t (u ∷ path) d = inside (below act u path) t d
 
--- an act at a path, which has to have a token
+-- an act at the last token of a path, which must not be empty
 abbrev pub at_path : Act → Path → Document → Result Document Cause
 at_path act [] d = Err Root
 at_path act (t ∷ path) d = below act t path d
@@ -69,7 +69,7 @@ abbrev pub replaced : Path → Document → Document → Result Document Cause
 replaced [] v d = Ok v
 replaced (t ∷ path) v d = below (set_child v) t path d
 
--- v, which stands at the first path, removed and added at the second; nothing where both are one place
+-- v, the value at the first path, removed and added at the second; unchanged if both are the same place
 abbrev pub moved : Path → Path → Document → Document → Result Document Cause
 moved [] path v d = Ok d
 moved (t ∷ from) path v d = then_do (below drop_child t from d) (λ e. if same_path (t ∷ from) (place_of e path).path then Ok d else added path v e)
@@ -93,7 +93,7 @@ exceeds most n = nat_lt most (saturated n)
 abbrev pub free : Bounds
 free = record { depth = 2 ^ 64 - 1; weight = 2 ^ 64 - 1 }
 
--- the document, where it is neither too deep nor too heavy
+-- the document, if it is neither too deep nor too heavy; the depth is checked first
 abbrev pub within : Bounds → Document → Result Document Cause
 within bounds d =
     if exceeds bounds.depth (depth d) then Err TooDeep else (if exceeds bounds.weight (weight d) then Err TooHeavy else Ok d)
@@ -106,7 +106,7 @@ abbrev pub go_on : Result Document ApplyFault → (Document → Result Document 
 go_on (Ok d) f = f d
 go_on (Err e) f = Err e
 
--- the operations in order, the first of them numbered n
+-- the document after the operations in order, the first of them numbered n
 abbrev pub after_from : ℕ → Bounds → Document → List Op → Result Document ApplyFault
 after_from n bounds d [] = Ok d
 after_from n bounds d (op ∷ ops) = go_on (refused_at n (then_do (effect d op) (within bounds))) (λ e. after_from (suc n) bounds e ops)

@@ -7,21 +7,21 @@ use Rattle.relay_pointer.specs.Path.{Path, at, same_path}
 use Rattle.relay_patch.specs.Walk.{dash}
 pub use Rattle.relay_patch.specs.declared.change.Place.{Place}
 
--- the tokens t, path but the last
+-- the tokens of t followed by path, without the last one
 abbrev pub parent : Token → Path → Path
 parent t [] = []
 parent t (u ∷ path) = t ∷ parent u path
 
--- the last of the tokens t, path
+-- the last token of t followed by path
 abbrev pub last : Token → Path → Token
 last t [] = t
 last t (u ∷ path) = last u path
 
--- `-` replaced by the index that it names
+-- a token of a list, with `-` replaced by the index that it names
 abbrev pub canonical : Items → Token → Token
 canonical ds t = if bytes_eq t dash then index_text (items_length ds) else t
 
--- the place that a token names in a container, which is an item's in a list
+-- the place that a token names in a container; it is an item if the container is a list
 abbrev pub place_within : Option Document → Path → Token → Place
 place_within (Some (list ds)) before t = record { path = before ++ canonical ds t ∷ []; item = true }
 place_within _ before t = record { path = before ++ t ∷ []; item = false }
@@ -31,12 +31,12 @@ abbrev pub place_of : Document → Path → Place
 place_of d [] = record { path = []; item = false }
 place_of d (t ∷ path) = place_within (at d (parent t path)) (parent t path) (last t path)
 
--- a path but for its last token
+-- a path without its last token
 abbrev pub front : Path → Path
 front [] = []
 front (t ∷ path) = parent t path
 
--- its last token
+-- the last token of a path
 abbrev pub last_of : Path → Token
 last_of [] = []
 last_of (t ∷ path) = last t path

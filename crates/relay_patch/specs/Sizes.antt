@@ -1,4 +1,4 @@
--- How long the paths of operations and changes are, and how deep their values.
+-- Bounds on the length of the paths of operations and changes, and on the depth of their values.
 use Rattle.std.specs.Prelude.{ℕ, ◌≤◌, length}
 use Rattle.relay_tree.specs.Document.{Document, depth}
 use Rattle.relay_pointer.specs.Path.{Path}
@@ -6,11 +6,11 @@ use Rattle.relay_patch.specs.Patch.{Op, Add, Remove, Replace, Move, Copy, Test}
 use Rattle.relay_patch.specs.Change.{Change}
 use Rattle.relay_patch.specs.declared.change.Change.TheVariants as change
 
--- at most n tokens
+-- the path has at most n tokens
 abbrev pub IsShort : ℕ → Path → Type 0
 IsShort n path = length path ≤ n
 
--- of depth at most m
+-- the value has a depth of at most m
 abbrev pub IsFlat : ℕ → Document → Type 0
 IsFlat m v = depth v ≤ m
 

@@ -1,4 +1,4 @@
--- What the functions of this crate say of their steps.
+-- Definitions by which the functions of this crate state what their steps do.
 use Rattle.std.specs.Prelude.{take, slice_get, ℕ, List, [], ◌∷◌, ◌++◌, Bool, true, false, Option, Some, None, Result, Ok, Err, is_some, ◌≡◌, ◌≢◌, IsOk, if◌then◌else◌, nat_le, nat_lt, ◌+◌, ◌==◌, ◌&&◌, ◌||◌, bytes_eq}
 use Rattle.relay_tree.specs.Document.{Document, list, object}
 use Rattle.relay_tree.specs.Part.{items_length, member_at}
@@ -9,10 +9,10 @@ use Rattle.relay_patch.specs.Place.{Place, parent, last}
 use Rattle.relay_patch.specs.Patch.{Op, Bounds, effect, after}
 use Rattle.relay_patch.specs.Change.{Change}
 use Rattle.relay_patch.specs.declared.change.Change.TheVariants as change
-pub use Rattle.relay_patch.specs.declared.applying.spot.Spot.{Spot}
-use Rattle.relay_patch.specs.declared.applying.spot.Spot.TheVariants as spot
+pub use Rattle.relay_patch.specs.declared.applying.insert_target.InsertTarget.{InsertTarget}
+use Rattle.relay_patch.specs.declared.applying.insert_target.InsertTarget.TheVariants as insert_target
 
--- a fault: memory was refused to a step that passes, or the step is refused
+-- a fault: a step that passes ran out of memory, or the step is refused
 abbrev pub Refuses : {A : Type 0} → Result A Cause → Cause → Type 0
 Refuses r cause = (cause ≢ NoMemory → r ≡ Err cause) × (cause ≡ NoMemory → IsOk r)
 
@@ -25,14 +25,14 @@ abbrev pub insertion_index : ℕ → Token → Result ℕ Cause
 insertion_index n t = if is_dash t then Ok n else index_within n (index_of t)
 
 -- where a token inserts in a container
-abbrev pub landing_in : Document → Token → Result Spot Cause
-landing_in (list ds) t = then_do (insertion_index (items_length ds) t) (λ i. Ok (spot.Item i))
-landing_in (object ms) t = Ok (spot.Member (is_some (member_at ms t)))
+abbrev pub landing_in : Document → Token → Result InsertTarget Cause
+landing_in (list ds) t = then_do (insertion_index (items_length ds) t) (λ i. Ok (insert_target.Item i))
+landing_in (object ms) t = Ok (insert_target.Member (is_some (member_at ms t)))
 landing_in _ t = Err NoContainer
 
 -- where an insertion at a path goes
-abbrev pub landing : Document → Path → Result Spot Cause
-landing d [] = Ok spot.Root
+abbrev pub landing : Document → Path → Result InsertTarget Cause
+landing d [] = Ok insert_target.Root
 landing d (t ∷ path) = then_do (walk d (parent t path)) (λ c. landing_in c (last t path))
 
 abbrev pub is_list : Document → Bool
@@ -48,17 +48,17 @@ abbrev pub standing : Document → Path → Result Bool Cause
 standing d [] = Err Root
 standing d (t ∷ path) = then_do (walk d (parent t path)) (λ c. standing_in c (last t path))
 
--- the last token of the place to which a path leads
-abbrev pub final : Spot → Token → Token
-final (spot.Item i) t = if is_dash t then index_text i else t
+-- the last token of the place of an insertion, with `-` replaced by the index
+abbrev pub final : InsertTarget → Token → Token
+final (insert_target.Item i) t = if is_dash t then index_text i else t
 final _ t = t
 
-abbrev pub is_item : Spot → Bool
-is_item (spot.Item i) = true
+abbrev pub is_item : InsertTarget → Bool
+is_item (insert_target.Item i) = true
 is_item _ = false
 
--- the place at a path where an insertion goes to a spot
-abbrev pub landed : Spot → Path → Place
+-- the place of an insertion at a path, given its target
+abbrev pub landed : InsertTarget → Path → Place
 landed s [] = record { path = []; item = is_item s }
 landed s (t ∷ path) = record { path = parent t path ++ final s (last t path) ∷ []; item = is_item s }
 
@@ -66,7 +66,7 @@ abbrev pub shifted_index : ℕ → Option ℕ → Option ℕ → Option ℕ
 shifted_index n (Some i) (Some j) = if nat_le i j && nat_lt j n then Some (j + 1) else None
 shifted_index n _ _ = None
 
--- the index, while the element that the first token names is still there, of one behind it
+-- the present index of the element that the second token names after the one that the first names is removed, if the removal shifts it
 abbrev pub shifted : Document → Token → Token → Option ℕ
 shifted (list ds) gone t = shifted_index (items_length ds) (index_of gone) (index_of t)
 shifted _ gone t = None
@@ -84,16 +84,16 @@ abbrev pub ends : Result Document Cause → Token → Bool
 ends (Ok c) t = is_end c t
 ends (Err e) t = false
 
--- whether two tokens name the same place of a container that loses the part of the first one
+-- whether two tokens name the same place of a container, the second one after the part of the first is removed
 abbrev pub is_same_end : Result Document Cause → Token → Token → Bool
 is_same_end c t last = bytes_eq t last || (is_dash last && ends c t)
 
--- the change of an insertion at a canonical path, by where it goes
-abbrev pub insertion : Spot → Path → Document → Change
-insertion spot.Root path v = change.Set path v
-insertion (spot.Member true) path v = change.Set path v
-insertion (spot.Member false) path v = change.AddMember path v
-insertion (spot.Item i) path v = change.AddItem path v
+-- the change of an insertion at a canonical path, by its target
+abbrev pub insertion : InsertTarget → Path → Document → Change
+insertion insert_target.Root path v = change.Set path v
+insertion (insert_target.Member true) path v = change.Set path v
+insertion (insert_target.Member false) path v = change.AddMember path v
+insertion (insert_target.Item i) path v = change.AddItem path v
 
 abbrev pub removal : Bool → Path → Change
 removal true path = change.DropItem path

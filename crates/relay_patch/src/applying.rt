@@ -1,4 +1,4 @@
-//! Patches applied: all of their operations, or none.
+//! Application of patches: all operations of a patch, or none.
 ghost use Rattle.std.specs.Prelude.{◌≡◌, ◌≢◌, ◌<◌, ◌-◌, ◌^◌, Ok, Err, IsSome, IfOk, IfErr, OnOk, OnErr};
 ghost use Rattle.std.specs.List.{AllByRecursion};
 ghost use Rattle.relay_tree.specs.Document.{weight};
@@ -12,6 +12,7 @@ ghost use Rattle.relay_patch.specs.declared.fault.Cause.TheVariants.{NoMemory};
 
 mod container;
 mod exchange;
+mod insert_target;
 mod keeping;
 mod making;
 mod measuring;
@@ -19,13 +20,12 @@ mod moving;
 mod place;
 mod recording;
 mod sliding;
-mod spot;
 mod steps;
 mod undo;
 mod walk;
 
 use self::steps::{Done, perform};
-use self::undo::{Kept, take_back};
+use self::undo::{Undo, take_back};
 use crate::bounds::Bounds;
 use crate::change::Change;
 use crate::fault::ApplyFault;
@@ -34,19 +34,19 @@ use crate::patch::Patch;
 use relay_tree::Tree;
 use std::alloc::Global;
 
-/// Applies a patch to the tree (RFC 6902, section 5), and tells what it changed. The operations are done in order, and
-/// after each the document has to be within the bounds. Where one is refused, or memory is, the tree is as it was.
+/// Applies a patch to the tree (RFC 6902, section 5) and returns what it changed. The operations are applied in order, and
+/// after each the document must be within the bounds. If an operation is refused or memory runs out, the tree is as it was.
 ///
-/// The changes are those of the operations in order, with canonical paths: they lead from the old document to the new
-/// one. A `test`, and a `move` to its own place, change nothing. Where there is a bound on the depth, which the old
-/// document keeps, no path of a change has more tokens and no value is deeper.
+/// The changes are those of the operations in order, with canonical paths. They lead from the old document to the new one.
+/// A `test`, and a `move` to its own place, change nothing. If the depth is bounded and the old document is within the
+/// bounds, no path of a change has more tokens than that bound and no value is deeper.
 ///
-/// The tree itself is changed, at the cost of an operation's paths, of what it takes away and of three times its value; what
-/// comes to a list, or goes from it, moves pointers to the elements on its shorter side, and so does each half of a far
-/// move within one list, where a near one exchanges neighbours. What it did is taken back where a later operation is
-/// refused. A member that leaves its object is the one case that costs more: where another operation follows, and for a
-/// move, the object is copied without it. The document is measured once, as far as there are bounds; from then on what an
-/// operation changed tells.
+/// The tree is changed in place. An operation costs its paths, what it removes, and three times its value. An insertion
+/// into a list, or a removal, moves pointers to the elements on its shorter side. A far move within one list does both; a
+/// near one exchanges neighbours. If a later operation is refused, the earlier ones are taken back. One case costs more: if
+/// a member is moved, or if it is removed and either another operation follows or the old document is outside the bounds,
+/// the object is copied without it. The document is measured once, as far as there are bounds, and again after the first
+/// change if it was outside them. After that, only what an operation changed is measured.
 pub fn apply(
     alloc: Global,
     tree: &mut Tree,
@@ -67,16 +67,16 @@ pub fn apply(
     }
 }
 
-/// What a patch made of a document whose weight is kept beside it.
+/// The result of a patch on a document whose weight the caller keeps.
 #[derive(Drop)]
 pub struct Applied {
     pub changes: Vec<Change>,
-    /// What the document weighs now, where its weight is bounded.
+    /// The new weight of the document. Unspecified if the weight is not bounded.
     pub weight: u64,
 }
 
-/// Applies a patch as [`apply`] does to a tree that is within the bounds and weighs so much. The document is not measured:
-/// an edit costs what it touches.
+/// Applies a patch as [`apply`] does, to a tree that is within the bounds and has the weight `known`. The document is not
+/// measured, so an edit costs only what it touches.
 pub fn apply_within(
     alloc: Global,
     tree: &mut Tree,
@@ -104,7 +104,7 @@ pub fn apply_within(
     }
 }
 
-// The operations in order; where one is refused, those before it are taken back.
+// Applies the operations in order. If one is refused, those before it are taken back.
 fn run(
     alloc: Global,
     tree: &mut Tree,
@@ -131,11 +131,11 @@ fn run(
     }
 }
 
-// The operations in order, with what takes them back.
+// Applies the operations in order and keeps what takes them back.
 fn run_keeping(
     alloc: Global,
     tree: &mut Tree,
-    kept: &mut Vec<Kept>,
+    kept: &mut Vec<Undo>,
     known: Option<u64>,
     ops: &[Op],
     bounds: Bounds,

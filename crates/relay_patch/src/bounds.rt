@@ -1,12 +1,12 @@
 //! How large a document may grow.
 
 /// The most levels of a shared document.
-pub const DEPTH_MOST: u64 = 64;
+pub const MAX_DEPTH: u64 = 64;
 
-/// The most that a shared document weighs.
-pub const WEIGHT_MOST: u64 = 262_144;
+/// The largest weight of a shared document.
+pub const MAX_WEIGHT: u64 = 262_144;
 
-/// How deep and how heavy a document may be after each operation. `u64::MAX` bounds nothing.
+/// How deep and how heavy a document may be after each operation. `u64::MAX` means no bound.
 #[derive(Clone, Copy, Debug, PartialEq, Eq)]
 pub struct Bounds {
     pub depth: u64,
@@ -14,10 +14,10 @@ pub struct Bounds {
 }
 
 impl Bounds {
-    /// What a shared document keeps to.
+    /// The bounds of a shared document.
     pub const DOCUMENT: Bounds = Bounds {
-        depth: DEPTH_MOST,
-        weight: WEIGHT_MOST,
+        depth: MAX_DEPTH,
+        weight: MAX_WEIGHT,
     };
 
     /// No bound at all.

@@ -2,20 +2,20 @@
 use std::alloc::AllocError;
 use thiserror::Error;
 
-/// Why an operation is refused. An operation's own checks, in the order that RFC 6902 gives them, come first, then the
-/// depth and the weight of what it made. Memory is taken only once an operation's own checks have passed.
+/// Why an operation is refused. An operation's own checks come first, in the order of RFC 6902, then the depth and the
+/// weight of the document that it made. Memory is allocated only after an operation's own checks have passed.
 #[derive(Clone, Copy, Debug, PartialEq, Eq, Error)]
 pub enum Cause {
     /// A path names a part that is not there.
     #[error("no such part")]
     Missing,
-    /// A token that has to be the index of an element is none.
+    /// A token that must be the index of an element is not an index.
     #[error("not an index")]
     NotIndex,
-    /// An insertion behind the end of a list, with a gap.
+    /// The index of an insertion is larger than the length of the list.
     #[error("past the end of the list")]
     PastEnd,
-    /// A path goes on below a value that has no parts.
+    /// A path continues below a value that has no parts.
     #[error("not a container")]
     NoContainer,
     /// A `remove` of the whole document.

@@ -1,4 +1,4 @@
-//! How a patch is written, as a text and as a tree, and how it is read from a tree (RFC 6902, sections 3 and 4).
+//! The JSON form of patches: written as a text and as a tree, and read from a tree (RFC 6902, sections 3 and 4).
 
 mod kind;
 mod reading;

@@ -1,8 +1,8 @@
-//! JSON Patch (RFC 6902): six operations, applied whole or not at all, and the changes that they made.
+//! JSON Patch (RFC 6902): patches of six operations, applied as a whole or not at all, and the changes that they made.
 //!
-//! The promise: [`apply`] makes of a tree what the operations, one after the other, make of it, or leaves it as it was
-//! and names the first that is refused. The changes that it tells lead from the old document to the new one, so whoever
-//! holds the old one can follow by them alone. Contracts see a [`Patch`] as the list of its operations.
+//! The promise: [`apply`] changes a tree as the operations do, one after the other, or leaves it as it was and names the
+//! first operation that is refused. The changes that it returns lead from the old document to the new one, so a holder of
+//! the old one can follow by applying them alone. Contracts see a [`Patch`] as the list of its operations.
 #![tactic(auto)]
 
 mod applying;
@@ -13,11 +13,13 @@ mod form;
 mod limits;
 mod op;
 mod patch;
+mod weight;
 
 pub use applying::{Applied, apply, apply_within};
-pub use bounds::{Bounds, DEPTH_MOST, WEIGHT_MOST};
+pub use bounds::{Bounds, MAX_DEPTH, MAX_WEIGHT};
 pub use change::{Change, Place};
 pub use fault::{ApplyFault, Cause};
-pub use limits::{OPS_MOST, PatchFault, PatchLimits, RELAYED_TOKENS_MOST};
+pub use limits::{MAX_OPS, MAX_RELAYED_TOKENS, PatchFault, PatchLimits};
 pub use op::Op;
 pub use patch::Patch;
+pub use weight::{pay_changes, pay_part};

@@ -1,14 +1,14 @@
-//! How large a patch may be that is read, and why one is refused.
-use relay_pointer::TOKENS_MOST;
+//! The limits on a patch that is read, and why one is refused.
+use relay_pointer::MAX_TOKENS;
 use thiserror::Error;
 
 /// The most operations of a patch in a request.
-pub const OPS_MOST: u64 = 64;
+pub const MAX_OPS: u64 = 64;
 
-/// The most tokens of a path in a patch that the relay sends: two more, which name a slot of a view.
-pub const RELAYED_TOKENS_MOST: u64 = TOKENS_MOST + 2;
+/// The most tokens of a path in a patch that the relay sends: two more than in a request, which name a slot of a view.
+pub const MAX_RELAYED_TOKENS: u64 = MAX_TOKENS + 2;
 
-/// How many operations a patch has at most, and how many tokens each of its paths.
+/// The most operations of a patch, and the most tokens of each of its paths.
 #[derive(Clone, Copy, Debug, PartialEq, Eq)]
 pub struct PatchLimits {
     pub ops: u64,
@@ -16,32 +16,32 @@ pub struct PatchLimits {
 }
 
 impl PatchLimits {
-    /// Those of a request.
+    /// The limits of a patch in a request.
     pub const REQUEST: PatchLimits = PatchLimits {
-        ops: OPS_MOST,
-        tokens: TOKENS_MOST,
+        ops: MAX_OPS,
+        tokens: MAX_TOKENS,
     };
 
-    /// Those of a patch that the relay sends: any number of operations.
+    /// The limits of a patch that the relay sends: any number of operations.
     pub const RELAYED: PatchLimits = PatchLimits {
         ops: u64::MAX,
-        tokens: RELAYED_TOKENS_MOST,
+        tokens: MAX_RELAYED_TOKENS,
     };
 }
 
-/// Why a tree gives no patch. A list that is too long is refused before its elements are looked at; among these the first
-/// that is refused gives the fault, and `at` is its place, counted from 0.
+/// Why a tree does not read as a patch. A list that is too long is refused before its elements are checked. Otherwise the
+/// fault is that of the first element that is refused, and `at` is its place, counted from 0.
 #[derive(Clone, Copy, Debug, PartialEq, Eq, Error)]
 pub enum PatchFault {
     #[error("too many operations")]
     TooManyOps,
-    /// The tree is no list (no place), or an element lacks a member that its operation needs.
+    /// The tree is not a list (`at` is `None`), or an element lacks a member of the right type that its operation needs.
     #[error("a patch is a list of operations")]
     Shape { at: Option<u64> },
-    /// An `op` that is none of the six.
+    /// An `op` that is not one of the six.
     #[error("operation {at} is unknown")]
     UnknownOp { at: u64 },
-    /// A `path` or a `from` that is no JSON Pointer (RFC 6901), or one of too many tokens.
+    /// A `path` or a `from` that is not a JSON Pointer (RFC 6901), or has too many tokens.
     #[error("operation {at} has no pointer of so few tokens")]
     Pointer { at: u64 },
     #[error("out of memory")]

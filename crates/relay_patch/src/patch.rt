@@ -25,14 +25,14 @@ impl Model for Patch {
 impl Patch {
     ghost use Rattle.std.specs.Prelude.{◌≡◌};
 
-    /// The patch of these operations. No memory is taken.
+    /// Returns the patch of these operations. Allocates nothing.
     pub fn from_ops(list: Vec<Op>) -> Patch
         ensures { result ≡ list.items }
     {
         Patch { ops: list }
     }
 
-    /// The operations, in order.
+    /// Returns the operations, in order.
     pub fn ops(&self) -> &[Op]
         ensures { result.now ≡ self.now }
     {

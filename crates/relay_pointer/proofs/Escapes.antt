@@ -1,4 +1,4 @@
--- The escapes of a text, by what stands before its first `~` and behind it.
+-- The escapes of a text, by the text before its first `~` and after it.
 use Rattle.std.proofs.Common.{◌≡◌, ◌≢◌, ℕ, suc, ◌+◌, ◌<◌, List, [], ◌∷◌, ◌++◌, length, get_or, drop, append-nil, Bool, true, false, ◌&&◌, ◌==◌, Option, Some, None, is_some, IsSome, IsNone, option_map, IsSomeAnd, count_by, cond, append_assoc, refl, sym, ap, subst, ◌∙◌, arith}
 use Rattle.std.specs.List.{slice_split}
 use Rattle.std.proofs.lemmas.Bool.Decides.{nat_tests}
@@ -40,7 +40,7 @@ unescaped-append (b ∷ plain) behind none = rw (no_tilde_first b plain none, un
     go None = refl
     go (Some t) = refl
 
--- one turn of the reading: the token so far, with what stood before the escape and what the escape stands for
+-- one step of reading: the token so far, the text before the escape, and the character that the escape stands for
 pub unescaped_more : (written rest plain behind after token new : List ℕ) (b : ℕ) → rest ≡ plain ++ 126 ∷ behind → NoTilde plain → after_tilde behind ≡ option_map (λ t. b ∷ t) (unescaped after) → new ≡ (token ++ plain) ++ b ∷ []
     → unescaped written ≡ option_map (λ t. token ++ t) (unescaped rest) → unescaped written ≡ option_map (λ t. new ++ t) (unescaped after)
 unescaped_more written rest plain behind after token new b cut none found made so_far =
@@ -50,7 +50,7 @@ unescaped_more written rest plain behind after token new b cut none found made s
     go None = refl
     go (Some t) = rw (append_assoc (token ++ plain) (b ∷ []) t, append_assoc token plain (b ∷ t)) refl
 
--- behind a `~` stands an escape, where the whole text writes a token
+-- if the whole text spells a token, each `~` begins an escape
 pub escape_there : {A : Type 0} (written rest plain behind token : List ℕ) (found : Option A) → rest ≡ plain ++ 126 ∷ behind → NoTilde plain → unescaped written ≡ option_map (λ t. token ++ t) (unescaped rest) → IsSome (unescaped written)
     → (IsNone found → after_tilde behind ≡ None) → IsSome found
 escape_there written rest plain behind token (Some e) cut none so_far there missing = refl
@@ -69,7 +69,7 @@ is_escaped-append (b ∷ plain) behind none = rw (no_tilde_first b plain none) (
 pub is_escaped-cut : (rest plain behind : List ℕ) → rest ≡ plain ++ 126 ∷ behind → NoTilde plain → is_escaped rest ≡ (begins_escape behind && is_escaped behind)
 is_escaped-cut rest plain behind cut none = rw cut (is_escaped-append plain behind none)
 
--- A text behind a first `/` gives tokens where its escapes are whole.
+-- A text after a first `/` spells tokens if its escapes are complete.
 
 is_some-begun : (o : Option Token) (path : Option Path) → is_some (begun o path) ≡ (is_some o && is_some path)
 is_some-begun (Some t) None = refl
@@ -83,7 +83,7 @@ record IsChecked (text : List ℕ) : Type 0 where
   whole : is_some (tokens_of (slice_split (λ c. c == 47) text)) ≡ is_escaped text
   escape : is_some (tokens_of (slice_split (λ c. c == 47) (126 ∷ text))) ≡ (begins_escape text && is_escaped text)
 
--- a first byte that stands for itself or, escaped, for another
+-- a first byte that stands for itself or, if escaped, for another
 one_more : (b : ℕ) (text : List ℕ) → IsChecked text → (p : Parts text) → is_some (begun (option_map (λ t. b ∷ t) (unescaped p.first)) (tokens_of p.more)) ≡ is_escaped text
 one_more b text w p =
     let k : is_some (begun (unescaped p.first) (tokens_of p.more)) ≡ is_escaped text = rw p.are at w.whole in
@@ -131,7 +131,7 @@ length-tokens_of (part ∷ parts) path h =
     let s = begins (unescaped part) (tokens_of parts) path h in
     rw s.are (ap suc (length-tokens_of parts s.tokens s.more))
 
--- a text has a token for each `/`
+-- a text has one token for each `/`
 pub length-path_of_text : (text : List ℕ) (path : Path) → path_of_text text ≡ Some path → length path ≡ count_by (λ b. b == 47) text
 unfolding path_of_text
 length-path_of_text [] path h = let e : [] ≡ path = cc in rw (sym e) refl
@@ -145,7 +145,7 @@ length-path_of_text (b ∷ text) path h = go (b == 47) refl
         rw is (omega (arith, length-tokens_of (slice_split (λ c. c == 47) text) path k, length-slice_split (λ c. c == 47) text, more))
     go false e = let k : None ≡ Some path = rw e at h in cc
 
--- what holds of the number of `/` in a text that spells a path holds of the path's length
+-- what holds for the number of slashes in a text that spells a path holds for the path's length
 pub path_counts : (text : List ℕ) (P : ℕ → Type 0) → is_some (path_of_text text) ≡ true → P (count_by (λ b. b == 47) text) → IsSomeAnd (path_of_text text) (λ path. P (length path))
 path_counts text P there h = go (path_of_text text) refl
   where
@@ -153,7 +153,7 @@ path_counts text P there h = go (path_of_text text) refl
     go None e = let k : false ≡ true = rw e at there in cc
     go (Some path) e = subst P (sym (length-path_of_text text path e)) h
 
--- One turn of the reading of parts: the tokens so far, with the one that the next part writes.
+-- One step of reading parts: the tokens so far, and the one that the next part spells.
 
 pub tokens_turn : (parts : List (List ℕ)) (n : ℕ) (part : List ℕ) → (n < length parts) × (part ≡ get_or parts n part) → tokens_of (drop n parts) ≡ begun (unescaped part) (tokens_of (drop (n + 1) parts))
 tokens_turn parts n part h = at_drop_more tokens_of parts n part h.0 ∙ ap (λ x. begun (unescaped x) (tokens_of (drop (n + 1) parts))) (sym h.1)

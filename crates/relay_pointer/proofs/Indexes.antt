@@ -35,7 +35,7 @@ record Digit (b : ℕ) : Type 0 where
 digit : (b : ℕ) → is_digit b ≡ true → Digit b
 digit b h = let p = both (nat_le 48 b) (nat_le b 57) h in record { low = le_from 48 b p.0; high = le_from b 57 p.1 }
 
--- the same digits, where as many digits spell the same number
+-- equally many digits that spell the same number are the same digits
 same_digits : (s t : List ℕ) (m n : ℕ) → list_all is_digit s ≡ true → list_all is_digit t ≡ true → length s ≡ length t → number_onto m s ≡ number_onto n t → (m ≡ n) × (s ≡ t)
 same_digits [] [] m n h k l e = (e, refl)
 same_digits (b ∷ s) (c ∷ t) m n h k l e =
@@ -49,7 +49,7 @@ same_digits (b ∷ s) (c ∷ t) m n h k l e =
     (omega (arith, ih.0), cc)
 same_digits _ _ m n h k l e = absurd (omega arith)
 
--- a smaller number stays smaller under as many digits
+-- a smaller number continued by equally many digits stays smaller
 smaller : (s t : List ℕ) (m n : ℕ) → list_all is_digit s ≡ true → length s ≡ length t → m < n → number_onto m s < number_onto n t
 smaller [] [] m n h l less = less
 smaller (b ∷ s) (c ∷ t) m n h l less =
@@ -66,7 +66,7 @@ fewer s (c ∷ t) n h l positive =
     (λ longer. smaller s (c ∷ t) 0 n h (omega arith) positive)
     (cases_lt (length s) (length (c ∷ t)))
 
--- digits, of which the first is above 0 where there are more
+-- digits, of which the first is above 0 if there are more
 record IsSpelled (b : ℕ) (bs : List ℕ) : Type 0 where
   digits : list_all is_digit (b ∷ bs) ≡ true
   led : (48 < b) ⊎ (bs ≡ [])
@@ -100,7 +100,7 @@ same_index s t h k e =
     (cases_lt (length t) (length s)))
     (cases_lt (length s) (length t))
 
--- the token is an index, of this number
+-- the token is an index, and its number is i
 record Spells (t : Token) (i : ℕ) : Type 0 where
   index : is_index t ≡ true
   number : number_onto 0 t ≡ i
@@ -183,7 +183,7 @@ pub index_of-index_text : (n : ℕ) → index_of (index_text n) ≡ Some n
 unfolding index_text
 index_of-index_text n = from_spells (spell n n) n (spell_spells n n (omega arith))
 
--- what `{}` writes for a number of 64 bits is the index that spells it
+-- `{}` writes a number of 64 bits as the index that spells it
 pub index_text-decimal : (n : ℕ) → n < 2 ^ 64 → index_text n ≡ decimal n
 index_text-decimal n h = index_of_injective (index_text n) (decimal n) n (index_of-index_text n) (from_spells (decimal n) n (decimal_by_steps (λ n ds. Spells ds n) one_digit one_more n h))
 
@@ -195,7 +195,7 @@ pub record Named (xs : List Document) (t : Token) : Type 0 where
   pub value : Document
   pub there : slice_get xs index ≡ Some value
 
--- the number that 64 bits hold is the index
+-- the number that fits in 64 bits is the index
 pub index_is : (xs : List Document) (t : Token) (n : ℕ) → length xs < 2 ^ 64 → Some n ≡ number_of t → (m : Named xs t) → n ≡ m.index
 index_is xs t n few is m =
     let least : Some n ≡ Some (min (2 ^ 64 - 1) m.index) = is ∙ ap (option_map (min (2 ^ 64 - 1))) m.is in

@@ -1,9 +1,9 @@
--- The bytes of a pointer's text by their meaning, and the parts of the text between its `/`.
+-- The bytes of a pointer's text by their meaning, and the parts of the text between slashes.
 use Rattle.std.proofs.Common.{◌≡◌, ℕ, List, [], ◌∷◌, Bool, true, false, ◌==◌, refl, subst, arith}
 use Rattle.std.specs.List.{slice_split}
 use Rattle.std.proofs.lemmas.Bool.Decides.{nat_tests}
 
--- a byte of a token is `~`, `/` or another
+-- a byte of a token is `~`, `/` or any other byte
 pub data Kind : ℕ → Type 0 where
   tilde : Kind 126
   slash : Kind 47
@@ -17,7 +17,7 @@ kind b = go (b == 126) refl (b == 47) refl
     go false e true f = let is : 47 ≡ b = grind (arith, nat_tests) in subst Kind is slash
     go false e false f = letter b e f
 
--- the parts of a text between its `/`, of which there is at least one
+-- the parts of a text between slashes, of which there is at least one
 pub record Parts (bs : List ℕ) : Type 0 where
   pub first : List ℕ
   pub more : List (List ℕ)
@@ -31,7 +31,7 @@ parts (b ∷ bs) = go (b == 47) refl (parts bs)
     go true e p = record { first = []; more = slice_split (λ c. c == 47) bs; are = rw e refl }
     go false e p = record { first = b ∷ p.first; more = p.more; are = rw (e, p.are) refl }
 
--- a byte behind a `~` begins an escape or none
+-- a byte after a `~` completes an escape or does not
 pub data Behind : ℕ → Type 0 where
   zero_digit : Behind 48
   one_digit : Behind 49

@@ -1,4 +1,4 @@
--- What was put at a path stands there; of two values put at one place the last stands; the old value put back gives the old document.
+-- A value that was put at a path is there; of two values put at one place the last wins; putting the old value back restores the document.
 use Rattle.std.proofs.Common.{◌≡◌, ℕ, suc, [], ◌∷◌, Option, Some, None, refl, sym, ap, ◌∙◌, max, ◌≤◌, arith}
 use Rattle.relay_tree.specs.Document.{Document, list, object, Items, depth, items_depth}
 use Rattle.relay_tree.specs.Part.{item_at, items_length}
@@ -32,7 +32,7 @@ child-with_child _ t c a h = cc
 
 -- Paths.
 
--- what a path leads to, through its first token
+-- the value at a path, reached through the path's first token
 record Through (d : Document) (t : Token) (path : Path) (old : Document) : Type 0 where
   part : Document
   first : child d t ≡ Some part
@@ -82,7 +82,7 @@ pub put_element-length : (ds : Items) (o : Option ℕ) (e : Document) → items_
 put_element-length ds None e = refl
 put_element-length ds (Some i) e = put_item-length ds i e
 
--- where the path leads to nothing, nothing is put
+-- if the path leads to nothing, nothing is put
 pub put-missing : (d : Document) (path : Path) (v : Document) → at d path ≡ None → put d path v ≡ d
 put-missing d [] v h = cc
 put-missing d (t ∷ path) v h = go (child d t) refl (λ c k. put-missing c path v k)

@@ -1,4 +1,4 @@
--- What a walk along a path knows at a node d, after i tokens: what the whole document ends as is a function F of what d ends as.
+-- The state of a walk along a path at a node d, after i tokens: the final value of the whole document is a function F of that of d.
 use Rattle.std.proofs.Common.{◌≡◌, ℕ, zero, suc, ◌<◌, ◌≤◌, Some, None, List, [], ◌∷◌, length, get_or, take, drop, refl, sym, ap, ◌∙◌, arith}
 use Rattle.relay_tree.specs.Document.{Document}
 use Rattle.relay_tree.specs.Seen.{document_of}

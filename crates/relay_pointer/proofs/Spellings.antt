@@ -1,4 +1,4 @@
--- A text spells a path where it reads as that path, and so it spells no other.
+-- A text spells a path exactly if it reads as that path, so it spells no other.
 use Rattle.std.proofs.Common.{◌≡◌, ◌↔◌, ℕ, List, [], ◌∷◌, ◌++◌, Bool, true, false, ◌==◌, Option, Some, None, option_map, flat_map, append_assoc, refl, sym, ap, subst, ◌∙◌, arith}
 use Rattle.std.specs.List.{slice_split}
 use Rattle.std.proofs.lemmas.Bool.Decides.{nat_tests}
@@ -7,7 +7,7 @@ use Rattle.relay_pointer.specs.Path.{Path}
 use Rattle.relay_pointer.proofs.Parts.{Kind, tilde, slash, letter, kind, Behind, zero_digit, one_digit, stroke, other, behind_kind, Parts, parts}
 use Rattle.relay_pointer.specs.Spelling.{escaped, spelling, Spells, SpellsNone, unescaped, begun, tokens_of, path_of_text}
 
--- a token and a path that make up a path
+-- a path that consists of a first token and a rest
 pub record Begins (o : Option Token) (rest : Option Path) (path : Path) : Type 0 where
   pub token : Token
   pub tokens : Path
@@ -61,7 +61,7 @@ record IsWritten (text : List ℕ) : Type 0 where
   whole : (path : Path) → tokens_of (slice_split (λ c. c == 47) text) ≡ Some path → 47 ∷ text ≡ spelling path
   escape : (path : Path) → tokens_of (slice_split (λ c. c == 47) (126 ∷ text)) ≡ Some path → 47 ∷ 126 ∷ text ≡ spelling path
 
--- a first byte that stands for itself or, escaped, for another
+-- a first byte that stands for itself or, if escaped, for another
 one_more : (b : ℕ) (text : List ℕ) (path : Path) → IsWritten text → (p : Parts text) → begun (option_map (λ t. b ∷ t) (unescaped p.first)) (tokens_of p.more) ≡ Some path → 47 ∷ (escaped b ++ text) ≡ spelling path
 one_more b text path w p h =
     let s = shorter b (unescaped p.first) (tokens_of p.more) path h in
@@ -92,7 +92,7 @@ written (b ∷ text) = record { whole = whole b (kind b) (written text) (parts t
     escape _ stroke w p path h = cc
     escape _ (other b e f g) w p path h = let k : None ≡ Some path = rw (g, p.are, e, f) at h in cc
 
--- The two ways of saying that a text spells a path are one.
+-- The two definitions of a text that spells a path are equivalent.
 
 pub reads-spelled : (text : List ℕ) (path : Path) → path_of_text text ≡ Some path → Spells text path
 unfolding path_of_text
@@ -113,7 +113,7 @@ spelled-reads text path h = rw h (path_of_text-spelling path)
 pub reads_where_spelled : (text : List ℕ) (path : Path) → (path_of_text text ≡ Some path) ↔ Spells text path
 reads_where_spelled text path = (reads-spelled text path, spelled-reads text path)
 
--- each list of tokens has a spelling of its own
+-- different lists of tokens have different spellings
 pub spelling_injective : (p q : Path) → spelling p ≡ spelling q → p ≡ q
 spelling_injective p q h = let e : Some p ≡ Some q = sym (path_of_text-spelling p) ∙ ap path_of_text h ∙ path_of_text-spelling q in cc
 

@@ -31,7 +31,7 @@ pub path_of-push : (ts : List (String Global)) (s : String Global) → path_of (
 path_of-push [] s = refl
 path_of-push (t ∷ ts) s = ap (λ p. string_bytes t ∷ p) (path_of-push ts s)
 
--- the last token of a path that has one
+-- the last token of a path that is not empty
 pub tokens_last : (ts : List (String Global)) → 1 ≤ length ts → (t : Token) × (path_of ts ≡ path_of (take (length ts - 1) ts) ++ t ∷ [])
 tokens_last ts h = go ts (length ts - 1) (omega arith)
   where

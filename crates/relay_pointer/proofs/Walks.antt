@@ -8,7 +8,7 @@ use Rattle.relay_tree.proofs.Members.{set_member-same}
 use Rattle.relay_pointer.specs.Index.{Token, index_of, number_of}
 use Rattle.relay_pointer.specs.Path.{Path, child, put_element, with_child, at, put}
 
--- The number of a token, as 64 bits hold it, names the same element of a list that 64 bits can count.
+-- The number of a token, capped at 64 bits, names the same element of a list whose length fits in 64 bits.
 
 pub some_index : (o : Option ℕ) (n : ℕ) → Some n ≡ option_map (min (2 ^ 64 - 1)) o → (i : ℕ) × (o ≡ Some i) × (n ≡ min (2 ^ 64 - 1) i)
 some_index None n h = cc
@@ -56,7 +56,7 @@ with_child-number (list ds) t n m c h few is =
     rw s.1 (ap list (put_counted ds s.0 n c small s.2))
 with_child-number _ t n m c h few is = cc
 
--- where the document is no list
+-- if the document is not a list
 pub child-member : (d : Document) (t : Token) → list_len d ≡ None → object_member d t ≡ child d t
 child-member (list ds) t h = cc
 child-member _ t h = refl
@@ -73,7 +73,7 @@ pub was_other : (o r : Option ℕ) → r ≡ o → is_some r ≡ false → o ≡
 was_other o None e h = sym e
 was_other o (Some m) e h = cc
 
--- a part that is written back leaves the document as it was
+-- writing a part back unchanged leaves the document as it was
 element_same : (ds : Items) (o : Option ℕ) (c : Document) → option_and_then (item_at ds) o ≡ Some c → put_element ds o c ≡ ds
 element_same ds None c h = refl
 element_same ds (Some i) c h = put_item-same ds i c h

@@ -9,12 +9,12 @@ Token = List ℕ
 abbrev pub is_digit : ℕ → Bool
 is_digit b = nat_le 48 b && nat_le b 57
 
--- digits, of which the first is 0 only where it stands alone
+-- one or more digits, of which the first is 0 only if it is the only one
 abbrev pub is_index : Token → Bool
 is_index [] = false
 is_index (b ∷ bs) = list_all is_digit (b ∷ bs) && (nat_lt 48 b || (length bs == 0))
 
--- a number, with digits behind it
+-- the number n continued by decimal digits
 abbrev pub number_onto : ℕ → List ℕ → ℕ
 number_onto n [] = n
 number_onto n (b ∷ bs) = number_onto (n * 10 + (b - 48)) bs
@@ -23,11 +23,11 @@ number_onto n (b ∷ bs) = number_onto (n * 10 + (b - 48)) bs
 unfoldable pub index_of : Token → Option ℕ
 index_of t = if is_index t then Some (number_onto 0 t) else None
 
--- the number of an index as 64 bits hold it: the largest stands for all above it
+-- the number of an index, or 2 ^ 64 - 1 if it is larger than that
 abbrev pub number_of : Token → Option ℕ
 number_of t = option_map (min (2 ^ 64 - 1)) (index_of t)
 
--- a number's digits, of which k + 1 are enough
+-- the digits of a number that has at most k + 1 of them
 abbrev pub spell : ℕ → ℕ → Token
 spell zero n = (48 + n % 10) ∷ []
 spell (suc k) n = if nat_lt n 10 then (48 + n) ∷ [] else spell k (n / 10) ++ (48 + n % 10) ∷ []

@@ -1,4 +1,4 @@
--- What a node ends as, once the borrow of a part is over.
+-- The value of a node after a mutable borrow of one of its parts ends.
 use Rattle.std.specs.Prelude.{Option}
 use Rattle.std.specs.Borrow.{MutBor, Fml}
 use Rattle.relay_tree.specs.Document.{Document}

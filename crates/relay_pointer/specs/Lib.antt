@@ -1,4 +1,5 @@
 pub mod Index
 pub mod Path
+pub mod Weight
 pub mod Spelling
 pub mod Lending

@@ -9,11 +9,11 @@ pub use Rattle.relay_pointer.specs.Index.{Token}
 abbrev pub Path : Type 0
 Path = List Token
 
--- the path that a list of texts is
+-- the path whose tokens are the texts of a list
 abbrev pub path_of : {A : Type 0} → List (String A) → Path
 path_of texts = map string_bytes texts
 
--- the part that a token names
+-- the part that a token names, if there is one
 abbrev pub child : Document → Token → Option Document
 child (list ds) t = option_and_then (item_at ds) (index_of t)
 child (object ms) t = member_at ms t
@@ -28,24 +28,24 @@ abbrev pub put_element : Items → Option ℕ → Document → Items
 put_element ds None c = ds
 put_element ds (Some i) c = put_item ds i c
 
--- the document with c for the part that a token names
+-- the document with c in place of the part that a token names; unchanged if there is none
 abbrev pub with_child : Document → Token → Document → Document
 with_child (list ds) t c = list (put_element ds (index_of t) c)
 with_child (object ms) t c = object (set_member ms t c)
 with_child d t c = d
 
--- the document with the value at the path exchanged for v
+-- the document with v in place of the value at the path; unchanged if there is none
 abbrev pub put : Document → Path → Document → Document
 put d [] v = v
 put d (t ∷ path) v = option_map_or (λ c. with_child d t (put c path v)) (child d t) d
 
--- the first path is how the second begins, or the second itself
+-- the second path begins with the first, or is the first
 abbrev pub is_prefix : Path → Path → Bool
 is_prefix [] q = true
 is_prefix (t ∷ p) [] = false
 is_prefix (t ∷ p) (u ∷ q) = bytes_eq t u && is_prefix p q
 
--- a prefix that is shorter
+-- a prefix that is shorter than the path
 abbrev pub is_proper_prefix : Path → Path → Bool
 is_proper_prefix p [] = false
 is_proper_prefix [] (u ∷ q) = true

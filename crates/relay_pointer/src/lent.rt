@@ -1,4 +1,4 @@
-//! The value to which a pointer leads, lent for writing.
+//! Mutable access to the value to which a pointer leads.
 ghost use Rattle.std.specs.Prelude.{◌≡◌, ◌<◌, ◌≤◌, take, length, slice_index_or, []};
 ghost use Rattle.std.specs.Option.{option_map, option_copied_mut};
 ghost use Rattle.std.specs.Borrow.{Lends, LendsIf, sem};
@@ -12,8 +12,8 @@ use crate::pointer::Pointer;
 use crate::walk::child_mut;
 use relay_tree::{Node, Tree};
 
-/// The value to which the pointer leads, as a node for writing: the whole is then the old one with what was written put
-/// at the path. None leaves it as it was. No memory is taken.
+/// Borrows the value to which the pointer leads, as a node for writing. Afterwards the whole is the old one with what was
+/// written put at the path. Returns `None`, with the whole unchanged, if the pointer leads to nothing. Allocates nothing.
 pub fn resolve_mut<'t>(whole: &'t mut Tree, pointer: &Pointer) -> Option<&'t mut Node>
     ensures* writes_back { sem 𝓛 (LendsIf tree.the_row node.the_row whole.entry result (λ n. put whole.old pointer.now (document_of n)) whole.old) }
     ensures value { option_map document_of (option_copied_mut result) ≡ at whole.old pointer.now }
@@ -22,7 +22,7 @@ pub fn resolve_mut<'t>(whole: &'t mut Tree, pointer: &Pointer) -> Option<&'t mut
     part_mut(whole, pointer, count)
 }
 
-// The node to which the first `count` tokens lead. Its proof is by hand and tied to this body and these parameters.
+// The node to which the first `count` tokens lead. Its proof is written by hand and depends on this body and these parameters.
 fn part_mut<'t>(whole: &'t mut Tree, pointer: &Pointer, count: usize) -> Option<&'t mut Node>
     requires { count ≤ length pointer.now }
     ensures* writes_back { sem 𝓛 (LendsIf tree.the_row node.the_row whole.entry result (λ n. put whole.old (take count pointer.now) (document_of n)) whole.old) }

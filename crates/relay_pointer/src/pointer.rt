@@ -24,7 +24,7 @@ impl Pointer {
     ghost use Rattle.std.specs.Prelude.{◌≡◌, [], IfOk};
     ghost use Rattle.relay_pointer.specs.Path.{path_of, is_prefix, is_proper_prefix};
 
-    /// The path of no token, which leads to the whole document. No memory is taken.
+    /// Returns the path without tokens, which leads to the whole document. Allocates nothing.
     pub fn root(alloc: Global) -> Pointer
         ensures { result ≡ [] }
     {
@@ -33,21 +33,21 @@ impl Pointer {
         }
     }
 
-    /// The path of these tokens. No memory is taken.
+    /// Returns the path of these tokens. Allocates nothing.
     pub fn from_tokens(texts: Vec<String>) -> Pointer
         ensures { result ≡ path_of texts.items }
     {
         Pointer { tokens: texts }
     }
 
-    /// The tokens, in order.
+    /// Returns the tokens, in order.
     pub fn tokens(&self) -> &[String]
         ensures { path_of result.now ≡ self.now }
     {
         self.tokens.as_slice()
     }
 
-    /// The tokens, in order, without the pointer round them. No memory is taken.
+    /// Converts the pointer into its tokens, in order. Allocates nothing.
     pub fn into_tokens(self) -> Vec<String>
         ensures { path_of result.items ≡ self }
     {
@@ -55,21 +55,21 @@ impl Pointer {
         tokens
     }
 
-    /// An equal pointer. Want of memory leaves nothing behind.
+    /// Returns an equal pointer. If memory runs out, nothing stays allocated.
     pub fn copy(&self, alloc: Global) -> Result<Pointer, AllocError>
         ensures { IfOk result (λ copy. copy ≡ self.now) }
     {
         Ok(Pointer::from_tokens(copy_tokens(alloc, self.tokens())?))
     }
 
-    /// Whether the other path begins with this one, or is this one. No memory is taken.
+    /// Returns whether the other path begins with this one or is this one. Allocates nothing.
     pub fn is_prefix(&self, other: &Pointer) -> bool
         ensures { result ≡ is_prefix self.now other.now }
     {
         other.tokens().starts_with(self.tokens())
     }
 
-    /// Whether the other path begins with this one and goes on. No memory is taken.
+    /// Returns whether the other path begins with this one and is longer. Allocates nothing.
     pub fn is_proper_prefix(&self, other: &Pointer) -> bool
         ensures { result ≡ is_proper_prefix self.now other.now }
     {
@@ -77,7 +77,7 @@ impl Pointer {
     }
 }
 
-/// Equal tokens, in memory of their own.
+/// Returns equal tokens in memory of their own.
 pub fn copy_tokens(alloc: Global, tokens: &[String]) -> Result<Vec<String>, AllocError>
     ensures { IfOk result (λ copies. path_of copies.items ≡ path_of tokens.now) }
 {
@@ -100,7 +100,7 @@ fn is_proper_prefix(path: &[String], other: &[String]) -> bool
     token == next && is_proper_prefix(rest, onward)
 }
 
-/// Whether two lists of tokens are one path. No memory is taken.
+/// Returns whether two lists of tokens are the same path. Allocates nothing.
 pub fn same_path(path: &[String], other: &[String]) -> bool
     ensures { result ≡ same_path (path_of path.now) (path_of other.now) }
 {

@@ -1,4 +1,4 @@
-//! Pointers of texts (RFC 6901, section 3): a text is checked and counted whole before its tokens are built.
+//! A reader of pointers (RFC 6901, section 3). A text is checked and its tokens are counted before the first token is built.
 ghost use Rattle.std.specs.Prelude.{◌≡◌, ◌<◌, ◌≤◌, ◌==◌, Some, None, IfOk, IfErr, IsSome, IsSomeAnd, IfSome, IsNone, is_some, ◌∷◌, length, count_by, string_bytes};
 ghost use Rattle.std.specs.List.{slice_split};
 ghost use Rattle.std.specs.Option.{option_map};
@@ -11,15 +11,15 @@ use std::alloc::{AllocError, Global};
 use thiserror::Error;
 
 /// The most tokens of a pointer in a request.
-pub const TOKENS_MOST: u64 = 64;
+pub const MAX_TOKENS: u64 = 64;
 
-/// Why a text gives no pointer, in the order of the checks.
+/// Why a text does not read as a pointer, in the order of the checks.
 #[derive(Clone, Copy, Debug, PartialEq, Eq, Error)]
 pub enum PointerFault {
-    /// The text is not empty and begins with no `/`, or a `~` in it stands before neither `0` nor `1`.
+    /// The text is not empty and does not begin with `/`, or a `~` in it is not followed by `0` or `1`.
     #[error("not a JSON pointer")]
     BadPointer,
-    /// The text spells more tokens than the caller takes.
+    /// The text spells more tokens than the caller accepts.
     #[error("too many tokens")]
     TooManyTokens,
     #[error("out of memory")]
@@ -35,8 +35,8 @@ impl From<AllocError> for PointerFault {
 }
 
 impl Pointer {
-    /// The pointer that a text spells, of at most `most` tokens. It costs the text's length in time and memory, and the
-    /// whole text is checked before any memory is taken.
+    /// Reads the pointer that a text spells, of at most `most` tokens. Costs the text's length in time and memory. The
+    /// whole text is checked before anything is allocated.
     pub fn read(alloc: Global, text: &str, most: u64) -> Result<Pointer, PointerFault>
         ensures ok { IfOk result (λ pointer. path_of_text text.now ≡ Some pointer) }
         ensures spelled { IfOk result (λ pointer. Spells text.now pointer) }
@@ -62,7 +62,7 @@ fn is_pointer(text: &str) -> bool
     text.is_empty() || text.starts_with('/') && is_escaped(text)
 }
 
-// Each `~` stands before a `0` or a `1`.
+// Whether each `~` is followed by `0` or `1`.
 fn is_escaped(text: &str) -> bool
     ensures { result ≡ is_escaped text.now }
 {
@@ -76,7 +76,7 @@ fn is_escaped(text: &str) -> bool
     true
 }
 
-// A text that spells a path has a token for each `/`.
+// A text that spells a path has one token for each `/`.
 fn count_tokens(text: &str) -> u64
     ensures { result ≡ count_by (λ b. b == 47) text.now }
 {
@@ -93,7 +93,7 @@ fn tokens_of(alloc: Global, text: &str) -> Result<Vec<String>, AllocError>
     }
 }
 
-// The tokens of a text behind its first `/`.
+// The tokens of a text after its first `/`.
 fn tokens_behind(alloc: Global, written: &str) -> Result<Vec<String>, AllocError>
     requires { IsSome (tokens_of (slice_split (λ b. b == 47) written.now)) }
     ensures { IfOk result (λ tokens. tokens_of (slice_split (λ b. b == 47) written.now) ≡ Some (path_of tokens.items)) }
@@ -105,7 +105,7 @@ fn tokens_behind(alloc: Global, written: &str) -> Result<Vec<String>, AllocError
     Ok(tokens)
 }
 
-// The token that a text without a `/` writes.
+// The token that a text without a `/` spells.
 fn unescaped(alloc: Global, written: &str) -> Result<String, AllocError>
     requires { IsSome (unescaped written.now) }
     ensures { IfOk result (λ token. unescaped written.now ≡ Some (string_bytes token)) }
@@ -122,7 +122,7 @@ fn unescaped(alloc: Global, written: &str) -> Result<String, AllocError>
     Ok(token)
 }
 
-// The character that an escape stands for, by what follows its `~`, and the text after it.
+// The character that an escape stands for, given the text after its `~`, and the text after the escape.
 fn escape(behind: &str) -> Option<(char, &str)>
     ensures found { IfSome result (λ found. after_tilde behind.now ≡ option_map (λ t. found.0 ∷ t) (unescaped found.1.now)) }
     ensures ascii { IfSome result (λ found. found.0 < 128) }

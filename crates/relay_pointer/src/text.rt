@@ -1,4 +1,4 @@
-//! Texts of pointers (RFC 6901, section 3): each path has one, which reads back as the path.
+//! Texts of pointers (RFC 6901, section 3). Each path has one text, which reads back as the path.
 ghost use Rattle.std.specs.Prelude.{◌≡◌, ◌++◌, IfOk, OnOk, flat_map, string_bytes};
 ghost use Rattle.relay_pointer.specs.Path.{path_of};
 ghost use Rattle.relay_pointer.specs.Spelling.{escaped, spelling};
@@ -7,8 +7,8 @@ use crate::pointer::Pointer;
 use std::alloc::{AllocError, Global};
 
 impl Pointer {
-    /// The text that spells this pointer. It costs the text's length in time and memory; want of memory leaves nothing
-    /// behind.
+    /// Returns the text that spells this pointer. Costs the text's length in time and memory. If memory runs out, nothing
+    /// stays allocated.
     pub fn text(&self, alloc: Global) -> Result<String, AllocError>
         ensures { IfOk result (λ text. string_bytes text ≡ spelling self.now) }
     {

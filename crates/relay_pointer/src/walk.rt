@@ -10,7 +10,7 @@ use crate::index::index_of;
 use crate::pointer::Pointer;
 use relay_tree::{Node, Tree};
 
-/// The value to which the pointer leads, if there is one. No memory is taken.
+/// Returns the value to which the pointer leads, if there is one. Allocates nothing.
 pub fn resolve<'t>(tree: &'t Tree, pointer: &Pointer) -> Option<&'t Tree>
     ensures { option_copied result ≡ at tree.now pointer.now }
 {
@@ -21,7 +21,7 @@ pub fn resolve<'t>(tree: &'t Tree, pointer: &Pointer) -> Option<&'t Tree>
     Some(part)
 }
 
-/// The part that one token names: the member of an object, or the element of a list where the token is its index.
+/// Returns the part that one token names: the member of an object, or the element of a list if the token is its index.
 pub fn child<'t>(tree: &'t Tree, token: &str) -> Option<&'t Tree>
     ensures { option_copied result ≡ child tree.now token.now }
 {
@@ -32,7 +32,7 @@ pub fn child<'t>(tree: &'t Tree, token: &str) -> Option<&'t Tree>
     }
 }
 
-/// The part that one token names, for writing. What is written there is all that changes. No memory is taken.
+/// Borrows the part that one token names for writing. Only what is written there changes. Allocates nothing.
 pub fn child_mut<'t>(node: &'t mut Node, token: &str) -> Option<&'t mut Tree>
     ensures* writes_back { sem 𝓛 (LendsChild node.entry token.now result) }
     ensures value { option_copied_mut result ≡ child (document_of node.old) token.now }

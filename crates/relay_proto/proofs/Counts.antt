@@ -23,9 +23,9 @@ use Rattle.relay_view.specs.declared.slot.SlotKind.{SlotKind}
 use Rattle.relay_view.specs.declared.slot.SlotKind.TheVariants.{Value, Size}
 use Rattle.relay_view.specs.declared.fault.ViewFault.{ViewFault}
 use Rattle.relay_view.specs.declared.fault.ViewFault.TheVariants as view
-use Rattle.relay_view.specs.declared.view.TheConstants.{SLOTS_MOST}
-use Rattle.relay_pointer.specs.declared.reading.TheConstants.{TOKENS_MOST}
-use Rattle.relay_proto.specs.declared.reading.TheConstants.{REQUEST_MOST}
+use Rattle.relay_view.specs.declared.view.TheConstants.{MAX_SLOTS}
+use Rattle.relay_pointer.specs.declared.reading.TheConstants.{MAX_TOKENS}
+use Rattle.relay_proto.specs.declared.reading.TheConstants.{MAX_REQUEST}
 use Rattle.relay_proto.specs.Optional.{optional_count, optional_count_in}
 use Rattle.relay_proto.specs.Request.{with_part, and_then, patch_refusal, patch_read, patch_in, view_refusal, view_read, view_in, edit_of, resume_of, asked, request_of, request_of_tree, request_of_json, request_of_text}
 use Rattle.relay_proto.specs.Written.{IsCount, IsCountOrNull, HasCounts}
@@ -35,18 +35,18 @@ use Rattle.relay_proto.specs.declared.request.Request.{Request}
 use Rattle.relay_proto.specs.declared.request.Request.TheVariants.{Edit, Watch, Resume, Unwatch}
 use Rattle.relay_tree.proofs.Each.{IsBelow, few-place}
 
--- a request's numbers are counts, and it has no more operations than it may
+-- a request's numbers are counts, and it has at most as many operations as the limit allows
 abbrev pub IsRequest : Request → Type 0
 IsRequest (Edit id base ops) = IsCount id × IsCountOrNull base × (length ops ≤ REQUEST.ops)
 IsRequest (Watch id pointers) = IsCount id
 IsRequest (Resume id epoch rev pointers) = IsCount id × IsCount epoch × IsCount rev
 IsRequest (Unwatch id) = IsCount id
 
--- the numbers of the reply that says so are counts
+-- the numbers of a refusal's reply are counts
 abbrev pub IsRefusal : Refusal → Type 0
 IsRefusal r = HasCounts (Refused r.id r.fault r.at None)
 
--- What is read part by part.
+-- Reading part by part.
 
 abbrev Reads : {A : Type 0} → (A → Type 0) → Result A Refusal → Type 0
 Reads P r = MatchResult r P IsRefusal
@@ -123,7 +123,7 @@ patch_reads id d counts =
 
 -- Views.
 
--- the pointer that a fault names, if it names one
+-- the place of the pointer that a fault names, if it names one
 abbrev pointer_place : ViewFault → Option ℕ
 pointer_place (view.Shape at) = at
 pointer_place (view.Pointer at) = Some at
@@ -138,7 +138,7 @@ spelled_names n kind s = go (path_of_text s)
 
     go : (o : Option Path) → IfErr (slot_within n kind o) (λ fault. pointer_place fault ≡ Some n)
     go None = refl
-    go (Some path) = short (nat_le (length path) TOKENS_MOST) (record { pointer = path; kind = kind })
+    go (Some path) = short (nat_le (length path) MAX_TOKENS) (record { pointer = path; kind = kind })
 
 size_names : (n : ℕ) (o : Option Document) → IfErr (size_slot n o) (λ fault. pointer_place fault ≡ Some n)
 size_names n (Some (text s)) = spelled_names n Size s
@@ -149,20 +149,20 @@ slot_at_names n (text s) = spelled_names n Value s
 slot_at_names n (object ms) = size_names n (object_member (object ms) (codes "size"))
 slot_at_names n _ = refl
 
-view_of_place : (d : Document) → IfErr (view_of d) (λ fault. IsBelow SLOTS_MOST (pointer_place fault))
-view_of_place (list ds) = few-place slot_at pointer_place slot_at_names SLOTS_MOST view.TooMany tt ds
+view_of_place : (d : Document) → IfErr (view_of d) (λ fault. IsBelow MAX_SLOTS (pointer_place fault))
+view_of_place (list ds) = few-place slot_at pointer_place slot_at_names MAX_SLOTS view.TooMany tt ds
 view_of_place _ = tt
 
-view_refused : (id : ℕ) (fault : ViewFault) → IsCount id → IsBelow SLOTS_MOST (pointer_place fault) → IsRefusal (view_refusal id fault)
-view_refused id (view.Shape at) counts h = (counts, below_is SLOTS_MOST at (omega arith) h, tt)
-view_refused id (view.Pointer at) counts h = (counts, below_is SLOTS_MOST (Some at) (omega arith) h, tt)
+view_refused : (id : ℕ) (fault : ViewFault) → IsCount id → IsBelow MAX_SLOTS (pointer_place fault) → IsRefusal (view_refusal id fault)
+view_refused id (view.Shape at) counts h = (counts, below_is MAX_SLOTS at (omega arith) h, tt)
+view_refused id (view.Pointer at) counts h = (counts, below_is MAX_SLOTS (Some at) (omega arith) h, tt)
 view_refused id _ counts h = (counts, tt, tt)
 
 view_reads : (id : ℕ) (d : Document) → IsCount id → Reads Anything (view_in id d)
 view_reads id d counts =
     part_reads Anything Anything (Some id) (object_member d (codes "view")) _ counts (some_anything _) (λ v _. go (view_of v) (view_of_place v))
   where
-    go : (r : Result View ViewFault) → IfErr r (λ fault. IsBelow SLOTS_MOST (pointer_place fault)) → Reads Anything (view_read id r)
+    go : (r : Result View ViewFault) → IfErr r (λ fault. IsBelow MAX_SLOTS (pointer_place fault)) → Reads Anything (view_read id r)
     go (Ok pointers) h = tt
     go (Err fault) h = view_refused id fault counts h
 
@@ -192,7 +192,7 @@ request_reads d =
     part_reads Anything IsRequest (Some id) (text_in d (codes "do")) _ counts (some_anything _) (λ name _. asked_reads name id d counts))
 
 text_reads : (s : List ℕ) → Reads IsRequest (request_of_text s)
-text_reads s = either_reads IsRequest (nat_lt REQUEST_MOST (length s)) _ _ (tt, tt, tt) (data_reads (json.read s))
+text_reads s = either_reads IsRequest (nat_lt MAX_REQUEST (length s)) _ _ (tt, tt, tt) (data_reads (json.read s))
   where
     tree_reads : (d : Option Document) → Reads IsRequest (request_of_tree d)
     tree_reads None = (tt, tt, tt)

@@ -1,4 +1,4 @@
--- The document of a message is read as the message, where its members have their forms.
+-- The document of a message reads as the message if its members have their forms.
 use Rattle.std.proofs.Common.{◌≡◌, ℕ, ◌<◌, ◌^◌, List, length, true, nat_le, Option, Some, None, refl, arith}
 use Rattle.std.proofs.lemmas.Bool.Decides.{nat_tests}
 use Rattle.relay_tree.specs.Count.{count_of, count_most}
@@ -9,8 +9,8 @@ use Rattle.relay_proto.specs.MessageRead.{nullable_count, message_of}
 use Rattle.relay_proto.specs.Words.{word_text, how_text, word_of_text, how_of_text}
 use Rattle.relay_proto.specs.Written.{IsCount, IsCountOrNull, HasCounts, HasForms}
 use Rattle.relay_proto.specs.declared.message.Message.TheVariants as message
-use Rattle.relay_proto.specs.declared.reply.How.{How}
-use Rattle.relay_proto.specs.declared.reply.How.TheVariants as how
+use Rattle.relay_proto.specs.declared.reply.ResumeOutcome.{ResumeOutcome}
+use Rattle.relay_proto.specs.declared.reply.ResumeOutcome.TheVariants as how
 use Rattle.relay_proto.specs.declared.reply.Reply.{Reply}
 use Rattle.relay_proto.specs.declared.reply.Reply.TheVariants as reply
 use Rattle.relay_proto.specs.declared.word.Word.{Word}
@@ -21,7 +21,7 @@ pub word_back : (w : Word) → word_of_text (word_text w) ≡ Some w
 word_back word.TooLong = refl
 word_back _ = refl
 
-pub how_back : (h : How) → how_of_text (how_text h) ≡ Some h
+pub how_back : (h : ResumeOutcome) → how_of_text (how_text h) ≡ Some h
 how_back how.Nothing = refl
 how_back _ = refl
 

@@ -1,4 +1,4 @@
--- A patch that was written reads back as itself, where its paths are short.
+-- A patch round-trips if its paths are short.
 use Rattle.std.proofs.Common.{◌≡◌, ℕ, suc, ◌<◌, ◌^◌, List, [], ◌∷◌, length, true, false, nat_le, nat_lt, Ok, refl, ap, ◌∙◌, arith}
 use Rattle.std.proofs.lemmas.Bool.Decides.{nat_tests}
 use Rattle.std.specs.List.{AllByRecursion}

@@ -1,4 +1,4 @@
--- Edits on a named revision, and the refusals that name one, by computation.
+-- Edits with a base, and refusals with a revision, by computation.
 use Rattle.std.proofs.Common.{◌≡◌, negsuc, [], codes, Some, None, Ok, Err, refl}
 use Rattle.std.specs.Fmt.{digits}
 use Rattle.json.specs.Print.{escape_byte}

@@ -1,4 +1,4 @@
--- The text of a document reads back as the document, where its numbers are written as numbers.
+-- The text of a document reads back as the document if its numbers are written as numbers.
 use Rattle.std.proofs.Common.{◌≡◌, ◌≤◌, Some, sym, ap, ◌∙◌}
 use Rattle.json.specs.Lex.{tokens}
 use Rattle.json.specs.Tree.{HasNumbers}

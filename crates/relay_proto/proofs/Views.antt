@@ -1,4 +1,4 @@
--- The tokens of the messages that bring a view up to date, as they are written one after the other.
+-- The tokens of patch and snapshot messages, in the order in which they are written.
 use Rattle.std.proofs.Common.{◌≡◌, ℕ, List, [], ◌∷◌, ◌++◌, codes, decimal, append_assoc}
 use Rattle.json.specs.Token.{Token, begin_object, end_object, key, string, number}
 use Rattle.relay_tree.specs.Document.{Document}

@@ -1,4 +1,4 @@
--- The messages that bring a view up to date are writable, where the document and the patch keep to the relay's bounds.
+-- Patch and snapshot messages are writable if the document and the patch keep to the relay's bounds.
 use Rattle.std.proofs.Common.{◌≡◌, ℕ, suc, ◌+◌, ◌≤◌, List, [], ◌∷◌, true, Option, Some, None, option_and_then, Result, Ok, Err, refl, ap, ◌∙◌, arith}
 use Rattle.std.specs.List.{AllByRecursion}
 use Rattle.std.specs.Result.{result_ok}

@@ -1,4 +1,4 @@
--- What is written of a message reads back as the message.
+-- The text of a message reads back as the message.
 use Rattle.std.proofs.Common.{◌≡◌, ℕ, List, [], ◌∷◌, ◌++◌, length, length-append, codes, Bool, false, ◌+◌, ◌≤◌, ◌<◌, ◌^◌, true, nat_lt, Option, Some, None, option_map, refl, ap, ◌∙◌, lit≤, arith}
 use Rattle.std.proofs.lemmas.Bool.Decides.{nat_tests}
 use Rattle.json.specs.Lex.{tokens}
@@ -101,7 +101,7 @@ pub snapshot_text_back : (s : List ℕ) (rev : ℕ) (view : Document) → tokens
 snapshot_text_back s rev view same part (forms, shallow) =
     back s (snapshot_message rev view) (message.Snapshot rev view) (snapshot_back rev view forms) (text_back s (snapshot_message rev view) same (snapshot_reads rev view forms.0 part) shallow)
 
--- the text of a list of operations has at least a byte for each
+-- the text of a list of operations has at least one byte for each
 items_few : (later : Bool) (ops : List Op) → length ops ≤ length (items_text later (items_data (ops_items ops)))
 items_few later [] = omega arith
 items_few later (o ∷ ops) =

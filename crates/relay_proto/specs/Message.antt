@@ -16,7 +16,7 @@ abbrev pub count_or_null : Option ℕ → Document
 count_or_null (Some n) = count n
 count_or_null None = null
 
--- the member that names a revision, where one is named
+-- the member `rev`, if a revision is named
 abbrev pub revision_members : Option ℕ → Members
 revision_members (Some rev) = member (codes "rev") (count rev) no_members
 revision_members None = no_members
@@ -34,11 +34,11 @@ reply_members (reply.Unwatched id) = member (codes "id") (count id) (member (cod
 abbrev pub reply_document : Reply → Document
 reply_document r = object (reply_members r)
 
--- the operations that lead a view to that of a revision
+-- a patch message: the operations that bring a view to the revision
 abbrev pub patch_message : ℕ → List Op → Document
 patch_message rev ops = object (member (codes "kind") (text (codes "patch")) (member (codes "patch") (patch_document ops) (member (codes "rev") (count rev) no_members)))
 
--- the whole view of a revision
+-- a snapshot message: the whole view of the revision
 abbrev pub snapshot_message : ℕ → Document → Document
 snapshot_message rev view = object (member (codes "kind") (text (codes "snapshot")) (member (codes "rev") (count rev) (member (codes "view") view no_members)))
 

@@ -1,4 +1,4 @@
--- How a text reads as a message: the members of its kind have their forms, and others are ignored.
+-- The message that a text reads as: the members of its kind must have their forms, and other members are ignored.
 use Rattle.std.specs.Prelude.{ℕ, List, codes, bytes_eq, Bool, true, false, ◌&&◌, nat_le, Option, Some, None, option_map, if◌then◌else◌}
 use Rattle.std.specs.Result.{result_ok}
 use Rattle.relay_tree.specs.Document.{Document, null, list, Items, no_items, item}
@@ -10,14 +10,14 @@ use Rattle.relay_patch.specs.declared.limits.TheConstants.PatchLimits.{RELAYED}
 use Rattle.relay_patch.specs.declared.op.Op.{Op}
 use Rattle.relay_proto.specs.declared.message.Message.{Message}
 use Rattle.relay_proto.specs.declared.message.Message.TheVariants as message
-use Rattle.relay_proto.specs.declared.reply.How.{How}
+use Rattle.relay_proto.specs.declared.reply.ResumeOutcome.{ResumeOutcome}
 use Rattle.relay_proto.specs.declared.reply.Reply.{Reply}
 use Rattle.relay_proto.specs.declared.reply.Reply.TheVariants.{Welcome, Done, Refused, Watching, Resumed, Unwatched}
 use Rattle.relay_proto.specs.declared.word.Word.{Word}
 use Rattle.relay_proto.specs.Optional.{optional_count_in}
 use Rattle.relay_proto.specs.Words.{word_of_text, how_of_text}
 
--- what follows where a part is there; else the text is no message
+-- continues with a part if it is there; else the text is no message
 abbrev pub with_form : {A B : Type 0} → Option A → (A → Option B) → Option B
 with_form (Some x) f = f x
 with_form None f = None
@@ -27,14 +27,14 @@ abbrev pub nullable_count : Document → Option (Option ℕ)
 nullable_count null = Some None
 nullable_count d = option_map Some (count_of d)
 
--- the count or null that a member is, which has to be there
+-- a required member that is a count or null
 abbrev pub nullable_in : Document → List ℕ → Option (Option ℕ)
 nullable_in d name = with_form (object_member d name) nullable_count
 
 abbrev pub word_in : Document → Option Word
 word_in d = with_form (text_in d (codes "fault")) word_of_text
 
-abbrev pub how_in : Document → Option How
+abbrev pub how_in : Document → Option ResumeOutcome
 how_in d = with_form (text_in d (codes "how")) how_of_text
 
 -- Replies.
@@ -64,7 +64,7 @@ resumed_in d = with_form (count_in d (codes "id")) (λ id. with_form (how_in d) 
 abbrev pub unwatched_in : Document → Option Reply
 unwatched_in d = with_form (count_in d (codes "id")) (λ id. Some (Unwatched id))
 
--- the reply of a kind
+-- the reply of the given kind
 abbrev pub reply_in : List ℕ → Document → Option Reply
 reply_in kind d =
     if bytes_eq kind (codes "welcome") then welcome_in d else
@@ -74,9 +74,9 @@ reply_in kind d =
     if bytes_eq kind (codes "resumed") then resumed_in d else
     if bytes_eq kind (codes "unwatched") then unwatched_in d else None
 
--- What brings a view up to date.
+-- Patches and snapshots.
 
--- a list of at most one element: the part that a pointer names, or that there is none
+-- a slot is a list of at most one element: what the slot shows, or nothing
 abbrev pub is_slot : Document → Bool
 is_slot (list ds) = nat_le (items_length ds) 1
 is_slot _ = false
@@ -93,7 +93,7 @@ is_view _ = false
 abbrev pub when_view : Document → Option Document
 when_view d = if is_view d then Some d else None
 
--- a patch within the limits of one that is relayed, which has any length
+-- a patch within the limits of relayed patches, which may have any number of operations
 abbrev pub relayed_patch : Document → Option (List Op)
 relayed_patch d = result_ok (patch_of RELAYED.ops RELAYED.tokens d)
 
@@ -109,16 +109,16 @@ snapshot_in d =
     with_form (object_member d (codes "view")) (λ view.
     with_form (when_view view) (λ v. Some (message.Snapshot rev v))))
 
--- the message of a kind
+-- the message of the given kind
 abbrev pub message_in : List ℕ → Document → Option Message
 message_in kind d =
     if bytes_eq kind (codes "patch") then patch_message_in d else
     if bytes_eq kind (codes "snapshot") then snapshot_in d else option_map message.Reply (reply_in kind d)
 
--- the message that a document is
+-- the message that a document reads as
 abbrev pub message_of : Document → Option Message
 message_of d = with_form (text_in d (codes "kind")) (λ kind. message_in kind d)
 
--- the message that a text is
+-- the message that a text reads as
 abbrev pub message_of_text : List ℕ → Option Message
 message_of_text s = with_form (tree_of_text s) message_of

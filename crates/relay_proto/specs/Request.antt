@@ -1,4 +1,4 @@
--- How a text reads as a request, or its first fault: the checks come in the order of these definitions.
+-- The request that a text reads as, or its first fault: the checks come in the order of docs/PROTOCOL.md, "Requests".
 use Rattle.std.specs.Prelude.{◌≡◌, ℕ, List, length, codes, bytes_eq, nat_lt, Option, Some, None, Result, Ok, Err, if◌then◌else◌}
 use Rattle.serde_json.specs.Data.{Data}
 use Rattle.serde_json.specs.Read as json
@@ -16,7 +16,7 @@ use Rattle.relay_view.specs.Form.{view_of}
 use Rattle.relay_view.specs.declared.fault.ViewFault.{ViewFault}
 use Rattle.relay_view.specs.declared.fault.ViewFault.TheVariants as view
 use Rattle.relay_proto.specs.Optional.{optional_count_in}
-use Rattle.relay_proto.specs.declared.reading.TheConstants.{REQUEST_MOST}
+use Rattle.relay_proto.specs.declared.reading.TheConstants.{MAX_REQUEST}
 use Rattle.relay_proto.specs.declared.refusal.Refusal.{Refusal}
 use Rattle.relay_proto.specs.declared.refusal.RequestFault.{RequestFault}
 use Rattle.relay_proto.specs.declared.refusal.RequestFault.TheVariants.{Refused, NoMemory}
@@ -28,7 +28,7 @@ use Rattle.relay_proto.specs.declared.word.Word.TheVariants.{TooLong, NotJson, N
 abbrev pub refusal : Word → Option ℕ → Option ℕ → Refusal
 refusal fault id at = record { fault = fault; id = id; at = at }
 
--- what follows where a part is there; else the request is of another shape
+-- continues with a part if it is there; else the request is refused as Shape
 abbrev pub with_part : {A B : Type 0} → Option ℕ → Option A → (A → Result B Refusal) → Result B Refusal
 with_part id (Some x) f = f x
 with_part id None f = Err (refusal Shape id None)
@@ -37,7 +37,7 @@ abbrev pub and_then : {A B : Type 0} → Result A Refusal → (A → Result B Re
 and_then (Ok x) f = f x
 and_then (Err r) f = Err r
 
--- a patch within the limits of a request
+-- the refusal for each fault of a patch; `patch_of` never gives NoMemory
 abbrev pub patch_refusal : ℕ → PatchFault → Refusal
 patch_refusal id patch.TooManyOps = refusal TooMany (Some id) None
 patch_refusal id (patch.Shape at) = refusal Shape (Some id) at
@@ -65,7 +65,7 @@ view_read id (Err fault) = Err (view_refusal id fault)
 abbrev pub view_in : ℕ → Document → Result View Refusal
 view_in id d = with_part (Some id) (object_member d (codes "view")) (λ v. view_read id (view_of v))
 
--- `base` is a count, or is left out; it is looked at before the patch
+-- `base` is a count or is missing; it is checked before the patch
 abbrev pub edit_of : ℕ → Document → Result Request Refusal
 edit_of id d =
     with_part (Some id) (optional_count_in d (codes "base")) (λ base.
@@ -77,7 +77,7 @@ resume_of id d =
     with_part (Some id) (count_in d (codes "rev")) (λ rev.
     and_then (view_in id d) (λ v. Ok (Resume id epoch rev v))))
 
--- the request that `do` names
+-- the request with this value of `do`
 abbrev pub asked : List ℕ → ℕ → Document → Result Request Refusal
 asked name id d =
     if bytes_eq name (codes "edit") then edit_of id d else
@@ -96,11 +96,11 @@ abbrev pub request_of_json : Option Data → Result Request Refusal
 request_of_json None = Err (refusal NotJson None None)
 request_of_json (Some value) = request_of_tree (tree_of value)
 
--- the request that a text is
+-- the request that a text reads as
 abbrev pub request_of_text : List ℕ → Result Request Refusal
-request_of_text s = if nat_lt REQUEST_MOST (length s) then Err (refusal TooLong None None) else request_of_json (json.read s)
+request_of_text s = if nat_lt MAX_REQUEST (length s) then Err (refusal TooLong None None) else request_of_json (json.read s)
 
--- the fault is that refusal, or want of memory
+-- the fault is the refusal that reading gives, or out of memory
 abbrev pub IsRefusedAs : {A : Type 0} → RequestFault → Result A Refusal → Type 0
 IsRefusedAs (Refused r) read = read ≡ Err r
 IsRefusedAs NoMemory read = Unit {0}

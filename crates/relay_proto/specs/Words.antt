@@ -1,9 +1,9 @@
--- The words that messages spell: why a request is refused, and how a resumed view goes on.
+-- The words of messages: the reasons of refusals, and the outcomes of a resume.
 use Rattle.std.specs.Prelude.{ℕ, List, [], ◌∷◌, codes, bytes_eq, Option, Some, None, if◌then◌else◌}
 use Rattle.relay_proto.specs.declared.word.Word.{Word}
 use Rattle.relay_proto.specs.declared.word.Word.TheVariants as word
-use Rattle.relay_proto.specs.declared.reply.How.{How}
-use Rattle.relay_proto.specs.declared.reply.How.TheVariants as how
+use Rattle.relay_proto.specs.declared.reply.ResumeOutcome.{ResumeOutcome}
+use Rattle.relay_proto.specs.declared.reply.ResumeOutcome.TheVariants as how
 
 -- Writing.
 
@@ -28,14 +28,14 @@ word_text word.Exhausted = codes "exhausted"
 word_text word.Stale = codes "stale"
 word_text word.Future = codes "future"
 
-abbrev pub how_text : How → List ℕ
+abbrev pub how_text : ResumeOutcome → List ℕ
 how_text how.Nothing = codes "nothing"
 how_text how.Patch = codes "patch"
 how_text how.Snapshot = codes "snapshot"
 
 -- Reading: a search among the words.
 
--- the first of the words that a text spells
+-- the first of the words whose text is s
 abbrev pub spelled : {W : Type 0} → (W → List ℕ) → List W → List ℕ → Option W
 spelled spells [] s = None
 spelled spells (w ∷ words) s = if bytes_eq s (spells w) then Some w else spelled spells words s
@@ -47,5 +47,5 @@ words =
 abbrev pub word_of_text : List ℕ → Option Word
 word_of_text s = spelled word_text words s
 
-abbrev pub how_of_text : List ℕ → Option How
+abbrev pub how_of_text : List ℕ → Option ResumeOutcome
 how_of_text s = spelled how_text (how.Nothing ∷ how.Patch ∷ how.Snapshot ∷ []) s

@@ -1,4 +1,4 @@
--- Messages whose members have the forms in which messages are read: what is written of them reads back as themselves.
+-- Messages that round-trip: their members have the forms that the reader accepts, so their text reads back as the message.
 use Rattle.std.specs.Prelude.{◌≡◌, ℕ, ◌≤◌, Option, Some, None, true}
 use Rattle.std.specs.List.{AllByRecursion}
 use Rattle.serde_json.specs.Data.{depth}
@@ -32,7 +32,7 @@ HasCounts (reply.Watching id) = IsCount id
 HasCounts (reply.Resumed id how) = IsCount id
 HasCounts (reply.Unwatched id) = IsCount id
 
--- each path is as short as those of a relayed patch
+-- each path is within the limit of relayed patches
 abbrev pub HasShortPaths : Op → Type 0
 HasShortPaths (Add path v) = IsShort RELAYED.tokens path
 HasShortPaths (Remove path) = IsShort RELAYED.tokens path
@@ -41,7 +41,7 @@ HasShortPaths (Move from path) = IsShort RELAYED.tokens from × IsShort RELAYED.
 HasShortPaths (Copy from path) = IsShort RELAYED.tokens from × IsShort RELAYED.tokens path
 HasShortPaths (Test path v) = IsShort RELAYED.tokens path
 
--- the members have the forms of their kind
+-- the members have the forms that their kind of message requires
 abbrev pub HasForms : Message → Type 0
 HasForms (message.Reply r) = HasCounts r
 HasForms (message.Patch rev ops) = IsCount rev × AllByRecursion HasShortPaths ops

@@ -1,7 +1,7 @@
-//! Requests, replies and messages as JSON texts: what clients and the relay say to each other (`docs/PROTOCOL.md`).
+//! The JSON texts of requests, replies and messages between clients and the relay (`docs/PROTOCOL.md`).
 //!
-//! The promise: each message has one text, the compact text of the object that `docs/PROTOCOL.md` shows, and what is written
-//! of a message reads back as the message. A request is read by one order of checks, whose first fault is the answer.
+//! The promise: each message has one text, the compact text of the object in `docs/PROTOCOL.md`, and that text reads back as the
+//! message. A request is checked in a fixed order, and the first fault is the result.
 #![tactic(auto)]
 
 mod message;
@@ -18,10 +18,10 @@ mod word;
 
 pub use message::Message;
 pub use message_reading::MessageFault;
-pub use reading::REQUEST_MOST;
+pub use reading::MAX_REQUEST;
 pub use refusal::{Refusal, RequestFault};
-pub use reply::{How, Reply};
+pub use reply::{Reply, ResumeOutcome};
 pub use request::Request;
-pub use room_name::{NAME_MOST, is_room_name};
+pub use room_name::{MAX_NAME, is_room_name};
 pub use updates::{patch_text, shown_text, snapshot_text};
 pub use word::Word;

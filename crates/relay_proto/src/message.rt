@@ -1,13 +1,13 @@
-//! What the relay sends.
+//! The messages that the relay sends.
 use crate::reply::Reply;
 use relay_patch::Patch;
 use relay_tree::Tree;
 
-/// One message: a reply, or what brings a watcher's view to the revision that it names.
+/// A message: a reply, or an update that brings a watcher's view to the revision `rev`.
 #[derive(Drop)]
 pub enum Message {
     Reply(Reply),
-    /// The operations that lead the view that the client holds to that of `rev`.
+    /// The operations that turn the view that the client holds into the view of `rev`.
     Patch { rev: u64, patch: Patch },
     /// The whole view of `rev`: the list of its slots.
     Snapshot { rev: u64, view: Tree },

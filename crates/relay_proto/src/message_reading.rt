@@ -1,5 +1,5 @@
-//! Messages of texts, as a client reads them. Members that a message does not need are ignored; an unknown word, or a
-//! member that is missing and may not be, makes the text no message.
+//! The reader of message texts, as a client needs it. Members that a message does not need are ignored. A text with an unknown word
+//! or without a required member is no message.
 ghost use Rattle.std.specs.Prelude.{◌≡◌, Some, None, IfOk, IfErr};
 ghost use Rattle.std.specs.List.{list_all};
 ghost use Rattle.relay_proto.specs.MessageRead.{message_of_text, message_of, patch_message_in, snapshot_in, reply_in, refused_in, resumed_in, nullable_in, word_in, how_in, is_view, is_slot};
@@ -7,7 +7,7 @@ ghost use Rattle.relay_proto.specs.declared.message_reading.MessageFault.TheVari
 
 use crate::message::Message;
 use crate::optional::optional_count_at;
-use crate::reply::{How, Reply};
+use crate::reply::{Reply, ResumeOutcome};
 use crate::word::Word;
 use relay_patch::{Patch, PatchFault, PatchLimits};
 use relay_tree::{Element, Node, Tree, TreeFault};
@@ -15,10 +15,10 @@ use std::alloc::Global;
 use std::collections::VecDeque;
 use thiserror::Error;
 
-/// Why no message was read.
+/// The reason why no message was read.
 #[derive(Clone, Copy, Debug, PartialEq, Eq, Error)]
 pub enum MessageFault {
-    /// The text reads as no tree, or its members do not have the forms of a message.
+    /// [`relay_tree::read`] reads no tree from the text, or its members do not have the forms of a message.
     #[error("not a message")]
     NotMessage,
     #[error("out of memory")]
@@ -26,7 +26,8 @@ pub enum MessageFault {
 }
 
 impl Message {
-    /// The message that a text is. A patch may have any number of operations, and paths of at most 66 tokens.
+    /// Reads a message from its text. A patch may have any number of operations, with paths of at most 66 tokens.
+    /// See `docs/PROTOCOL.md`, "Messages".
     pub fn read(alloc: Global, text: &str) -> Result<Message, MessageFault>
         ensures ok { IfOk result (λ message. message_of_text text.now ≡ Some message) }
         ensures not_message { IfErr result (λ fault. fault ≡ NotMessage → message_of_text text.now ≡ None) }
@@ -158,11 +159,11 @@ fn resumed_of(tree: &Tree) -> Option<Reply>
 {
     Some(Reply::Resumed {
         id: tree.count_at("id")?,
-        how: How::read(tree.text_at("how")?)?,
+        how: ResumeOutcome::read(tree.text_at("how")?)?,
     })
 }
 
-/// The count or null that a member is.
+/// Reads a required member that is a count or `null`.
 fn nullable_at(tree: &Tree, name: &str) -> Option<Option<u64>>
     ensures { result ≡ nullable_in tree.now name.now }
 {

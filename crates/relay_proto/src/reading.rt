@@ -1,7 +1,7 @@
-//! Requests of texts. The checks come in one order, and the first that fails is the answer: the text's length, JSON, its
-//! numbers, an object with `id`, `do`, the counts that the request needs or may have, and then its patch or its view.
+//! The reader of request texts. The checks have a fixed order, and the first that fails is the result: the length of the text, JSON,
+//! its numbers, an object with `id`, then `do`, the counts that the request requires or allows, and then its patch or its view.
 ghost use Rattle.std.specs.Prelude.{◌≡◌, ◌≤◌, Ok, Err, IfOk, IfErr, IsErrOf, length};
-ghost use Rattle.relay_proto.specs.declared.reading.TheConstants.{REQUEST_MOST};
+ghost use Rattle.relay_proto.specs.declared.reading.TheConstants.{MAX_REQUEST};
 ghost use Rattle.relay_proto.specs.Request.{request_of_text, request_of, edit_of, resume_of, patch_in, view_in, refusal, IsRefusedAs};
 
 use crate::optional::optional_count_at;
@@ -13,18 +13,18 @@ use relay_tree::{Tree, TreeFault};
 use relay_view::{View, ViewFault};
 use std::alloc::Global;
 
-/// How many bytes the text of a request has at most.
-pub const REQUEST_MOST: u64 = 1_048_576;
+/// The most bytes of the text of a request.
+pub const MAX_REQUEST: u64 = 1_048_576;
 
 impl Request {
-    /// The request that a text is, or its first fault. Members that a request does not need are ignored. NoMemory comes only for a
-    /// text that is not too long.
+    /// Reads a request from its text, or returns the first fault. Members that a request does not need are ignored. `NoMemory` comes
+    /// only for a text of at most [`MAX_REQUEST`] bytes. See `docs/PROTOCOL.md`, "Requests".
     pub fn read(alloc: Global, text: &str) -> Result<Request, RequestFault>
         ensures ok { IfOk result (λ request. request_of_text text.now ≡ Ok request) }
         ensures refused { IfErr result (λ fault. IsRefusedAs fault (request_of_text text.now)) }
-        ensures no_memory { IsErrOf result RequestFault.NoMemory → length text.now ≤ REQUEST_MOST }
+        ensures no_memory { IsErrOf result RequestFault.NoMemory → length text.now ≤ MAX_REQUEST }
     {
-        if text.len() as u64 > REQUEST_MOST {
+        if text.len() as u64 > MAX_REQUEST {
             return refuse(Word::TooLong, None, None);
         }
         let tree = match relay_tree::read(alloc, text) {

@@ -1,9 +1,9 @@
-//! Why a text is no request.
+//! The refusal of a text that is no request.
 use crate::reply::Reply;
 use crate::word::Word;
 
-/// Why a text is no request, as the reply says it. `id` is the request's id where the text reads as an object with one;
-/// `at` is the place of the operation or of the pointer that is at fault, counted from 0.
+/// The reason why a text is no request, with the fields of the reply. `id` is the request's id if the text is an object with one;
+/// `at` is the place of the operation or pointer at fault, counted from 0.
 #[derive(Clone, Copy, Debug, PartialEq, Eq)]
 pub struct Refusal {
     pub fault: Word,
@@ -15,7 +15,7 @@ impl Refusal {
     ghost use Rattle.std.specs.Prelude.{◌≡◌, None};
     ghost use Rattle.relay_proto.specs.declared.reply.Reply.TheVariants.{Refused};
 
-    /// The reply that says so. It names no revision.
+    /// Returns the reply for this refusal. It names no revision.
     pub fn reply(self) -> Reply
         ensures { result ≡ Refused self.id self.fault self.at None }
     {
@@ -28,7 +28,7 @@ impl Refusal {
     }
 }
 
-/// Why no request was read.
+/// The reason why no request was read.
 #[derive(Clone, Copy, Debug, PartialEq, Eq)]
 pub enum RequestFault {
     Refused(Refusal),

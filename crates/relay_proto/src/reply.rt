@@ -1,10 +1,10 @@
-//! What is answered to one request, or to an opening.
+//! Replies to requests, and to the opening of a session.
 use crate::word::Word;
 
-/// How a resumed view goes on.
+/// What follows the reply to a resume.
 #[derive(Clone, Copy, Debug, PartialEq, Eq)]
-pub enum How {
-    /// The client's view is the present one.
+pub enum ResumeOutcome {
+    /// Nothing: the client's view is up to date.
     Nothing,
     /// One patch to the present revision waits.
     Patch,
@@ -12,30 +12,30 @@ pub enum How {
     Snapshot,
 }
 
-impl How {
+impl ResumeOutcome {
     ghost use Rattle.std.specs.Prelude.{◌≡◌};
     ghost use Rattle.relay_proto.specs.Words.{how_text, how_of_text};
 
-    /// The word that a text spells; None where it spells none.
-    pub fn read(text: &str) -> Option<How>
+    /// Returns the outcome whose word is `text`, or `None` if there is none.
+    pub fn read(text: &str) -> Option<ResumeOutcome>
         ensures { result ≡ how_of_text text.now }
     {
         match text {
-            "nothing" => Some(How::Nothing),
-            "patch" => Some(How::Patch),
-            "snapshot" => Some(How::Snapshot),
+            "nothing" => Some(ResumeOutcome::Nothing),
+            "patch" => Some(ResumeOutcome::Patch),
+            "snapshot" => Some(ResumeOutcome::Snapshot),
             _ => None,
         }
     }
 
-    /// The word as a message spells it.
+    /// Returns the word that messages use for this outcome.
     pub fn text(self) -> &'static str
         ensures { result.now ≡ how_text self }
     {
         match self {
-            How::Nothing => "nothing",
-            How::Patch => "patch",
-            How::Snapshot => "snapshot",
+            ResumeOutcome::Nothing => "nothing",
+            ResumeOutcome::Patch => "patch",
+            ResumeOutcome::Snapshot => "snapshot",
         }
     }
 }
@@ -43,19 +43,19 @@ impl How {
 /// A reply. Epochs, revisions, session numbers and ids are counts, from 0 to `2^53 - 1`.
 #[derive(Clone, Copy, Debug, PartialEq, Eq)]
 pub enum Reply {
-    /// A session was opened, in a room that is at the revision.
+    /// A session was opened in a room that is at revision `rev`.
     Welcome {
         epoch: u64,
         rev: u64,
         session: u64,
     },
-    /// An edit was accepted; the room is at the revision.
+    /// An edit was accepted and made revision `rev`.
     Done {
         id: u64,
         rev: u64,
     },
-    /// A request was refused. `id` is None where the text has none, `at` is the place of the operation or of the pointer
-    /// that is at fault, counted from 0, and `rev` is the revision that the room is at, where the reply names it.
+    /// A request was refused. `id` is `None` if the text has none. `at` is the place of the operation or pointer at fault,
+    /// counted from 0. `rev` is the present revision of the room, if the reply names it.
     Refused {
         id: Option<u64>,
         fault: Word,
@@ -66,10 +66,10 @@ pub enum Reply {
     Watching {
         id: u64,
     },
-    /// The view is held, and goes on from the revision that the client named.
+    /// The view is held, and continues from the revision that the client named.
     Resumed {
         id: u64,
-        how: How,
+        how: ResumeOutcome,
     },
     /// No view is held any more.
     Unwatched {

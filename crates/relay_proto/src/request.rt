@@ -1,29 +1,29 @@
-//! What a client asks.
+//! The requests that a client sends.
 use relay_patch::Patch;
 use relay_view::View;
 
 /// One request. Ids, epochs and revisions are counts, from 0 to `2^53 - 1`.
 #[derive(Drop)]
 pub enum Request {
-    /// Apply the patch to the room's document; where `base` is given, only at that revision.
+    /// Apply the patch to the room's document; if `base` is given, only at that revision.
     Edit {
         id: u64,
         base: Option<u64>,
         patch: Patch,
     },
-    /// Show these parts from now on.
+    /// Watch this view from now on.
     Watch {
         id: u64,
         view: View,
     },
-    /// Show these parts from the revision that the client holds.
+    /// Watch this view, starting from the epoch and revision that the client holds.
     Resume {
         id: u64,
         epoch: u64,
         rev: u64,
         view: View,
     },
-    /// Show nothing any more.
+    /// Stop watching.
     Unwatch {
         id: u64,
     },

@@ -1,20 +1,20 @@
 //! The names of rooms.
 //!
-//! A room is named by whoever opens it, in the target of a handshake or in the line of a script. The bytes allowed are
-//! the same in both, and need no escape in either.
+//! A room name comes from the target of a handshake or from a line of a script. The same bytes are allowed in both, and none needs
+//! an escape in either.
 ghost use Rattle.std.specs.Prelude.{◌≡◌};
 ghost use Rattle.std.specs.List.{list_all};
 ghost use Rattle.relay_proto.specs.RoomName.{is_room_name, is_room_byte};
 
-/// How many bytes the name of a room has at most.
-pub const NAME_MOST: usize = 64;
+/// The most bytes of a room name.
+pub const MAX_NAME: usize = 64;
 
-/// Whether the text is the name of a room: 1 to [`NAME_MOST`] bytes, each an ASCII letter, an ASCII digit, `-` or `_`.
-/// No memory is taken.
+/// Returns whether the text is a room name: 1 to [`MAX_NAME`] bytes, each an ASCII letter, an ASCII digit, `-` or `_`.
+/// Allocates nothing.
 pub fn is_room_name(name: &str) -> bool
     ensures { result ≡ is_room_name name.now }
 {
-    !name.is_empty() && name.len() <= NAME_MOST && are_room_bytes(name.as_bytes())
+    !name.is_empty() && name.len() <= MAX_NAME && are_room_bytes(name.as_bytes())
 }
 
 fn are_room_bytes(bytes: &[u8]) -> bool

@@ -1,4 +1,4 @@
-//! Messages as texts: compact JSON, member names in byte order.
+//! The texts of messages: compact JSON, member names in byte order.
 ghost use Rattle.std.specs.Prelude.{◌≡◌, Some, IfOk, string_bytes};
 ghost use Rattle.relay_tree.specs.Text.{text_of};
 ghost use Rattle.relay_proto.specs.Message.{reply_document, count_or_null, message_document};
@@ -14,7 +14,7 @@ use crate::word::Word;
 use std::alloc::{AllocError, Global};
 
 impl Reply {
-    /// The text of the reply. It reads back as the reply, where its numbers are counts.
+    /// Returns the text of the reply. It reads back as the reply if its numbers are counts.
     pub fn text(&self, alloc: Global) -> Result<String, AllocError>
         ensures text { IfOk result (λ text. string_bytes text ≡ text_of (reply_document self.now)) }
         ensures reads_back { IfOk result (λ text. HasCounts self.now → message_of_text (string_bytes text) ≡ Some (message.Reply self.now)) }
@@ -41,7 +41,7 @@ impl Reply {
     }
 }
 
-/// The text of a refusal, which has the member `rev` where a revision is named.
+/// Returns the text of a refusal, which has the member `rev` if a revision is given.
 fn refused_text(
     alloc: Global,
     id: Option<u64>,
@@ -64,7 +64,7 @@ fn refused_text(
     }
 }
 
-/// A count in decimal, or `null`.
+/// Returns a count in decimal, or `null`.
 fn count_text(alloc: Global, count: Option<u64>) -> Result<String, AllocError>
     ensures { IfOk result (λ text. string_bytes text ≡ text_of (count_or_null count)) }
 {
@@ -75,8 +75,8 @@ fn count_text(alloc: Global, count: Option<u64>) -> Result<String, AllocError>
 }
 
 impl Message {
-    /// The text of the message. It reads back as the message, where its members have the forms in which they are read and it
-    /// nests at most 127 containers.
+    /// Returns the text of the message. It reads back as the message if its members have the forms that [`Message::read`] accepts
+    /// and it nests at most 127 containers.
     pub fn text(&self, alloc: Global) -> Result<String, AllocError>
         ensures text { IfOk result (λ text. string_bytes text ≡ text_of (message_document self.now)) }
         ensures reads_back { IfOk result (λ text. IsWritable self.now → message_of_text (string_bytes text) ≡ Some self.now) }

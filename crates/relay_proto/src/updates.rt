@@ -1,4 +1,4 @@
-//! The texts of the messages that bring a view up to date, written token by token: compact JSON, member names in byte order.
+//! The texts of patch and snapshot messages, written token by token: compact JSON, member names in byte order.
 ghost use Rattle.std.specs.Prelude.{◌≡◌, Some, [], ◌∷◌, ◌++◌, IfOk, string_bytes, codes, decimal};
 ghost use Rattle.json.specs.Lex.{tokens};
 ghost use Rattle.json.specs.Print.{print};
@@ -16,9 +16,9 @@ use relay_tree::{Tree, begin_text, end_text};
 use relay_view::View;
 use std::alloc::{AllocError, Global};
 
-/// The text of a patch message: the operations that lead a view to that of the revision. It costs that one text, and copies no
-/// value. It reads back as the message, where the revision is a count, paths have at most 66 tokens and the text nests at most
-/// 127 containers.
+/// Returns the text of a patch message: the operations that bring a view to the revision `rev`. Allocates only that text and copies
+/// no value. It reads back as the message if the revision is a count, paths have at most 66 tokens and the text nests at most 127
+/// containers.
 pub fn patch_text(alloc: Global, rev: u64, patch: &Patch) -> Result<String, AllocError>
     ensures text { IfOk result (λ text. string_bytes text ≡ text_of (patch_message rev patch.now)) }
     ensures reads_back { IfOk result (λ text. IsWritable (message.Patch rev patch.now) → message_of_text (string_bytes text) ≡ Some (message.Patch rev patch.now)) }
@@ -31,8 +31,8 @@ pub fn patch_text(alloc: Global, rev: u64, patch: &Patch) -> Result<String, Allo
     end_message(out)
 }
 
-/// The text of a snapshot: the whole view of the revision. It costs that one text, and copies no value. It reads back as the
-/// message, where the revision is a count, the view is a list of slots and the text nests at most 127 containers.
+/// Returns the text of a snapshot: the whole view of the revision `rev`. Allocates only that text and copies no value. It reads back
+/// as the message if the revision is a count, the view is a list of slots and the text nests at most 127 containers.
 pub fn snapshot_text(alloc: Global, rev: u64, view: &Tree) -> Result<String, AllocError>
     ensures text { IfOk result (λ text. string_bytes text ≡ text_of (snapshot_message rev view.now)) }
     ensures reads_back { IfOk result (λ text. IsWritable (message.Snapshot rev view.now) → message_of_text (string_bytes text) ≡ Some (message.Snapshot rev view.now)) }
@@ -42,8 +42,8 @@ pub fn snapshot_text(alloc: Global, rev: u64, view: &Tree) -> Result<String, All
     end_message(out)
 }
 
-/// The text of a snapshot of what a view shows of the document of the revision, as [`snapshot_text`] gives it. It costs that one
-/// text: each part is written where it stands in the document.
+/// Returns the same text as [`snapshot_text`] for what a view shows of the document of the revision `rev`. Allocates only that text:
+/// each part is written straight from the document.
 pub fn shown_text(
     alloc: Global,
     rev: u64,
@@ -58,7 +58,7 @@ pub fn shown_text(
     end_message(out)
 }
 
-/// A message as far as its kind.
+/// Writes a message up to its kind.
 fn begin_message(alloc: Global, kind: &str) -> Result<Writer, AllocError>
     ensures before { IfOk result (λ out. out.before ≡ []) }
     ensures tokens { IfOk result (λ out. out.tokens ≡ begin_object ∷ key (codes "kind") ∷ string kind.now ∷ []) }
@@ -70,7 +70,7 @@ fn begin_message(alloc: Global, kind: &str) -> Result<Writer, AllocError>
     Ok(out)
 }
 
-/// A snapshot as far as its view.
+/// Writes a snapshot up to its view.
 fn begin_snapshot(alloc: Global, rev: u64) -> Result<Writer, AllocError>
     ensures before { IfOk result (λ out. out.before ≡ []) }
     ensures tokens { IfOk result (λ out. out.tokens ≡ begin_object ∷ key (codes "kind") ∷ string (codes "snapshot") ∷ key (codes "rev") ∷ number (decimal rev) ∷ key (codes "view") ∷ []) }
@@ -82,7 +82,7 @@ fn begin_snapshot(alloc: Global, rev: u64) -> Result<Writer, AllocError>
     Ok(out)
 }
 
-/// The text of a message whose members are written.
+/// Closes a message and returns its text.
 fn end_message(mut out: Writer) -> Result<String, AllocError>
     requires { out.before ≡ [] }
     ensures text { IfOk result (λ text. string_bytes text ≡ print (out.tokens ++ end_object ∷ [])) }

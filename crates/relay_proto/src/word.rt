@@ -1,8 +1,8 @@
-//! The words by which a refusal says why.
+//! The words that name the reason of a refusal.
 ghost use Rattle.std.specs.Prelude.{◌≡◌};
 ghost use Rattle.relay_proto.specs.Words.{word_text, word_of_text};
 
-/// Why a request is refused, in the order of the checks (`docs/PROTOCOL.md`).
+/// The reason why a request is refused, in the order of the checks (`docs/PROTOCOL.md`).
 #[derive(Clone, Copy, Debug, PartialEq, Eq)]
 pub enum Word {
     TooLong,
@@ -27,7 +27,7 @@ pub enum Word {
 }
 
 impl Word {
-    /// The word that a text spells; None where it spells none.
+    /// Returns the word with this text, or `None` if there is none.
     pub fn read(text: &str) -> Option<Word>
         ensures { result ≡ word_of_text text.now }
     {
@@ -55,7 +55,7 @@ impl Word {
         }
     }
 
-    /// The word as a message spells it.
+    /// Returns the text that messages use for this word.
     pub fn text(self) -> &'static str
         ensures { result.now ≡ word_text self }
     {

@@ -1,4 +1,4 @@
--- A patch leaves a document that is within bounds within them.
+-- A patch keeps a document within its bounds.
 use Rattle.std.proofs.Common.{◌≡◌, ℕ, suc, List, [], ◌∷◌, Ok, subst}
 use Rattle.relay_tree.specs.Document.{Document}
 use Rattle.relay_patch.specs.declared.op.Op.{Op}

@@ -1,4 +1,4 @@
--- What an edit comes to, as its patch is taken or refused.
+-- The result of an edit, from the result of its patch.
 use Rattle.std.proofs.Common.{◌≡◌, ◌<◌, ℕ, Bool, true, false, List, Option, Result, Ok, Err, refl, arith, nat_lt, if◌then◌else◌}
 use Rattle.std.proofs.lemmas.Bool.Decides.{nat_tests}
 use Rattle.relay_tree.specs.Document.{Document}
@@ -11,14 +11,14 @@ use Rattle.relay_room.specs.Edit.{applied, edited, is_for}
 use Rattle.relay_room.specs.Room.{State, revision}
 use Rattle.relay_room.specs.declared.fault.EditFault.TheVariants.{Exhausted, Stale, Apply}
 
--- below the last revision, and for the present one, it is what its patch comes to
+-- an edit for the present revision, below the last one, has the result of its patch
 pub edited_below : (room : State) (base : Option ℕ) (patch : List Op) → revision room < LAST_REVISION → is_for base (revision room) ≡ true
     → edited room base patch ≡ applied (after room.document patch DOCUMENT)
 edited_below room base patch below for =
     let more : nat_lt (revision room) LAST_REVISION ≡ true = grind (arith, nat_tests, below) in
     rw more (rw for refl)
 
--- a stale edit is told the present revision
+-- a stale edit is refused with the present revision
 pub stale_present : (room : State) (base : Option ℕ) (patch : List Op) (present : ℕ) → edited room base patch ≡ Err (Stale present) → present ≡ revision room
 stale_present room base patch present h = go (nat_lt (revision room) LAST_REVISION) (is_for base (revision room)) (after room.document patch DOCUMENT) h
   where

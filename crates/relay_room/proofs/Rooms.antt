@@ -1,17 +1,21 @@
--- A room is one when it begins, and after each revision.
+-- A new room keeps the invariant, and so does a room after each revision.
 use Rattle.std.specs.List.{AllByRecursion}
-use Rattle.std.proofs.Common.{◌≡◌, ℕ, zero, suc, ◌+◌, ◌-◌, ◌<◌, ◌≤◌, ◌⊎◌, inl, inr, List, [], ◌∷◌, take, false, Ok, refl, arith}
+use Rattle.std.proofs.Common.{◌≡◌, ℕ, zero, suc, ◌+◌, ◌-◌, ◌<◌, ◌≤◌, ◌⊎◌, inl, inr, List, [], ◌∷◌, length, take, false, Ok, refl, arith}
 use Rattle.std.proofs.lemmas.Bool.{cases_lt}
 use Rattle.relay_tree.specs.Document.{Document, depth, weight}
+use Rattle.relay_tree.specs.declared.budget.Budget.{Budget}
 use Rattle.relay_patch.specs.declared.bounds.TheConstants.Bounds.{DOCUMENT}
 use Rattle.relay_patch.specs.declared.change.Change.{Change}
 use Rattle.relay_patch.specs.Patch.{exceeds, within}
 use Rattle.relay_patch.specs.Change.{Leads}
 use Rattle.relay_patch.proofs.Made.{Leads-append}
-use Rattle.relay_history.specs.declared.history.TheConstants.{MOST_REVISIONS, LAST_REVISION}
+use Rattle.relay_history.specs.declared.history.TheConstants.{MAX_REVISIONS, LAST_REVISION}
 use Rattle.relay_history.specs.History.{IsHistory, Reaches, in_order, with_revision, changes_since}
+use Rattle.relay_history.specs.Trimmed.{afforded}
+use Rattle.relay_history.proofs.Afforded.{afforded_front}
+use Rattle.relay_history.proofs.Trims.{trimmed_is_history, trimmed_reaches, trimmed_changes_since}
 use Rattle.relay_history.proofs.Growing.{held-with_revision, changes_since-newest, changes_since-with_revision}
-use Rattle.relay_room.specs.Room.{State, IsRoom, Fit, begun}
+use Rattle.relay_room.specs.Room.{State, IsRoom, Fit, begun, trimmed}
 
 no_changes : (n : ℕ) → in_order (take n []) ≡ []
 no_changes zero = refl
@@ -19,7 +23,7 @@ no_changes (suc n) = refl
 
 pub begun_is_room : (document : Document) (rev limit : ℕ)
     → exceeds DOCUMENT.depth (depth document) ≡ false → exceeds DOCUMENT.weight (weight document) ≡ false
-    → 1 ≤ limit → limit ≤ MOST_REVISIONS → rev ≤ LAST_REVISION
+    → 1 ≤ limit → limit ≤ MAX_REVISIONS → rev ≤ LAST_REVISION
     → IsRoom (begun document rev limit)
 begun_is_room document rev limit flat light least most last = record {
   history = record { limited = (least, most); within = omega arith; made = omega arith; last = last };
@@ -31,6 +35,15 @@ begun_is_room document rev limit flat light least most last = record {
 fit_take : (n : ℕ) (revisions : List (List Change)) → AllByRecursion Fit revisions → AllByRecursion Fit (take n revisions)
 fit_take (suc n) (changes ∷ revisions) h = (h.0, fit_take n revisions h.1)
 fit_take _ _ h = tt
+
+-- a room whose history is trimmed keeps the invariant
+pub trimmed_is_room : (budget : Budget) (room : State) → IsRoom room → IsRoom (trimmed budget room)
+trimmed_is_room budget room is = record {
+  history = trimmed_is_history budget room.history is.history;
+  within = is.within;
+  fit = rw (afforded_front budget room.history.changes) (fit_take (length (afforded budget room.history.changes)) room.history.changes is.fit);
+  led = λ rev reaches. rw (trimmed_changes_since budget room.history rev reaches) (is.led rev (trimmed_reaches budget room.history rev reaches));
+}
 
 pub edited_is_room : (room : State) (changes : List Change) (document : Document)
     → IsRoom room → IsHistory (with_revision changes room.history)

@@ -1,5 +1,5 @@
--- What the definitions give for a room that holds the last two of five revisions, for limits that are not kept, and for edits on a
--- named revision.
+-- The definitions computed for a room that holds the last two of five revisions, for limits that are exceeded, and for edits with a
+-- base.
 use Rattle.std.specs.Prelude.{◌≡◌, ◌+◌, List, [], ◌∷◌, Some, None, Ok, Err, true, false, refl, codes}
 use Rattle.relay_tree.specs.Document.{null, truth, list, object, no_items, item, no_members, member}
 use Rattle.relay_pointer.specs.Index.{index_text}
@@ -10,7 +10,7 @@ use Rattle.relay_patch.specs.declared.op.Op.TheVariants.{Remove, Replace}
 use Rattle.relay_patch.specs.declared.change.Change.{Change}
 use Rattle.relay_patch.specs.declared.change.Change.TheVariants.{Set}
 use Rattle.relay_history.specs.History as history
-use Rattle.relay_history.specs.declared.history.TheConstants.{MOST_REVISIONS, LAST_REVISION}
+use Rattle.relay_history.specs.declared.history.TheConstants.{MAX_REVISIONS, LAST_REVISION}
 use Rattle.relay_history.specs.History.{with_revision}
 use Rattle.relay_room.specs.Room.{State}
 use Rattle.relay_room.specs.Fault.{room_fault}
@@ -26,7 +26,7 @@ revision_is_no_count = refl
 holds_nothing : room_fault null LAST_REVISION 0 ≡ Some BadLimit
 holds_nothing = refl
 
-holds_too_much : room_fault null 0 (MOST_REVISIONS + 1) ≡ Some BadLimit
+holds_too_much : room_fault null 0 (MAX_REVISIONS + 1) ≡ Some BadLimit
 holds_too_much = refl
 
 last_revision : room_fault null LAST_REVISION 1 ≡ None
@@ -65,8 +65,8 @@ module _ (a b c : List Change) where
   unfolding five
   from_2 = refl
 
--- an edit for another revision than the present one is stale, whatever its patch is; one for the present revision, or for none,
--- is made; and one that has no revision left is refused before
+-- an edit for a revision other than the present one is stale, whatever its patch is; one for the present revision, or without a
+-- base, is done; and one in a room at its last revision is exhausted before that
 
 stale_below : edited_at 2 null (Some 1) (Remove [] ∷ []) ≡ Err (Stale 2)
 stale_below = refl

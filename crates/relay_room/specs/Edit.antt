@@ -1,4 +1,4 @@
--- What an edit makes of a room. The rule stands here once: the room keeps it, and a hub's steps and its log speak of it.
+-- The effect of an edit on a room. Defined once here: the room keeps it, and the contracts of the hub and of its log cite it.
 use Rattle.std.specs.Prelude.{◌≡◌, ◌≢◌, ◌==◌, ℕ, Bool, true, List, Option, Some, None, Result, Ok, Err, nat_lt, if◌then◌else◌}
 use Rattle.relay_tree.specs.Document.{Document}
 use Rattle.relay_patch.specs.declared.bounds.TheConstants.Bounds.{DOCUMENT}
@@ -12,28 +12,28 @@ use Rattle.relay_room.specs.Room.{State, revision}
 use Rattle.relay_room.specs.declared.fault.EditFault.{EditFault}
 use Rattle.relay_room.specs.declared.fault.EditFault.TheVariants.{Exhausted, Stale, Apply}
 
--- what a patch makes of a document, as an edit
+-- the result of a patch as the result of an edit
 abbrev pub applied : Result Document ApplyFault → Result Document EditFault
 applied (Ok d) = Ok d
 applied (Err fault) = Err (Apply fault)
 
--- an edit may name the revision that it was made for, its base: it is then for that revision alone
+-- an edit with a base is for that revision only; one without is for every revision
 abbrev pub is_for : Option ℕ → ℕ → Bool
 is_for (Some base) rev = base == rev
 is_for None rev = true
 
--- the document that an edit makes at a revision, whose document is d, or why it is refused: there is no further revision, or
--- it is for another one, or the patch is refused (RFC 6902, section 5)
+-- the document that an edit makes of d, the document of revision rev, or the first fault: rev is the last revision, the edit is
+-- for another revision, or the patch is refused (RFC 6902, section 5)
 abbrev pub edited_at : ℕ → Document → Option ℕ → List Op → Result Document EditFault
 edited_at rev d base patch =
     if nat_lt rev LAST_REVISION then (if is_for base rev then applied (after d patch DOCUMENT) else Err (Stale rev)) else Err Exhausted
 
--- the document that an edit makes in a room
+-- the document that an edit makes in a room, or the first fault
 abbrev pub edited : State → Option ℕ → List Op → Result Document EditFault
 edited room base patch = edited_at (revision room) room.document base patch
 
--- why an edit is not made: it is refused; or memory was refused, where it is for the present revision and its operations had
--- passed so far
+-- the fault of an edit is the one that the definition gives; or memory ran out, and the edit is for the present revision and its
+-- operations before the fault's place passed
 abbrev pub Refuses : State → Option ℕ → List Op → EditFault → Type 0
 Refuses room base patch Exhausted = edited room base patch ≡ Err Exhausted
 Refuses room base patch (Stale present) = edited room base patch ≡ Err (Stale present)

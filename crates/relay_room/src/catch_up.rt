@@ -1,8 +1,8 @@
-//! What leads the view of an earlier revision to the view of the present one.
+//! The update that brings the view of an earlier revision to the present one.
 ghost use Rattle.std.specs.Prelude.{◌≡◌, ◌<◌, ◌↔◌, map, IfOk, IfSome, IsSome, IsErrOf};
 ghost use Rattle.relay_history.specs.History.{Reaches, changes_since};
 ghost use Rattle.relay_room.specs.Room.{revision};
-ghost use Rattle.relay_room.specs.CatchUp.{caught_up, patch_or_nothing, LeadsOn, Fits};
+ghost use Rattle.relay_room.specs.CatchUp.{caught_up, caught_up_within, patch_or_nothing, patch_or_snapshot, LeadsOn, Fits};
 ghost use Rattle.relay_room.specs.declared.catch_up.CatchUp.TheVariants.{Nothing};
 ghost use Rattle.relay_room.specs.declared.fault.CatchFault.TheVariants.{Future};
 
@@ -10,30 +10,50 @@ use crate::fault::CatchFault;
 use crate::room::Room;
 use relay_history::History;
 use relay_patch::{Change, Patch};
-use relay_translate::translate;
+use relay_translate::translate_within;
+use relay_tree::Budget;
 use relay_view::View;
 use std::alloc::{AllocError, Global};
 
-/// What a client needs that holds its view of an earlier revision.
+/// What a client that holds the view of an earlier revision has missed.
 #[derive(Drop)]
 pub enum CatchUp {
-    /// Nothing: the view is that of the present document.
+    /// Nothing: the view is up to date.
     Nothing,
-    /// A patch that makes the view of the present document out of it.
+    /// A patch that turns the view into that of the present document.
     Patch(Patch),
-    /// The view of the present document, since the changes after that revision are not all held any more.
+    /// The whole view of the present document is needed: the changes since that revision are no longer all held, or the patch would
+    /// weigh more than the budget.
     Snapshot,
 }
 
 impl Room {
-    /// What whoever holds its view of revision `rev` missed. Nothing where `rev` is the present revision, or where no change
-    /// since then touches the view; Snapshot where `rev` is below the oldest revision after which all changes are held; else
-    /// a patch that makes the present view of the old one. Its paths have at most 66 tokens, and its values are at most 65
-    /// deep. Future: `rev` is above the present revision.
+    /// Returns what a client that holds its view of revision `rev` has missed: `Nothing` if `rev` is the present revision or no change
+    /// since then touches the view; `Snapshot` if `rev` is below the oldest revision after which all changes are held; else a patch
+    /// that turns the old view into the present one. The patch has paths of at most 66 tokens and values at most 65 deep. Returns
+    /// `Future` if `rev` is above the present revision, and `NoMemory` if memory runs out.
     ///
-    /// It costs the changes since `rev` times the view's pointers, and a copy of each value that the patch carries.
+    /// Costs the number of changes since `rev` times the number of the view's pointers, and a copy of each value that the patch carries.
+    /// See `docs/PROTOCOL.md`, "What a request does".
     pub fn catch_up(&self, alloc: Global, rev: u64, view: &View) -> Result<CatchUp, CatchFault>
         ensures exact { IfOk result (λ how. how ≡ caught_up self.now rev view.now) }
+        ensures present { rev ≡ revision self.now → IfOk result (λ how. how ≡ Nothing) }
+        ensures leads { IfOk result (λ how. LeadsOn self.now rev view.now how) }
+        ensures sizes { IfOk result (λ how. Fits how) }
+        ensures future { IsErrOf result Future ↔ (revision self.now < rev) }
+    {
+        self.catch_up_within(alloc, rev, view, Budget::Unbounded)
+    }
+
+    /// Like [`Room::catch_up`], but returns `Snapshot` in place of a patch that weighs more than the budget. No such patch is built.
+    pub fn catch_up_within(
+        &self,
+        alloc: Global,
+        rev: u64,
+        view: &View,
+        budget: Budget,
+    ) -> Result<CatchUp, CatchFault>
+        ensures exact { IfOk result (λ how. how ≡ caught_up_within budget self.now rev view.now) }
         ensures present { rev ≡ revision self.now → IfOk result (λ how. how ≡ Nothing) }
         ensures leads { IfOk result (λ how. LeadsOn self.now rev view.now how) }
         ensures sizes { IfOk result (λ how. Fits how) }
@@ -45,12 +65,12 @@ impl Room {
         let Some(changes) = held_since(alloc, &self.history, rev)? else {
             return Ok(CatchUp::Snapshot);
         };
-        let patch = translate(alloc, changes.as_slice(), &self.document, view)?;
-        Ok(patch_or_nothing(patch))
+        let patch = translate_within(alloc, changes.as_slice(), &self.document, view, budget)?;
+        Ok(patch_or_snapshot(patch))
     }
 }
 
-// The changes after a revision, if all of them are held.
+// Returns the changes after a revision if all of them are held.
 pub(crate) fn held_since<'a>(
     alloc: Global,
     history: &'a History,
@@ -65,7 +85,17 @@ pub(crate) fn held_since<'a>(
     }
 }
 
-// A patch without operations would tell nothing.
+// A snapshot replaces a patch that is too heavy to be built.
+fn patch_or_snapshot(patch: Option<Patch>) -> CatchUp
+    ensures { result ≡ patch_or_snapshot patch }
+{
+    match patch {
+        Some(patch) => patch_or_nothing(patch),
+        None => CatchUp::Snapshot,
+    }
+}
+
+// A patch without operations changes nothing, so it is not sent.
 fn patch_or_nothing(patch: Patch) -> CatchUp
     ensures { result ≡ patch_or_nothing patch }
 {

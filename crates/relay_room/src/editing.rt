@@ -1,4 +1,4 @@
-//! A room's next revision.
+//! Edits, each of which makes the next revision of a room.
 ghost use Rattle.std.specs.Prelude.{◌≡◌, ◌+◌, ◌↔◌, Ok, IfOk, IfErr, OnOk, OnErr, IsErrOf};
 ghost use Rattle.relay_history.specs.declared.history.TheConstants.{LAST_REVISION};
 ghost use Rattle.relay_history.specs.History.{with_revision};
@@ -14,14 +14,16 @@ use relay_patch::{Applied, Bounds, Patch, apply_within};
 use std::alloc::Global;
 
 impl Room {
-    /// Applies a patch to the document (RFC 6902, section 5), which has to stay within `Bounds::DOCUMENT` after each
-    /// operation. Gives the new revision: one higher, also where the patch changes nothing. An edit with a `base` is for that
-    /// revision alone: it is made only if nobody has edited the document since.
-    /// Exhausted: the revision is the last that there can be, whatever the edit is. Stale: `base` is not the present revision,
-    /// whatever the patch is. Apply: an operation is refused, or memory is. The room is as it was then.
+    /// Applies a patch to the document (RFC 6902, section 5), which must stay within `Bounds::DOCUMENT` after each operation. Returns
+    /// the new revision: one higher, even if the patch changes nothing. An edit with a `base` applies only if that is the present
+    /// revision.
     ///
-    /// It costs what the patch touches: the document is not measured. Where the most revisions are held, the oldest one's
-    /// changes go.
+    /// Returns `Exhausted` if the present revision is the last possible one, whatever the edit is; then `Stale` if `base` is not the
+    /// present revision, whatever the patch is; then `Apply` if an operation is refused or memory runs out. An error leaves the room
+    /// unchanged.
+    ///
+    /// Costs what the patch touches; the document is not measured. If the room already holds its limit of revisions, it forgets the
+    /// changes of the oldest one.
     pub fn edit(
         &mut self,
         alloc: Global,
@@ -57,7 +59,7 @@ impl Room {
     }
 }
 
-/// Whether an edit is for a revision: it names that one, or none.
+/// Returns whether an edit is for a revision: its base is that revision, or it has none.
 fn is_for(base: Option<u64>, rev: u64) -> bool
     ensures { result ≡ is_for base rev }
 {

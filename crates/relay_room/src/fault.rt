@@ -1,4 +1,4 @@
-//! Why a room is not made, not edited, or cannot say what somebody missed.
+//! The errors of creating a room, of editing it, and of catching up.
 ghost use Rattle.std.specs.Prelude.{◌≡◌};
 ghost use Rattle.relay_history.specs.declared.fault.HistoryFault.TheVariants as history;
 ghost use Rattle.relay_room.specs.declared.fault.RoomFault.TheVariants as room;
@@ -10,7 +10,7 @@ use relay_patch::ApplyFault;
 use std::alloc::AllocError;
 use thiserror::Error;
 
-/// Why no room is made, in the order of the checks.
+/// The reason why no room is created, in the order of the checks.
 #[derive(Clone, Copy, Debug, PartialEq, Eq, Error)]
 pub enum RoomFault {
     /// The document is deeper than `Bounds::DOCUMENT` allows.
@@ -42,16 +42,16 @@ impl From<HistoryFault> for RoomFault {
     }
 }
 
-/// Why an edit makes no revision, in the order of the checks. The room is as it was.
+/// The reason why an edit makes no revision, in the order of the checks. The room is unchanged.
 #[derive(Clone, Copy, Debug, PartialEq, Eq, Error)]
 pub enum EditFault {
-    /// The revision is `2^53 - 1`, the last that there can be.
+    /// The present revision is `2^53 - 1`, the last possible one.
     #[error("no revision is left")]
     Exhausted,
-    /// The edit is for another revision than the present one.
+    /// The edit has a base that is not the present revision.
     #[error("the present revision is {present}")]
     Stale { present: u64 },
-    /// The patch is refused, or memory is.
+    /// The patch is refused, or memory ran out.
     #[error("{0}")]
     Apply(ApplyFault),
 }
@@ -64,7 +64,7 @@ impl From<ApplyFault> for EditFault {
     }
 }
 
-/// Why nobody can say what was missed, in the order of the checks.
+/// The reason why a client cannot catch up, in the order of the checks.
 #[derive(Clone, Copy, Debug, PartialEq, Eq, Error)]
 pub enum CatchFault {
     /// The revision is above the present one.

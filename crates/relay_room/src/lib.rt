@@ -1,9 +1,8 @@
-//! A shared document, its revision, and what leads whoever saw an earlier revision to the present one.
+//! A room: a shared document, its revision, and the updates that bring an earlier view to the present revision.
 //!
-//! The promise: a document changes by whole patches alone, each of which makes one revision, and stays small. Whoever knows
-//! the revision that it saw learns from [`Room::catch_up`] exactly what its view missed, or that it has to see the document
-//! anew; a client that comes back and one that was there all the time are told by the same call. Contracts see a room as a
-//! `State` of `specs/`.
+//! The promise: a document changes only by whole patches, each of which makes one revision, and stays within its bounds. A client
+//! that knows the revision of its view gets from [`Room::catch_up`] exactly what the view missed, or learns that it needs a snapshot.
+//! The same call serves clients that return and clients that were connected all along. Contracts see a room as a `State` of `specs/`.
 #![tactic(auto)]
 
 mod catch_up;

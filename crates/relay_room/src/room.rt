@@ -1,17 +1,17 @@
-//! A room: its document and its history. The history knows the revision, so that the two cannot disagree.
+//! A room: its document and its history. Only the history stores the revision, so the two cannot disagree.
 use crate::fault::RoomFault;
 use relay_history::{History, LAST_REVISION};
 use relay_patch::Bounds;
-use relay_tree::{Node, Tree};
+use relay_tree::{Budget, Node, Tree};
 use std::alloc::Global;
 use std::marker::Model;
 
-/// A shared document and what its last revisions changed. Contracts see it as a `State`: the document, and the `Past` of a
+/// A shared document and the changes of its last revisions. Contracts see it as a `State`: the document, and the `Past` of a
 /// history.
 #[derive(Drop)]
 pub struct Room {
     pub(crate) document: Tree,
-    // What the document weighs, so that no edit has to measure it.
+    // The weight of the document, so that no edit has to measure it.
     pub(crate) weight: u64,
     pub(crate) history: History,
 }
@@ -33,24 +33,26 @@ impl Room {
     ghost use Rattle.std.specs.Prelude.{◌≡◌, ◌<◌, ◌↔◌, ◌⊎◌, Some, None, IfOk, IfErr, IsErrOf};
     ghost use Rattle.relay_tree.specs.Document.{Document};
     ghost use Rattle.relay_tree.specs.Document.{null};
-    ghost use Rattle.relay_history.specs.declared.history.TheConstants.{MOST_REVISIONS};
-    ghost use Rattle.relay_room.specs.Room.{IsRoom, begun, revision};
+    ghost use Rattle.relay_history.specs.declared.history.TheConstants.{MAX_REVISIONS};
+    ghost use Rattle.relay_room.specs.Room.{IsRoom, begun, revision, trimmed};
     ghost use Rattle.relay_room.specs.Fault.{room_fault};
     ghost use Rattle.relay_room.specs.declared.fault.RoomFault.TheVariants.{BadLimit, NoMemory};
 
-    /// A room whose document is null, at revision 0, that holds the changes of the last `limit` revisions.
-    /// BadLimit: `limit` is not 1 to 1,024.
+    /// Creates a room with the document `null` at revision 0, which holds the changes of the last `limit` revisions. Returns `BadLimit`
+    /// if `limit` is not 1 to 1,024, and `NoMemory` if memory runs out.
     pub fn new(alloc: Global, limit: u64) -> Result<Room, RoomFault>
         ensures ok { IfOk result (λ room. room ≡ begun null 0 limit) }
-        ensures bad_limit { IsErrOf result BadLimit ↔ ((limit < 1) ⊎ (MOST_REVISIONS < limit)) }
+        ensures bad_limit { IsErrOf result BadLimit ↔ ((limit < 1) ⊎ (MAX_REVISIONS < limit)) }
         ensures other { IfErr result (λ fault. (fault ≡ BadLimit) ⊎ (fault ≡ NoMemory)) }
     {
         Room::starting_at(alloc, Tree::from(Node::Null), 0, limit)
     }
 
-    /// A room whose document is the tree, at revision `rev`, that holds the changes of the last `limit` revisions after it.
-    /// TooDeep, TooHeavy: the tree is not within `Bounds::DOCUMENT`. BadRevision: `rev` is above `2^53 - 1`. BadLimit: `limit` is
-    /// not 1 to 1,024. The first of them that holds is the answer, and the tree is dropped. It costs the tree's measure.
+    /// Creates a room with this document at revision `rev`, which holds the changes of the last `limit` revisions after it.
+    ///
+    /// Checks in this order and returns the first error: `TooDeep` and `TooHeavy` if the document is not within `Bounds::DOCUMENT`,
+    /// `BadRevision` if `rev` is above `2^53 - 1`, `BadLimit` if `limit` is not 1 to 1,024, and `NoMemory` if memory runs out. An error
+    /// drops the document. Costs a walk over the document, to measure it.
     pub fn starting_at(
         alloc: Global,
         document: Tree,
@@ -78,7 +80,15 @@ impl Room {
         })
     }
 
-    /// The present document. No memory is taken.
+    /// Forgets the changes of the oldest revisions until those held weigh no more than the budget ([`History::trim`]). A client that
+    /// returns from an earlier revision gets a snapshot. Allocates nothing.
+    pub fn trim(&mut self, budget: Budget)
+        ensures { self.new ≡ trimmed budget self.old }
+    {
+        self.history.trim(budget);
+    }
+
+    /// Returns the present document. Allocates nothing.
     pub fn document(&self) -> &Tree
         ensures kept { IsRoom self.now }
         ensures document { result.now ≡ self.now.document }
@@ -86,7 +96,7 @@ impl Room {
         &self.document
     }
 
-    /// The present revision. No memory is taken.
+    /// Returns the present revision. Allocates nothing.
     pub fn revision(&self) -> u64
         ensures kept { IsRoom self.now }
         ensures revision { result ≡ revision self.now }

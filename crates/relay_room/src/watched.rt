@@ -1,4 +1,4 @@
-//! Whom the newest revision concerns.
+//! The sessions whose views the newest revision touched.
 ghost use Rattle.std.specs.Prelude.{◌≡◌, ℕ, map, nat_eq, IfOk};
 ghost use Rattle.std.specs.List.{list_any};
 ghost use Rattle.std.specs.List.Sorted.{IsStrictlyIncreasing};
@@ -13,10 +13,10 @@ use relay_translate::WatchIndex;
 use std::alloc::{AllocError, Global};
 
 impl Room {
-    /// The sessions whose views the newest revision touched, rising and each once: whoever else watches, and saw the revision
-    /// before it, missed nothing. The list is empty where the history does not hold what the revision changed.
+    /// Returns the sessions whose views the newest revision touched, in ascending order, each once. Every other watcher that was at
+    /// the revision before missed nothing. The list is empty if the history does not hold the changes of the newest revision.
     ///
-    /// It costs a copy of the list of its changes, and the look-up of each of them ([`WatchIndex::touched`]).
+    /// Costs a copy of the list of its changes, and a lookup of each of them ([`WatchIndex::touched`]).
     pub fn touched(&self, alloc: Global, watched: &WatchIndex) -> Result<Vec<u64>, AllocError>
         ensures rising { IfOk result (λ sessions. IsStrictlyIncreasing sessions.items) }
         ensures exact { IfOk result (λ sessions. (s : ℕ) → list_any (nat_eq s) sessions.items ≡ sees (newest_changes self.now.history) watched.now s) }
@@ -27,7 +27,7 @@ impl Room {
     }
 }
 
-/// What the newest revision changed, in order; nothing where that is not held.
+/// Returns the changes of the newest revision, in order, or none if they are not held.
 fn newest_changes(alloc: Global, history: &History) -> Result<Vec<&Change>, AllocError>
     ensures { IfOk result (λ changes. map (λ c. c.now) changes.items ≡ newest_changes history.now) }
 {

@@ -1,25 +1,27 @@
--- Lemmas on how jobs end.
+-- Lemmas about the ends of jobs.
 use Rattle.std.proofs.Common.{◌≡◌, ◌≢◌, ◌↔◌, ◌⊎◌, inl, inr, ℕ, List, Option, Result, Ok, Err, OnOk, IfErr, IsErrOf, refl, sym, ap, subst}
+use Rattle.std.specs.Prelude.{⊤}
 use Rattle.std.specs.Io.KnownBytes.{IsAtEnd}
 use Rattle.relay_options.specs.declared.job.Job.{Job}
 use Rattle.relay_server.specs.Jobs.{Ends, LoopEnds, JobEnds}
 use Rattle.relay_lines.specs.Respond.{Answering, AnswersAll, AnswersSome}
-use Rattle.relay_lines.specs.Sockets as sockets
+use Rattle.relay_lines.specs.Script.{Stage}
+use Rattle.relay_loopback.specs.Loopback.{LoopbackAnswers, unopened}
 use Rattle.relay_lines.specs.declared.fault.ScriptFault.{ScriptFault}
 use Rattle.relay_lines.specs.declared.fault.ScriptFault.TheVariants.{BadLimit, NoMemory}
-use Rattle.relay_lines.specs.declared.fault.ServeFault.{ServeFault}
-use Rattle.relay_lines.specs.declared.fault.ServeFault.TheVariants.{Ended, Listen}
+use Rattle.relay_loopback.specs.declared.fault.ServeFault.{ServeFault}
+use Rattle.relay_loopback.specs.declared.fault.ServeFault.TheVariants.{Ended, Listen}
 use Rattle.relay_server.specs.declared.status.Status.{Status}
 pub use Rattle.relay_lines.proofs.Limits.{limits_kept}
 use Rattle.relay_lines.proofs.RunLemmas.{on_success, if_fault, AnswersSome-none, AnswersAll-seen, AnswersSome-seen}
 
--- the job is known
+-- the end of a job, for an equal job
 pub JobEnds-at : (todo known : Job) (status : Status) (input left old new : Option (List ℕ)) → todo ≡ known → JobEnds known status input left old new
     → JobEnds todo status input left old new
 JobEnds-at todo known status input left old new e ends = subst (λ j. JobEnds j status input left old new) (sym e) ends
 
 module _ {S : Type 0} (answers : Answering S) (from : S) (input left old new : Option (List ℕ)) where
-  -- a run that may find a limit out of range
+  -- a run that may end with `BadLimit`
   pub Ends-limited : (ended : Result (Unit {0}) ScriptFault) → OnOk ended (AnswersAll answers from input old new)
       → OnOk ended (IsAtEnd left) → IfErr ended (λ fault. fault ≢ BadLimit → AnswersSome answers fault from input old new)
       → IfErr ended (λ fault. fault ≡ BadLimit → (left ≡ input) × (new ≡ old)) → Ends answers from ended input left old new
@@ -27,7 +29,7 @@ module _ {S : Type 0} (answers : Answering S) (from : S) (input left old new : O
   Ends-limited (Err BadLimit) all end some same = same refl
   Ends-limited _ all end some same = some (λ e. cc)
 
-  -- a run with no limits
+  -- a run without limits
   pub Ends-free : (ended : Result (Unit {0}) ScriptFault) → OnOk ended (AnswersAll answers from input old new)
       → OnOk ended (IsAtEnd left) → IfErr ended (λ fault. AnswersSome answers fault from input old new)
       → IfErr ended (λ fault. fault ≢ BadLimit) → Ends answers from ended input left old new
@@ -35,34 +37,35 @@ module _ {S : Type 0} (answers : Answering S) (from : S) (input left old new : O
   Ends-free (Err BadLimit) all end some limits = absurd (limits refl)
   Ends-free _ all end some limits = some
 
--- a run that has no limits finds none out of range
+-- a run without limits never ends with `BadLimit`
 pub no_limits : (ended : Result (Unit {0}) ScriptFault) → IfErr ended (λ fault. fault ≢ BadLimit) → IsErrOf ended BadLimit ↔ ⊥
 no_limits (Ok u) limits = (λ bad. cc, λ none. absurd none)
 no_limits (Err fault) limits = (λ bad. let same : fault ≡ BadLimit = cc in limits same, λ none. absurd none)
 
--- a reader and a writer that stayed as they were show what they showed
+-- an unchanged reader and writer have the same remaining input and contents
 pub untouched : {A B : Type 0} (ended : Result (Unit {0}) ScriptFault) (remaining : A → Option (List ℕ)) (contents : B → Option (List ℕ)) (input left : A) (old new : B)
     → IfErr ended (λ fault. fault ≡ BadLimit → (left ≡ input) × (new ≡ old))
     → IfErr ended (λ fault. fault ≡ BadLimit → (remaining left ≡ remaining input) × (contents new ≡ contents old))
 untouched (Ok u) remaining contents input left old new same = tt
 untouched (Err fault) remaining contents input left old new same = λ bad. (ap remaining (same bad).0, ap contents (same bad).1)
 
--- a loop that had no hub or no sockets
+-- the end of a loop without a hub or sockets
 pub LoopEnds-none : (fault : ServeFault) (input old : Option (List ℕ)) → (fault ≡ Listen) ⊎ (fault ≡ Ended NoMemory) ⊎ (fault ≡ Ended BadLimit)
     → LoopEnds (Err fault) input input old old
 LoopEnds-none fault input old (inl e) = subst (λ f. LoopEnds (Err f) input input old old) (sym e) (refl, refl)
-LoopEnds-none fault input old (inr (inl e)) = subst (λ f. LoopEnds (Err f) input input old old) (sym e) (AnswersSome-none sockets.Answers tt input old)
+LoopEnds-none fault input old (inr (inl e)) = subst (λ f. LoopEnds (Err f) input input old old) (sym e) (AnswersSome-none LoopbackAnswers unopened input old)
 LoopEnds-none fault input old (inr (inr e)) = subst (λ f. LoopEnds (Err f) input input old old) (sym e) (refl, refl)
 
--- a run of the loop is a run of answers that speak of their names
-pub loop_ran : {S : Type 0} (answers : Answering S) (from : S) (input left old new : Option (List ℕ)) (ended : Result (Unit {0}) ScriptFault)
-    → ((old new : S) (number : ℕ) (line answer : List ℕ) → answers old number line new answer → sockets.Answers tt number line tt answer)
+-- a run of the loop is a run of a script whose events have any of the outcomes that sockets can give
+pub loop_ran : {S : Type 0} (answers : Answering S) (see : S → Stage ⊤) (from : S) (input left old new : Option (List ℕ)) (ended : Result (Unit {0}) ScriptFault) → see from ≡ unopened
+    → ((old new : S) (number : ℕ) (line answer : List ℕ) → answers old number line new answer → LoopbackAnswers (see old) number line (see new) answer)
     → OnOk ended (AnswersAll answers from input old new) → OnOk ended (IsAtEnd left)
     → IfErr ended (λ fault. AnswersSome answers fault from input old new) → IfErr ended (λ fault. fault ≢ BadLimit)
-    → Ends sockets.Answers tt ended input left old new
-loop_ran answers from input left old new ended same all end some limits =
-    Ends-free sockets.Answers tt input left old new ended
-    (on_success ended (AnswersAll-seen answers sockets.Answers (λ _. tt) same from input old new) all)
+    → Ends LoopbackAnswers unopened ended input left old new
+loop_ran answers see from input left old new ended begun same all end some limits =
+    subst (λ s. Ends LoopbackAnswers s ended input left old new) begun
+    (Ends-free LoopbackAnswers (see from) input left old new ended
+    (on_success ended (AnswersAll-seen answers LoopbackAnswers see same from input old new) all)
     end
-    (if_fault ended (λ fault. AnswersSome-seen answers sockets.Answers (λ _. tt) same fault from input old new) some)
-    limits
+    (if_fault ended (λ fault. AnswersSome-seen answers LoopbackAnswers see same fault from input old new) some)
+    limits)

@@ -1,28 +1,28 @@
-//! The program's jobs, from its words to its exit status.
+//! The program's jobs, from its arguments to its exit status.
 ghost use Rattle.std.specs.Prelude.{◌≡◌, ◌↔◌, IsErrOf};
-ghost use Rattle.relay_hub.specs.Telling.{BadLimits};
+ghost use Rattle.relay_hub.specs.Queries.{BadLimits};
+ghost use Rattle.relay_server.specs.Config.{config_of};
 ghost use Rattle.relay_server.specs.Jobs.{JobEnds, LoopEnds, Starts, StopEnds, code_of, sockets_status, unread_status};
 ghost use Rattle.relay_lines.specs.declared.fault.ScriptFault.TheVariants.{BadLimit};
-ghost use Rattle.relay_lines.specs.declared.fault.ServeFault.TheVariants.{Ended};
-ghost use Rattle.relay_lines.specs.declared.sockets.TheConstants.{FIRST};
+ghost use Rattle.relay_loopback.specs.declared.fault.ServeFault.TheVariants.{Ended};
 
+use crate::config::config_of;
 use crate::serve::{Served, serve};
 use crate::status::{Status, report, say};
-use relay_lines::{
-    Looped, ScriptFault, ServeFault, run_follow, run_lines, run_script, write_whole,
-};
+use relay_lines::{Script, ScriptFault, run_follow, run_lines, run_script, write_whole};
+use relay_loopback::{Loopback, ServeFault};
 use relay_options::{Job, Settings, Stop, job_of};
 use std::alloc::{AllocGlobal, Global};
 use std::io::{ErrorKind, Read, Write};
 use std::net::Net;
 
-/// What is said to whoever serves in the epoch that all runs without `--epoch` share.
+/// The warning for a server in the default epoch, which all runs without `--epoch` share.
 const SHARED_EPOCH: &str =
     "relay: epoch 1, as without --epoch: a client of an earlier run may be told that nothing changed\nrelay: give --epoch a number not used before, as --epoch $(date +%s)\n";
 
-/// Does what the words ask for, the first of which is the program's name, over a reader and a writer, with faults told on
-/// `errors`. The exit status: 0 where all was done, 1 for a fault of input, output or a line, 2 for the words, 3 for want of
-/// memory. Help that was asked for goes to the writer. Where the words ask for no job, nothing is read.
+/// Runs the job that the arguments `words` ask for, over a reader and a writer, and reports faults on `errors`. The first word is the
+/// program's name. Returns the exit status: 0 if all was done, 1 for a fault of input, output or a line, 2 for a fault of the
+/// arguments, 3 if out of memory. Requested help goes to the writer. If the arguments ask for no job, nothing is read.
 pub fn start<H: AllocGlobal + Net, R: Read, W: Write, E: Write>(
     rt: &H,
     words: &[String],
@@ -39,8 +39,8 @@ pub fn start<H: AllocGlobal + Net, R: Read, W: Write, E: Write>(
     }
 }
 
-/// Tells on `errors` why the words could not be read. The exit status: 2 where one of them is not UTF-8, 3 for want of memory,
-/// and else 1.
+/// Reports on `errors` why the arguments could not be read. Returns the exit status: 2 if one of them is not UTF-8, 3 if out of
+/// memory, otherwise 1.
 pub fn refuse_words<E: Write>(why: ErrorKind, errors: &mut E) -> u8
     ensures { result ≡ code_of (unread_status why) }
 {
@@ -58,7 +58,7 @@ pub fn refuse_words<E: Write>(why: ErrorKind, errors: &mut E) -> u8
     status.code()
 }
 
-/// Does a job, over a reader and a writer, with faults told on `errors`; sockets come from `net`.
+/// Runs a job over a reader and a writer, with sockets from `net`, and reports faults on `errors`.
 pub fn carry_out<N: Net, R: Read, W: Write, E: Write>(
     alloc: Global,
     net: &N,
@@ -70,17 +70,10 @@ pub fn carry_out<N: Net, R: Read, W: Write, E: Write>(
     ensures { JobEnds job result (R.remaining reader.old) (R.remaining reader.new) (W.contents writer.old) (W.contents writer.new) }
 {
     match job {
-        Job::Script(settings) => {
-            let Settings {
-                history,
-                outbox,
-                epoch,
-            } = settings;
-            report(
-                run_script(alloc, reader, writer, epoch, history, outbox),
-                errors,
-            )
-        }
+        Job::Script(settings) => report(
+            run_script(alloc, reader, writer, config_of(settings)),
+            errors,
+        ),
         Job::Follow => report(run_follow(alloc, reader, writer), errors),
         Job::Loop(settings) => {
             let ended = run_loop(alloc, net, reader, writer, settings);
@@ -100,7 +93,7 @@ pub fn carry_out<N: Net, R: Read, W: Write, E: Write>(
     }
 }
 
-/// Says on `errors` what an epoch means in which other runs served too.
+/// Warns on `errors` if `epoch` is the default one, which other runs may share.
 fn say_epoch<E: Write>(epoch: u64, errors: &mut E) {
     if epoch == Settings::DEFAULT.epoch {
         say(SHARED_EPOCH, errors);
@@ -116,14 +109,14 @@ fn run_loop<N: Net, R: Read, W: Write>(
     settings: Settings,
 ) -> Result<(), ServeFault>
     ensures ends { LoopEnds result (R.remaining reader.old) (R.remaining reader.new) (W.contents writer.old) (W.contents writer.new) }
-    ensures bad_limit { IsErrOf result (Ended BadLimit) ↔ BadLimits settings.epoch FIRST settings.history settings.outbox }
+    ensures bad_limit { IsErrOf result (Ended BadLimit) ↔ BadLimits (config_of settings) }
 {
-    let mut looped = Looped::new(alloc, net, settings)?;
-    run_lines(alloc, &mut looped, reader, writer)?;
+    let loopback = Loopback::new(alloc, net, config_of(settings))?;
+    run_lines(alloc, &mut Script::new(alloc, loopback), reader, writer)?;
     Ok(())
 }
 
-/// Says on `errors` why a job with sockets ended early, and gives the status.
+/// Reports on `errors` why a job with sockets ended early, and returns its status.
 fn report_sockets<E: Write>(ended: Result<(), ServeFault>, port: u16, errors: &mut E) -> Status
     ensures { result ≡ sockets_status ended }
 {
@@ -141,7 +134,7 @@ fn report_sockets<E: Write>(ended: Result<(), ServeFault>, port: u16, errors: &m
     }
 }
 
-/// Tells why there is nothing to do.
+/// Writes requested help, or reports why there is no job. Returns the status.
 fn explain<W: Write, E: Write>(stop: &Stop, writer: &mut W, errors: &mut E) -> Status
     ensures { StopEnds stop.now result (W.contents writer.old) (W.contents writer.new) }
 {

@@ -1,35 +1,37 @@
-//! `relay serve`: listens, makes its rounds, and ends.
+//! The job `relay serve`: it listens, runs its rounds, and ends.
 ghost use Rattle.std.specs.Prelude.{◌≡◌, ◌≢◌, ◌↔◌, ◌⊎◌, OnOk, OnErr, IfErr, IsErrOf};
 ghost use Rattle.std.specs.Io.KnownBytes.{Appends};
-ghost use Rattle.relay_hub.specs.Telling.{BadLimits};
+ghost use Rattle.relay_hub.specs.Queries.{BadLimits};
+ghost use Rattle.relay_server.specs.Config.{config_of};
 ghost use Rattle.relay_server.specs.Jobs.{Listens, ServeEnds};
 ghost use Rattle.relay_lines.specs.Lines.{AppendsPart};
-ghost use Rattle.relay_lines.specs.Words.{served_text};
+ghost use Rattle.relay_server.specs.Printed.{served_text};
 ghost use Rattle.relay_lines.specs.declared.fault.ScriptFault.TheVariants.{BadLimit, NoMemory, Output};
-ghost use Rattle.relay_lines.specs.declared.fault.ServeFault.TheVariants.{Ended, Listen};
-ghost use Rattle.relay_lines.specs.declared.sockets.TheConstants.{FIRST};
+ghost use Rattle.relay_loopback.specs.declared.fault.ServeFault.TheVariants.{Ended, Listen};
 
+use crate::config::config_of;
 use relay_hub::Hub;
-use relay_lines::{FIRST, ScriptFault, ServeFault, listen, write_whole};
+use relay_lines::{ScriptFault, write_whole};
+use relay_loopback::{ServeFault, listen};
 use relay_options::Settings;
-use relay_serving::{Journal, Lines, NoJournal, Polling, Readiness, Serving};
+use relay_serving::{ConnectionLog, LogLines, NoLog, Polling, Readiness, Server};
 use std::alloc::Global;
 use std::io::{Read, Write};
 use std::net::{Net, OpenListener, OpenStream};
 
-/// How a server listens and ends.
+/// Where a server listens, how long it runs, and whether it logs.
 #[derive(Clone, Copy, Debug, PartialEq, Eq)]
 pub struct Served {
-    /// 0 lets the system choose.
+    /// The port. For 0 the system chooses one.
     pub port: u16,
-    /// How many rounds it makes.
+    /// The number of rounds.
     pub turns: u64,
-    /// Whether it tells of its links.
+    /// Whether it logs its connections.
     pub log: bool,
 }
 
-/// Listens on 127.0.0.1, prints `listening PORT`, makes the rounds, ends every link, and prints `turns N`. What it tells of its
-/// links goes to `errors`. Nothing was printed at `BadLimit`, `Listen` and `Wait`, no line is cut at `NoMemory`; at `Output` one may be.
+/// Listens on 127.0.0.1, prints `listening PORT`, runs the rounds, ends every connection, and prints `turns N`. The log goes to
+/// `errors`. At `BadLimit`, `Listen` and `Wait` nothing was printed. At `NoMemory` no line is cut; at `Output` one may be.
 pub fn serve<N: Net, W: Write, E: Write>(
     alloc: Global,
     net: &N,
@@ -39,47 +41,47 @@ pub fn serve<N: Net, W: Write, E: Write>(
     settings: Settings,
 ) -> Result<(), ServeFault>
     ensures ends { ServeEnds served.turns result (W.contents writer.old) (W.contents writer.new) }
-    ensures bad_limit { IsErrOf result (Ended BadLimit) ↔ BadLimits settings.epoch FIRST settings.history settings.outbox }
+    ensures bad_limit { IsErrOf result (Ended BadLimit) ↔ BadLimits (config_of settings) }
 {
     if served.log {
-        serve_noting(alloc, net, writer, &mut Lines::to(errors), served, settings)
+        serve_logged(
+            alloc,
+            net,
+            writer,
+            &mut LogLines::to(errors),
+            served,
+            settings,
+        )
     } else {
-        serve_noting(alloc, net, writer, &mut NoJournal, served, settings)
+        serve_logged(alloc, net, writer, &mut NoLog, served, settings)
     }
 }
 
 #[tactic(auto, using(crate::proofs::JobLemmas::limits_kept, crate::proofs::ServeLemmas::ends_unmade))]
-fn serve_noting<N: Net, W: Write, J: Journal>(
+fn serve_logged<N: Net, W: Write, J: ConnectionLog>(
     alloc: Global,
     net: &N,
     writer: &mut W,
-    journal: &mut J,
+    log: &mut J,
     served: Served,
     settings: Settings,
 ) -> Result<(), ServeFault>
     ensures ends { ServeEnds served.turns result (W.contents writer.old) (W.contents writer.new) }
-    ensures bad_limit { IsErrOf result (Ended BadLimit) ↔ BadLimits settings.epoch FIRST settings.history settings.outbox }
+    ensures bad_limit { IsErrOf result (Ended BadLimit) ↔ BadLimits (config_of settings) }
 {
-    let hub = Hub::new(
-        alloc,
-        settings.epoch,
-        FIRST,
-        settings.history,
-        settings.outbox,
-    )?;
-    serve_hub(alloc, net, writer, journal, hub, served, settings.outbox)
+    let hub = Hub::with_config(alloc, config_of(settings))?;
+    serve_hub(alloc, net, writer, log, hub, served)
 }
 
-/// Serves a hub for whose sessions at most `outbox` patches wait.
+/// Serves a hub.
 #[tactic(auto, using(crate::proofs::ServeLemmas::ends_hosting))]
-fn serve_hub<N: Net, W: Write, J: Journal>(
+fn serve_hub<N: Net, W: Write, J: ConnectionLog>(
     alloc: Global,
     net: &N,
     writer: &mut W,
-    journal: &mut J,
+    log: &mut J,
     hub: Hub,
     served: Served,
-    outbox: u64,
 ) -> Result<(), ServeFault>
     ensures ends { ServeEnds served.turns result (W.contents writer.old) (W.contents writer.new) }
     ensures limits { IfErr result (λ fault. fault ≢ Ended BadLimit) }
@@ -91,11 +93,11 @@ fn serve_hub<N: Net, W: Write, J: Journal>(
     let Ok(polling) = Polling::new(alloc, net, &listener) else {
         return Err(ServeFault::Wait);
     };
-    let mut serving = Serving::new(alloc, hub, outbox, polling);
+    let mut serving = Server::new(alloc, hub, polling);
     host(
         alloc,
         writer,
-        journal,
+        log,
         &mut serving,
         &listener,
         address.port(),
@@ -103,13 +105,13 @@ fn serve_hub<N: Net, W: Write, J: Journal>(
     )
 }
 
-/// Prints the port, makes the rounds, ends every link, and prints how many rounds there were.
+/// Prints the port, runs the rounds, ends every connection, and prints the number of rounds.
 #[tactic(auto, using(crate::proofs::ServeLemmas::part_none, crate::proofs::ServeLemmas::then_all))]
-fn host<L: OpenListener, P: Readiness<L::Stream>, W: Write, J: Journal>(
+fn host<L: OpenListener, P: Readiness<L::Stream>, W: Write, J: ConnectionLog>(
     alloc: Global,
     writer: &mut W,
-    journal: &mut J,
-    serving: &mut Serving<L::Stream, P>,
+    log: &mut J,
+    serving: &mut Server<L::Stream, P>,
     listener: &L,
     port: u16,
     turns: u64,
@@ -123,13 +125,13 @@ where
 {
     print(writer, format!(in alloc; "listening {port}\n")?.as_str())?;
     for _ in 0..turns {
-        serving.round(alloc, listener, journal);
+        serving.round(alloc, listener, log);
     }
-    serving.end(alloc, journal);
+    serving.end(alloc, log);
     print(writer, format!(in alloc; "turns {turns}\n")?.as_str())
 }
 
-/// Writes a line at once.
+/// Writes a line and flushes it.
 fn print<W: Write>(writer: &mut W, text: &str) -> Result<(), ServeFault>
     ensures ok { OnOk result (Appends (W.contents writer.old) (W.contents writer.new) text.now) }
     ensures err { OnErr result (AppendsPart (W.contents writer.old) (W.contents writer.new) text.now) }

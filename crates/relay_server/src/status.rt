@@ -1,4 +1,4 @@
-//! How the program ends.
+//! The exit status of the program.
 ghost use Rattle.std.specs.Prelude.{◌≡◌, Err};
 ghost use Rattle.relay_server.specs.Jobs.{code_of, status_of};
 
@@ -10,16 +10,16 @@ use std::io::Write;
 pub enum Status {
     /// 0: all was done.
     Done,
-    /// 1: input, output or a line is at fault.
+    /// 1: a fault of input, output, a line, a port or sockets.
     Failed,
-    /// 2: the command line is at fault.
+    /// 2: a fault of the arguments.
     Misused,
-    /// 3: memory was refused.
+    /// 3: out of memory.
     NoMemory,
 }
 
 impl Status {
-    /// The number that the process ends with.
+    /// The exit code of the process.
     pub fn code(self) -> u8
         ensures { result ≡ code_of self }
     {
@@ -32,7 +32,7 @@ impl Status {
     }
 }
 
-/// Says on `errors` why a script ended early, and gives the status.
+/// Reports on `errors` why a script ended early, and returns its status.
 pub fn report<E: Write>(ended: Result<(), ScriptFault>, errors: &mut E) -> Status
     ensures { result ≡ status_of ended }
 {
@@ -75,7 +75,7 @@ fn complaint(fault: ScriptFault) -> &'static str {
     }
 }
 
-/// Says a text on `errors`. A fault of theirs is passed over: there is nowhere left to say it.
+/// Writes a text to `errors`. A fault of that writer is ignored: there is nowhere to report it.
 pub fn say<E: Write>(text: &str, errors: &mut E) {
     let _ = errors.write_all(text.as_bytes());
 }

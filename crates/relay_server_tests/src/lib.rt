@@ -1,20 +1,14 @@
-//! Tests of the command line and of what the program does with it: scripts, followers and sockets.
+//! Tests of the command line and of the program: its statuses and texts, the limits on lines, failing streams, and `serve`.
 //!
-//! They stand in a crate of their own, over the public calls alone: a crate with tests is proved twice.
+//! They test what no script can. The answers to lines are data in `tests/scripts`.
 #![tactic(auto)]
 
-#[cfg(test)]
-mod hostile;
 #[cfg(test)]
 mod lines;
 #[cfg(test)]
 mod options;
 #[cfg(test)]
 mod program;
-#[cfg(test)]
-mod sessions;
-#[cfg(test)]
-mod soak;
 #[cfg(test)]
 mod sockets;
 #[cfg(test)]

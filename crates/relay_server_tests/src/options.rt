@@ -1,59 +1,28 @@
-//! What the words of a command line ask for.
+//! Tests of the command line's parser.
 use relay_options::{Job, Settings, Stop, job_of};
-use std::alloc::{AllocError, AllocGlobal, Global};
+use std::alloc::AllocGlobal;
 use std::process::Abort;
-use std::test::Fail;
 
-/// The words of a line, the first of which is the program's name.
-pub fn words_of(alloc: Global, line: &str) -> Result<Vec<String>, AllocError> {
-    let mut words = Vec::new(alloc);
+/// The words of a command line, of which the first is the program's name.
+pub fn words_of(rt: &(impl Abort + AllocGlobal), line: &str) -> Vec<String> {
+    let mut words = Vec::new(rt.alloc());
     for word in line.split_whitespace() {
-        words.push(String::from_str(alloc, word)?)?;
+        let word = String::from_str(rt.alloc(), word).expect(rt, "memory");
+        words.push(word).expect(rt, "memory");
     }
-    Ok(words)
+    words
 }
 
-/// What a line asks for.
-fn asked(alloc: Global, line: &str) -> Result<Result<Job, Stop>, AllocError> {
-    let words = words_of(alloc, line)?;
-    Ok(job_of(alloc, words.as_slice()))
+/// The job that a command line asks for.
+fn asked(rt: &(impl Abort + AllocGlobal), line: &str) -> Result<Job, Stop> {
+    job_of(rt.alloc(), words_of(rt, line).as_slice())
 }
 
-/// The job that a line asks for.
-fn job(alloc: Global, line: &str) -> Result<Job, Fail> {
-    Ok(asked(alloc, line)?.ok().ok_or("no job")?)
-}
-
-/// The help that a line asks for.
-fn help(alloc: Global, line: &str) -> Result<String, Fail> {
-    match asked(alloc, line)? {
-        Err(Stop::Help(text)) => Ok(text),
-        Err(_stop) => Err(Fail::from("no help")),
-        Ok(_job) => Err(Fail::from("a job")),
+/// Asserts that each command line asks for the job beside it.
+fn asks_for(rt: &(impl Abort + AllocGlobal), rows: &[(&str, Job)]) {
+    for (line, wanted) in rows {
+        assert_eq!(rt; asked(rt, line).ok(), Some(*wanted), "{line}");
     }
-}
-
-/// Whether a line is refused, with words for standard error.
-fn is_misuse(alloc: Global, line: &str) -> Result<bool, AllocError> {
-    match asked(alloc, line)? {
-        Err(Stop::Misuse(text)) => Ok(!text.is_empty()),
-        Err(_stop) => Ok(false),
-        Ok(_job) => Ok(false),
-    }
-}
-
-/// A line asks for a job.
-fn asks_for(rt: &(impl Abort + AllocGlobal), line: &str, wanted: Job) -> Result<(), Fail> {
-    assert_eq!(rt; job(rt.alloc(), line)?, wanted, "{line}");
-    Ok(())
-}
-
-/// Each line is refused.
-fn refuses(rt: &(impl Abort + AllocGlobal), lines: &[&str]) -> Result<(), Fail> {
-    for line in lines {
-        assert!(rt; is_misuse(rt.alloc(), line)?, "{line}");
-    }
-    Ok(())
 }
 
 fn settings(history: u64, outbox: u64, epoch: u64) -> Settings {
@@ -61,115 +30,170 @@ fn settings(history: u64, outbox: u64, epoch: u64) -> Settings {
         history,
         outbox,
         epoch,
+        ..Settings::DEFAULT
     }
 }
 
-#[test]
-fn reads_scripts(rt: HostRuntime) -> Result<(), Fail> {
-    for (line, wanted) in [
-        ("relay", Settings::DEFAULT),
-        ("relay script", Settings::DEFAULT),
-        ("relay script --epoch 7", settings(64, 32, 7)),
-        (
-            "relay script --history 2 --outbox 256 --epoch 0",
-            settings(2, 256, 0),
-        ),
-        (
-            "relay script --history 1024 --outbox 1 --epoch 9007199254740991",
-            settings(1_024, 1, 9_007_199_254_740_991),
-        ),
-    ] {
-        asks_for(&rt, line, Job::Script(wanted))?;
+/// The default settings, for this many rooms and sessions.
+fn settings_for(rooms: u64, sessions: u64) -> Settings {
+    Settings {
+        rooms,
+        sessions,
+        ..Settings::DEFAULT
     }
-    Ok(())
 }
 
-fn serve(port: u16, turns: u64, log: bool) -> Job {
+/// The job of a server with these settings, and with a server's own defaults for weights.
+fn serve_with(port: u16, turns: u64, log: bool, settings: Settings) -> Job {
     Job::Serve {
         port,
         turns,
         log,
-        settings: Settings::DEFAULT,
+        settings: Settings {
+            history_weight: Some(262_144),
+            waiting_weight: Some(65_536),
+            ..settings
+        },
     }
 }
 
+fn serve(port: u16, turns: u64, log: bool) -> Job {
+    serve_with(port, turns, log, Settings::DEFAULT)
+}
+
 #[test]
-fn reads_the_other_jobs(rt: HostRuntime) -> Result<(), Fail> {
-    for (line, wanted) in [
-        ("relay follow", Job::Follow),
-        ("relay loop", Job::Loop(Settings::DEFAULT)),
-        ("relay loop --outbox 2", Job::Loop(settings(64, 2, 1))),
-        ("relay serve --port 0 --turns 1", serve(0, 1, false)),
-        ("relay serve --port 7", serve(7, 1_000_000_000_000, false)),
-        (
-            "relay serve --port 7 --log",
-            serve(7, 1_000_000_000_000, true),
-        ),
-        (
-            "relay serve --turns 1000000000000 --port 65535",
-            serve(65_535, 1_000_000_000_000, false),
-        ),
+fn reads_each_job(rt: HostRuntime) {
+    asks_for(
+        &rt,
+        &[
+            ("relay", Job::Script(Settings::DEFAULT)),
+            ("relay script", Job::Script(Settings::DEFAULT)),
+            ("relay script --epoch 7", Job::Script(settings(64, 32, 7))),
+            (
+                "relay script --history 2 --outbox 256 --epoch 0",
+                Job::Script(settings(2, 256, 0)),
+            ),
+            (
+                "relay script --history 1024 --outbox 1 --epoch 9007199254740991",
+                Job::Script(settings(1_024, 1, 9_007_199_254_740_991)),
+            ),
+            (
+                "relay script --rooms 1 --sessions 65536",
+                Job::Script(settings_for(1, 65_536)),
+            ),
+            (
+                "relay script --rooms 65536 --sessions 1",
+                Job::Script(settings_for(65_536, 1)),
+            ),
+            (
+                "relay script --max-history-weight 0 --max-waiting-weight 9007199254740991",
+                Job::Script(Settings {
+                    history_weight: Some(0),
+                    waiting_weight: Some(9_007_199_254_740_991),
+                    ..Settings::DEFAULT
+                }),
+            ),
+            ("relay follow", Job::Follow),
+            ("relay loop", Job::Loop(Settings::DEFAULT)),
+            ("relay loop --outbox 2", Job::Loop(settings(64, 2, 1))),
+            ("relay loop --rooms 2", Job::Loop(settings_for(2, 256))),
+            ("relay loop --sessions 3", Job::Loop(settings_for(64, 3))),
+            ("relay serve --port 0 --turns 1", serve(0, 1, false)),
+            ("relay serve --port 7", serve(7, 1_000_000_000_000, false)),
+            (
+                "relay serve --port 7 --log",
+                serve(7, 1_000_000_000_000, true),
+            ),
+            (
+                "relay serve --turns 1000000000000 --port 65535",
+                serve(65_535, 1_000_000_000_000, false),
+            ),
+            (
+                "relay serve --port 7 --turns 1 --rooms 1000 --sessions 2000",
+                serve_with(7, 1, false, settings_for(1_000, 2_000)),
+            ),
+        ],
+    );
+}
+
+/// Whether a command line is refused, with a message for standard error.
+fn is_misuse(rt: &(impl Abort + AllocGlobal), line: &str) -> bool {
+    match asked(rt, line) {
+        Err(Stop::Misuse(text)) => !text.is_empty(),
+        _ => false,
+    }
+}
+
+/// Numbers out of range, and words that belong to no job or to another one, are refused.
+#[test]
+fn refuses_other_words(rt: HostRuntime) {
+    for line in [
+        "relay script --outbox 0",
+        "relay script --outbox 257",
+        "relay script --history 0",
+        "relay script --history 1025",
+        "relay script --rooms 0",
+        "relay script --rooms 65537",
+        "relay script --sessions 0",
+        "relay script --sessions 65537",
+        "relay script --epoch 9007199254740992",
+        "relay script --epoch -1",
+        "relay loop --outbox 257",
+        "relay loop --rooms 0",
+        "relay loop --sessions 65537",
+        "relay serve --port 0 --turns 1 --rooms 65537",
+        "relay serve --port 0 --turns 1 --sessions 0",
+        "relay follow --rooms 1",
+        "relay serve --port 65536 --turns 1",
+        "relay serve --port 0 --turns 0",
+        "relay serve --port 0 --turns 1000000000001",
+        "relay frob",
+        "relay follow --epoch 1",
+        "relay script --port 0",
+        "relay serve --turns 1",
+        "relay serve --port 0 --log 1",
+        "relay loop --log",
     ] {
-        asks_for(&rt, line, wanted)?;
+        assert!(rt; is_misuse(&rt, line), "{line}");
     }
-    Ok(())
 }
 
 #[test]
-fn refuses_what_is_out_of_range(rt: HostRuntime) -> Result<(), Fail> {
-    refuses(
-        &rt,
-        &[
-            "relay script --outbox 0",
-            "relay script --outbox 257",
-            "relay script --history 0",
-            "relay script --history 1025",
-            "relay script --epoch 9007199254740992",
-            "relay script --epoch -1",
-            "relay loop --outbox 257",
-            "relay serve --port 65536 --turns 1",
-            "relay serve --port 0 --turns 0",
-            "relay serve --port 0 --turns 1000000000001",
-        ],
-    )
+fn allows_64_rooms_and_256_sessions_by_default(rt: HostRuntime) {
+    assert_eq!(rt; Settings::DEFAULT.rooms, 64, "rooms");
+    assert_eq!(rt; Settings::DEFAULT.sessions, 256, "sessions");
 }
 
-#[test]
-fn refuses_words_that_belong_to_no_job(rt: HostRuntime) -> Result<(), Fail> {
-    refuses(
-        &rt,
-        &[
-            "relay frob",
-            "relay follow --epoch 1",
-            "relay script --port 0",
-            "relay serve --turns 1",
-            "relay serve --port 0 --log 1",
-            "relay loop --log",
-        ],
-    )
+/// The help that a command line asks for.
+fn help(rt: &(impl Abort + AllocGlobal), line: &str) -> Option<String> {
+    match asked(rt, line) {
+        Err(Stop::Help(text)) => Some(text),
+        _ => None,
+    }
 }
 
 /// The version of the program, and of the kit that proves it (`rt version`).
 #[test]
-fn says_its_version(rt: HostRuntime) -> Result<(), Fail> {
+fn says_its_version(rt: HostRuntime) {
     for line in ["relay --version", "relay -V"] {
-        let told = help(rt.alloc(), line)?;
-        let wanted = "relay 0.1.0\nrattle-kit-13f logic dac8208d650f15bf\n";
+        let told = help(&rt, line).expect(&rt, "a version");
+        let wanted = "relay 0.2.0\nrattle-kit-13f logic dac8208d650f15bf\n";
         assert_eq!(rt; told.as_str(), wanted, "{line}");
     }
-    Ok(())
 }
 
 #[test]
-fn explains_each_job(rt: HostRuntime) -> Result<(), Fail> {
+fn explains_each_job(rt: HostRuntime) {
     for (line, part) in [
         ("relay --help", "relay < examples/first.script"),
         ("relay script --help", "--history"),
+        ("relay script --help", "--rooms"),
+        ("relay serve --help", "--sessions"),
         ("relay loop --help", "relay loop < examples/first.script"),
         ("relay follow --help", "| relay follow"),
         ("relay serve --help", "it sleeps while nothing happens"),
     ] {
-        assert!(rt; help(rt.alloc(), line)?.contains(part), "{line}");
+        let told = help(&rt, line).expect(&rt, "help");
+        assert!(rt; told.contains(part), "{line}");
     }
-    Ok(())
 }

@@ -1,12 +1,13 @@
-//! A reader and a writer that interrupt or fail at a chosen call.
-use crate::story::with_end;
-use relay_server::{ScriptFault, run_script};
-use std::alloc::Global;
+//! Tests with a reader and a writer that interrupt or fail at a chosen call.
+use crate::story::{gives, with_end};
+use relay_hub::HubConfig;
+use relay_server::run_script;
+use std::alloc::AllocGlobal;
 use std::io;
 use std::io::{ErrorKind, Read, Write};
-use std::test::Fail;
+use std::process::Abort;
 
-/// Faults from a call on, which counts from 0, and how many there are.
+/// Faults of successive calls: the first such call, counted from 0, and their number.
 #[derive(Clone, Copy)]
 struct Faults {
     calls: u64,
@@ -25,7 +26,7 @@ impl Faults {
         }
     }
 
-    /// One more call: whether it fails.
+    /// Counts a call. Fails if the call has a fault.
     fn call(&mut self) -> io::Result<()> {
         let call = self.calls;
         self.calls = self.calls.saturating_add(1);
@@ -36,7 +37,7 @@ impl Faults {
     }
 }
 
-/// Gives a byte a read.
+/// A reader that returns one byte per read.
 #[derive(Drop)]
 struct FailingReader {
     bytes: &'static [u8],
@@ -57,7 +58,7 @@ impl Read for FailingReader {
     }
 }
 
-/// Takes a byte a write.
+/// A writer that accepts one byte per write.
 #[derive(Drop)]
 struct FailingWriter {
     bytes: Vec<u8>,
@@ -81,59 +82,63 @@ impl Write for FailingWriter {
     }
 }
 
-/// Two lines of names that are not open.
+/// Two lines, for names that are not open.
 const TWO_LINES: &[u8] = b"x draw\ny draw";
 
-fn run<R: Read, W: Write>(alloc: Global, input: &mut R, output: &mut W) -> Result<(), ScriptFault> {
-    run_script(alloc, input, output, 1, 64, 32)
-}
-
-/// What a script writes that is read with faults, and behind it the one that ended it.
-fn read_with(alloc: Global, faults: Faults) -> Result<String, Fail> {
+/// The output of a script that is read with faults, followed by the fault that ended it.
+fn read_with(rt: &(impl Abort + AllocGlobal), faults: Faults) -> String {
     let mut input = FailingReader {
         bytes: TWO_LINES,
         faults,
     };
-    let mut output = Vec::new(alloc);
-    let ended = run(alloc, &mut input, &mut output);
-    with_end(alloc, output.as_slice(), ended)
+    let mut output = Vec::new(rt.alloc());
+    let ended = run_script(
+        rt.alloc(),
+        &mut input,
+        &mut output,
+        HubConfig::new(1, 1, 64, 32),
+    );
+    with_end(rt, output.as_slice(), ended)
 }
 
-/// The call that fails first is within the second line.
+/// The first call that fails is within the second line.
 #[test]
-fn goes_on_after_999_interruptions_of_its_input(rt: HostRuntime) -> Result<(), Fail> {
+fn goes_on_after_999_interruptions_of_its_input(rt: HostRuntime) {
     for (kind, times, wanted) in [
         (ErrorKind::Interrupted, 999, "x unknown\ny unknown\n"),
         (ErrorKind::Interrupted, 1_000, "x unknown\nfault: input"),
         (ErrorKind::Other, 1, "x unknown\nfault: input"),
     ] {
-        let written = read_with(rt.alloc(), Faults::new(9, times, kind))?;
-        assert_eq!(rt; written.as_str(), wanted, "{times} times {kind:?}");
+        let written = read_with(&rt, Faults::new(9, times, kind));
+        gives(&rt, written, wanted, "an input");
     }
-    Ok(())
 }
 
-/// What a script writes that is written with faults, and behind it the one that ended it.
-fn written_with(alloc: Global, faults: Faults) -> Result<String, Fail> {
+/// The output of a script that is written with faults, followed by the fault that ended it.
+fn written_with(rt: &(impl Abort + AllocGlobal), faults: Faults) -> String {
     let mut input = TWO_LINES;
     let mut output = FailingWriter {
-        bytes: Vec::new(alloc),
+        bytes: Vec::new(rt.alloc()),
         faults,
     };
-    let ended = run(alloc, &mut input, &mut output);
-    with_end(alloc, output.bytes.as_slice(), ended)
+    let ended = run_script(
+        rt.alloc(),
+        &mut input,
+        &mut output,
+        HubConfig::new(1, 1, 64, 32),
+    );
+    with_end(rt, output.bytes.as_slice(), ended)
 }
 
-/// The call that fails first is within the second answer, which is cut there.
+/// The first call that fails is within the second answer, which is cut there.
 #[test]
-fn goes_on_after_999_interruptions_of_its_output(rt: HostRuntime) -> Result<(), Fail> {
+fn goes_on_after_999_interruptions_of_its_output(rt: HostRuntime) {
     for (kind, times, wanted) in [
         (ErrorKind::Interrupted, 999, "x unknown\ny unknown\n"),
         (ErrorKind::Interrupted, 1_000, "x unknown\ny fault: output"),
         (ErrorKind::Other, 1, "x unknown\ny fault: output"),
     ] {
-        let written = written_with(rt.alloc(), Faults::new(12, times, kind))?;
-        assert_eq!(rt; written.as_str(), wanted, "{times} times {kind:?}");
+        let written = written_with(&rt, Faults::new(12, times, kind));
+        gives(&rt, written, wanted, "an output");
     }
-    Ok(())
 }

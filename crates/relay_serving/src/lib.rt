@@ -1,12 +1,12 @@
-//! The relay as a server over streams that never wait: rounds, in which links are heard and told as far as they are ready.
+//! The relay as a server over non-blocking streams. It runs in rounds: each reads from and writes to the links that are ready.
 #![tactic(auto)]
 
-mod journal;
+mod connection;
+mod connection_log;
 mod readiness;
 mod ready;
-mod seat;
-mod serving;
+mod server;
 
-pub use journal::{Journal, Lines, NoJournal, Note};
-pub use readiness::{News, Polling, Readiness};
-pub use serving::{LINKS_MOST, Serving};
+pub use connection_log::{ConnectionLog, LogEntry, LogLines, NoLog};
+pub use readiness::{Polling, Readiness, ReadyEvent};
+pub use server::{Server, connection_limit};

@@ -1,4 +1,4 @@
-//! Which sockets are ready: what a server's rounds ask, and the system's answer.
+//! The readiness of sockets: the trait that a server's rounds use, and its implementation by the operating system's poll.
 use mio::event::Event;
 use mio::unix::SourceFd;
 use mio::{Events, Interest, Poll, Token};
@@ -9,12 +9,12 @@ use std::net::Net;
 use std::os::fd::AsRawFd;
 use std::time::Duration;
 
-/// What became ready.
+/// An event that says what became ready.
 #[derive(Clone, Copy, Debug, PartialEq, Eq)]
-pub enum News {
-    /// A connection waits.
-    Knock,
-    /// The stream under this key may be read, or written. A stream that failed or was closed may be both.
+pub enum ReadyEvent {
+    /// A connection waits to be accepted.
+    Incoming,
+    /// The stream with this key may be read or written. A stream that failed or was closed may be both.
     Stream {
         key: usize,
         readable: bool,
@@ -22,24 +22,24 @@ pub enum News {
     },
 }
 
-/// Says which streams of a server are ready, and whether a connection waits.
+/// Reports which streams of a server are ready, and whether a connection waits to be accepted.
 pub trait Readiness<S> {
-    /// Watches a stream under a key until it is let go. After an error it is not watched.
+    /// Watches a stream under a key until the stream is dropped. After an error it is not watched.
     fn watch(&mut self, key: usize, stream: &S) -> io::Result<()>;
 
-    /// Waits until there is news, but for no longer than `most`, and puts behind `news` what became ready since the last call.
-    /// News may be wrong, may come twice, or may name a stream that is let go; what finds no room comes with the next call. After
-    /// an error nothing is known: everything may be ready.
-    fn wait(&mut self, most: Duration, news: &mut Vec<News>) -> io::Result<()>;
+    /// Waits for events for at most `most`, and appends to `events` what became ready since the last call. An event may be
+    /// spurious, may repeat, or may name a dropped stream; events that exceed the capacity come with the next call. After an error
+    /// nothing is known: everything may be ready.
+    fn wait(&mut self, most: Duration, events: &mut Vec<ReadyEvent>) -> io::Result<()>;
 }
 
-/// How many events one call of the system gives at most.
-const EVENTS_MOST: usize = 256;
+/// The maximum number of events that one system call returns.
+const MAX_EVENTS: usize = 256;
 
-/// The token of the listener. No slab has such a key.
+/// The token of the listener. No slab has this key.
 const LISTENER: usize = usize::MAX;
 
-/// The system's own word.
+/// Readiness as the operating system reports it.
 #[derive(Drop)]
 pub struct Polling {
     poll: Poll,
@@ -47,10 +47,10 @@ pub struct Polling {
 }
 
 impl Polling {
-    /// Asks the system, and watches the listener. An error, also want of memory: the system cannot be asked.
+    /// Sets up the system's poll, and watches the listener. After an error, which may be `OutOfMemory`, readiness cannot be polled.
     pub fn new<N: Net>(alloc: Global, net: &N, listener: &N::Listener) -> io::Result<Polling> {
         let poll = Poll::new(net)?;
-        let Ok(events) = Events::with_capacity(alloc, EVENTS_MOST) else {
+        let Ok(events) = Events::with_capacity(alloc, MAX_EVENTS) else {
             return Err(Error::from(ErrorKind::OutOfMemory));
         };
         let listener = listener.as_raw_fd();
@@ -73,29 +73,29 @@ impl<S: AsRawFd> Readiness<S> for Polling {
         )
     }
 
-    fn wait(&mut self, most: Duration, news: &mut Vec<News>) -> io::Result<()> {
+    fn wait(&mut self, most: Duration, events: &mut Vec<ReadyEvent>) -> io::Result<()> {
         self.poll.poll(&mut self.events, Some(most))?;
-        match tell(&self.events, news) {
+        match append(&self.events, events) {
             Ok(()) => Ok(()),
             Err(_) => Err(Error::from(ErrorKind::OutOfMemory)),
         }
     }
 }
 
-fn tell(events: &Events, news: &mut Vec<News>) -> Result<(), AllocError> {
-    for event in events.iter() {
-        news.push(news_of(event))?;
+fn append(given: &Events, events: &mut Vec<ReadyEvent>) -> Result<(), AllocError> {
+    for event in given.iter() {
+        events.push(event_of(event))?;
     }
     Ok(())
 }
 
-fn news_of(event: &Event) -> News {
+fn event_of(event: &Event) -> ReadyEvent {
     let Token(key) = event.token();
     if key == LISTENER {
-        return News::Knock;
+        return ReadyEvent::Incoming;
     }
     let is_over = event.is_error() || event.is_read_closed() || event.is_write_closed();
-    News::Stream {
+    ReadyEvent::Stream {
         key,
         readable: event.is_readable() || is_over,
         writable: event.is_writable() || is_over,

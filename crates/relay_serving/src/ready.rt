@@ -1,25 +1,25 @@
-//! A stream beside what the system said of it.
+//! A stream, together with its readiness as the system last reported it.
 use std::alloc::{AllocError, Global};
 use std::cell::Cell;
 use std::io;
 use std::io::{Error, ErrorKind, Read, Write};
 use std::rc::Rc;
 
-/// What a stream is ready for, as far as is known.
+/// What a stream is known to be ready for.
 #[derive(Clone, Copy, Debug, PartialEq, Eq)]
 struct Ready {
     readable: bool,
     writable: bool,
 }
 
-/// What is known of a stream, shared by the stream and by the rounds that hear of it.
+/// The known readiness of a stream, shared by the stream and the rounds that receive its events.
 #[derive(Drop)]
 pub(crate) struct Known {
     ready: Rc<Cell<Ready>>,
 }
 
-/// A stream that answers "nothing now" itself, without a call, where the system has said so and has not said otherwise since:
-/// it is readable until a read answered "nothing now", and writable until a write did.
+/// A stream that returns `WouldBlock` without a system call while it is known not to be ready. It is readable until a read returns
+/// `WouldBlock`, and writable until a write does; a later event makes it ready again.
 #[derive(Drop)]
 pub(crate) struct Watched<S> {
     stream: S,
@@ -27,7 +27,7 @@ pub(crate) struct Watched<S> {
 }
 
 impl Known {
-    /// More is known: what it is ready for now. What it was ready for before it still is.
+    /// Adds what the stream is ready for now. It stays ready for what it was ready for before.
     pub(crate) fn add(&self, readable: bool, writable: bool) {
         let ready = self.ready.get();
         self.ready.set(Ready {
@@ -62,7 +62,7 @@ impl Known {
 }
 
 impl<S> Watched<S> {
-    /// A stream that is taken as ready until it answers otherwise, and what is known of it.
+    /// A stream that counts as ready until it returns `WouldBlock`, and its known readiness.
     pub(crate) fn new(alloc: Global, stream: S) -> Result<(Watched<S>, Known), AllocError>
     where
         S: Drop,

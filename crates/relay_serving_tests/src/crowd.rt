@@ -1,80 +1,74 @@
-//! Many connections of one server.
-use crate::desk::{Desk, Sayings};
-use crate::pair::{HANDSHAKE, feed};
-use relay_server::LINKS_MOST;
+//! Tests with many connections of one server.
+use crate::memory_server::{MemoryServer, ReadinessScript};
+use crate::pair::{HANDSHAKE, lent};
+use relay_server::connection_limit;
 use relay_wire::Wire;
 use std::alloc::AllocGlobal;
 use std::cell::RefCell;
 use std::process::Abort;
 use std::str;
-use std::test::Fail;
 
-/// A crowd of connections: those of one wire open a session each, and those of another say nothing.
+/// A crowd of connections: those of one wire open a session each, and those of another send nothing.
 #[derive(Drop)]
 struct Crowd<'a> {
-    desk: Desk<'a>,
+    server: MemoryServer<'a>,
     open: &'a RefCell<Wire>,
     silent: &'a RefCell<Wire>,
 }
 
 impl<'a> Crowd<'a> {
-    fn at(desk: Desk<'a>, open: &'a RefCell<Wire>, silent: &'a RefCell<Wire>) -> Crowd<'a> {
-        Crowd { desk, open, silent }
-    }
-
-    /// So many sessions are opened. Before the next handshake comes nobody reads the wire any more.
-    fn open(&mut self, count: u64) -> Result<(), Fail> {
-        for _ in 0..count {
-            feed(self.open, HANDSHAKE)?;
-            self.desk.knock(self.open)?;
-            self.desk.rounds(3)?;
+    fn at(
+        server: MemoryServer<'a>,
+        open: &'a RefCell<Wire>,
+        silent: &'a RefCell<Wire>,
+    ) -> Crowd<'a> {
+        Crowd {
+            server,
+            open,
+            silent,
         }
-        Ok(())
     }
 
-    /// 255 sessions are opened, 400 connections come that say nothing, and one more session is opened.
-    fn fill(&mut self) -> Result<(), Fail> {
-        self.open(255)?;
-        self.stare(400)?;
-        self.open(1)
-    }
-
-    /// So many connections come that say nothing.
-    fn stare(&mut self, count: u64) -> Result<(), Fail> {
+    /// Opens `count` sessions on the shared wire. Before the next handshake is fed, no earlier connection reads the wire any more.
+    fn open(&mut self, rt: &(impl Abort + AllocGlobal), count: u64) {
         for _ in 0..count {
-            self.desk.knock(self.silent)?;
-            self.desk.round()?;
+            lent(rt, self.open).feed(HANDSHAKE).expect(rt, "memory");
+            self.server.connect(rt, self.open);
+            self.server.rounds(rt, 3);
         }
-        Ok(())
     }
 
-    /// So many connections wait at once.
-    fn knock(&self, count: u64) -> Result<(), Fail> {
+    /// Adds `count` silent connections, one per round.
+    fn connect_silently(&mut self, rt: &(impl Abort + AllocGlobal), count: u64) {
         for _ in 0..count {
-            self.desk.knock(self.silent)?;
+            self.server.connect(rt, self.silent);
+            self.server.round(rt);
         }
-        Ok(())
     }
 
-    fn told(&self, words: &str) -> Result<bool, Fail> {
-        Ok(str::from_utf8(self.desk.log.as_slice())?.contains(words))
+    /// Makes `count` connections wait at once.
+    fn connect(&self, rt: &impl Abort, count: u64) {
+        for _ in 0..count {
+            self.server.connect(rt, self.silent);
+        }
+    }
+
+    /// Whether the log contains these words.
+    fn told(&self, rt: &impl Abort, words: &str) -> bool {
+        let log = str::from_utf8(self.server.log.as_slice());
+        log.expect(rt, "a log").contains(words)
     }
 }
 
-/// 400 silent connections do not keep a client out that speaks, and nobody with a session makes room for one.
-#[test]
-fn silent_connections_make_room(rt: HostRuntime) -> Result<(), Fail> {
-    let sayings = Sayings::new(rt.alloc());
-    let open = Wire::new(rt.alloc());
-    let silent = Wire::new(rt.alloc());
-    let desk = Desk::new(rt.alloc(), &sayings, 32)?;
-    let mut crowd = Crowd::at(desk, &open, &silent);
-    crowd.fill()?;
-    assert_eq!(rt; crowd.desk.links(), LINKS_MOST);
-    tells_who_made_room(&rt, &crowd)
+/// Opens 255 sessions, adds 400 silent connections, and opens one more session.
+fn fill(rt: &(impl Abort + AllocGlobal), crowd: &mut Crowd<'_>) {
+    crowd.open(rt, 255);
+    crowd.connect_silently(rt, 400);
+    crowd.open(rt, 1);
+    assert_eq!(rt; crowd.server.connections(), connection_limit(256));
 }
 
-fn tells_who_made_room(rt: &impl Abort, crowd: &Crowd<'_>) -> Result<(), Fail> {
+fn tells_who_made_room(rt: &impl Abort, crowd: &Crowd<'_>) {
     for (words, is_told) in [
         ("opened session 256 in room r\n", true),
         ("link 255 ended by Ended after 65 rounds\n", true),
@@ -82,26 +76,29 @@ fn tells_who_made_room(rt: &impl Abort, crowd: &Crowd<'_>) -> Result<(), Fail> {
         ("link 254 ended", false),
         ("refused", false),
     ] {
-        assert_eq!(rt; crowd.told(words)?, is_told, "{words}");
+        assert_eq!(rt; crowd.told(rt, words), is_told, "{words}");
     }
-    Ok(())
 }
 
-/// Of twelve connections that wait a round accepts eight, and the next one the others.
+/// 400 silent connections do not keep out a client that sends its handshake, and no connection with a session is ended for it.
 #[test]
-fn accepts_8_connections_a_round(rt: HostRuntime) -> Result<(), Fail> {
-    let sayings = Sayings::new(rt.alloc());
-    let open = Wire::new(rt.alloc());
-    let silent = Wire::new(rt.alloc());
-    let desk = Desk::new(rt.alloc(), &sayings, 32)?;
-    accepts_12(&rt, &mut Crowd::at(desk, &open, &silent))
+fn evicts_silent_connections(rt: HostRuntime) {
+    let script = ReadinessScript::new(rt.alloc());
+    let (open, silent) = (Wire::new(rt.alloc()), Wire::new(rt.alloc()));
+    let mut crowd = Crowd::at(MemoryServer::new(&rt, &script, 32), &open, &silent);
+    fill(&rt, &mut crowd);
+    tells_who_made_room(&rt, &crowd);
 }
 
-fn accepts_12(rt: &impl Abort, crowd: &mut Crowd<'_>) -> Result<(), Fail> {
-    crowd.knock(12)?;
+/// Of twelve waiting connections a round accepts eight, and the next round accepts the others.
+#[test]
+fn accepts_8_connections_a_round(rt: HostRuntime) {
+    let script = ReadinessScript::new(rt.alloc());
+    let (open, silent) = (Wire::new(rt.alloc()), Wire::new(rt.alloc()));
+    let mut crowd = Crowd::at(MemoryServer::new(&rt, &script, 32), &open, &silent);
+    crowd.connect(&rt, 12);
     for held in [8, 12, 12] {
-        crowd.desk.round()?;
-        assert_eq!(rt; crowd.desk.links(), held);
+        crowd.server.round(&rt);
+        assert_eq!(rt; crowd.server.connections(), held);
     }
-    Ok(())
 }

@@ -1,15 +1,15 @@
-//! Tests of a server's rounds: over streams in memory that are ready when a test says so, over loopback sockets, and on a network
-//! that is at fault.
+//! Tests of a server's rounds: over in-memory streams whose readiness the test controls, over loopback sockets, and on a faulty
+//! network.
 //!
-//! They stand in a crate of their own, over the public calls alone: a crate with tests is proved twice.
+//! They are a crate of their own and use only public calls, since a crate with tests is proved twice.
 #![tactic(auto)]
 
 #[cfg(test)]
-mod board;
-#[cfg(test)]
 mod crowd;
 #[cfg(test)]
-mod desk;
+mod loopback_fixture;
+#[cfg(test)]
+mod memory_server;
 #[cfg(test)]
 mod nets;
 #[cfg(test)]

@@ -1,49 +1,49 @@
-//! What `serve` and `loop` say on a network that is at fault.
+//! Tests of `serve` and `loop` on a faulty network.
 use relay_options::{Job, Settings};
 use relay_server::carry_out;
-use std::alloc::Global;
+use std::alloc::AllocGlobal;
 use std::io::ErrorKind;
 use std::net::{Ipv4Addr, Net, OpenListener, SocketAddr, TcpStream};
 use std::os::fd::{AsRawFd, RawFd};
-use std::test::Fail;
+use std::process::Abort;
 use std::{io, str};
 
-/// What a listener cannot do.
+/// What a listener fault.
 #[derive(Clone, Copy, Debug, PartialEq, Eq)]
-enum Lacks {
-    /// It cannot be bound to its port.
+enum NetFault {
+    /// The listener cannot be bound to its port.
     Port,
-    /// It waits where nobody connects.
-    Haste,
-    /// It does not know its address.
+    /// The listener cannot be made non-blocking.
+    NonBlocking,
+    /// The listener's address is unknown.
     Address,
-    /// The system knows no such descriptor, so that it cannot be polled.
+    /// The listener's descriptor is invalid, so it cannot be polled.
     Descriptor,
 }
 
-/// A network whose listeners lack something, and to which nobody connects.
+/// A network whose listeners lack something, and to which no client connects.
 #[derive(Clone, Copy, Debug)]
-struct Lame {
-    lacks: Lacks,
+struct FaultyNet {
+    fault: NetFault,
 }
 
-impl Lame {
-    /// Fails where that is what lacks.
-    fn needs(self, part: Lacks) -> io::Result<()> {
-        if self.lacks == part {
+impl FaultyNet {
+    /// Fails if this part is lacking.
+    fn needs(self, part: NetFault) -> io::Result<()> {
+        if self.fault == part {
             return Err(io::Error::from(ErrorKind::Other));
         }
         Ok(())
     }
 }
 
-impl Net for Lame {
+impl Net for FaultyNet {
     type Stream = TcpStream;
 
-    type Listener = Lame;
+    type Listener = FaultyNet;
 
-    fn bind(&self, _addr: SocketAddr) -> io::Result<Lame> {
-        self.needs(Lacks::Port)?;
+    fn bind(&self, _addr: SocketAddr) -> io::Result<FaultyNet> {
+        self.needs(NetFault::Port)?;
         Ok(*self)
     }
 
@@ -52,7 +52,7 @@ impl Net for Lame {
     }
 }
 
-impl OpenListener for Lame {
+impl OpenListener for FaultyNet {
     type Stream = TcpStream;
 
     fn accept(&self) -> io::Result<(TcpStream, SocketAddr)> {
@@ -60,45 +60,45 @@ impl OpenListener for Lame {
     }
 
     fn local_addr(&self) -> io::Result<SocketAddr> {
-        self.needs(Lacks::Address)?;
+        self.needs(NetFault::Address)?;
         Ok(SocketAddr::from((Ipv4Addr::LOCALHOST, 7)))
     }
 
     fn set_nonblocking(&self, _nonblocking: bool) -> io::Result<()> {
-        self.needs(Lacks::Haste)
+        self.needs(NetFault::NonBlocking)
     }
 }
 
-impl AsRawFd for Lame {
+impl AsRawFd for FaultyNet {
     fn as_raw_fd(&self) -> RawFd {
         -1
     }
 }
 
-/// What a job prints on a network, what it complains of, and its status.
-fn done(alloc: Global, lacks: Lacks, job: Job) -> Result<String, Fail> {
-    let mut output = Vec::new(alloc);
-    let mut errors = Vec::new(alloc);
-    let status = status_of(alloc, lacks, job, &mut output, &mut errors);
-    let printed = str::from_utf8(output.as_slice())?;
-    let complaint = str::from_utf8(errors.as_slice())?;
-    Ok(format!(in alloc; "{printed}{complaint}status {status}")?)
-}
-
-fn status_of(
-    alloc: Global,
-    lacks: Lacks,
-    job: Job,
-    output: &mut Vec<u8>,
-    errors: &mut Vec<u8>,
-) -> u8 {
+/// The output of a job on such a network, its error output, and its status.
+fn done(rt: &(impl Abort + AllocGlobal), fault: NetFault, job: Job) -> String {
     let mut input = "a open r\n".as_bytes();
-    carry_out(alloc, &Lame { lacks }, job, &mut input, output, errors).code()
+    let mut output = Vec::new(rt.alloc());
+    let mut errors = Vec::new(rt.alloc());
+    let net = FaultyNet { fault };
+    let ended = carry_out(rt.alloc(), &net, job, &mut input, &mut output, &mut errors);
+    let status = ended.code();
+    let printed = str::from_utf8(output.as_slice()).expect(rt, "a text");
+    let complaint = str::from_utf8(errors.as_slice()).expect(rt, "a text");
+    format!(in rt.alloc(); "{printed}{complaint}status {status}").expect(rt, "memory")
 }
 
-/// Before it listens, and before it can ask the system which sockets are ready, a server prints nothing.
+/// Asserts the output of a job on each network.
+fn says(rt: &(impl Abort + AllocGlobal), job: Job, rows: &[(NetFault, &str)]) {
+    for (fault, wanted) in rows {
+        let told = done(rt, *fault, job);
+        assert_eq!(rt; told.as_str(), *wanted, "without {fault:?}");
+    }
+}
+
+/// A server prints nothing before it listens and its poll is set up.
 #[test]
-fn serve_says_what_its_network_lacks(rt: HostRuntime) -> Result<(), Fail> {
+fn serve_says_what_its_network_lacks(rt: HostRuntime) {
     let job = Job::Serve {
         port: 7,
         turns: 1,
@@ -108,33 +108,44 @@ fn serve_says_what_its_network_lacks(rt: HostRuntime) -> Result<(), Fail> {
             ..Settings::DEFAULT
         },
     };
-    for (lacks, wanted) in [
-        (Lacks::Port, "relay: cannot listen on port 7\nstatus 1"),
-        (Lacks::Haste, "relay: cannot listen on port 7\nstatus 1"),
-        (Lacks::Address, "relay: cannot listen on port 7\nstatus 1"),
-        (
-            Lacks::Descriptor,
-            "relay: cannot wait for sockets\nstatus 1",
-        ),
-    ] {
-        let told = done(rt.alloc(), lacks, job)?;
-        assert_eq!(rt; told.as_str(), wanted, "without {lacks:?}");
-    }
-    Ok(())
+    says(
+        &rt,
+        job,
+        &[
+            (NetFault::Port, "relay: cannot listen on port 7\nstatus 1"),
+            (
+                NetFault::NonBlocking,
+                "relay: cannot listen on port 7\nstatus 1",
+            ),
+            (
+                NetFault::Address,
+                "relay: cannot listen on port 7\nstatus 1",
+            ),
+            (
+                NetFault::Descriptor,
+                "relay: cannot wait for sockets\nstatus 1",
+            ),
+        ],
+    );
 }
 
-/// The loop polls nothing, so that a line is answered: nobody lets its client in.
+/// The loop polls nothing, so an invalid descriptor does not stop it. Its line is answered `stuck`, since its client cannot connect.
 #[test]
-fn the_loop_says_what_its_network_lacks(rt: HostRuntime) -> Result<(), Fail> {
-    let job = Job::Loop(Settings::DEFAULT);
-    for (lacks, wanted) in [
-        (Lacks::Port, "relay: cannot listen on port 0\nstatus 1"),
-        (Lacks::Haste, "relay: cannot listen on port 0\nstatus 1"),
-        (Lacks::Address, "relay: cannot listen on port 0\nstatus 1"),
-        (Lacks::Descriptor, "a stuck\nstatus 0"),
-    ] {
-        let told = done(rt.alloc(), lacks, job)?;
-        assert_eq!(rt; told.as_str(), wanted, "without {lacks:?}");
-    }
-    Ok(())
+fn the_loop_says_what_its_network_lacks(rt: HostRuntime) {
+    says(
+        &rt,
+        Job::Loop(Settings::DEFAULT),
+        &[
+            (NetFault::Port, "relay: cannot listen on port 0\nstatus 1"),
+            (
+                NetFault::NonBlocking,
+                "relay: cannot listen on port 0\nstatus 1",
+            ),
+            (
+                NetFault::Address,
+                "relay: cannot listen on port 0\nstatus 1",
+            ),
+            (NetFault::Descriptor, "a stuck\nstatus 0"),
+        ],
+    );
 }

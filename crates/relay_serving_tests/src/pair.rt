@@ -1,55 +1,61 @@
-//! Two streams of one server, and what is done with them.
-use crate::desk::Desk;
-use relay_server::News;
-use relay_wire::{Trick, Wire};
-use std::alloc::{AllocError, Global};
-use std::cell::RefCell;
-use std::test::Fail;
+//! The fixture that plays rows to a server with two streams.
+use crate::memory_server::MemoryServer;
+use relay_server::ReadyEvent;
+use relay_wire::{InjectedFault, Wire};
+use std::alloc::AllocGlobal;
+use std::cell::{RefCell, RefMut};
+use std::process::Abort;
 
-/// A client's handshake, for the room `r`.
+/// A client's handshake for the room `r`.
 pub(crate) const HANDSHAKE: &[u8] =
     b"GET /rooms/r HTTP/1.1\r\nHost: localhost\r\nUpgrade: websocket\r\nConnection: Upgrade\r\nSec-WebSocket-Key: dGhlIHNhbXBsZSBub25jZQ==\r\nSec-WebSocket-Version: 13\r\n\r\n";
 
-/// What happens.
+/// An action of a row.
 #[derive(Clone, Copy, Debug)]
 pub(crate) enum Act {
-    /// A client connects: wire 0 or 1.
-    Knock(usize),
-    /// Bytes come on a wire, or a text message does.
+    /// A client connects, on wire 0 or 1.
+    Incoming(usize),
+    /// Bytes, or a text message, arrive on a wire.
     Comes(usize, &'static [u8]),
     Says(usize, &'static str),
-    /// The next round hears that a stream is readable, or writable.
+    /// The next round gets the event that a stream is readable, or writable.
     Readable(usize),
     Writable(usize),
-    /// From now on the calls on a wire fail, or its writes take nothing, or they do again.
+    /// From now on every call on a wire fails, or its writes accept nothing, or its writes work again.
     Fails(usize),
     Full(usize),
     Empty(usize),
-    /// The next round has room for so much of the news that waits.
-    Room(usize),
-    /// The next round cannot be told what is ready.
-    Blind,
+    /// The next round has space for only this number of events.
+    Capacity(usize),
+    /// The next round's wait fails.
+    WaitFails,
     Round,
 }
 
-use Act::{Blind, Comes, Empty, Fails, Full, Knock, Readable, Room, Round, Says, Writable};
+use Act::{
+    Capacity, Comes, Empty, Fails, Full, Incoming, Readable, Round, Says, WaitFails, Writable,
+};
 
-/// How often an act is done, the act, and what is told of it each time: of a round how many connections are held, whether it could
-/// have slept, and for each wire how many reads (`r`) and writes (`w`) were made, and what was written.
+/// The number of repetitions, the act, and the expected result each time. The result of a round is the number of connections held,
+/// whether it could have slept, and for each wire the numbers of its reads (`r`) and writes (`w`), and what was written.
 pub(crate) type Row = (u64, Act, &'static str);
 
-/// Two wires and the desk that they lead to.
+/// A server, and two wires to it.
 #[derive(Drop)]
 pub(crate) struct Pair<'a> {
-    pub desk: Desk<'a>,
+    pub server: MemoryServer<'a>,
     first: &'a RefCell<Wire>,
     second: &'a RefCell<Wire>,
 }
 
 impl<'a> Pair<'a> {
-    pub fn at(desk: Desk<'a>, first: &'a RefCell<Wire>, second: &'a RefCell<Wire>) -> Pair<'a> {
+    pub fn at(
+        server: MemoryServer<'a>,
+        first: &'a RefCell<Wire>,
+        second: &'a RefCell<Wire>,
+    ) -> Pair<'a> {
         Pair {
-            desk,
+            server,
             first,
             second,
         }
@@ -59,123 +65,92 @@ impl<'a> Pair<'a> {
         if place == 0 { self.first } else { self.second }
     }
 
-    /// Does an act, and tells of it.
-    pub fn act(&mut self, alloc: Global, act: Act) -> Result<String, Fail> {
+    /// Performs an act, and returns its result in words.
+    pub fn act(&mut self, rt: &(impl Abort + AllocGlobal), act: Act) -> String {
         match act {
-            Round => self.round(alloc),
+            Round => self.round(rt),
             _ => {
-                self.bring(act)?;
-                Ok(String::new(alloc))
+                self.bring(rt, act);
+                String::new(rt.alloc())
             }
         }
     }
 
-    /// Does an act of which nothing is told: any but a round.
-    fn bring(&self, act: Act) -> Result<(), Fail> {
+    /// Performs an act without a result: any but a round.
+    fn bring(&self, rt: &impl Abort, act: Act) {
         match act {
-            Knock(place) => self.desk.knock(self.wire(place)),
-            Comes(place, bytes) => feed(self.wire(place), bytes),
-            Says(place, text) => say(self.wire(place), text),
-            Readable(key) => self.news(key, true),
-            Writable(key) => self.news(key, false),
-            Fails(place) => fail(self.wire(place)),
-            Full(place) => take_writes(self.wire(place), Some(Trick::Nothing)),
-            Empty(place) => take_writes(self.wire(place), None),
-            Room(room) => self.desk.room(room),
-            Blind => self.desk.fail(),
-            Round => Ok(()),
+            Incoming(place) => self.server.connect(rt, self.wire(place)),
+            Readable(key) => self.server.event(rt, ready(key, true)),
+            Writable(key) => self.server.event(rt, ready(key, false)),
+            Comes(place, _) | Says(place, _) | Fails(place) | Full(place) | Empty(place) => {
+                bring_to(rt, &mut lent(rt, self.wire(place)), act);
+            }
+            Capacity(capacity) => self.server.capacity(rt, capacity),
+            WaitFails => self.server.fail(rt),
+            Round => {}
         }
     }
 
-    fn news(&self, key: usize, readable: bool) -> Result<(), Fail> {
-        self.desk.news(News::Stream {
-            key,
-            readable,
-            writable: !readable,
-        })
-    }
-
-    fn round(&mut self, alloc: Global) -> Result<String, Fail> {
-        let waited = self.desk.round()?;
-        self.told(alloc, waited > 0)
-    }
-
-    /// Tells of a round.
-    fn told(&self, alloc: Global, sleeps: bool) -> Result<String, Fail> {
-        let mut told = tell_links(alloc, self.desk.links(), sleeps)?;
-        tell_wire(self.first, &mut told)?;
-        tell_wire(self.second, &mut told)?;
-        Ok(told)
+    /// Runs a round, and returns its result in words.
+    fn round(&mut self, rt: &(impl Abort + AllocGlobal)) -> String {
+        let waited = self.server.round(rt);
+        let sleeping = if waited > 0 { " sleeps" } else { "" };
+        let links = self.server.connections();
+        let told = format!(in rt.alloc(); "{links}{sleeping}");
+        let mut told = told.expect(rt, "memory");
+        tell_wire(rt, &mut lent(rt, self.first), &mut told);
+        tell_wire(rt, &mut lent(rt, self.second), &mut told);
+        told
     }
 }
 
-pub(crate) fn feed(wire: &RefCell<Wire>, bytes: &[u8]) -> Result<(), Fail> {
-    let mut wire = wire.try_borrow_mut()?;
-    Ok(wire.feed(bytes)?)
+/// Borrows the wire.
+pub(crate) fn lent<'w>(rt: &impl Abort, wire: &'w RefCell<Wire>) -> RefMut<'w, Wire> {
+    wire.try_borrow_mut().expect(rt, "a wire that is free")
 }
 
-fn say(wire: &RefCell<Wire>, text: &str) -> Result<(), Fail> {
-    let mut wire = wire.try_borrow_mut()?;
-    Ok(wire.say(text)?)
+fn ready(key: usize, readable: bool) -> ReadyEvent {
+    ReadyEvent::Stream {
+        key,
+        readable,
+        writable: !readable,
+    }
 }
 
-fn fail(wire: &RefCell<Wire>) -> Result<(), Fail> {
-    let mut wire = wire.try_borrow_mut()?;
-    wire.reads = Some(Trick::Fail);
-    wire.writes = Some(Trick::Fail);
-    Ok(())
+/// Performs an act on its wire.
+fn bring_to(rt: &impl Abort, wire: &mut Wire, act: Act) {
+    match act {
+        Comes(_, bytes) => wire.feed(bytes).expect(rt, "memory"),
+        Says(_, text) => wire.say(text).expect(rt, "memory"),
+        Fails(_) => {
+            wire.reads = Some(InjectedFault::Fail);
+            wire.writes = Some(InjectedFault::Fail);
+        }
+        Full(_) => wire.writes = Some(InjectedFault::Nothing),
+        Empty(_) => wire.writes = None,
+        _ => {}
+    }
 }
 
-/// From now on the writes on a wire do this.
-fn take_writes(wire: &RefCell<Wire>, writes: Option<Trick>) -> Result<(), Fail> {
-    wire.try_borrow_mut()?.writes = writes;
-    Ok(())
-}
-
-/// Tells how many connections are held, and whether a round could have slept.
-fn tell_links(alloc: Global, links: usize, sleeps: bool) -> Result<String, AllocError> {
-    let sleeping = if sleeps { " sleeps" } else { "" };
-    format!(in alloc; "{links}{sleeping}")
-}
-
-/// Tells what happened on a wire since it was told last.
-fn tell_wire(wire: &RefCell<Wire>, told: &mut String) -> Result<(), Fail> {
-    let mut wire = wire.try_borrow_mut()?;
-    tell_calls(&wire, told)?;
-    forget(&mut wire);
-    Ok(())
-}
-
-/// Tells how often a wire was called, and what was written.
-fn tell_calls(wire: &Wire, told: &mut String) -> Result<(), AllocError> {
+/// Appends what happened on a wire since the last call, and resets its counts and output.
+fn tell_wire(rt: &impl Abort, wire: &mut Wire, told: &mut String) {
     let (reads, writes) = (wire.read_calls, wire.write_calls);
-    write!(told, ", {reads}r{writes}w")?;
-    tell_words(wire.output.as_slice(), told)
-}
-
-fn forget(wire: &mut Wire) {
+    write!(told, ", {reads}r{writes}w").expect(rt, "memory");
+    for start in 0..wire.output.len() {
+        tell_word(rt, wire.output.get(start..).unwrap_or(&[]), told);
+    }
     wire.read_calls = 0;
     wire.write_calls = 0;
     wire.output.clear();
 }
 
-/// Tells of what was written, by the words in it.
-fn tell_words(output: &[u8], told: &mut String) -> Result<(), AllocError> {
-    for start in 0..output.len() {
-        tell_word(&output[start..], told)?;
-    }
-    Ok(())
-}
-
-/// Tells of the word at which a text begins, if there is one.
-fn tell_word(rest: &[u8], told: &mut String) -> Result<(), AllocError> {
+/// Appends the sign of the word that these bytes start with, if there is one.
+fn tell_word(rt: &impl Abort, rest: &[u8], told: &mut String) {
     for (word, sign) in WORDS {
         if rest.starts_with(word) {
-            told.push(' ')?;
-            told.push_str(sign)?;
+            write!(told, " {sign}").expect(rt, "memory");
         }
     }
-    Ok(())
 }
 
 const WORDS: [(&[u8], &str); 9] = [

@@ -1,14 +1,12 @@
-//! Rounds of a server whose streams are ready when a test says so.
-use crate::desk::{Desk, Sayings};
+//! Tests of rounds, over in-memory streams whose readiness the test controls.
+use crate::memory_server::{MemoryServer, ReadinessScript};
 use crate::pair::Act::{
-    Blind, Comes, Empty, Fails, Full, Knock, Readable, Room, Round, Says, Writable,
+    Capacity, Comes, Empty, Fails, Full, Incoming, Readable, Round, Says, WaitFails, Writable,
 };
 use crate::pair::{HANDSHAKE, Pair, Row};
 use relay_wire::Wire;
 use std::alloc::AllocGlobal;
 use std::process::Abort;
-use std::str;
-use std::test::Fail;
 
 const WATCH: &str = r#"{"do":"watch","id":1,"view":[""]}"#;
 
@@ -18,78 +16,57 @@ const CLOSE: &[u8] = b"\x88\x82\x00\x00\x00\x00\x03\xe8";
 
 const BINARY: &[u8] = b"\x82\x81\x00\x00\x00\x00x";
 
-/// The first client of a new server is welcomed.
+/// The first client of a new server connects and receives its welcome.
 const ENTERS: &[Row] = &[
-    (1, Knock(0), ""),
+    (1, Incoming(0), ""),
     (1, Comes(0, HANDSHAKE), ""),
     (1, Round, "1, 1r2w 101 welcome, 0r0w"),
     (1, Round, "1, 1r0w, 0r0w"),
 ];
 
-/// It watches the whole document.
+/// The first client watches the whole document.
 const WATCHES: &[Row] = &[
     (1, Says(0, WATCH), ""),
     (1, Readable(0), ""),
     (1, Round, "1 sleeps, 2r1w watching snapshot, 0r0w"),
 ];
 
-/// A second client is welcomed.
+/// A second client connects and receives its welcome.
 const JOINS: &[Row] = &[
-    (1, Knock(1), ""),
+    (1, Incoming(1), ""),
     (1, Comes(1, HANDSHAKE), ""),
     (1, Round, "2 sleeps, 0r0w, 1r2w 101 welcome"),
     (1, Round, "2, 0r0w, 1r0w"),
 ];
 
-/// Plays rows to a new server with so many waiting patches a session.
-fn play(rt: &(impl Abort + AllocGlobal), outbox: u64, rows: &[&[Row]]) -> Result<(), Fail> {
-    let sayings = Sayings::new(rt.alloc());
-    let one = Wire::new(rt.alloc());
-    let two = Wire::new(rt.alloc());
-    let desk = Desk::new(rt.alloc(), &sayings, outbox)?;
-    play_to(rt, &mut Pair::at(desk, &one, &two), rows)
-}
-
-fn play_to(
-    rt: &(impl Abort + AllocGlobal),
-    pair: &mut Pair<'_>,
-    rows: &[&[Row]],
-) -> Result<(), Fail> {
+/// Plays rows to a new server that lets `outbox` patches wait for each session.
+fn play(rt: &(impl Abort + AllocGlobal), outbox: u64, rows: &[&[Row]]) {
+    let script = ReadinessScript::new(rt.alloc());
+    let (one, two) = (Wire::new(rt.alloc()), Wire::new(rt.alloc()));
+    let mut pair = Pair::at(MemoryServer::new(rt, &script, outbox), &one, &two);
     for some in rows {
-        play_rows(rt, pair, some)?;
+        play_rows(rt, &mut pair, some);
     }
-    Ok(())
 }
 
-fn play_rows(
-    rt: &(impl Abort + AllocGlobal),
-    pair: &mut Pair<'_>,
-    rows: &[Row],
-) -> Result<(), Fail> {
+fn play_rows(rt: &(impl Abort + AllocGlobal), pair: &mut Pair<'_>, rows: &[Row]) {
     for (place, row) in rows.iter().enumerate() {
-        play_row(rt, pair, place, row)?;
+        play_row(rt, pair, place, row);
     }
-    Ok(())
 }
 
-fn play_row(
-    rt: &(impl Abort + AllocGlobal),
-    pair: &mut Pair<'_>,
-    place: usize,
-    row: &Row,
-) -> Result<(), Fail> {
+fn play_row(rt: &(impl Abort + AllocGlobal), pair: &mut Pair<'_>, place: usize, row: &Row) {
     let (times, act, wanted) = *row;
     for _ in 0..times {
-        let told = pair.act(rt.alloc(), act)?;
+        let told = pair.act(rt, act);
         assert_eq!(rt; told.as_str(), wanted, "row {place}: {act:?}");
     }
-    Ok(())
 }
 
 #[test]
-fn sleeps_where_there_is_nothing_to_do(rt: HostRuntime) -> Result<(), Fail> {
+fn sleeps_where_there_is_nothing_to_do(rt: HostRuntime) {
     let sleeps: &[Row] = &[(3, Round, "2 sleeps, 0r0w, 0r0w")];
-    play(&rt, 32, &[ENTERS, WATCHES, JOINS, sleeps])?;
+    play(&rt, 32, &[ENTERS, WATCHES, JOINS, sleeps]);
     play(
         &rt,
         32,
@@ -97,12 +74,12 @@ fn sleeps_where_there_is_nothing_to_do(rt: HostRuntime) -> Result<(), Fail> {
             (1, Round, "0, 0r0w, 0r0w"),
             (3, Round, "0 sleeps, 0r0w, 0r0w"),
         ]],
-    )
+    );
 }
 
-/// What three edits come to is written to a watcher at once, and nothing is read of it; also where it was told just before.
+/// The patches of three edits are sent to a watcher by one write, without a read of its stream; also if it was sent patches just before.
 #[test]
-fn hears_and_then_tells(rt: HostRuntime) -> Result<(), Fail> {
+fn reads_before_it_writes(rt: HostRuntime) {
     let edits: &[Row] = &[
         (3, Says(1, EDIT), ""),
         (1, Readable(1), ""),
@@ -113,12 +90,12 @@ fn hears_and_then_tells(rt: HostRuntime) -> Result<(), Fail> {
         ),
     ];
     let sleeps: &[Row] = &[(1, Round, "2 sleeps, 0r0w, 0r0w")];
-    play(&rt, 32, &[ENTERS, WATCHES, JOINS, edits, edits, sleeps])
+    play(&rt, 32, &[ENTERS, WATCHES, JOINS, edits, edits, sleeps]);
 }
 
-/// Where two patches may wait one text is heard in a round, and no line folds.
+/// If two patches may wait, a round reads one text, and no outbox folds.
 #[test]
-fn hears_no_more_than_its_watchers_can_hold(rt: HostRuntime) -> Result<(), Fail> {
+fn reads_no_more_than_outboxes_hold(rt: HostRuntime) {
     let watches: &[Row] = &[
         (1, Says(0, WATCH), ""),
         (1, Readable(0), ""),
@@ -133,19 +110,19 @@ fn hears_no_more_than_its_watchers_can_hold(rt: HostRuntime) -> Result<(), Fail>
         (1, Round, "2, 0r0w, 1r0w"),
         (1, Round, "2 sleeps, 0r0w, 0r0w"),
     ];
-    play(&rt, 2, &[ENTERS, watches, JOINS, edits])
+    play(&rt, 2, &[ENTERS, watches, JOINS, edits]);
 }
 
-/// The answer to a text is out before what comes behind it in the same segment ends the link.
+/// The reply to a text is sent before later bytes of the same segment end the link.
 #[test]
-fn answers_a_text_before_an_end(rt: HostRuntime) -> Result<(), Fail> {
+fn answers_a_text_before_an_end(rt: HostRuntime) {
     let broken: &[Row] = &[
         (1, Says(0, EDIT), ""),
         (1, Comes(0, b"\x81\x01x"), ""),
         (1, Readable(0), ""),
         (1, Round, "0 sleeps, 1r1w done, 0r0w"),
     ];
-    play(&rt, 32, &[ENTERS, broken])?;
+    play(&rt, 32, &[ENTERS, broken]);
     let closed: &[Row] = &[
         (1, Says(0, EDIT), ""),
         (1, Comes(0, CLOSE), ""),
@@ -153,12 +130,12 @@ fn answers_a_text_before_an_end(rt: HostRuntime) -> Result<(), Fail> {
         (1, Round, "1 sleeps, 1r1w done close, 0r0w"),
         (1, Round, "0, 0r0w, 0r0w"),
     ];
-    play(&rt, 32, &[ENTERS, closed])
+    play(&rt, 32, &[ENTERS, closed]);
 }
 
-/// A watcher that takes nothing is asked again once it takes more.
+/// A watcher whose stream is full is written to again once it is writable.
 #[test]
-fn waits_for_a_stream_that_is_full(rt: HostRuntime) -> Result<(), Fail> {
+fn waits_for_a_stream_that_is_full(rt: HostRuntime) {
     let full: &[Row] = &[
         (1, Full(0), ""),
         (1, Says(1, EDIT), ""),
@@ -174,12 +151,12 @@ fn waits_for_a_stream_that_is_full(rt: HostRuntime) -> Result<(), Fail> {
         (1, Round, "2 sleeps, 0r2w patch patch, 0r0w"),
         (1, Round, "2 sleeps, 0r0w, 0r0w"),
     ];
-    play(&rt, 32, &[ENTERS, WATCHES, JOINS, full])
+    play(&rt, 32, &[ENTERS, WATCHES, JOINS, full]);
 }
 
-/// News that is wrong, that comes twice, or that names no link.
+/// Events that are spurious, that repeat, or that name no connection do no harm.
 #[test]
-fn takes_wrong_news(rt: HostRuntime) -> Result<(), Fail> {
+fn ignores_false_events(rt: HostRuntime) {
     let wrong: &[Row] = &[
         (2, Readable(0), ""),
         (1, Round, "2 sleeps, 1r0w, 0r0w"),
@@ -188,12 +165,12 @@ fn takes_wrong_news(rt: HostRuntime) -> Result<(), Fail> {
         (1, Readable(usize::MAX), ""),
         (1, Round, "2 sleeps, 0r0w, 0r0w"),
     ];
-    play(&rt, 32, &[ENTERS, WATCHES, JOINS, wrong])
+    play(&rt, 32, &[ENTERS, WATCHES, JOINS, wrong]);
 }
 
-/// A stream fails while it is heard, or while it is told; news of it comes all the same, also when another has its key.
+/// A stream fails while it is read or written. Later events of it do no harm, even if another connection has its key.
 #[test]
-fn a_stream_that_fails_ends_its_own_link_alone(rt: HostRuntime) -> Result<(), Fail> {
+fn a_stream_that_fails_ends_its_own_link_alone(rt: HostRuntime) {
     let heard: &[Row] = &[
         (1, Fails(1), ""),
         (1, Readable(1), ""),
@@ -201,68 +178,68 @@ fn a_stream_that_fails_ends_its_own_link_alone(rt: HostRuntime) -> Result<(), Fa
         (1, Readable(1), ""),
         (1, Round, "1 sleeps, 0r0w, 0r0w"),
     ];
-    play(&rt, 32, &[ENTERS, WATCHES, JOINS, heard])?;
+    play(&rt, 32, &[ENTERS, WATCHES, JOINS, heard]);
     let told: &[Row] = &[
         (1, Fails(0), ""),
         (1, Says(1, EDIT), ""),
         (1, Readable(1), ""),
         (1, Round, "1 sleeps, 0r1w, 2r1w done"),
     ];
-    play(&rt, 32, &[ENTERS, WATCHES, JOINS, told])?;
+    play(&rt, 32, &[ENTERS, WATCHES, JOINS, told]);
     let followed: &[Row] = &[
         (1, Fails(0), ""),
         (1, Readable(0), ""),
         (1, Round, "0 sleeps, 1r0w, 0r0w"),
-        (1, Knock(1), ""),
+        (1, Incoming(1), ""),
         (1, Comes(1, HANDSHAKE), ""),
         (1, Readable(0), ""),
         (1, Round, "1 sleeps, 0r0w, 1r2w 101 welcome"),
     ];
-    play(&rt, 32, &[ENTERS, followed])
+    play(&rt, 32, &[ENTERS, followed]);
 }
 
-/// Everything is taken as ready, in that round alone.
+/// If a wait fails, everything counts as ready, in that round only.
 #[test]
-fn goes_on_where_nothing_is_known(rt: HostRuntime) -> Result<(), Fail> {
+fn continues_if_readiness_fails(rt: HostRuntime) {
     let blind: &[Row] = &[
         (1, Says(1, EDIT), ""),
-        (1, Blind, ""),
+        (1, WaitFails, ""),
         (1, Round, "2 sleeps, 1r1w patch, 2r1w done"),
         (1, Round, "2 sleeps, 0r0w, 0r0w"),
     ];
-    play(&rt, 32, &[ENTERS, WATCHES, JOINS, blind])
+    play(&rt, 32, &[ENTERS, WATCHES, JOINS, blind]);
 }
 
-/// News that finds no room comes with the next round, in which nothing else is new; where it is lost everything is taken as ready.
+/// An event that exceeds the capacity comes with the next round, in which nothing else is new. If it is lost, everything counts as ready.
 #[test]
-fn hears_of_news_that_found_no_room(rt: HostRuntime) -> Result<(), Fail> {
+fn receives_events_beyond_capacity(rt: HostRuntime) {
     let later: &[Row] = &[
         (1, Says(0, EDIT), ""),
         (1, Says(1, EDIT), ""),
         (1, Readable(0), ""),
         (1, Readable(1), ""),
-        (1, Room(1), ""),
+        (1, Capacity(1), ""),
         (1, Round, "2 sleeps, 2r1w done patch, 0r0w"),
         (1, Round, "2 sleeps, 0r1w patch, 2r1w done"),
         (1, Round, "2 sleeps, 0r0w, 0r0w"),
     ];
-    play(&rt, 32, &[ENTERS, WATCHES, JOINS, later])?;
+    play(&rt, 32, &[ENTERS, WATCHES, JOINS, later]);
     let lost: &[Row] = &[
         (1, Says(0, EDIT), ""),
         (1, Says(1, EDIT), ""),
         (1, Readable(0), ""),
         (1, Readable(1), ""),
-        (1, Room(1), ""),
-        (1, Blind, ""),
+        (1, Capacity(1), ""),
+        (1, WaitFails, ""),
         (1, Round, "2 sleeps, 2r1w done patch patch, 2r1w done"),
         (1, Round, "2 sleeps, 0r0w, 0r0w"),
     ];
-    play(&rt, 32, &[ENTERS, WATCHES, JOINS, lost])
+    play(&rt, 32, &[ENTERS, WATCHES, JOINS, lost]);
 }
 
-/// A closing link has a turn when its peer said something, or when a wait has passed without news.
+/// A closing link gets a turn when its peer sent something, or when a wait has passed without events.
 #[test]
-fn waits_for_the_answer_to_a_close(rt: HostRuntime) -> Result<(), Fail> {
+fn waits_for_the_answer_to_a_close(rt: HostRuntime) {
     let silent: &[Row] = &[
         (1, Comes(1, BINARY), ""),
         (1, Readable(1), ""),
@@ -274,7 +251,7 @@ fn waits_for_the_answer_to_a_close(rt: HostRuntime) -> Result<(), Fail> {
         (7, Round, "2 sleeps, 0r0w, 0r0w"),
         (1, Round, "1 sleeps, 0r0w, 0r0w"),
     ];
-    play(&rt, 32, &[ENTERS, WATCHES, JOINS, silent])?;
+    play(&rt, 32, &[ENTERS, WATCHES, JOINS, silent]);
     let answered: &[Row] = &[
         (1, Comes(1, BINARY), ""),
         (1, Readable(1), ""),
@@ -285,32 +262,29 @@ fn waits_for_the_answer_to_a_close(rt: HostRuntime) -> Result<(), Fail> {
         (1, Round, "2 sleeps, 0r0w, 1r0w"),
         (1, Round, "1, 0r0w, 0r0w"),
     ];
-    play(&rt, 32, &[ENTERS, WATCHES, JOINS, answered])
+    play(&rt, 32, &[ENTERS, WATCHES, JOINS, answered]);
 }
 
-/// A handshake for a target that is no room.
+/// A handshake for a target that is not a room.
 const NOWHERE: &[u8] =
     b"GET /nowhere HTTP/1.1\r\nHost: localhost\r\nUpgrade: websocket\r\nConnection: Upgrade\r\nSec-WebSocket-Key: dGhlIHNhbXBsZSBub25jZQ==\r\nSec-WebSocket-Version: 13\r\n\r\n";
 
-/// Each opening, each refusal and each end has its line.
+/// The log has a line for each opening, each refusal and each end.
 #[test]
-fn tells_of_its_links(rt: HostRuntime) -> Result<(), Fail> {
-    let sayings = Sayings::new(rt.alloc());
-    let one = Wire::new(rt.alloc());
-    let two = Wire::new(rt.alloc());
-    let desk = Desk::new(rt.alloc(), &sayings, 32)?;
-    let mut pair = Pair::at(desk, &one, &two);
-    play_to(&rt, &mut pair, &[ENTERS, ENDS])?;
-    assert_eq!(rt;
-        str::from_utf8(pair.desk.log.as_slice())?,
-        "link 0 opened session 1 in room r\nlink 1 refused with 404\nlink 0 ended by Binary after 3 rounds\n"
-    );
-    Ok(())
+fn logs_its_connections(rt: HostRuntime) {
+    let script = ReadinessScript::new(rt.alloc());
+    let (one, two) = (Wire::new(rt.alloc()), Wire::new(rt.alloc()));
+    let mut pair = Pair::at(MemoryServer::new(&rt, &script, 32), &one, &two);
+    play_rows(&rt, &mut pair, ENTERS);
+    play_rows(&rt, &mut pair, ENDS);
+    let wanted =
+        "link 0 opened session 1 in room r\nlink 1 refused with 404\nlink 0 ended by Binary after 3 rounds\n";
+    assert_eq!(rt; pair.server.log.as_slice(), wanted.as_bytes());
 }
 
-/// The second client is refused, and the first one ended.
+/// The second client is refused, and the first one is ended.
 const ENDS: &[Row] = &[
-    (1, Knock(1), ""),
+    (1, Incoming(1), ""),
     (1, Comes(1, NOWHERE), ""),
     (1, Round, "1 sleeps, 0r0w, 1r1w"),
     (1, Comes(0, BINARY), ""),

@@ -1,4 +1,4 @@
--- Lemmas on the heads that bytes begin with, and on what is answered to them.
+-- Lemmas on the heads that bytes begin with, and on the answers to them.
 use Rattle.std.proofs.Common.{◌≡◌, ℕ, ◌-◌, ◌*◌, ◌<◌, ◌≤◌, List, [], ◌∷◌, ◌++◌, length, drop, nat_lt, sym, ◌∙◌, ap, subst, arith, append-nil, length-append, length-take, length-drop, All, Bool, Option, None, Some, refl, option_copied, IsSome}
 use denote.Ref.{Bor}
 use Rattle.std.proofs.lemmas.Bool.Decides.{nat_tests}
@@ -7,7 +7,7 @@ use Rattle.httparse.specs.Grammar.{RequestHead, Field, IsField, LineEnd, crlf, l
 use Rattle.httparse.specs.Spans.{RequestExceeds}
 use Rattle.std.proofs.lemmas.List.Elements.{All-head, All-tail}
 use Rattle.httparse.proofs.GrammarLemmas.{request_unique}
-use Rattle.relay_shake.specs.declared.reading.TheConstants.{FIELDS_ROOM, HEAD_MOST}
+use Rattle.relay_shake.specs.declared.reading.TheConstants.{FIELDS_ROOM, MAX_HEAD}
 use Rattle.relay_shake.specs.declared.answer.Shake.{Shake}
 use Rattle.relay_shake.specs.Head.{Fields, parts_of}
 use Rattle.relay_shake.specs.Handshake.{window, refuse, verdict_before_head, verdict_of, verdict_on}
@@ -17,19 +17,19 @@ use Rattle.relay_shake.specs.Shaken.{Shows, AnswersHead}
 pub none_from_never : (bytes : List ℕ) → NeverHasRequest bytes → HasNoRequest bytes
 none_from_never bytes never = subst HasNoRequest (append-nil bytes) (never [])
 
--- the verdict on the one head that is there is that on every head that is
+-- the verdict on the one head found is the verdict on every head that the bytes begin with
 pub every_head : (bytes : List ℕ) (answer : Shake) (head : RequestHead) (rest : List ℕ) → ReadsRequest (window bytes) head rest
-    → Shows answer (verdict_of head (rest ++ drop HEAD_MOST bytes)) → AnswersHead bytes answer
+    → Shows answer (verdict_of head (rest ++ drop MAX_HEAD bytes)) → AnswersHead bytes answer
 every_head bytes answer head rest reads shows = λ other behind found.
     let same = request_unique (window bytes) head other rest behind reads found in
-    let at_head : Shows answer (verdict_of other (rest ++ drop HEAD_MOST bytes)) = subst (λ h. Shows answer (verdict_of h (rest ++ drop HEAD_MOST bytes))) same.0 shows in
-    subst (λ r. Shows answer (verdict_of other (r ++ drop HEAD_MOST bytes))) same.1 at_head
+    let at_head : Shows answer (verdict_of other (rest ++ drop MAX_HEAD bytes)) = subst (λ h. Shows answer (verdict_of h (rest ++ drop MAX_HEAD bytes))) same.0 shows in
+    subst (λ r. Shows answer (verdict_of other (r ++ drop MAX_HEAD bytes))) same.1 at_head
 
 length-end : (e : LineEnd) → 1 ≤ length (print_end e)
 length-end crlf = omega arith
 length-end lf = omega arith
 
--- each header field takes three bytes
+-- each header field takes at least three bytes
 length-field : (f : Field) → IsField f → 3 ≤ length (print_field f)
 length-field f fit =
     simp length-append (omega (arith, fit.name.0, length-end f.end))
@@ -45,28 +45,28 @@ length-head : (head : RequestHead) (rest : List ℕ) → All IsField head.fields
 unfolding print_request
 length-head head rest fit = simp length-append (omega (arith, length-fields head.fields fit, length-end head.last))
 
--- the fields of the window fit the room
+-- the fields of the window fit in `FIELDS_ROOM`
 pub no_excess : (bytes buffer : List ℕ) (room : ℕ) → buffer ≡ window bytes → room ≡ FIELDS_ROOM → RequestExceeds room buffer → ⊥
 no_excess bytes buffer room same enough (front, rest, parts, head, reads, many) =
     let long : 3 * length head.fields < length (front ++ print_end lf) =
     subst (λ b. 3 * length head.fields < length b) (sym reads.1) (length-head head [] reads.0.fields) in
-    omega (arith, many, long, enough, length-append front (print_end lf), ap length parts, ap length same, length-append front rest, length-take HEAD_MOST bytes)
+    omega (arith, many, long, enough, length-append front (print_end lf), ap length parts, ap length same, length-append front rest, length-take MAX_HEAD bytes)
 
 -- past the limit the verdict is 431
-pub past_limit : (bytes : List ℕ) → HEAD_MOST < length bytes → verdict_before_head bytes ≡ refuse 431
+pub past_limit : (bytes : List ℕ) → MAX_HEAD < length bytes → verdict_before_head bytes ≡ refuse 431
 past_limit bytes long = grind (arith, nat_tests)
 
 nat_lt-minus : (m n k : ℕ) → k ≡ n - m → nat_lt m n ≡ nat_lt 0 k
 nat_lt-minus m n k e = rw e (grind (arith, nat_tests))
 
--- bytes follow a head of the window just where the bytes go on behind it
+-- bytes follow a head of the window exactly if they follow it in the whole
 pub nat_lt-behind : (len : ℕ) (bytes : List ℕ) → len ≤ length (window bytes)
-    → nat_lt len (length bytes) ≡ nat_lt 0 (length (drop len (window bytes) ++ drop HEAD_MOST bytes))
+    → nat_lt len (length bytes) ≡ nat_lt 0 (length (drop len (window bytes) ++ drop MAX_HEAD bytes))
 nat_lt-behind len bytes within =
     nat_lt-minus len (length bytes) _
-    (omega (arith, within, length-append (drop len (window bytes)) (drop HEAD_MOST bytes), length-drop len (window bytes), length-drop HEAD_MOST bytes, length-take HEAD_MOST bytes))
+    (omega (arith, within, length-append (drop len (window bytes)) (drop MAX_HEAD bytes), length-drop len (window bytes), length-drop MAX_HEAD bytes, length-take MAX_HEAD bytes))
 
--- what an option holds, of which a copy is known
+-- the content of an option whose copy is known
 pub some-from_copied : (o : Option (Bor (List ℕ))) (x : List ℕ) → option_copied o ≡ Some x → IsSome o
 some-from_copied None x e = absurd (cc)
 some-from_copied (Some r) x e = refl
@@ -74,7 +74,7 @@ some-from_copied (Some r) x e = refl
 pub now-from_copied : (o : Option (Bor (List ℕ))) (r : Bor (List ℕ)) (x : List ℕ) → o ≡ Some r → option_copied o ≡ Some x → r.now ≡ x
 now-from_copied o r x is e = let both : Some r.now ≡ Some x = ap option_copied (sym is) ∙ e in cc
 
--- the verdict over equal parts
+-- the verdict on equal parts
 pub same_verdict : (method target : List ℕ) (minor : ℕ) (fields : Fields) (more : Bool) (head : RequestHead) (surplus : List ℕ)
     → method ≡ head.method → target ≡ head.target → minor ≡ head.minor → fields ≡ (parts_of head surplus).fields → more ≡ nat_lt 0 (length surplus)
     → verdict_on (record { method = method; target = target; minor = minor; fields = fields; has_surplus = more }) ≡ verdict_of head surplus

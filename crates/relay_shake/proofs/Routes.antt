@@ -1,4 +1,4 @@
--- What a router of one route, a prefix and then a parameter, finds.
+-- Lookups in a router with one route: a prefix and then a parameter.
 use Rattle.std.proofs.Common.{◌≡◌, ℕ, zero, suc, ◌+◌, ◌-◌, ◌<◌, ◌≤◌, Bool, true, false, not, cond, List, [], ◌∷◌, ◌++◌, length, take, drop, get_or, ltb, leb, codes, All, Option, Some, None, refl, sym, ◌∙◌, ap, subst, ne_eqb, eqb-true, add-zero, arith, lit<, ◌==◌, ◌&&◌, option_copied, MatchOption, IsUtf8, IsAscii}
 use denote.Ref.{Bor}
 use Rattle.std.proofs.lemmas.Bool.Decides.{nat_tests}
@@ -21,7 +21,7 @@ abbrev pub IsPlain : List ℕ → Type 0
 IsPlain [] = Unit {0}
 IsPlain (x ∷ xs) = (x < 256) × IsPlain xs
 
--- the prefix, and then at least one byte and no slash
+-- the prefix, followed by at least one byte and no slash
 abbrev pub has_segment_after : List ℕ → List ℕ → Bool
 has_segment_after [] [] = false
 has_segment_after [] (b ∷ target) = not (has_slash (b ∷ target))
@@ -32,7 +32,7 @@ module _ {K : Type 0} (k : K) where
   abbrev after : Bool → ℕ → RowsOf K → ℕ × RowsOf K
   after slash n rows = cond {A = ℕ × RowsOf K} slash (0, []) (n, rows)
 
-  -- the route, where a test holds
+  -- the route if a test holds, else none
   abbrev pub found : Bool → Option K
   found test = cond test (Some k) None
 
@@ -75,7 +75,7 @@ module _ {K : Type 0} (k : K) where
   row-end true rows path test other none e = ap (λ o. or_else (seek 0 rows path) o) none ∙ or-none (seek 0 rows path) ∙ e
   row-end false rows path test other none e = ap (λ o. or_else (seek 0 [] path) o) none ∙ or-none (seek 0 [] path) ∙ seek-nil 0 path
 
-  -- the one route is found at the targets of its form alone
+  -- the route is found exactly at the targets of its form
   pub seek-row : (prefix path : List ℕ) → IsPlain prefix → All (λ x. x < 256) path
       → seek 0 ((prefix ++ 256 ∷ [], k) ∷ []) path ≡ found (has_segment_after prefix path)
   unfolding seek param_step
@@ -97,7 +97,7 @@ no_slash : (path : List ℕ) → list_all (λ b. not (b == 47)) path ≡ not (ha
 no_slash [] = refl
 no_slash (b ∷ path) = ap (λ t. not (b == 47) && t) (no_slash path) ∙ sym (not-slash b path)
 
--- what the route takes, where it is found
+-- the part that the route captures, if it is found
 pub segment-after : (prefix path : List ℕ) → kept is_segment (behind prefix path) ≡ cond (has_segment_after prefix path) (Some (drop (length prefix) path)) None
 segment-after [] [] = refl
 segment-after [] (b ∷ path) = ap (λ t. cond t (Some (b ∷ path)) None) (no_slash (b ∷ path))
@@ -120,7 +120,7 @@ begins-after (x ∷ prefix) (b ∷ path) e = by_test (x == b) (λ same. eqb-true
     by_test true same later e = let first = same refl in let rest = later e in cc
     by_test false same later e = absurd (cc)
 
--- the literal part of a pattern takes as many bytes of the path
+-- the literal part of a pattern matches as many bytes of the path
 wild-plain : (prefix rest : List ℕ) (len token at : ℕ) → IsPlain prefix → at + length prefix ≤ len
     → wild_from (prefix ++ rest) len token at ≡ wild_from rest len (token + length prefix) (at + length prefix)
 wild-plain [] rest len token at plain room = rw (add-zero token, add-zero at) refl
@@ -151,20 +151,20 @@ plain = (lit< tt, (lit< tt, (lit< tt, (lit< tt, (lit< tt, (lit< tt, (lit< tt, tt
 abbrev pub room_route : RouteOf (Unit {0})
 room_route = record { pattern = codes "/rooms/" ++ 256 ∷ []; text = codes "/rooms/{room}"; names = (8, 12) ∷ []; value = tt }
 
--- what its parameter takes
+-- the part that its parameter captures
 walked : (target : List ℕ) → 7 ≤ length target → walk room_route.pattern room_route.text target room_route.names 0 0 ≡ (codes "room", drop 7 target) ∷ []
 walked target room =
     let places : wild_from room_route.pattern (length target) 0 0 ≡ (7, 7) = wild-plain prefix_bytes (256 ∷ []) (length target) 0 0 plain room in
     ap (λ w. (codes "room", part_of target w.1 (wild_stop room_route.pattern w.0 target w.1)) ∷ []) places
     ∙ ap (λ part. (codes "room", part) ∷ []) (part-end target 7 room)
 
--- an empty router refuses a route for want of memory alone
+-- an empty router refuses the route only if memory runs out
 pub only_memory : (pattern : List ℕ) (fault : InsertError) → Refused {T = Unit {0}} pattern [] fault → fault ≡ OutOfMemory
 only_memory pattern (Conflict with) (route, near, text) = absurd (cc)
 only_memory pattern OutOfMemory h = refl
 only_memory pattern _ h = absurd h
 
--- where the router finds its route, or finds none
+-- the router finds its route, or finds none
 pub found-true : {K : Type 0} (k m : K) (test : Bool) → found k test ≡ Some m → (test ≡ true) × (k ≡ m)
 found-true k m true e = (refl, cc)
 found-true k m false e = absurd (cc)
@@ -183,11 +183,11 @@ rest-IsUtf8 target utf8 e =
     let long : 6 < length target = omega (arith, ap length begins) in
     IsUtf8-drop target 7 utf8 (IsCharBoundary-after_ascii target 6 utf8 long (omega (arith, slash)))
 
--- where no route is found, it takes nothing
+-- if no route is found, nothing is captured
 pub missed : (target : List ℕ) → has_segment_after prefix_bytes target ≡ false → None ≡ routed target
 missed target e = sym (segment-after prefix_bytes target ∙ ap (λ t. cond t (Some (drop 7 target)) None) e)
 
--- the value of the parameter is what the route takes
+-- the value of the parameter is the part that the route captures
 pub taken : (target : List ℕ) (m : RouteOf (Unit {0})) (path : List ℕ) (got : Option (Bor (List ℕ))) → room_route ≡ m → path ≡ target → IsUtf8 target
     → has_segment_after prefix_bytes target ≡ true
     → (AllText (walk m.pattern m.text path m.names 0 0)

@@ -1,16 +1,16 @@
 -- The verdict on a head (RFC 6455, section 4.2.1).
 use Rattle.std.specs.Prelude.{ℕ, Bool, not, ◌==◌, nat_lt, nat_le, if◌then◌else◌, List, [], ◌∷◌, length, take, codes, bytes_eq, Option, Some, None, is_some, unwrap_or}
 use Rattle.httparse.specs.Grammar.{RequestHead}
-use Rattle.relay_shake.specs.declared.reading.TheConstants.{HEAD_MOST}
-use Rattle.relay_shake.specs.declared.checks.TheConstants.{FIELDS_MOST}
+use Rattle.relay_shake.specs.declared.reading.TheConstants.{MAX_HEAD}
+use Rattle.relay_shake.specs.declared.checks.TheConstants.{MAX_FIELDS}
 use Rattle.relay_shake.specs.Head.{Parts, parts_of, only_value, kept, has_element}
 use Rattle.relay_shake.specs.Key.{key_of}
 use Rattle.relay_shake.specs.Route.{room_of}
 
--- the checks in their order: what has to hold, and the status where it does not
+-- the checks in their order: the condition, and the status if it fails
 abbrev pub checks : Parts → List (Bool × ℕ)
 checks head =
-    (nat_le (length head.fields) FIELDS_MOST, 431)
+    (nat_le (length head.fields) MAX_FIELDS, 431)
     ∷ (bytes_eq head.method (codes "GET"), 405)
     ∷ (is_some (room_of head.target), 404)
     ∷ (head.minor == 1, 400)
@@ -28,13 +28,13 @@ abbrev pub first_failed : List (Bool × ℕ) → Option ℕ
 first_failed [] = None
 first_failed (check ∷ later) = if check.0 then first_failed later else Some check.1
 
--- more bytes have to come; or a room is entered, with a key; or a status refuses
+-- wait for more bytes, accept a room and a key, or refuse with a status
 pub data Verdict : Type 0 where
   wait : Verdict
   accept : List ℕ → List ℕ → Verdict
   refuse : ℕ → Verdict
 
--- where no check fails, the room of the target with the key
+-- accept the room and the key if no check failed, else refuse with the status of the first that did
 abbrev pub verdict_by : Option ℕ → Option (List ℕ) → Option (List ℕ) → Verdict
 verdict_by None room key = accept (unwrap_or room []) (unwrap_or key [])
 verdict_by (Some status) room key = refuse status
@@ -43,14 +43,14 @@ verdict_by (Some status) room key = refuse status
 abbrev pub verdict_on : Parts → Verdict
 verdict_on head = verdict_by (first_failed (checks head)) (room_of head.target) (key_of head.fields)
 
--- the verdict on a head with these bytes behind it
+-- the verdict on a head that is followed by the surplus bytes
 abbrev pub verdict_of : RequestHead → List ℕ → Verdict
 verdict_of head surplus = verdict_on (parts_of head surplus)
 
--- the bytes in which a head is looked for
+-- the bytes in which the head must be
 abbrev pub window : List ℕ → List ℕ
-window bytes = take HEAD_MOST bytes
+window bytes = take MAX_HEAD bytes
 
--- the verdict on bytes to which a head can still come: more, until too many are there
+-- the verdict on bytes that can still become a head: wait, unless there are more than MAX_HEAD
 abbrev pub verdict_before_head : List ℕ → Verdict
-verdict_before_head bytes = if nat_lt HEAD_MOST (length bytes) then refuse 431 else wait
+verdict_before_head bytes = if nat_lt MAX_HEAD (length bytes) then refuse 431 else wait

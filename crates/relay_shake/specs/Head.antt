@@ -1,4 +1,4 @@
--- The parts of a head that a handshake is judged by (RFC 9112, sections 3 and 5).
+-- The parts of a head that the checks use (RFC 9112, sections 3 and 5).
 use Rattle.std.specs.Prelude.{ℕ, Bool, ◌==◌, ◌&&◌, nat_lt, if◌then◌else◌, List, [], ◌∷◌, map, length, count_by, Option, Some, None}
 use Rattle.std.specs.List.{list_any, slice_split}
 use Rattle.std.specs.Str.{str_eq_ignore_ascii_case}
@@ -9,7 +9,7 @@ use Rattle.httparse.specs.Spans.{name_and_value}
 abbrev pub Fields : Type 0
 Fields = List (List ℕ × List ℕ)
 
--- the parts of a head, and whether a byte stands behind it
+-- the parts of a head, and whether any byte follows it
 pub record Parts : Type 0 where
   pub method : List ℕ
   pub target : List ℕ
@@ -17,7 +17,7 @@ pub record Parts : Type 0 where
   pub fields : Fields
   pub has_surplus : Bool
 
--- those of a head of the grammar with these bytes behind it
+-- the parts of a head of the grammar that is followed by the surplus bytes
 abbrev pub parts_of : RequestHead → List ℕ → Parts
 parts_of head surplus = record {
   method = head.method;
@@ -27,28 +27,28 @@ parts_of head surplus = record {
   has_surplus = nat_lt 0 (length surplus);
 }
 
--- how many fields have the name
+-- the number of fields with the name
 abbrev pub count_of : List ℕ → Fields → ℕ
 count_of name fields = count_by (λ field. str_eq_ignore_ascii_case field.0 name) fields
 
--- the value of the first field that has the name
+-- the value of the first field with the name
 abbrev pub first_value : List ℕ → Fields → Option (List ℕ)
 first_value name [] = None
 first_value name (field ∷ fields) = if str_eq_ignore_ascii_case field.0 name then Some field.1 else first_value name fields
 
--- the value of the one field that has the name
+-- the value of the field with the name, if there is exactly one
 abbrev pub only_value : List ℕ → Fields → Option (List ℕ)
 only_value name fields = if count_of name fields == 1 then first_value name fields else None
 
--- the value, where it passes the test
+-- the value if it passes the test, else None
 abbrev pub kept : (List ℕ → Bool) → Option (List ℕ) → Option (List ℕ)
 kept test None = None
 kept test (Some value) = if test value then Some value else None
 
--- a part of the value between its commas is the element, but for spaces and tabs at its ends and for case
+-- a comma-separated part of the value is the element, ignoring case and spaces and tabs at the ends of the part
 abbrev pub lists : List ℕ → List ℕ → Bool
 lists element value = list_any (λ part. str_eq_ignore_ascii_case (trim_ows part) element) (slice_split (λ b. b == 44) value)
 
--- a field that has the name lists the element
+-- a field with the name lists the element
 abbrev pub has_element : List ℕ → List ℕ → Fields → Bool
 has_element name element fields = list_any (λ field. str_eq_ignore_ascii_case field.0 name && lists element field.1) fields

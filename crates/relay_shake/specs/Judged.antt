@@ -1,4 +1,4 @@
--- What the code holds of a head and of its verdict.
+-- The types of the code related to heads and verdicts.
 use Rattle.std.specs.Prelude.{◌≡◌, Result, Ok, Err, IsTrue, map}
 use Rattle.httparse.specs.Borrowed.{header_parts}
 use Rattle.relay_shake.specs.Head.{Parts}
@@ -9,11 +9,11 @@ use Rattle.relay_shake.specs.declared.checks.Accepted.{Accepted}
 use Rattle.relay_shake.specs.declared.fault.Fault.{Fault}
 use Rattle.relay_shake.specs.declared.fault.Fault.TheVariants.{Refused, NoMemory}
 
--- the parts that a borrowed head shows
+-- the parts of a borrowed head
 abbrev pub parts : Head → Parts
 parts head = record { method = head.method.now; target = head.target.now; minor = head.minor; fields = map header_parts head.fields.now; has_surplus = head.has_surplus }
 
--- the outcome is the verdict, if there was memory for it
+-- the result agrees with the verdict, unless memory ran out
 abbrev pub Judges : Result Accepted Fault → Verdict → Type 0
 Judges (Ok accepted) verdict = verdict ≡ accept accepted.room.now accepted.key.now
 Judges (Err (Refused status)) verdict = verdict ≡ refuse status

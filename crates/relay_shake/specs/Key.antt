@@ -12,6 +12,6 @@ is_base64_byte b = is_ascii_alphanumeric b || b == 43 || b == 47
 abbrev pub is_key : List ℕ → Bool
 is_key value = list_all is_base64_byte (take 22 value) && bytes_eq (drop 22 value) (codes "==")
 
--- the key of a head: the value of its one key field, which is one
+-- the key of a head: the value of its only key field, if it has the form of a key
 abbrev pub key_of : Fields → Option (List ℕ)
 key_of fields = kept is_key (only_value (codes "Sec-WebSocket-Key") fields)

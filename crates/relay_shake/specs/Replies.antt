@@ -4,11 +4,11 @@ use Rattle.base64.specs.Engines.{standard}
 use Rattle.base64.specs.GeneralPurpose.{encode_of}
 use Rattle.sha1.specs.Sha1.{sha1}
 
--- base64 of the SHA-1 of the key's text with the GUID behind it
+-- base64 of the SHA-1 of the key's text followed by the GUID
 abbrev pub accept_value : List ℕ → List ℕ
 accept_value key = encode_of standard (sha1 (key ++ codes "258EAFA5-E914-47DA-95CA-C5AB0DC85B11"))
 
--- the reply to a good handshake with that key
+-- the reply to a good handshake with the key
 abbrev pub accept_reply : List ℕ → List ℕ
 accept_reply key =
     codes "HTTP/1.1 101 Switching Protocols\r\nUpgrade: websocket\r\nConnection: Upgrade\r\nSec-WebSocket-Accept: "

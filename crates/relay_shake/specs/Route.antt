@@ -4,7 +4,7 @@ use Rattle.std.specs.List.{list_all}
 use Rattle.relay_proto.specs.RoomName.{is_room_name}
 use Rattle.relay_shake.specs.Head.{kept}
 
--- what stands behind a prefix
+-- the rest of the text after a prefix, if it begins with it
 abbrev pub behind : List ℕ → List ℕ → Option (List ℕ)
 behind [] text = Some text
 behind (x ∷ prefix) [] = None
@@ -15,10 +15,10 @@ abbrev pub is_segment : List ℕ → Bool
 is_segment [] = false
 is_segment (b ∷ bs) = list_all (λ x. not (x == 47)) (b ∷ bs)
 
--- the part of a target that the route `/rooms/{room}` takes
+-- the part of a target that matches `{room}` in the route `/rooms/{room}`
 abbrev pub routed : List ℕ → Option (List ℕ)
 routed target = kept is_segment (behind (codes "/rooms/") target)
 
--- the room that a target names: that part, where it is a room name
+-- the room of a target: that part, if it is a room name
 abbrev pub room_of : List ℕ → Option (List ℕ)
 room_of target = kept is_room_name (routed target)

@@ -1,7 +1,7 @@
--- What is answered to the bytes that came so far.
+-- The answer to the bytes received so far.
 use Rattle.std.specs.Prelude.{◌≡◌, ◌⊎◌, ℕ, List, ◌++◌, drop, string_bytes}
 use Rattle.httparse.specs.Grammar.{RequestHead, ReadsRequest, HasNoRequest, NeverHasRequest, MayBecomeRequest}
-use Rattle.relay_shake.specs.declared.reading.TheConstants.{HEAD_MOST}
+use Rattle.relay_shake.specs.declared.reading.TheConstants.{MAX_HEAD}
 use Rattle.relay_shake.specs.Handshake.{Verdict, wait, accept, refuse, verdict_of, window, verdict_before_head}
 use Rattle.relay_shake.specs.Replies.{accept_reply, refusal_of}
 use Rattle.relay_shake.specs.declared.answer.Shake.{Shake}
@@ -14,14 +14,14 @@ Shows (Accept room reply) (accept name key) = (string_bytes room ≡ name) × (r
 Shows (Refuse status reply) (refuse other) = (status ≡ other) × (reply.items ≡ refusal_of other)
 Shows _ _ = ⊥
 
--- where a head is there: the verdict on it, whatever stands behind it
+-- if the window begins with a head: the verdict on it and the bytes after it
 abbrev pub AnswersHead : List ℕ → Shake → Type 0
 AnswersHead bytes answer =
     (head : RequestHead) (rest : List ℕ) → ReadsRequest (window bytes) head rest
-    → Shows answer (verdict_of head (rest ++ drop HEAD_MOST bytes))
+    → Shows answer (verdict_of head (rest ++ drop MAX_HEAD bytes))
 
--- where none is there: more is waited for, up to the limit, only while a head can come or the bytes end in a target;
--- 400 only where none can come
+-- if there is no head: the verdict before a head, only if one can still come or the bytes end in a target; or 400, only if none can
+-- come
 abbrev pub AnswersNoHead : List ℕ → Shake → Type 0
 AnswersNoHead bytes answer =
     HasNoRequest (window bytes)

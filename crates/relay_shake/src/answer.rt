@@ -1,18 +1,18 @@
-//! What is answered to a handshake.
+//! The answer to a handshake.
 
-/// The answer to the bytes that came so far.
+/// The answer to the bytes received so far.
 #[derive(Debug, Drop)]
 pub enum Shake {
-    /// There is no head yet: more bytes have to come.
+    /// The head is not complete: more bytes are needed.
     More,
     /// A good handshake.
     Accept {
-        /// The room that the target names.
+        /// The name of the room in the target.
         room: String,
-        /// The reply 101, to be sent whole.
+        /// The 101 reply, to be sent whole.
         reply: Vec<u8>,
     },
-    /// A handshake that is turned away.
+    /// A refused handshake.
     Refuse {
         /// The status of the reply: 400, 404, 405, 426 or 431.
         status: u16,

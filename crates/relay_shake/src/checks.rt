@@ -10,22 +10,22 @@ use crate::key::key_of;
 use crate::route::room_of;
 use std::alloc::Global;
 
-/// How many header fields a head has at most.
-pub(crate) const FIELDS_MOST: usize = 32;
+/// The most header fields of a head.
+pub(crate) const MAX_FIELDS: usize = 32;
 
-/// What an accepted head asks for.
+/// The room and the key of an accepted head.
 #[derive(Drop)]
 pub(crate) struct Accepted<'b> {
     pub room: &'b str,
     pub key: &'b [u8],
 }
 
-/// The room and the key of a head that passes each check, or the status of the first that fails.
+/// Returns the room and the key of a head that passes all checks, or the status of the first check that fails.
 pub(crate) fn judge<'b>(alloc: Global, head: &Head<'_, 'b>) -> Result<Accepted<'b>, Fault>
     ensures verdict { Judges result (verdict_on (parts head.now)) }
     ensures status { IfErr result HasReply }
 {
-    demand(head.fields.len() <= FIELDS_MOST, 431)?;
+    demand(head.fields.len() <= MAX_FIELDS, 431)?;
     demand(head.method == "GET", 405)?;
     let room = room_of(alloc, head.target)?.ok_or(Fault::Refused(404))?;
     demand(head.minor == 1, 400)?;
@@ -35,12 +35,12 @@ pub(crate) fn judge<'b>(alloc: Global, head: &Head<'_, 'b>) -> Result<Accepted<'
     let version = only_value(head.fields, "Sec-WebSocket-Version").ok_or(Fault::Refused(400))?;
     demand(version == "13".as_bytes(), 426)?;
     let key = key_of(head.fields).ok_or(Fault::Refused(400))?;
-    // A client waits for the reply.
+    // A client must wait for the reply before it sends anything else.
     demand(!head.has_surplus, 400)?;
     Ok(Accepted { room, key })
 }
 
-// Passes where the fact holds, and else refuses with the status.
+// Refuses with the status unless the condition holds.
 fn demand(holds: bool, status: u16) -> Result<(), Fault>
     ensures passed { OnOk result (holds ≡ true) }
     ensures failed { OnErr result (holds ≡ false) }

@@ -1,9 +1,9 @@
-//! Why a head gets no session.
+//! The reason why a head is not accepted.
 use std::alloc::AllocError;
 
 #[derive(Clone, Copy, Debug, PartialEq, Eq)]
 pub(crate) enum Fault {
-    /// A check failed, to which this status belongs.
+    /// A check failed; this is its status.
     Refused(u16),
     NoMemory,
 }

@@ -1,7 +1,7 @@
 //! Header fields by name.
 //!
-//! Names, and the elements of a list, compare without regard to ASCII case (RFC 9110, sections 5.1 and 5.6.1). A value
-//! has lost the spaces and tabs round it already; an element loses them too.
+//! Names, and the elements of a list, compare without regard to ASCII case (RFC 9110, sections 5.1 and 5.6.1). A value comes without
+//! spaces and tabs at its ends; an element is trimmed of them before it is compared.
 ghost use Rattle.std.specs.Prelude.{◌≡◌, map, reverse, option_map};
 ghost use Rattle.std.specs.Str.{str_eq_ignore_ascii_case};
 ghost use Rattle.httparse.specs.Borrowed.{header_parts};
@@ -10,7 +10,7 @@ ghost use Rattle.relay_shake.specs.Head.{count_of, first_value, only_value, list
 
 use httparse::Header;
 
-/// The value of the field of that name, where there is exactly one.
+/// Returns the value of the field with this name, if there is exactly one.
 pub(crate) fn only_value<'b>(fields: &[Header<'b>], name: &str) -> Option<&'b [u8]>
     ensures { option_map (λ value. value.now) result ≡ only_value name.now (map header_parts fields.now) }
 {
@@ -21,7 +21,7 @@ pub(crate) fn only_value<'b>(fields: &[Header<'b>], name: &str) -> Option<&'b [u
     }
 }
 
-/// Whether a field of that name lists the element.
+/// Returns whether a field with this name lists the element.
 pub(crate) fn has_element(fields: &[Header<'_>], name: &str, element: &str) -> bool
     ensures { result ≡ has_element name.now element.now (map header_parts fields.now) }
 {

@@ -1,14 +1,14 @@
-//! A head as the checks see it.
+//! The parts of a request head that the checks use.
 use httparse::{Header, Request};
 
-/// The parts of a request's head that are looked at.
+/// The parts of a request head that the checks use.
 #[derive(Drop)]
 pub(crate) struct Head<'h, 'b> {
     pub method: &'b str,
     pub target: &'b str,
-    /// The digit behind `HTTP/1.`.
+    /// The digit after `HTTP/1.`.
     pub minor: u8,
     pub fields: &'h [Header<'b>],
-    /// Whether a byte stands behind the head.
+    /// Whether any byte follows the head.
     pub has_surplus: bool,
 }

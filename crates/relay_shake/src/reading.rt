@@ -1,4 +1,4 @@
-//! From bytes to a head, and from the head to the answer.
+//! The path from bytes to a head, and from the head to the answer.
 ghost use Rattle.std.specs.Prelude.{◌≡◌, ◌<◌, ◌≤◌, IfOk, IsTrue};
 ghost use Rattle.httparse.specs.Borrowed.{HoldsSomeRequest};
 ghost use Rattle.httparse.specs.Grammar.{HasNoRequest, NeverHasRequest, MayBecomeRequest};
@@ -15,16 +15,16 @@ use crate::reply::{accept_reply, refusal};
 use httparse::{EMPTY_HEADER, Error, Request, Status};
 use std::alloc::{AllocError, Global};
 
-/// In how many bytes a head is looked for.
-pub(crate) const HEAD_MOST: usize = 8_192;
+/// The most bytes of a head.
+pub(crate) const MAX_HEAD: usize = 8_192;
 
-/// A head of that many bytes has no more header fields, since each takes three.
+/// The most header fields in [`MAX_HEAD`] bytes, since each takes at least three bytes.
 pub(crate) const FIELDS_ROOM: usize = 2_730;
 
-/// The answer to all bytes that came so far.
+/// Answers all bytes received so far.
 ///
-/// A head is looked for in the first 8,192 bytes. Where they begin with one, the first check that fails gives the
-/// status of [`Shake::Refuse`]:
+/// The head must be within the first 8,192 bytes. If they begin with one, the first check that fails gives the status of
+/// [`Shake::Refuse`]:
 ///
 /// 1. at most 32 header fields, else 431;
 /// 2. the method `GET`, else 405;
@@ -33,21 +33,21 @@ pub(crate) const FIELDS_ROOM: usize = 2_730;
 /// 5. one field `Host`, else 400;
 /// 6. the element `websocket` in a field `Upgrade`, else 400;
 /// 7. the element `Upgrade` in a field `Connection`, else 400;
-/// 8. one field `Sec-WebSocket-Version`, else 400; it says `13`, else 426;
+/// 8. one field `Sec-WebSocket-Version`, else 400; its value is `13`, else 426;
 /// 9. one field `Sec-WebSocket-Key`, whose value is 16 bytes in base64, else 400;
-/// 10. no byte behind the head, since a client waits for the reply, else 400.
+/// 10. no byte after the head, since a client must wait for the reply, else 400.
 ///
-/// A head that passes is accepted, and other headers are ignored: no extension and no protocol is agreed on.
+/// A head that passes is accepted, and other headers are ignored: no extension and no subprotocol is negotiated.
 ///
-/// Without a head the answer is [`Shake::More`], or 431 where more than 8,192 bytes came, while a head can still come;
-/// it is 400 where none can. One place is open: where the bytes end in a target that no head can have, as one that is
-/// not UTF-8, either answer may come until the target has ended.
+/// If there is no head but one can still come, the answer is [`Shake::More`], or 431 after more than 8,192 bytes. If none can come,
+/// it is 400. One case is left open: if the bytes end in a target that no head can have, such as one that is not UTF-8, either answer
+/// may come until the target has ended.
 ///
-/// Each call reads from the first byte, and takes about 90 KB for the header fields while it does. `AllocError` comes where
-/// memory was refused, and nothing is left of the call.
+/// Each call reads from the first byte and allocates about 90 KB for the header fields, which it frees before it returns. If memory
+/// runs out, it returns `AllocError` and leaves nothing behind. See `docs/PROTOCOL.md`, "The handshake".
 pub fn shake(alloc: Global, bytes: &[u8]) -> Result<Shake, AllocError>
     ensures head { IfOk result (AnswersHead bytes.now) }
-    // Both parts hold only where the bytes end in a target that no head can have.
+    // Both cases of `AnswersNoHead` hold only if the bytes end in a target that no head can have.
     ensures no_head { IfOk result (AnswersNoHead bytes.now) }
 {
     let mut fields = vec![in alloc; EMPTY_HEADER; FIELDS_ROOM]?;
@@ -55,18 +55,18 @@ pub fn shake(alloc: Global, bytes: &[u8]) -> Result<Shake, AllocError>
     match request.parse(window(bytes)) {
         Ok(Status::Complete(len)) => with_head(alloc, bytes, &request, len),
         Ok(Status::Partial) => without_head(alloc, bytes),
-        // There is room for each field that the window can hold.
+        // `FIELDS_ROOM` is enough for every field that the window can hold.
         Err(Error::TooManyHeaders) => unreachable!(),
         Err(_) => hopeless(alloc, bytes),
     }
 }
 
-// The bytes in which a head is looked for.
+// The bytes in which the head must be.
 fn window(bytes: &[u8]) -> &[u8]
     ensures { result.now ≡ window bytes.now }
 {
-    if bytes.len() > HEAD_MOST {
-        &bytes[..HEAD_MOST]
+    if bytes.len() > MAX_HEAD {
+        &bytes[..MAX_HEAD]
     } else {
         bytes
     }
@@ -111,14 +111,14 @@ fn without_head(alloc: Global, bytes: &[u8]) -> Result<Shake, AllocError>
     ensures head { IfOk result (AnswersHead bytes.now) }
     ensures no_head { IfOk result (AnswersNoHead bytes.now) }
 {
-    if bytes.len() > HEAD_MOST {
+    if bytes.len() > MAX_HEAD {
         refused(alloc, 431)
     } else {
         Ok(Shake::More)
     }
 }
 
-// No bytes that follow can make a head of these.
+// No further bytes can complete these to a head.
 fn hopeless(alloc: Global, bytes: &[u8]) -> Result<Shake, AllocError>
     requires { NeverHasRequest (window bytes.now) }
     ensures head { IfOk result (AnswersHead bytes.now) }

@@ -1,4 +1,4 @@
-//! The bytes of the replies.
+//! The bytes of the handshake replies.
 ghost use Rattle.std.specs.Prelude.{◌≡◌, ◌++◌, IfOk, OnOk, IsTrue, codes, string_bytes};
 ghost use Rattle.relay_shake.specs.Replies.{accept_value, accept_reply, status_text, refusal_fields, refusal_of, is_refusal};
 
@@ -7,10 +7,10 @@ use http::StatusCode;
 use sha1::Sha1;
 use std::alloc::{AllocError, Global};
 
-/// RFC 6455, section 1.3.
+/// The GUID that is appended to the key (RFC 6455, section 1.3).
 const GUID: &str = "258EAFA5-E914-47DA-95CA-C5AB0DC85B11";
 
-/// The reply 101 to a handshake with that key (RFC 6455, section 4.2.2).
+/// Returns the 101 reply to a handshake with this key (RFC 6455, section 4.2.2).
 pub(crate) fn accept_reply(alloc: Global, key: &[u8]) -> Result<Vec<u8>, AllocError>
     ensures { IfOk result (λ reply. reply.items ≡ accept_reply key.now) }
 {
@@ -34,10 +34,10 @@ fn accept_value(alloc: Global, key: &[u8]) -> Result<String, AllocError>
     STANDARD.encode(alloc, &hasher.finalize())
 }
 
-/// The reply that turns a handshake away, after which the socket is closed.
+/// Returns the reply that refuses a handshake, after which the socket is closed.
 ///
-/// The status is one of 400, 404, 405, 426 and 431, as in [`crate::Shake::Refuse`], or 503 where the relay has no place
-/// for another session. `AllocError` comes where memory was refused.
+/// The status is one of 400, 404, 405, 426 and 431, as in [`crate::Shake::Refuse`], or 503 if the relay has no place for another
+/// session. Returns `AllocError` if memory runs out. See `docs/PROTOCOL.md`, "The handshake".
 pub fn refusal(alloc: Global, status: u16) -> Result<Vec<u8>, AllocError>
     requires { IsTrue (is_refusal status) }
     ensures { IfOk result (λ reply. reply.items ≡ refusal_of status) }
@@ -49,7 +49,7 @@ pub fn refusal(alloc: Global, status: u16) -> Result<Vec<u8>, AllocError>
     Ok(reply)
 }
 
-// The status with its phrase, behind what the reply holds already.
+// Appends the status and its phrase to the reply.
 fn write_status(reply: &mut Vec<u8>, status: u16) -> Result<(), AllocError>
     requires { IsTrue (is_refusal status) }
     ensures { OnOk result (reply.new.items ≡ reply.old.items ++ status_text status) }

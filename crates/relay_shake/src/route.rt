@@ -7,14 +7,14 @@ use matchit::{InsertError, Router};
 use relay_proto::is_room_name;
 use std::alloc::{AllocError, Global};
 
-/// The room that the whole target names by the route `/rooms/{room}`, where that is a room name.
+/// Returns the room if the whole target matches the route `/rooms/{room}` and that part is a room name.
 pub(crate) fn room_of<'b>(alloc: Global, target: &'b str) -> Result<Option<&'b str>, AllocError>
     ensures { IfOk result (λ room. option_copied room ≡ room_of target.now) }
 {
     Ok(routed(alloc, target)?.filter(|name| is_room_name(name)))
 }
 
-// The part of a target that the route takes.
+// The part of a target that matches `{room}`.
 fn routed<'b>(alloc: Global, target: &'b str) -> Result<Option<&'b str>, AllocError>
     ensures { IfOk result (λ part. option_copied part ≡ routed target.now) }
 {
@@ -29,7 +29,7 @@ fn routed<'b>(alloc: Global, target: &'b str) -> Result<Option<&'b str>, AllocEr
     }
 }
 
-// The route is well formed and the only one, so that want of memory alone can refuse it.
+// The route is well-formed and the only one, so only a lack of memory can refuse it.
 fn want_of_memory(fault: &InsertError) -> AllocError
     requires { fault.now ≡ InsertError.OutOfMemory }
 {

@@ -37,7 +37,7 @@ at_path_inside : (is_item : Bool) (act : Act) (path q : Path) (d d' : Document) 
 at_path_inside is_item act [] q d d' h k = cc
 at_path_inside is_item act (t ∷ path) q d d' h k = below_inside is_item (placed is_item act) t path q d d' h k
 
--- whatever the container
+-- the same for any container
 in_any : (is_item : Bool) (act : Act) (path q : Path) (d d' : Document) → IsInside (placed is_item act) path q d d' → IsInside act path q d d'
 in_any is_item act path q d d' a =
     record {
@@ -60,7 +60,7 @@ insert_inside true path q v d d' h k = at_path_inside true (insert_child v) path
 insert_inside false [] q v d d' h k = cc
 insert_inside false (t ∷ path) q v d d' h k = at_path_inside false (insert_child v) (t ∷ path) q d d' h k
 
--- what an operation did that does an act there
+-- the same for an operation that performs an act there
 acted_there : (op : Op) (act : Act) (path q : Path) (d d' : Document) (a : IsInside act path q d d')
     → IsDeep (with_paths (drop (length q)) op) → effect a.before (with_paths (drop (length q)) op) ≡ Ok a.later → ChangedInside q op d d'
 acted_there op act path q d d' a deep acted = record { before = a.before; later = a.later; stood = a.stood; stands = a.stands; deep = deep; acted = acted }
@@ -82,7 +82,7 @@ remove_there is_item path q d d' p =
     acted_there (Remove path) drop_child path q d d' a (subst Longer (sym a.path_is) tt)
     (subst (λ r. at_path drop_child r a.before ≡ Ok a.later) (sym a.path_is) a.acted)
 
--- the same, from and to documents in which the pointer leads to the same
+-- the same from another document in which the pointer leads to the same value
 changed_from : (q : Path) (op : Op) (d e d' : Document) → walk e q ≡ walk d q → ChangedInside q op e d' → ChangedInside q op d d'
 changed_from q op d e d' same c = record { before = c.before; later = c.later; stood = sym same ∙ c.stood; stands = c.stands; deep = c.deep; acted = c.acted }
 

@@ -18,7 +18,7 @@ pub any_agree : {X : Type 0} (p q : X → Bool) → ((x : X) → p x ≡ q x) �
 any_agree p q same [] = refl
 any_agree p q same (x ∷ xs) = rw (same x, any_agree p q same xs) refl
 
--- what passes one of two tests, or the other
+-- the elements that pass one of two tests
 any_either : {X : Type 0} (f g p : X → Bool) (xs : List X) → list_any (λ x. (f x || g x) && p x) xs ≡ (list_any (λ x. f x && p x) xs || list_any p (filter g xs))
 any_either f g p [] = refl
 any_either f g p (x ∷ xs) = ap (λ l. ((f x || g x) && p x) || l) (any_either f g p xs) ∙ go (g x)
@@ -63,11 +63,11 @@ any_never p (x ∷ xs) = any_never p xs
 pub gains_none : (test : ℕ → Entry → Bool) (es : List Entry) (old : BTreeSet ℕ) → Gains (λ s e. false && test s e) es old old
 gains_none test es old s = sym (ap (λ b. contains nat_cmp old s || b) (any_never (test s) es) ∙ or_false (contains nat_cmp old s))
 
--- both gains of one test
+-- two gains by the same test, one after the other
 pub gains_twice : (f g : Entry → Bool) (test : ℕ → Entry → Bool) (es : List Entry) (old between new : BTreeSet ℕ) → Gains (λ s e. f e && test s e) es old between → Gains (λ s e. g e && test s e) es between new → Gains (λ s e. (f e || g e) && test s e) es old new
 gains_twice f g test es old between new h k = gains_either f g test es old between new h (λ s. k s ∙ ap (λ b. contains nat_cmp between s || b) (any_filter g (test s) es))
 
--- a change tells the sessions of entries near to its places alone
+-- a change touches only entries near its places
 told_near : (c : Change) (s : ℕ) (e : Entry) → (near_places c e.slot.pointer && tells c s e) ≡ tells c s e
 told_near c s e = go (is_apart (touch_slot c e.slot)) refl (e.session == s)
   where
@@ -83,7 +83,7 @@ told_near c s e = go (is_apart (touch_slot c e.slot)) refl (e.session == s)
 gains_near : (c : Change) (es : List Entry) (old new : BTreeSet ℕ) → Gains (λ s e. near_places c e.slot.pointer && tells c s e) es old new → Gains (tells c) es old new
 gains_near c es old new h s = h s ∙ ap (λ b. contains nat_cmp old s || b) (any_agree _ _ (told_near c s) es)
 
--- the entries near to the places of a change are all that it tells
+-- checking the entries near the places of a change finds all sessions that it touches
 pub gains_all : (c : Change) (near : Path → Bool) (es : List Entry) (old new : BTreeSet ℕ) → ((q : Path) → near_places c q ≡ near q) → Gains (λ s e. near e.slot.pointer && tells c s e) es old new → Gains (tells c) es old new
 gains_all c near es old new same h =
     gains_near c es old new (λ s. h s ∙ ap (λ b. contains nat_cmp old s || b) (any_agree _ _ (λ (e : Entry). ap (λ b. b && tells c s e) (sym (same e.slot.pointer))) es))

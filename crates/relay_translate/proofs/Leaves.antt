@@ -1,4 +1,4 @@
--- What an act leaves of a container's children that it doesn't touch.
+-- An act leaves the children of a container that it doesn't touch.
 use Rattle.std.proofs.Common.{◌≡◌, ℕ, ◌<◌, Bool, true, false, Option, Some, None, Ok, refl, subst, bytes_eq, ok_or, arith, nat_le, ◌^◌, ◌-◌, min, option_map}
 use Rattle.relay_tree.specs.Document.{Document, list, object, Items}
 use Rattle.relay_tree.specs.Part.{item_at, insert_item, drop_item, put_member, drop_member}
@@ -18,7 +18,7 @@ use Rattle.relay_translate.specs.Touch.{Apart, Reset, shifts, touch_last}
 abbrev pub Leaves : Bool → Act → Type 0
 Leaves is_item act = (t b : Token) (d d' : Document) → act t d ≡ Ok d' → touch_last is_item t b ≡ Apart → step d' b ≡ step d b
 
--- what a test for the same token says
+-- apart from a member means another token
 pub apart_other : (t b : Token) → touch_last false t b ≡ Apart → bytes_eq t b ≡ false
 apart_other t b h = go (bytes_eq t b) refl
   where

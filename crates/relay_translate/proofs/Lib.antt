@@ -6,6 +6,7 @@ pub mod Under
 pub mod Changes
 pub mod Sized
 pub mod Slots
+pub mod Weights
 pub mod Sizes
 pub mod Local
 pub mod Table

@@ -1,5 +1,5 @@
--- A change touches what a pointer shows only where the pointer begins a place of the change or begins with it, or, at an item,
--- begins with the list that holds it.
+-- A change touches a slot only if the slot's pointer is a prefix of a place of the change or begins with it or, if the place is an
+-- item, begins with the path of its list.
 use Rattle.std.proofs.Common.{◌≡◌, ℕ, zero, suc, ◌<◌, ◌⊎◌, inl, inr, [], ◌∷◌, take, length, Bool, true, false, ◌||◌, if◌then◌else◌, refl, bytes_eq, nat_lt, arith}
 use Rattle.std.proofs.lemmas.Bool.Decides.{nat_tests}
 use Rattle.relay_tree.specs.Document.{Document}
@@ -29,7 +29,7 @@ above_at (suc n) k path q less h = go (nat_lt k n) refl (above_at n k path q)
         let here : leads (suc n) (take n path) q ≡ true = rw (← same) h in
         rw here (or_true (is_above n path q))
 
--- the pointer begins with a path, or is one of the paths that begin it
+-- the pointer q begins with the path, or is a proper prefix of it
 abbrev Meets : Path → Path → Type 0
 Meets path q = (leads (length path) path q ≡ true) ⊎ ((k : ℕ) × (k < length path) × (leads (suc k) (take k path) q ≡ true))
 
@@ -37,7 +37,7 @@ near_meets : (path q : Path) → Meets path q → is_near path q ≡ true
 near_meets path q (inl h) = rw h (or_true (is_above (length path) path q))
 near_meets path q (inr (k, less, h)) = rw (above_at (length path) k path q less h) refl
 
--- one token more in front of both
+-- the same with an equal token in front of both
 meets_behind : (t b : Token) (path q : Path) → bytes_eq t b ≡ true → Meets path q → Meets (t ∷ path) (b ∷ q)
 meets_behind t b path q e (inl h) = inl (rw e h)
 meets_behind t b path q e (inr (k, less, h)) = inr (suc k, (omega arith), rw e h)
@@ -85,7 +85,7 @@ either_near : (a b : Touch) (x y : Bool) → (is_apart a ≡ false → x ≡ tru
 either_near Apart b x y f g h = rw (g h) (or_true x)
 either_near _ b x y f g h = rw (f refl) refl
 
--- the pointers near to where a change comes and goes
+-- the pointers near the places at which a change adds or removes something
 abbrev pub near_places : Change → Path → Bool
 near_places (change.Set path v) q = is_near path q
 near_places (change.AddMember path v) q = is_near path q
@@ -111,7 +111,7 @@ touched_near (change.Move from to v) q Size h = either_near (touch_place_size fr
 touched_near (change.Copy from to v) q Value h = near_path to.item to.path q h
 touched_near (change.Copy from to v) q Size h = near_size to.item to.path q h
 
--- a change at one path, of a member or of the value there
+-- a change at one path: of the value there, or of a member
 abbrev pub IsAt : Change → Path → Type 0
 IsAt c path = ((v : Document) × (c ≡ change.Set path v)) ⊎ ((v : Document) × (c ≡ change.AddMember path v)) ⊎ (c ≡ change.DropMember path)
 
@@ -120,7 +120,7 @@ near_at c path (inl (v, e)) q = rw e refl
 near_at c path (inr (inl (v, e))) q = rw e refl
 near_at c path (inr (inr e)) q = rw e refl
 
--- of an item
+-- a change at one path: of an item
 abbrev pub IsItemAt : Change → Path → Type 0
 IsItemAt c path = ((v : Document) × (c ≡ change.AddItem path v)) ⊎ (c ≡ change.DropItem path)
 

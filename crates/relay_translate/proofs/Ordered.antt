@@ -34,7 +34,7 @@ ordered_drop zero es h = h
 ordered_drop (suc n) [] h = tt
 ordered_drop (suc n) (e ∷ es) h = ordered_drop n es h.1
 
--- none stands behind one at a later place
+-- no entry is greater than one at the same or a later place
 in_order : (es : List Entry) (i j : ℕ) (d : Entry) → IsOrdered es → i ≤ j → j < length es → is_behind (get_or es i d) (get_or es j d) ≡ false
 in_order (e ∷ es) zero zero d h le less = ap is_gt (tied_itself paths_total e.slot.pointer)
 in_order (e ∷ es) zero (suc j) d h le less = all_at (λ f. is_behind e f ≡ false) es j d h.0 (omega arith)
@@ -69,13 +69,13 @@ tied_parted depth path es n h point i j d le less tied =
     (first_ordered depth a.slot.pointer b.slot.pointer (in_order onward i j d (ordered_drop n es h) le less))
     (all_at (λ e. is_lt (against depth path e) ≡ false) onward i d late (omega arith)) tied
 
--- what a filter leaves out in front
+-- a filter drops the first n entries
 filter_past : (test : Entry → Bool) (es : List Entry) (n : ℕ) → AllWithin (λ e. test e ≡ false) es 0 n → n ≤ length es → filter test es ≡ filter test (drop n es)
 filter_past test es zero h le = refl
 filter_past test [] (suc n) h le = refl
 filter_past test (e ∷ es) (suc n) h le = rw (h 0 e (omega arith) (omega arith)) (filter_past test es n (λ k d low high. h (suc k) d (omega arith) (omega arith)) (omega arith))
 
--- what a filter keeps in front, where it keeps no more
+-- a filter keeps exactly the first n entries
 filter_front : (test : Entry → Bool) (es : List Entry) (n : ℕ) → IsPartitionPoint (λ e. test e ≡ true) (λ e. test e ≡ false) es n → n ≤ length es → take n es ≡ filter test es
 filter_front test [] zero h le = refl
 filter_front test [] (suc n) h le = refl

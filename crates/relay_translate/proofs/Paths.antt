@@ -14,7 +14,7 @@ then_equal : (r s : Ordering) → is_eq (ordering_then r s) ≡ (is_eq r && is_e
 then_equal Less s = refl
 then_equal _ s = refl
 
--- paths are the same exactly where neither stands before the other
+-- paths are the same exactly if they compare as equal
 pub same_path-cmp : (p q : Path) → same_path p q ≡ is_eq (path_cmp q p)
 same_path-cmp [] [] = refl
 same_path-cmp [] (u ∷ q) = refl
@@ -22,7 +22,7 @@ same_path-cmp (t ∷ p) [] = refl
 same_path-cmp (t ∷ p) (u ∷ q) =
     rw (bytes_eq-slice_cmp t u, same_path-cmp p q) (sym (then_equal (slice_cmp nat_cmp u t) (path_cmp q p)))
 
--- the first tokens are in the order of the paths
+-- cutting paths to their first n tokens keeps their order
 pub first_ordered : (n : ℕ) (p q : Path) → is_gt (path_cmp p q) ≡ false → is_gt (path_cmp (take n p) (take n q)) ≡ false
 first_ordered zero p q h = refl
 first_ordered (suc n) [] [] h = refl
@@ -35,7 +35,7 @@ first_ordered (suc n) (t ∷ p) (u ∷ q) h = go (slice_cmp nat_cmp t u) (first_
     go Equal rest k = rest k
     go Greater rest k = k
 
--- what is not behind a path before another stands before the other too
+-- p ≤ q and q < r give p < r
 pub before_more : (p q r : Path) → is_gt (path_cmp p q) ≡ false → is_lt (path_cmp q r) ≡ true → is_lt (path_cmp p r) ≡ true
 before_more p q r h k = go (path_cmp p q) (path_cmp q r) refl refl h k
   where
@@ -46,7 +46,7 @@ before_more p q r h k = go (path_cmp p q) (path_cmp q r) refl refl h k
     go Equal y e f h k = ap is_lt (paths_total.congr p q r e ∙ f) ∙ k
     go Greater y e f h k = cc
 
--- what is not behind a path that ties, and not before it, ties too
+-- p ≤ q, q = r and not p < r give p = r
 pub tied_more : (p q r : Path) → is_gt (path_cmp p q) ≡ false → is_lt (path_cmp p r) ≡ false → is_eq (path_cmp q r) ≡ true → is_eq (path_cmp p r) ≡ true
 tied_more p q r h late k = go (path_cmp p r) refl (path_cmp q r) refl
   where

@@ -1,4 +1,4 @@
--- What worked edits come to in a view, by computation.
+-- Worked edits and the operations that they become on a view, by computation.
 use Rattle.std.proofs.Common.{◌≡◌, ℕ, List, [], ◌∷◌, map, pos, Result, Ok, Err, refl, codes, Bool, true, false}
 use Rattle.std.specs.List.{list_any}
 use Rattle.relay_tree.specs.Document.{Document, null, whole, text, list, object, items_of, no_items, Members, no_members, member}
@@ -31,7 +31,7 @@ value_slot q = record { pointer = q; kind = Value }
 abbrev size_slot : Path → Slot
 size_slot q = record { pointer = q; kind = Size }
 
--- what one operation comes to in a view
+-- the operations on a view that one operation becomes
 abbrev relayed_from : Result Document Cause → Document → Op → View → Result (List Op) Cause
 relayed_from (Ok now) d op pointers = Ok (local (changes_of d op) now pointers)
 relayed_from (Err e) d op pointers = Err e
@@ -39,7 +39,7 @@ relayed_from (Err e) d op pointers = Err e
 abbrev relayed_in : Document → Op → View → Result (List Op) Cause
 relayed_in d op = relayed_from (effect d op) d op
 
--- the same in a view of values
+-- the same for a view of values
 abbrev relayed : Document → Op → List Path → Result (List Op) Cause
 relayed d op paths = relayed_in d op (map value_slot paths)
 
@@ -143,7 +143,7 @@ a_move_across_the_edge_is_counted : relayed_in nested_1 (Move (codes "a" ∷ cod
 unfolding nested_1 index_of index_text
 a_move_across_the_edge_is_counted = refl
 
--- which of three sessions a change tells
+-- which of three sessions a change touches
 
 three_views : List View
 three_views = map (map value_slot) (((codes "a" ∷ []) ∷ []) ∷ ((codes "b" ∷ codes "0" ∷ []) ∷ []) ∷ ([] ∷ (codes "a" ∷ []) ∷ []) ∷ [])

@@ -1,8 +1,8 @@
--- A change that is apart from the size of a value leaves it.
+-- A change that is apart from the size of a value leaves the size unchanged.
 use Rattle.std.proofs.Common.{◌≡◌, ℕ, suc, ◌+◌, ◌==◌, List, [], ◌∷◌, length, drop, Bool, true, false, Option, Some, None, Result, Ok, option_map, option_and_then, refl, sym, ap, ◌∙◌, arith, bytes_eq, length-drop, if◌then◌else◌}
 use Rattle.std.proofs.lemmas.Bool.Decides.{nat_tests}
 use Rattle.std.specs.Result.{result_ok}
-use Rattle.relay_tree.specs.Document.{Document, whole, list, object, Items, item, Members, no_members, member}
+use Rattle.relay_tree.specs.Document.{Document, list, object, Items, item, Members, no_members, member}
 use Rattle.relay_tree.specs.Part.{items_length, put_item, set_member}
 use Rattle.relay_pointer.specs.Index.{Token, index_of}
 use Rattle.relay_pointer.specs.Path.{Path, at, put_element, with_child}
@@ -21,7 +21,7 @@ use Rattle.relay_translate.proofs.Leaves.{Leaves, set_child_leaves, insert_in_ob
 use Rattle.relay_translate.proofs.Below.{below_apart, below_inside}
 use Rattle.relay_translate.proofs.Changes.{both_apart}
 
--- An exchange of a part, or what is done within one, leaves the number of parts.
+-- Replacing a part, or changing something within one, leaves the number of parts unchanged.
 
 items_length-put_item : (ds : Items) (i : ℕ) (e : Document) → items_length (put_item ds i e) ≡ items_length ds
 items_length-put_item (item d ds) (suc i) e = ap suc (items_length-put_item ds i e)
@@ -49,7 +49,7 @@ size-inside change t d d' h = let w = was_inside change t d d' h in rw w.whole (
 
 -- Seen from a pointer.
 
--- two documents have values of one size where the pointer leads
+-- the values at the pointer q have the same size in both documents
 abbrev pub SameSize : Path → Document → Document → Type 0
 SameSize q d d' = option_and_then (shown Size) (at d' q) ≡ option_and_then (shown Size) (at d q)
 
@@ -91,7 +91,7 @@ drop_keeps : (is_item : Bool) (path q : Path) (d d' : Document) → at_path (pla
 drop_keeps true = place_keeps true drop_child drop_in_list_leaves
 drop_keeps false = place_keeps false drop_child drop_in_object_leaves
 
--- an exchange
+-- a replacement
 size-set : (v : Document) (t : Token) (path : Path) (d d' : Document) → below (set_child v) t path d ≡ Ok d' → size d' ≡ size d
 size-set v t [] d d' h = size-inside (λ c. Ok v) t d d' h
 size-set v t (u ∷ path) d d' h = size-inside (below (set_child v) u path) t d d' h

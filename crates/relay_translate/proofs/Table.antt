@@ -56,9 +56,9 @@ value_table (change.DropItem path) q = path_table true path q
 value_table (change.Move from to v) q = rw (touch_table from q, touch_table to q) refl
 value_table (change.Copy from to v) q = touch_table to q
 
--- Sizes: what lies aside of the value or at it is as for the value.
+-- Sizes: a place outside the value or at its path is judged as for the value.
 
--- a judgement that keeps Apart and Reset, and makes `within` of Inside
+-- a judgement that keeps Apart and Reset, and turns Inside into `within`
 record Keeps (judge : Touch → Touch) (within : Touch) : Type 0 where
   apart : judge Apart ≡ Apart
   inside : judge Inside ≡ within

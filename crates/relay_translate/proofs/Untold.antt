@@ -1,4 +1,4 @@
--- Changes come to nothing in a view of which they touch no slot.
+-- Changes translate to no operation on a view if they touch none of its slots.
 use Rattle.std.proofs.Common.{◌≡◌, ℕ, suc, List, [], ◌∷◌, ◌++◌, flat_map, Bool, true, false, not, ◌||◌, refl}
 use Rattle.std.specs.List.{list_any}
 use Rattle.relay_tree.specs.Document.{Document}

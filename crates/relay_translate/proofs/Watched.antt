@@ -1,4 +1,4 @@
--- The views of sessions, and the entries that stand for them.
+-- The views of sessions, and the entries that represent them.
 use Rattle.std.proofs.Common.{◌≡◌, ℕ, ◌==◌, List, [], ◌∷◌, map, Some, None, Bool, true, false, not, ◌&&◌, ◌||◌, cond, if◌then◌else◌, refl, sym, ap, subst, ◌∙◌, arith, nat_cmp}
 use Rattle.std.specs.List.{list_any}
 use Rattle.std.specs.Ordering.{eq_by_cmp}
@@ -23,7 +23,7 @@ seen_at : (es : List (ℕ × View)) (q : ℕ) → find nat_cmp q es ≡ lookup (
 seen_at [] q = refl
 seen_at (e ∷ es) q = ap (cond (is_at (nat_cmp q) e.0) (Some e.1)) (seen_at es q)
 
--- what the map that the entries make has
+-- a lookup in the map built from the entries
 get_seen : (es : List (ℕ × View)) (q : ℕ) → fin.get (from_entries {R = nat_cmp} es) q ≡ lookup (is_at (nat_cmp q)) es
 get_seen es q = get-from_entries nat_cmp_total es q ∙ seen_at es q
 
@@ -75,7 +75,7 @@ ordered_with_entries : (fresh es : List Entry) → IsOrdered es → IsOrdered (w
 ordered_with_entries [] es h = h
 ordered_with_entries (e ∷ fresh) es h = ordered_with_entries fresh (with_entry e es) (ordered_with_entry e es h)
 
--- the session's own entries go
+-- the session's own entries are removed
 has_without_own : (s : ℕ) (es : List Entry) (test : Slot → Bool) → has (without s es) s test ≡ false
 has_without_own s es test =
     sym (any_filter (λ e. not (e.session == s)) (λ e. (e.session == s) && test e.slot) es)
@@ -85,7 +85,7 @@ has_without_own s es test =
     go true b = refl
     go false b = refl
 
--- those of others stay
+-- the entries of other sessions are kept
 has_without_other : (s t : ℕ) (es : List Entry) (test : Slot → Bool) → (t == s) ≡ false → has (without s es) t test ≡ has es t test
 has_without_other s t es test other =
     sym (any_filter (λ e. not (e.session == s)) (λ e. (e.session == t) && test e.slot) es)

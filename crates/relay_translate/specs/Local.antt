@@ -1,5 +1,5 @@
--- What a translation says of each slot: nothing where no change touches it, one operation for each change inside its value, or one
--- exchange where a change reset it.
+-- The operations of a translation on each slot: none if no change touches it, one for each change inside its value, or one
+-- replacement if a change reset it.
 use Rattle.std.specs.Prelude.{◌≡◌, ℕ, List, [], ◌∷◌, map, Bool, true, false, ◌||◌, Some, bytes_eq, slice_get}
 use Rattle.std.specs.List.{filter, list_all, list_any}
 use Rattle.relay_tree.specs.Document.{Document}
@@ -27,20 +27,20 @@ is_inside Reset = false
 abbrev pub all_apart : Slot → List Change → Bool
 all_apart s changes = list_all (λ c. is_apart (touch_slot c s)) changes
 
--- some change resets it
+-- some change resets the slot
 abbrev pub some_reset : Slot → List Change → Bool
 some_reset s changes = list_any (λ c. is_reset (touch_slot c s)) changes
 
--- the changes inside it, in order; of a size there are none
+-- the changes inside the slot's value, in order; for a size there are none
 abbrev pub changes_inside : Slot → List Change → List Change
 changes_inside s changes = filter (λ c. is_inside (touch_slot c s)) changes
 
--- the path goes through slot k
+-- the path begins with the index of slot k
 abbrev pub goes_through : ℕ → Path → Bool
 goes_through k [] = false
 goes_through k (t ∷ path) = bytes_eq t (index_text k)
 
--- the operation names slot k
+-- a path of the operation begins with the index of slot k
 abbrev pub names : ℕ → Op → Bool
 names k (Add path v) = goes_through k path
 names k (Remove path) = goes_through k path
@@ -49,11 +49,11 @@ names k (Move from path) = goes_through k from || goes_through k path
 names k (Copy from path) = goes_through k from || goes_through k path
 names k (Test path v) = goes_through k path
 
--- the operations that name slot k, in order
+-- the operations with a path into slot k, in order
 abbrev pub on_slot : ℕ → List Op → List Op
 on_slot k ops = filter (names k) ops
 
--- No operation names a slot from which every change is apart.
+-- A slot has no operation if every change is apart from it.
 abbrev pub LeavesApart : List Change → View → List Op → Type 0
 LeavesApart changes pointers ops =
     (k : ℕ) (s : Slot) → slice_get pointers k ≡ Some s → all_apart s changes ≡ true → on_slot k ops ≡ []
@@ -64,7 +64,7 @@ FollowsInside changes pointers ops =
     (k : ℕ) (s : Slot) → slice_get pointers k ≡ Some s → some_reset s changes ≡ false
     → on_slot k ops ≡ map (λ c. in_view k s.pointer (op_of s.pointer c)) (changes_inside s changes)
 
--- A slot that some change resets has one operation, which exchanges it for what it shows now.
+-- A slot that some change resets has one operation, which replaces it with what it shows of the present document.
 abbrev pub ReplacesReset : List Change → Document → View → List Op → Type 0
 ReplacesReset changes now pointers ops =
     (k : ℕ) (s : Slot) → slice_get pointers k ≡ Some s → some_reset s changes ≡ true

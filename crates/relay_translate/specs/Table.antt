@@ -1,4 +1,4 @@
--- The touch of a place, as a table whose first line that holds decides.
+-- The touch of a place, as a table whose first matching line decides (docs/PROTOCOL.md, "What a change means to a slot").
 use Rattle.std.specs.Prelude.{◌≡◌, ℕ, [], ◌∷◌, length, drop, Bool, true, false, Option, None, if◌then◌else◌}
 use Rattle.relay_pointer.specs.Index.{Token, number_of}
 use Rattle.relay_pointer.specs.Path.{Path, is_prefix, is_proper_prefix}
@@ -10,26 +10,26 @@ use Rattle.relay_view.specs.declared.slot.SlotKind.{SlotKind}
 use Rattle.relay_view.specs.declared.slot.SlotKind.TheVariants.{Value, Size}
 use Rattle.relay_translate.specs.Touch.{Touch, Apart, Inside, Reset, shifts, touch_place, touch_either, part_touch}
 
--- the index that the first token is
+-- the index that the first token spells, if any
 abbrev pub next_index : Path → Option ℕ
 next_index [] = None
 next_index (b ∷ q) = number_of b
 
--- an item: Reset where the pointer goes on in its list, at its index or behind
+-- for an item: Reset if the pointer continues from the list with the item's index or a larger one
 abbrev pub item_touch : Path → Token → Path → Touch
 item_touch before t q = if is_prefix before q then shifts (number_of t) (next_index (drop (length before) q)) else Apart
 
--- not an item: Reset where the place is the pointer or begins it
+-- q is no proper prefix of the place. An item: as `item_touch`. Otherwise Reset if the place is q or a prefix of q
 abbrev pub not_inside : Bool → Token → Path → Path → Touch
 not_inside true t path q = item_touch (parent t path) (last t path) q
 not_inside false t path q = if is_prefix (t ∷ path) q then Reset else Apart
 
--- the first line: where the pointer is a proper prefix of the place, something within the value changed
+-- the first line: if the pointer is a proper prefix of the place, something within the value changed
 abbrev pub table_at : Touch → Bool → Path → Path → Touch
 table_at within is_item [] q = Reset
 table_at within is_item (t ∷ path) q = if is_proper_prefix q (t ∷ path) then within else not_inside is_item t path q
 
--- The touch of each place on a value is the one in the table.
+-- For every place and pointer, the touch on a value is the one in the table.
 abbrev pub IsTable : Type 0
 IsTable = (place : Place) (q : Path) → touch_place place q ≡ table_at Inside place.item place.path q
 
@@ -46,7 +46,7 @@ touch_value_by_table (change.DropItem path) q = table_at Inside true path q
 touch_value_by_table (change.Move from to v) q = touch_either (value_by_table from q) (value_by_table to q)
 touch_value_by_table (change.Copy from to v) q = value_by_table to q
 
--- on a size, what is within the value counts where it is one of its own parts, and is not exchanged
+-- for a size, a change within the value counts only if it adds or removes one of the value's own parts
 abbrev pub size_by_table : Place → Path → Touch
 size_by_table place q = table_at (part_touch place.path q) place.item place.path q
 

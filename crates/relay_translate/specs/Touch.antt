@@ -1,4 +1,4 @@
--- How a change touches what a slot shows, by paths alone.
+-- The touch of a change on what a slot shows, decided by paths alone.
 use Rattle.std.specs.Prelude.{ℕ, ◌+◌, ◌==◌, [], ◌∷◌, length, Bool, true, false, Option, Some, None, if◌then◌else◌, nat_le, bytes_eq}
 use Rattle.relay_pointer.specs.Index.{Token, number_of}
 use Rattle.relay_pointer.specs.Path.{Path}
@@ -11,24 +11,24 @@ use Rattle.relay_view.specs.declared.slot.SlotKind.TheVariants.{Value, Size}
 pub use Rattle.relay_translate.specs.declared.kind.Touch.{Touch}
 pub use Rattle.relay_translate.specs.declared.kind.Touch.TheVariants.{Apart, Inside, Reset}
 
--- an element that comes to the first index, or goes from it, moves all from there on
+-- inserting or removing an element at the first index moves all elements from there on
 abbrev pub shifts : Option ℕ → Option ℕ → Touch
 shifts (Some i) (Some j) = if nat_le i j then Reset else Apart
 shifts None j = Apart
 shifts (Some i) None = Apart
 
--- a place whose last token is t, and a pointer that goes on there with the token b
+-- t is the last token of a place, which is an item or not; b is the pointer's token at the same depth
 abbrev pub touch_last : Bool → Token → Token → Touch
 touch_last true t b = shifts (number_of t) (number_of b)
 touch_last false t b = if bytes_eq t b then Reset else Apart
 
--- a place of the tokens t, path: the pointer ends above it, goes on at its last token, or goes on with it or aside
+-- a place with the tokens t, path: the pointer ends above it, reaches its last token, or has the same or another token as t
 abbrev pub touch_below : Bool → Token → Path → Path → Touch
 touch_below is_item t path [] = Inside
 touch_below is_item t [] (b ∷ q) = touch_last is_item t b
 touch_below is_item t (u ∷ path) (b ∷ q) = if bytes_eq t b then touch_below is_item u path q else Apart
 
--- a change at a path, which is an item's or not; a new root is another value for every pointer
+-- a change at a path, which is that of an item or not; at the root it resets every pointer
 abbrev pub touch_path : Bool → Path → Path → Touch
 touch_path is_item [] q = Reset
 touch_path is_item (t ∷ path) q = touch_below is_item t path q
@@ -36,7 +36,7 @@ touch_path is_item (t ∷ path) q = touch_below is_item t path q
 abbrev pub touch_place : Place → Path → Touch
 touch_place place q = touch_path place.item place.path q
 
--- Reset if either is, else Inside if either is
+-- Reset if either is, else Inside if either is, else Apart
 abbrev pub touch_either : Touch → Touch → Touch
 touch_either Apart b = b
 touch_either Inside Apart = Inside
@@ -44,7 +44,7 @@ touch_either Inside Inside = Inside
 touch_either Inside Reset = Reset
 touch_either Reset b = Reset
 
--- How a change touches the value to which a pointer leads: a move is judged as a removal and an insertion, a copy where it comes.
+-- How a change touches the value at the pointer q: a move is judged as a removal and an insertion, a copy at its target.
 abbrev pub touch_value : Change → Path → Touch
 touch_value (change.Set path v) q = touch_path false path q
 touch_value (change.AddMember path v) q = touch_path false path q
@@ -56,7 +56,7 @@ touch_value (change.Copy from to v) q = touch_place to q
 
 -- How a change touches the size of that value.
 
--- a place within the value: one of its own parts, which comes or goes, or a place below its parts
+-- a place within the value: Reset if one of the value's own parts is added or removed there, Apart below its parts
 abbrev pub part_touch : Path → Path → Touch
 part_touch path q = if length path == length q + 1 then Reset else Apart
 
@@ -66,7 +66,7 @@ size_touch path q Apart = Apart
 size_touch path q Inside = part_touch path q
 size_touch path q Reset = Reset
 
--- an exchange within the value leaves its size
+-- a replacement within the value leaves its size
 abbrev pub exchange_touch : Touch → Touch
 exchange_touch Apart = Apart
 exchange_touch Inside = Apart
@@ -84,7 +84,7 @@ touch_size (change.DropItem path) q = size_touch path q (touch_path true path q)
 touch_size (change.Move from to v) q = touch_either (touch_place_size from q) (touch_place_size to q)
 touch_size (change.Copy from to v) q = touch_place_size to q
 
--- How a change touches what a slot of that kind and that pointer shows.
+-- How a change touches what a slot with this pointer and kind shows.
 abbrev pub touch : Change → Path → SlotKind → Touch
 touch c q Value = touch_value c q
 touch c q Size = touch_size c q

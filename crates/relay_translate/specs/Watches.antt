@@ -1,4 +1,4 @@
--- Which session watches which view, and which of them changes touch.
+-- The views of sessions, and the sessions whose views changes touch.
 use Rattle.std.specs.Prelude.{◌≡◌, ℕ, List, [], Bool, false, not, nat_eq, Option, Some, None}
 use Rattle.std.specs.List.{list_any}
 use Rattle.std.specs.Coded.{Coded, coded_ℕ, coded_list}
@@ -16,7 +16,7 @@ use Rattle.relay_translate.specs.Local.{is_apart}
 abbrev pub Watches : Type 0
 Watches = map.FinMap nat_cmp View
 
--- the slots of a view; none where there is no view
+-- the slots of a view; none if there is no view
 abbrev pub slots_of : Option View → List Slot
 slots_of None = []
 slots_of (Some view) = view
@@ -33,11 +33,11 @@ is_touched changes s = list_any (λ c. touches c s) changes
 abbrev pub sees : List Change → Watches → ℕ → Bool
 sees changes watches session = list_any (is_touched changes) (slots_of (map.get watches session))
 
--- whatever document they led to, the changes come to nothing in the view of a session that the list lacks
+-- for every session not in the list, the changes translate to no operation on its view, whatever document they led to
 abbrev pub OthersStay : List Change → Watches → List ℕ → Type 0
 OthersStay changes watches sessions =
     (session : ℕ) (now : Document) → list_any (nat_eq session) sessions ≡ false → local changes now (slots_of (map.get watches session)) ≡ []
 
--- how the logic stores watches
+-- how the logic encodes watches
 abbrev pub watches_code : Coded Slot → Coded Watches
 watches_code slot = map.code coded_ℕ (coded_list slot)

@@ -1,4 +1,4 @@
-//! The slots of all views in the order of their pointers, so that those whose pointers begin alike stand together.
+//! The slots of all views, ordered by pointer, so that slots whose pointers share a prefix are contiguous.
 ghost use Rattle.std.specs.Prelude.{◌≡◌, ◌+◌, ◌<◌, ◌≤◌, map, filter, vec_len, vec_capacity, IfOk};
 ghost use Rattle.relay_pointer.specs.Path.{path_of};
 ghost use Rattle.relay_translate.specs.Entries.{IsOrdered, entry_of, leads, with_entries, with_entry, without};
@@ -7,7 +7,7 @@ use crate::entry::Entry;
 use relay_view::{Slot, View};
 use std::alloc::{AllocError, Global};
 
-/// The entries of a session's view, slot by slot.
+/// Returns the entries of a session's view, in slot order.
 pub(crate) fn entries_of(alloc: Global, session: u64, view: &View) -> Result<Vec<Entry>, AllocError>
     ensures { IfOk result (λ entries. entries.items ≡ map (entry_of session) view.now) }
 {
@@ -19,7 +19,7 @@ pub(crate) fn entries_of(alloc: Global, session: u64, view: &View) -> Result<Vec
     Ok(entries)
 }
 
-/// An equal view, in memory of its own.
+/// Returns a deep copy of the view.
 pub(crate) fn copy_view(alloc: Global, view: &View) -> Result<View, AllocError>
     ensures { IfOk result (λ copy. copy ≡ view.now) }
 {
@@ -39,8 +39,8 @@ fn copy_slot(alloc: Global, slot: &Slot) -> Result<Slot, AllocError>
     })
 }
 
-/// The entries whose pointers begin with the path, where `depth` is its length; where `depth` is one more, those of the path
-/// itself. They stand together: two binary searches find them.
+/// Returns the entries whose pointers begin with the path if `depth` is its length, or those whose pointers equal the path if
+/// `depth` is one more. They are contiguous, so two binary searches find them.
 pub(crate) fn led_by<'e>(entries: &'e [Entry], depth: usize, path: &[String]) -> &'e [Entry]
     requires { IsOrdered entries.now }
     ensures { result.now ≡ filter (λ e. leads depth (path_of path.now) e.slot.pointer) entries.now }
@@ -52,7 +52,7 @@ pub(crate) fn led_by<'e>(entries: &'e [Entry], depth: usize, path: &[String]) ->
     led
 }
 
-/// Exchanges the entries of a session for others. No memory is taken.
+/// Replaces the entries of a session. Allocates nothing.
 pub(crate) fn exchange(entries: &mut Vec<Entry>, session: u64, fresh: Vec<Entry>)
     requires room { vec_len entries.old + vec_len fresh ≤ vec_capacity entries.old }
     requires ordered { IsOrdered entries.old.items }
@@ -64,7 +64,7 @@ pub(crate) fn exchange(entries: &mut Vec<Entry>, session: u64, fresh: Vec<Entry>
     }
 }
 
-/// Takes the entries of a session out.
+/// Removes the entries of a session.
 pub(crate) fn leave(entries: &mut Vec<Entry>, session: u64)
     ensures items { entries.new.items ≡ without session entries.old.items }
     ensures len { vec_len entries.new ≤ vec_len entries.old }
@@ -73,7 +73,7 @@ pub(crate) fn leave(entries: &mut Vec<Entry>, session: u64)
     entries.retain(|entry| entry.session != session);
 }
 
-/// Puts an entry at its place.
+/// Inserts an entry at its place in the order.
 fn enter(entries: &mut Vec<Entry>, entry: Entry)
     requires room { vec_len entries.old < vec_capacity entries.old }
     requires ordered { IsOrdered entries.old.items }

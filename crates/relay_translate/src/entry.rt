@@ -1,4 +1,4 @@
-//! A slot of a session's view, as the index keeps it.
+//! An entry of the index: one slot of a session's view.
 ghost use Rattle.std.specs.Prelude.{◌≡◌, take};
 ghost use Rattle.relay_pointer.specs.Path.{path_of};
 
@@ -16,14 +16,14 @@ pub(crate) struct Entry {
 impl Entry {
     ghost use Rattle.relay_translate.specs.Entries.{is_behind, path_cmp};
 
-    /// How the first tokens of its pointer, `depth` in number, compare with a path.
+    /// Compares the first `depth` tokens of the entry's pointer with a path.
     pub fn compared(&self, depth: usize, path: &[String]) -> Ordering
         ensures { result ≡ path_cmp (take depth self.now.slot.pointer) (path_of path.now) }
     {
         compare_paths(first_tokens(self.slot.pointer.tokens(), depth), path)
     }
 
-    /// Whether its pointer stands behind the other's.
+    /// Returns whether the entry's pointer is greater than the other's.
     pub fn is_behind(&self, other: &Entry) -> bool
         ensures { result ≡ is_behind self.now other.now }
     {

@@ -1,15 +1,15 @@
-//! The three ways in which a change touches what a pointer leads to.
+//! The three ways a change can touch what a pointer leads to.
 ghost use Rattle.std.specs.Prelude.{◌≡◌};
 ghost use Rattle.relay_translate.specs.Translate.{is_reset};
 
 /// How a change touches what a pointer leads to.
 #[derive(Clone, Copy, Debug, PartialEq, Eq)]
 pub enum Touch {
-    /// The value is as it was, or there is still none.
+    /// The value is unchanged, or there is still none.
     Apart,
     /// Something within the value changed.
     Inside,
-    /// Another value may stand there now, or none.
+    /// There may be another value now, or none.
     Reset,
 }
 

@@ -1,10 +1,10 @@
-//! What changes mean inside a view: which slots they touch, and the operations that lead a watcher's view from the document
-//! before them to the document after them.
+//! Translation of document changes into view patches: which slots the changes touch, and the operations that bring a watcher's
+//! view from the document before the changes to the document after them.
 //!
-//! The promise: whatever document the changes led from, its view, patched with what [`translate`] gives, is the view of the
-//! document that they led to. A slot that no change touches costs no operation, and a change inside a slot's value costs one
-//! operation; a slot is sent anew only where a change reset it, since its pointer may
-//! lead to another value now, or a size counts another number. A [`WatchIndex`] finds whose views changes touch without asking each.
+//! The promise: for every document from which the changes lead to the new one, its view, patched with the result of [`translate`],
+//! is the view of the new document. A slot that no change touches costs no operation, and a change inside a slot's value costs one
+//! operation. A slot is sent anew only if a change reset it: its pointer may now lead to another value, or its size may have
+//! changed. A [`WatchIndex`] finds the sessions whose views the changes touch without checking every view.
 #![tactic(auto)]
 
 mod entries;
@@ -20,5 +20,5 @@ mod watch_index;
 
 pub use kind::Touch;
 pub use touching::touch;
-pub use translating::translate;
+pub use translating::{translate, translate_within};
 pub use watch_index::WatchIndex;

@@ -1,5 +1,6 @@
-//! Which entries a change can touch, by the places where it comes and goes: those whose pointers begin a place or begin with
-//! it, and at an item those that begin with the list that holds it. No others are looked at.
+//! The entries that a change can touch, found from the places at which it adds or removes something: those whose pointers are a
+//! prefix of such a place or begin with it and, if the place is an item, those that begin with the path of its list. No other entry
+//! is checked.
 ghost use Rattle.std.specs.Prelude.{◌≡◌, ◌&&◌, OnOk};
 ghost use Rattle.relay_pointer.specs.Path.{path_of};
 ghost use Rattle.relay_translate.specs.Entries.{Gains, IsOrdered, container, is_near, scope, tells};
@@ -38,7 +39,7 @@ pub(crate) fn add_touched(
     }
 }
 
-/// The same of the entries whose pointers begin the path, or begin with it.
+/// Like [`add_touched`], for the entries whose pointers are a prefix of the path or begin with it.
 fn add_near(
     sessions: &mut BTreeSet<u64>,
     entries: &[Entry],
@@ -55,7 +56,7 @@ fn add_near(
     add_told(sessions, led_by(entries, path.len(), path), change)
 }
 
-/// The same of all these entries.
+/// Like [`add_touched`], but checks every entry.
 fn add_told(
     sessions: &mut BTreeSet<u64>,
     entries: &[Entry],
@@ -77,8 +78,8 @@ fn touches(change: &Change, entry: &Entry) -> bool
     touch(change, &entry.slot.pointer, entry.slot.kind) != Touch::Apart
 }
 
-/// The path above which, or below which, is all that a change at the place can touch. What comes to a list, or goes from it,
-/// moves the elements behind it.
+/// Returns the path such that a change at the place touches only pointers that are a prefix of it or begin with it. For an item
+/// it is the path of its list, since an insertion or a removal moves the later elements.
 fn scope(place: &Place) -> &[String]
     ensures { path_of result.now ≡ scope place.now.item place.now.path }
 {
@@ -89,7 +90,7 @@ fn scope(place: &Place) -> &[String]
     }
 }
 
-/// The tokens of a path but the last.
+/// Returns the path without its last token.
 fn container(path: &[String]) -> &[String]
     ensures { path_of result.now ≡ container (path_of path.now) }
 {

@@ -1,5 +1,6 @@
-//! The operation that a change inside a slot's value comes to.
-ghost use Rattle.std.specs.Prelude.{◌≡◌, IfOk, if◌then◌else◌};
+//! The operation on a view that a change inside a slot's value becomes.
+ghost use Rattle.std.specs.Prelude.{◌≡◌, IfOk, option_copied, if◌then◌else◌};
+ghost use Rattle.relay_patch.specs.Weight.{carried};
 ghost use Rattle.relay_patch.specs.declared.op.Op.TheVariants as op;
 ghost use Rattle.relay_pointer.specs.Path.{is_prefix};
 ghost use Rattle.relay_translate.specs.Touch.{touch_place};
@@ -14,7 +15,7 @@ use relay_tree::Tree;
 use std::alloc::{AllocError, Global};
 
 impl Site<'_> {
-    /// The operation on the view. It costs a copy of the value where the operation carries one.
+    /// Returns the operation on the view. Copies the value if the operation carries one.
     pub fn operation(&self, alloc: Global, change: &Change) -> Result<Op, AllocError>
         ensures { IfOk result (λ o. o ≡ in_view self.now.number self.now.pointer.now (op_of self.now.pointer.now change.now)) }
     {
@@ -29,6 +30,24 @@ impl Site<'_> {
             Change::DropMember { path } | Change::DropItem { path } => self.removed(alloc, path),
             Change::Move { from, to, value } => self.moved(alloc, from, to, value),
             Change::Copy { from, to, value } => self.copied(alloc, from, to, value),
+        }
+    }
+
+    /// Returns the value that the operation carries, if any.
+    pub fn carried<'c>(&self, change: &'c Change) -> Option<&'c Tree>
+        ensures { option_copied result ≡ carried (op_of self.now.pointer.now change.now) }
+    {
+        match change {
+            Change::Set { value, .. }
+            | Change::AddMember { value, .. }
+            | Change::AddItem { value, .. } => Some(value),
+            Change::DropMember { .. } | Change::DropItem { .. } => None,
+            Change::Move { from, value, .. } => match touch_place(from, self.pointer) {
+                Touch::Inside => None,
+                Touch::Apart | Touch::Reset => Some(value),
+            },
+            Change::Copy { from, .. } if self.pointer.is_prefix(from) => None,
+            Change::Copy { value, .. } => Some(value),
         }
     }
 
@@ -49,7 +68,7 @@ impl Site<'_> {
         })
     }
 
-    /// A move within the value is a move; one that enters or leaves it is an insertion or a removal there.
+    /// A move within the value stays a move; one that enters or leaves it becomes an `add` or a `remove`.
     fn moved(&self, alloc: Global, from: &Place, to: &Place, value: &Tree) -> Result<Op, AllocError>
         ensures { IfOk result (λ o. o ≡ in_view self.now.number self.now.pointer.now (move_op (touch_place from.now self.now.pointer.now) (touch_place to.now self.now.pointer.now) from.now.path to.now.path value.now)) }
     {
@@ -66,7 +85,7 @@ impl Site<'_> {
         }
     }
 
-    /// A copy from within the value, or of all of it, is a copy; one from elsewhere is an insertion.
+    /// A copy from within the value, or of the whole value, stays a copy; one from elsewhere becomes an `add`.
     fn copied(
         &self,
         alloc: Global,

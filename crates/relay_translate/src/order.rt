@@ -5,7 +5,7 @@ ghost use Rattle.relay_translate.specs.Entries.{path_cmp};
 
 use std::cmp::Ordering;
 
-/// Compares token by token; a path stands before those that it begins.
+/// Compares two paths token by token; a path is less than those of which it is a proper prefix.
 pub(crate) fn compare_paths(path: &[String], other: &[String]) -> Ordering
     ensures { result ≡ path_cmp (path_of path.now) (path_of other.now) }
 {
@@ -25,7 +25,7 @@ pub(crate) fn compare_paths(path: &[String], other: &[String]) -> Ordering
     }
 }
 
-/// The first tokens of a path, `depth` in number, or all where it has no more.
+/// Returns the first `depth` tokens of a path, or all of them if it has fewer.
 pub(crate) fn first_tokens(path: &[String], depth: usize) -> &[String]
     ensures { path_of result.now ≡ take depth (path_of path.now) }
 {

@@ -1,4 +1,4 @@
-//! Where a slot stands in a view.
+//! The position of a slot in a view.
 ghost use Rattle.std.specs.Prelude.{◌≡◌, [], ◌∷◌, drop, string_bytes, IfOk};
 ghost use Rattle.relay_pointer.specs.Index.{index_text};
 ghost use Rattle.relay_pointer.specs.Path.{path_of};
@@ -7,7 +7,7 @@ ghost use Rattle.relay_translate.specs.Translate.{in_slot};
 use relay_pointer::Pointer;
 use std::alloc::{AllocError, Global};
 
-/// The number of a slot in its view, counted from 0, and the pointer to what it shows.
+/// The number of a slot in its view, counted from 0, and the slot's pointer.
 #[derive(Clone, Copy)]
 pub(crate) struct Site<'v> {
     pub number: u64,
@@ -15,7 +15,7 @@ pub(crate) struct Site<'v> {
 }
 
 impl Site<'_> {
-    /// `/k`, where the view shows the slot.
+    /// Returns `/k`, the path of the slot in the view.
     pub fn place(&self, alloc: Global) -> Result<Pointer, AllocError>
         ensures { IfOk result (λ path. path ≡ index_text self.now.number ∷ []) }
     {
@@ -24,7 +24,7 @@ impl Site<'_> {
         Ok(Pointer::from_tokens(tokens))
     }
 
-    /// `/k/0`, where the slot shows its value, followed by what a path has behind the slot's pointer.
+    /// Returns `/k/0`, the path of the slot's value in the view, followed by the tokens of the path after the slot's pointer.
     pub fn path(&self, alloc: Global, path: &Pointer) -> Result<Pointer, AllocError>
         ensures { IfOk result (λ inner. inner ≡ in_slot self.now.number self.now.pointer.now path.now) }
     {
@@ -37,14 +37,14 @@ impl Site<'_> {
     }
 }
 
-/// The index that spells a number (RFC 6901, section 4).
+/// Returns the token that is the index `number` (RFC 6901, section 4).
 fn index_text(alloc: Global, number: u64) -> Result<String, AllocError>
     ensures { IfOk result (λ token. string_bytes token ≡ index_text number) }
 {
     number.to_string(alloc)
 }
 
-/// The tokens of a path behind the first of them, `count` in number.
+/// Returns the tokens of a path after the first `count`.
 fn tokens_behind(path: &Pointer, count: usize) -> &[String]
     ensures { path_of result.now ≡ drop count path.now }
 {

@@ -1,4 +1,4 @@
-//! How changes touch slots, decided by paths alone: no document is read.
+//! The touch of a change on a slot, decided by paths alone: no document is read.
 ghost use Rattle.std.specs.Prelude.{◌≡◌};
 ghost use Rattle.relay_pointer.specs.Path.{path_of};
 ghost use Rattle.relay_translate.specs.Touch.{exchange_touch, size_touch, touch, touch_either, touch_last, touch_path, touch_place, touch_size, touch_value};
@@ -9,9 +9,9 @@ use relay_patch::{Change, Place};
 use relay_pointer::{Pointer, index_of};
 use relay_view::SlotKind;
 
-/// How a change touches what a slot of that kind and that pointer shows. A move is judged as a removal and an insertion, a copy where
-/// it comes; to a size only what comes to the value or goes from it counts, and no change is Inside. It costs a comparison of the
-/// paths; no memory is taken.
+/// Returns how a change touches what a slot with this pointer and kind shows. A move is judged as a removal and an insertion, a copy
+/// at its target. For a size only the parts that the value gains or loses count, and no change is `Inside`. Costs a comparison of the
+/// paths. Allocates nothing. See `docs/PROTOCOL.md`, "What a change means to a slot".
 pub fn touch(change: &Change, pointer: &Pointer, kind: SlotKind) -> Touch
     ensures exact { result ≡ touch change.now pointer.now kind }
     ensures table { result ≡ touch_by_table change.now pointer.now kind }
@@ -58,7 +58,7 @@ fn touch_size(change: &Change, pointer: &Pointer) -> Touch
     }
 }
 
-/// How what comes to a place, or goes from it, touches the size of the value to which the pointer leads.
+/// Returns how an insertion or a removal at a path touches the size of the value at the pointer.
 fn touch_part(is_item: bool, path: &Pointer, pointer: &Pointer) -> Touch
     ensures { result ≡ size_touch path.now pointer.now (touch_path is_item path.now pointer.now) }
 {
@@ -69,7 +69,7 @@ fn touch_part(is_item: bool, path: &Pointer, pointer: &Pointer) -> Touch
     }
 }
 
-/// An exchange within a value leaves its size.
+/// Replacing a value within another leaves the size of the outer one.
 fn exchange_touch(touch: Touch) -> Touch
     ensures { result ≡ exchange_touch touch }
 {
@@ -79,14 +79,14 @@ fn exchange_touch(touch: Touch) -> Touch
     }
 }
 
-/// How a change at a place touches what the pointer leads to.
+/// Returns how a change at a place touches the value at the pointer.
 pub(crate) fn touch_place(place: &Place, pointer: &Pointer) -> Touch
     ensures { result ≡ touch_place place.now pointer.now }
 {
     touch_path(place.item, place.path.tokens(), pointer.tokens())
 }
 
-/// Reset if either is, else Inside if either is.
+/// Returns `Reset` if either is, else `Inside` if either is, else `Apart`.
 fn touch_either(first: Touch, second: Touch) -> Touch
     ensures { result ≡ touch_either first second }
 {
@@ -116,7 +116,7 @@ fn touch_path(is_item: bool, path: &[String], pointer: &[String]) -> Touch
     }
 }
 
-/// At the last token of a path, and the token with which the pointer goes on there.
+/// Compares the last token of a path with the pointer's token at the same depth.
 fn touch_last(is_item: bool, token: &str, other: &str) -> Touch
     ensures { result ≡ touch_last is_item token.now other.now }
 {

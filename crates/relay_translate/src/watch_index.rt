@@ -1,7 +1,7 @@
-//! Which sessions an edit concerns, found without a look at every view.
+//! An index of the views of all sessions, which finds the sessions that an edit touches without checking every view.
 //!
-//! The slots of all views stand in the order of their pointers, so that those which a change can touch stand together: they
-//! are found by binary searches, and only they are compared with the change.
+//! The slots of all views are ordered by pointer, so those that a change can touch are contiguous. Binary searches find them, and
+//! only they are compared with the change.
 ghost use Rattle.std.specs.Prelude.{◌≡◌, ℕ, map, IfOk};
 ghost use Rattle.std.specs.List.Sorted.{IsStrictlySortedBy};
 ghost use Rattle.std.specs.Ordering.{nat_cmp};
@@ -18,8 +18,8 @@ use std::alloc::{AllocError, Global};
 use std::collections::{BTreeMap, BTreeSet};
 use std::marker::Model;
 
-/// The view of each session that watches. Contracts see it as a map from the numbers of sessions to views. It holds each
-/// pointer twice: in its view, and in the order of all.
+/// The view of each session that watches. Contracts see it as a map from session numbers to views. It holds each pointer twice:
+/// in its view, and in the ordered list of all slots.
 #[derive(Drop)]
 pub struct WatchIndex {
     views: BTreeMap<u64, View>,
@@ -48,7 +48,7 @@ impl WatchIndex {
     ghost use Rattle.std.specs.FinMap as map;
     ghost use Rattle.relay_translate.specs.Watches.{OthersStay, sees};
 
-    /// No session has a view. No memory is taken.
+    /// Creates an index without views. Allocates nothing.
     pub fn new(alloc: Global) -> WatchIndex
         ensures { result ≡ map.empty }
     {
@@ -58,8 +58,8 @@ impl WatchIndex {
         }
     }
 
-    /// The session has this view, in the place of the one that it may have had. Want of memory leaves all as it was. It costs two
-    /// copies of the view's pointers, a walk over the slots of all views, and a move of those that stand behind each of its own.
+    /// Sets the view of a session, replacing any earlier one. If memory runs out, nothing changes. Costs two copies of the view's
+    /// pointers, a walk over the slots of all views, and for each new slot a move of the slots after it.
     pub fn put(&mut self, alloc: Global, session: u64, view: &View) -> Result<(), AllocError>
         ensures ok { OnOk result (self.new ≡ map.insert self.old session view.now) }
         ensures err { OnErr result (self.new ≡ self.old) }
@@ -72,8 +72,8 @@ impl WatchIndex {
         Ok(())
     }
 
-    /// The session has no view any more; nothing changes where it had none. No memory is taken. It costs a walk over the slots
-    /// of all views where it had one.
+    /// Removes the view of a session; changes nothing if it has none. Allocates nothing. Costs a walk over the slots of all views
+    /// if the session had one.
     pub fn take_out(&mut self, session: u64)
         ensures { self.new ≡ map.remove self.old session }
     {
@@ -82,12 +82,12 @@ impl WatchIndex {
         }
     }
 
-    /// The sessions of which some slot is touched by some change, rising and each once: to every other session the changes tell
-    /// nothing.
+    /// Returns the sessions with a slot that some change touches, in ascending order, each once. For every other session the
+    /// changes translate to no operation.
     ///
-    /// Of each place at which a change comes or goes it asks those slots alone whose pointers begin the place or begin with it, and
-    /// at an item those that begin with the list that holds it; at the root, all. It costs two binary searches for each token of a
-    /// place, and a comparison for each slot asked.
+    /// For each place at which a change adds or removes something, it checks only the slots whose pointers are a prefix of the place
+    /// or begin with it and, if the place is an item, those that begin with the path of its list; at the root, all slots. Costs two
+    /// binary searches for each token of a place, and a comparison for each slot checked.
     pub fn touched(&self, alloc: Global, changes: &[&Change]) -> Result<Vec<u64>, AllocError>
         ensures rising { IfOk result (λ sessions. IsStrictlyIncreasing sessions.items) }
         ensures exact { IfOk result (λ sessions. (s : ℕ) → list_any (nat_eq s) sessions.items ≡ sees (each (λ c. c.now) changes.now) self.now s) }
@@ -98,7 +98,7 @@ impl WatchIndex {
     }
 }
 
-/// The sessions of the entries that some change touches.
+/// Returns the sessions of the entries that some change touches.
 fn sessions_touched(
     alloc: Global,
     entries: &[Entry],
@@ -114,7 +114,7 @@ fn sessions_touched(
     Ok(sessions)
 }
 
-/// The numbers of a set, rising.
+/// Returns the numbers of a set, in ascending order.
 fn numbers(alloc: Global, set: &BTreeSet<u64>) -> Result<Vec<u64>, AllocError>
     ensures numbers { IfOk result (λ numbers. numbers.items ≡ keys set.now) }
     ensures rising { IsStrictlySortedBy nat_cmp (keys set.now) }

@@ -1,4 +1,4 @@
--- Elements that are read one by one: those that were read, before the ones that are left.
+-- Elements that are read one by one: those already read, followed by those that are left.
 use Rattle.std.proofs.Common.{◌≡◌, ℕ, suc, ◌+◌, ◌<◌, ◌≤◌, List, [], ◌∷◌, ◌++◌, length, Result, Ok, Err, refl, ap, add-one, append_assoc, Option, Some, None, Bool, true, false, nat_lt, if◌then◌else◌, arith, IfOk, IfErr}
 use Rattle.relay_tree.specs.Document.{Document, Items, no_items, item}
 use Rattle.relay_tree.specs.Each.{onto, each_from}
@@ -18,14 +18,14 @@ behind_onto : {A E : Type 0} (done : List A) (x : A) (rest : Result (List A) E) 
 behind_onto done x (Ok xs) = ap Ok (append_assoc done (x ∷ []) xs)
 behind_onto done x (Err fault) = refl
 
--- one more is read
+-- reading one more element
 pub read_more : {A E : Type 0} (reads : ℕ → Document → Result A E) (n : ℕ) (d : Document) (ds : Items) (done : List A) (x : A) → reads n d ≡ Ok x
     → behind (done ++ x ∷ []) (each_from reads (n + 1) ds) ≡ behind done (each_from reads n (item d ds))
 read_more reads n d ds done x found = rw (add-one, found) (behind_onto done x (each_from reads (suc n) ds))
 
--- How many elements were read, and which of them a fault names.
+-- The number of elements that were read, and the element that a fault names.
 
--- a number below another, if there is one
+-- the number, if there is one, is below the bound
 abbrev pub IsBelow : ℕ → Option ℕ → Type 0
 IsBelow most (Some n) = n < most
 IsBelow most None = Unit {0}
@@ -39,7 +39,7 @@ module _ {A E : Type 0} where
   each-length reads n no_items = refl
   each-length reads n (item d ds) = onto-length (reads n d) (each_from reads (suc n) ds) (items_length ds) (each-length reads (suc n) ds)
 
-  -- a list of few elements, as long as what is read of it
+  -- a list that is read has at most `most` elements
   pub few-length : (reads : ℕ → Document → Result A E) (most : ℕ) (many : E) (ds : Items)
       → IfOk (if nat_lt most (items_length ds) then Err many else each_from reads 0 ds) (λ xs. length xs ≤ most)
   few-length reads most many ds = go (nat_lt most (items_length ds)) (each_from reads 0 ds) refl (each-length reads 0 ds)
@@ -66,7 +66,7 @@ module _ {A E : Type 0} (reads : ℕ → Document → Result A E) (named : E →
       (if_err (reads n d) (names n d) (λ fault is. (n, omega arith, is)))
       (if_err (each_from reads (suc n) ds) (each-place (suc n) ds) (λ fault k. (k.0, (let below = k.1 in omega (arith, below)), k.2)))
 
-  -- a list of few elements is refused for one of them
+  -- a fault names an element below `most`, if it names one
   pub few-place : (most : ℕ) (many : E) → IsBelow most (named many) → (ds : Items)
       → IfErr (if nat_lt most (items_length ds) then Err many else each_from reads 0 ds) (λ fault. IsBelow most (named fault))
   few-place most many free ds = go (nat_lt most (items_length ds)) (each_from reads 0 ds) refl (each-place 0 ds)

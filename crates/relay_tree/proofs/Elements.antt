@@ -1,10 +1,10 @@
--- A vector's elements beside the items that they stand for, and items after a change.
+-- The elements of a list's queue compared with the items that they represent, and items after a change.
 use Rattle.std.proofs.Common.{◌≡◌, ◌≢◌, ℕ, zero, suc, ◌<◌, ◌≤◌, List, [], ◌∷◌, length, Option, Some, None, option_map, refl, sym, ap, arith, slice_get, slice_set}
 use Rattle.std.specs.List.{insert, remove}
 use Rattle.relay_tree.specs.Document.{Document, Items, no_items, item, items_of}
 use Rattle.relay_tree.specs.Part.{items_length, item_at, put_item, insert_item, drop_item}
 
--- Of a vector.
+-- A queue.
 
 pub items_length-items_of : (xs : List Document) → items_length (items_of xs) ≡ length xs
 items_length-items_of [] = refl
@@ -47,7 +47,7 @@ put_item-past (item d ds) (suc i) e h = ap (item d) (put_item-past ds i e (omega
 
 -- After a change.
 
--- an element that is put where it stands changes nothing
+-- putting an element where it already is changes nothing
 pub put_item-same : (ds : Items) (i : ℕ) (e : Document) → item_at ds i ≡ Some e → put_item ds i e ≡ ds
 put_item-same no_items i e h = refl
 put_item-same (item d ds) zero e h = let same : d ≡ e = cc in ap (λ x. item x ds) (cc)
@@ -151,7 +151,7 @@ pub put_item-twice : (ds : Items) (i : ℕ) (a b : Document) → put_item (put_i
 put_item-twice (item d ds) (suc i) a b = ap (item d) (put_item-twice ds i a b)
 put_item-twice _ _ a b = refl
 
--- an element that was inserted is dropped again
+-- dropping an element that was inserted restores the list
 pub drop_item-insert : (ds : Items) (i : ℕ) (v : Document) (es : Items) → insert_item ds i v ≡ Some es → drop_item es i ≡ Some ds
 drop_item-insert ds zero v es h = let same : item v ds ≡ es = cc in ap (λ x. drop_item x zero) (sym same)
 drop_item-insert no_items (suc i) v es h = cc

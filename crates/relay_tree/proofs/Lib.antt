@@ -4,6 +4,7 @@ pub mod Elements
 pub mod Members
 pub mod Weights
 pub mod Sizes
+pub mod Budgets
 pub mod Equal
 pub mod Parts
 pub mod Texts

@@ -1,4 +1,4 @@
--- A map's entries beside the members that they stand for, and members after a change.
+-- A map's entries compared with the members that they represent, and members after a change.
 use Rattle.std.proofs.Common.{◌≡◌, ℕ, List, [], ◌∷◌, ◌++◌, Bool, true, false, Option, Some, None, option_map, is_some, cond, if◌then◌else◌, String, Global, Ordering, Less, Equal, Greater, is_eq, string_bytes, string_cmp, nat_cmp, bytes_eq, refl, sym, ap, subst, ◌∙◌}
 use Rattle.std.proofs.lemmas.Cmp.{nat_list_cmp_total}
 use Rattle.std.proofs.lemmas.Map.Text.{is_eq-slice_cmp}
@@ -16,7 +16,7 @@ use Rattle.relay_tree.proofs.Names.{equal_bytes, bytes_eq-slice_cmp, equal_names
 abbrev pub Entry : Type 0
 Entry = String Global × Document
 
--- Look-ups and exchanges.
+-- Lookups and replacements.
 
 members_of-cond : (b : Bool) (es rest : List Entry) → members_of (cond b es rest) ≡ (if b then members_of es else members_of rest)
 members_of-cond true es rest = refl
@@ -78,7 +78,7 @@ pub below_middle : (first : Entry) (es : List Entry) (e : Entry) (more : List En
 below_middle first [] e more h = h.0
 below_middle first (x ∷ es) e more h = below_middle first es e more h.1
 
--- a name that is above those before it goes last
+-- a member whose name is above all earlier names is inserted last
 pub add_member-last : (done : List Entry) (e : Entry) (more : List Entry) → IsStrictlySortedBy string_cmp (keys_of (done ++ e ∷ more))
     → add_member (members_of done) (string_bytes e.0) e.1 ≡ members_of (done ++ e ∷ [])
 unfolding IsStrictlySortedBy
@@ -101,7 +101,7 @@ dropped_member (e ∷ es) k c h = go (bytes_eq (string_bytes e.0) k) refl h (dro
 
 -- After a change.
 
--- a member that is set to its value changes nothing
+-- setting a member to the value that it has changes nothing
 pub set_member-same : (ms : Members) (name : List ℕ) (e : Document) → member_at ms name ≡ Some e → set_member ms name e ≡ ms
 set_member-same no_members name e h = refl
 set_member-same (member n d ms) name e h = go (bytes_eq n name) h (set_member-same ms name e)
@@ -238,7 +238,7 @@ dropped_step Equal n a d e ms rest o ih other =
     cc
 dropped_step Greater n a d e ms rest o ih other = rw (other, ih) refl
 
--- a member that was added is dropped again
+-- dropping a member that was added restores the members
 pub drop_member-add : (ms : Members) (a : List ℕ) (e : Document) → member_at ms a ≡ None → drop_member (add_member ms a e) a ≡ Some ms
 drop_member-add no_members a e h = rw (bytes_same a) refl
 drop_member-add (member n d ms) a e h = go (bytes_eq n a) refl h (drop_member-add ms a e)

@@ -10,7 +10,7 @@ bytes_same a = (bytes_eq-Decides a a).1 refl
 pub equal_bytes : (a b : List ℕ) → bytes_eq a b ≡ true → a ≡ b
 equal_bytes a b = (bytes_eq-Decides a b).0
 
--- names are equal exactly where neither comes before the other
+-- names are equal exactly if neither sorts before the other
 pub bytes_eq-slice_cmp : (n k : List ℕ) → bytes_eq n k ≡ is_eq (slice_cmp nat_cmp k n)
 bytes_eq-slice_cmp n k = go (bytes_eq n k) (bytes_eq k n) refl refl ∙ sym (is_eq-slice_cmp k n)
   where

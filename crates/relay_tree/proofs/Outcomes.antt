@@ -1,4 +1,4 @@
--- What holds of an outcome, from what holds of another.
+-- Facts about a result that follow from other facts about it.
 use Rattle.std.proofs.Common.{◌≡◌, Result, Ok, Err, IsOk, refl, OnOk, OnErr, IfOk, IfErr, IsErrAnd}
 
 pub is_ok_then : {A E : Type 0} (r : Result A E) (x : A) → r ≡ Ok x → IsOk r

@@ -1,4 +1,4 @@
--- A node's parts beside those of its document.
+-- A node's parts compared with those of its document.
 use Rattle.std.proofs.Common.{◌≡◌, ℕ, ◌<◌, ◌≤◌, length, get_or, Bor, MutBor, arith, List, Option, Some, None, BTreeMap, Global, String, OnSome, refl, sym, slice_get, option_copied, is_some, IfSome, nat_lt}
 use Rattle.std.specs.Option.{option_copied_mut}
 use Rattle.std.specs.declared.collections.VecDeque.{VecDeque}
@@ -31,7 +31,7 @@ pub no_member : (n : Node) (k : List ℕ) → None ≡ node_members n → None �
 no_member (node.Members m) k h = cc
 no_member _ k h = refl
 
--- what a list's `get_mut` and `get` give is the element
+-- a list's `get_mut` and `get` return the element
 pub got_mut : (xs : List Document) (i : ℕ) (r : Option (MutBor Document)) → is_some r ≡ nat_lt i (length xs) → IfSome r (λ x. x.now ≡ get_or xs i x.now) → option_copied_mut r ≡ slice_get xs i
 got_mut xs i None some is = let past : length xs ≤ i = grind (arith, nat_tests) in sym (slice_get_past xs i past)
 got_mut xs i (Some x) some is = let within : i < length xs = grind (arith, nat_tests) in sym (slice_get_read xs (length xs) i x.now refl within is)

@@ -1,4 +1,4 @@
--- How deep and how heavy elements and members are, after a change too.
+-- The depth and the weight of elements and members, also after a change.
 use Rattle.std.proofs.Common.{◌≡◌, ℕ, zero, suc, ◌+◌, ◌≤◌, max, List, length, Bool, true, false, Option, Some, None, option_map, refl, sym, ap, subst, ◌∙◌, bytes_eq, is_eq, nat_cmp, Ordering, Less, Equal, Greater, if◌then◌else◌, is_some, arith}
 use Rattle.std.specs.Ordering.{match_ordering}
 use Rattle.std.specs.Cmp.Lexicographic.{slice_cmp}

@@ -1,4 +1,4 @@
--- Lists and objects that are being written, one part after the other.
+-- Lists and objects, written one part after the other.
 use Rattle.std.proofs.Common.{◌≡◌, ℕ, ◌+◌, ◌<◌, ◌≤◌, List, [], ◌∷◌, ◌++◌, length, take, map, get_or, string_bytes, refl, sym, ap, ◌∙◌, subst, append_assoc}
 use Rattle.std.proofs.lemmas.List.{flat_map_more, map_more, take_all}
 use Rattle.std.specs.List.{AllByRecursion, flat_map}
@@ -40,7 +40,7 @@ pub list_ends : {start mid new : List Token} (ds : List Document) (old : List To
 list_ends ds old start each end =
     end ∙ ap (λ ts. ts ++ end_array ∷ []) (each.tokens ∙ ap (λ ts. ts ++ flat_map tokens_of ds) start) ∙ enclosed old (flat_map tokens_of ds) begin_array end_array ∙ ap (λ ts. old ++ begin_array ∷ ts) (sym (list_tokens ds))
 
--- Of a loop that writes a document for each element of a list.
+-- A loop that writes a document for each element of a list.
 
 module _ {A : Type 0} (f : A → Document) (xs : List A) (i : ℕ) where
   pub writes_next : {old mid new : List Token} (x : A) → i < length xs → x ≡ get_or xs i x → WritesEach (map f (take i xs)) old mid → new ≡ mid ++ tokens_of (f x) → ReadsBack (f x) → WritesEach (map f (take (i + 1) xs)) old new

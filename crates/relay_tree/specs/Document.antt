@@ -24,7 +24,7 @@ abbrev pub items_of : List Document → Items
 items_of [] = no_items
 items_of (d ∷ ds) = item d (items_of ds)
 
--- 8 for each value, and the bytes of texts and names
+-- the weight: 8 for each value, plus the number of bytes of texts and member names
 abbrev mutual
   pub weight : Document → ℕ
   weight null = 8
@@ -60,6 +60,6 @@ abbrev mutual
   members_depth no_members = 0
   members_depth (member k d ms) = max (depth d) (members_depth ms)
 
--- a number as far as 64 bits hold it
+-- a number, or 2^64 - 1 if it is larger than that
 abbrev pub saturated : ℕ → ℕ
 saturated n = min n (2 ^ 64 - 1)

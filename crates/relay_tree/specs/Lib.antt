@@ -2,6 +2,7 @@ pub mod Document
 pub mod Part
 pub mod Same
 pub mod Count
+pub mod Budget
 pub mod Each
 pub mod Code
 pub mod Seen

@@ -14,25 +14,25 @@ abbrev pub items_append : Items → Items → Items
 items_append no_items es = es
 items_append (item d ds) es = item d (items_append ds es)
 
--- the element at an index
+-- the element at an index, counted from 0; `None` if the index is past the end
 abbrev pub item_at : Items → ℕ → Option Document
 item_at no_items i = None
 item_at (item d ds) zero = Some d
 item_at (item d ds) (suc i) = item_at ds i
 
--- the elements with e at the index, if one stands there
+-- the elements with e in place of the one at the index; unchanged if there is none
 abbrev pub put_item : Items → ℕ → Document → Items
 put_item no_items i e = no_items
 put_item (item d ds) zero e = item e ds
 put_item (item d ds) (suc i) e = item d (put_item ds i e)
 
--- the first i elements, e, the rest; None where i is past the end
+-- the first i elements, then e, then the rest; `None` if there are fewer than i elements
 abbrev pub insert_item : Items → ℕ → Document → Option Items
 insert_item ds zero e = Some (item e ds)
 insert_item no_items (suc i) e = None
 insert_item (item d ds) (suc i) e = option_map (item d) (insert_item ds i e)
 
--- the elements but the one at the index; None where none stands there
+-- the elements without the one at the index; `None` if there is none
 abbrev pub drop_item : Items → ℕ → Option Items
 drop_item no_items i = None
 drop_item (item d ds) zero = Some ds
@@ -40,54 +40,54 @@ drop_item (item d ds) (suc i) = option_map (item d) (drop_item ds i)
 
 -- Members.
 
--- the value of the member with this name
+-- the value of the member with this name; `None` if there is none
 abbrev pub member_at : Members → List ℕ → Option Document
 member_at no_members name = None
 member_at (member n d ms) name = if bytes_eq n name then Some d else member_at ms name
 
--- the members with e under the name, if one has it
+-- the members with e as the value of the named one; unchanged if there is none
 abbrev pub set_member : Members → List ℕ → Document → Members
 set_member no_members name e = no_members
 set_member (member n d ms) name e = if bytes_eq n name then member n e ms else member n d (set_member ms name e)
 
--- the members and e, under a name that none has
+-- the members with e added under a name that none of them has, in byte order
 abbrev pub add_member : Members → List ℕ → Document → Members
 add_member no_members name e = member name e no_members
 add_member (member n d ms) name e =
     match_ordering (slice_cmp nat_cmp name n) (member name e (member n d ms)) (member name e ms) (member n d (add_member ms name e))
 
--- the members with e under the name, in the place of an earlier one
+-- the members with e under the name, added or in place of an earlier value
 abbrev pub put_member : Members → List ℕ → Document → Members
 put_member ms name e = if is_some (member_at ms name) then set_member ms name e else add_member ms name e
 
--- the members but the one of the name; None where it has none
+-- the members without the named one; `None` if there is none
 abbrev pub drop_member : Members → List ℕ → Option Members
 drop_member no_members name = None
 drop_member (member n d ms) name = if bytes_eq n name then Some ms else option_map (member n d) (drop_member ms name)
 
--- Both, of a document.
+-- Elements and members of a document.
 
--- how many elements a list has
+-- the number of elements of a list; `None` if the document is not a list
 abbrev pub list_len : Document → Option ℕ
 list_len (list ds) = Some (items_length ds)
 list_len _ = None
 
--- the element of a list at an index
+-- the element of a list at an index; `None` if there is none or the document is not a list
 abbrev pub list_item : Document → ℕ → Option Document
 list_item (list ds) i = item_at ds i
 list_item _ i = None
 
--- the member of an object with a name
+-- the value of an object's member with a name; `None` if there is none or the document is not an object
 abbrev pub object_member : Document → List ℕ → Option Document
 object_member (object ms) name = member_at ms name
 object_member _ name = None
 
--- the list with e at the index, if an element stands there
+-- the list with e in place of the element at the index; unchanged if there is none
 abbrev pub with_item : Document → ℕ → Document → Document
 with_item (list ds) i e = list (put_item ds i e)
 with_item d i e = d
 
--- the object with e under the name, if a member has it
+-- the object with e as the value of the named member; unchanged if there is none
 abbrev pub with_member : Document → List ℕ → Document → Document
 with_member (object ms) name e = object (set_member ms name e)
 with_member d name e = d
@@ -96,6 +96,6 @@ abbrev pub as_text : Option Document → Option (List ℕ)
 as_text (Some (text s)) = Some s
 as_text _ = None
 
--- the text that a member is
+-- the named member as a text; `None` if there is no such member or it is not a text
 abbrev pub text_in : Document → List ℕ → Option (List ℕ)
 text_in d name = as_text (object_member d name)

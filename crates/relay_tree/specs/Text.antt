@@ -1,4 +1,4 @@
--- A document as the data that `serde_json` reads, and as the tokens that are written of it.
+-- A document as the data that `serde_json` reads, and as the tokens that are written for it.
 use Rattle.std.specs.Prelude.{◌≡◌, ◌≢◌, ℕ, List, Option, Some, None, option_map, option_and_then}
 use Rattle.json.specs.Token.{Token}
 use Rattle.json.specs.Tree.{json_tokens}
@@ -25,7 +25,7 @@ abbrev mutual
   members_data no_members = json_data.no_members
   members_data (member k d ms) = json_data.member k (data_of d) (members_data ms)
 
--- the document that the data is, where each number is whole and in 64 bits
+-- the document of the data; `None` if a number is not whole or does not fit in 64 bits with a sign
 abbrev mutual
   pub tree_of : json_data.Data → Option Document
   tree_of json_data.null = Some null
@@ -43,11 +43,11 @@ abbrev mutual
   members_tree json_data.no_members = Some no_members
   members_tree (json_data.member k d ms) = option_and_then (λ e. option_map (member k e) (members_tree ms)) (tree_of d)
 
--- the document that a text reads as
+-- the document that a text reads as; `None` if the text is not JSON or `tree_of` refuses a number
 abbrev pub tree_of_text : List ℕ → Option Document
 tree_of_text s = option_and_then tree_of (json.read s)
 
--- the text is JSON, and one of its numbers is not whole in 64 bits
+-- the text is JSON, and one of its numbers is not whole or does not fit in 64 bits with a sign
 abbrev pub IsNumberFault : List ℕ → Type 0
 IsNumberFault s = (json.read s ≢ None) × (tree_of_text s ≡ None)
 
@@ -59,7 +59,7 @@ text_of d = compact_text (data_of d)
 abbrev pub tokens_of : Document → List Token
 tokens_of d = json_tokens (outline (data_of d))
 
--- these tokens are read as the document
+-- the outline of the document reads back as its data, and the data as the document
 pub record ReadsBack (d : Document) : Type 0 where
   pub written : json.of_json (outline (data_of d)) ≡ Some (data_of d)
   pub read : tree_of (data_of d) ≡ Some d

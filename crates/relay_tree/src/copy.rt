@@ -1,4 +1,4 @@
-//! Equal trees in memory of their own.
+//! Deep copies of trees.
 ghost use Rattle.std.specs.Prelude.{◌≡◌, IfOk};
 ghost use Rattle.relay_tree.specs.Seen.{members_of};
 
@@ -8,7 +8,7 @@ use std::alloc::{AllocError, Global};
 use std::collections::{BTreeMap, VecDeque};
 
 impl Tree {
-    /// An equal tree. It costs the tree's weight in time and memory; want of memory leaves nothing behind.
+    /// Returns an equal tree. Costs the tree's weight in time and memory. If memory runs out, nothing stays allocated.
     pub fn copy(&self, alloc: Global) -> Result<Tree, AllocError>
         ensures { IfOk result (λ copy. copy ≡ self.now) }
     {

@@ -1,4 +1,4 @@
-//! An element of a list.
+//! The element of a list.
 ghost use Rattle.std.specs.Prelude.{◌≡◌, IfOk};
 ghost use Rattle.std.specs.Borrow.{Lends, sem};
 ghost use Rattle.relay_tree.specs.contracts.element.Element as element;
@@ -8,8 +8,8 @@ use crate::tree::Tree;
 use std::alloc::{AllocError, Global};
 use std::marker::Model;
 
-/// A tree behind a pointer. What comes to a list, or goes from it, moves the elements on its shorter side: a pointer for each, and not
-/// a whole tree.
+/// A tree behind a pointer. An insertion into a list, or a removal, moves the elements on its shorter side; that costs one pointer for
+/// each, not a whole tree.
 #[cycle(tree)]
 #[derive(Drop)]
 pub struct Element {
@@ -35,7 +35,7 @@ impl Model for Element {
 }
 
 impl Element {
-    /// An element of memory of its own. Want of it drops the tree.
+    /// Moves a tree into an allocation of its own. If memory runs out, the tree is dropped.
     pub fn new(alloc: Global, tree: Tree) -> Result<Element, AllocError>
         ensures { IfOk result (λ element. element ≡ tree) }
     {
@@ -50,7 +50,7 @@ impl Element {
         &self.tree
     }
 
-    /// The tree, for writing. What is written there is all that changes.
+    /// Borrows the tree for writing. Only what is written there changes.
     pub fn tree_mut(&mut self) -> &mut Tree
         ensures* writes_back { sem 𝓛 (Lends element.the_row tree.the_row self.entry result (λ d. d)) }
         ensures value { result.now ≡ self.old }
@@ -58,7 +58,7 @@ impl Element {
         &mut self.tree
     }
 
-    /// The element with another tree in place of its own, which is dropped. No memory is taken.
+    /// Replaces the element's tree, which is dropped. Keeps the allocation and allocates nothing.
     pub fn with_tree(self, tree: Tree) -> Element
         ensures { result ≡ tree }
     {
@@ -67,7 +67,7 @@ impl Element {
         Element { tree: place }
     }
 
-    /// The tree without its element, whose memory goes.
+    /// Returns the tree and frees the element's allocation.
     pub fn into_tree(self) -> Tree
         ensures { result ≡ self }
     {

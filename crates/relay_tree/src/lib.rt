@@ -1,11 +1,12 @@
 //! JSON documents as trees: read from texts, written, copied, compared and weighed.
 //!
-//! The promise: a text and its tree agree. [`read`] gives the tree that a JSON text (RFC 8259) names, where all its
-//! numbers are whole and in 64 bits, and [`Tree::text`] writes the one compact text, which reads back as the tree
-//! where it nests at most 127 containers.
+//! The promise: a text and its tree agree. [`read`] returns the tree of a JSON text (RFC 8259) if all its numbers
+//! are whole and fit in 64 bits with a sign. [`Tree::text`] writes the one compact text of a tree, which reads back
+//! as that tree if it nests at most 127 containers.
 //! Contracts see a tree as a `Document` of `specs/`, so `≡` compares documents and not memory.
 #![tactic(auto)]
 
+mod budget;
 mod copy;
 mod count;
 mod element;
@@ -18,7 +19,8 @@ mod text;
 mod tree;
 mod write;
 
-pub use count::COUNT_MOST;
+pub use budget::Budget;
+pub use count::MAX_COUNT;
 pub use element::Element;
 pub use member::insert_member;
 pub use reading::{TreeFault, read};

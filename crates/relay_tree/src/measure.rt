@@ -1,4 +1,4 @@
-//! How deep and how heavy a tree is. Both walk the whole tree and take no memory.
+//! The depth and the weight of a tree. Measuring either walks the whole tree and allocates nothing.
 ghost use Rattle.std.specs.Prelude.{◌≡◌, min, ◌-◌, ◌^◌};
 ghost use Rattle.relay_tree.specs.Document.{depth, weight, items_of, items_depth, members_depth, items_weight, members_weight, saturated};
 ghost use Rattle.relay_tree.specs.Seen.{members_of};
@@ -7,18 +7,18 @@ use crate::element::Element;
 use crate::tree::{Node, Tree};
 use std::collections::{BTreeMap, VecDeque};
 
-/// What each value weighs, whatever it holds.
-const VALUE_WEIGHT: u64 = 8;
+/// The weight of each value, before its text and parts are added.
+pub(crate) const VALUE_WEIGHT: u64 = 8;
 
 impl Tree {
-    /// The number of levels: a scalar or an empty container is 1 deep. `u64::MAX` where more.
+    /// Returns the number of levels; a scalar or an empty container has 1. Saturates at `u64::MAX`.
     pub fn depth(&self) -> u64
         ensures { result ≡ saturated (depth self.now) }
     {
         depth_of(self)
     }
 
-    /// 8 for each value, and a byte for each byte of a text or a member's name. `u64::MAX` where more.
+    /// Returns 8 for each value, plus the number of bytes in its texts and member names. Saturates at `u64::MAX`.
     pub fn weight(&self) -> u64
         ensures { result ≡ saturated (weight self.now) }
     {

@@ -1,4 +1,4 @@
-//! Objects in the making.
+//! Insertion into the members of an object.
 ghost use Rattle.std.specs.Prelude.{◌≡◌, OnOk, OnErr};
 ghost use Rattle.relay_tree.specs.Part.{put_member};
 ghost use Rattle.relay_tree.specs.Seen.{members_of};
@@ -7,7 +7,7 @@ use crate::tree::Tree;
 use std::alloc::{AllocError, Global};
 use std::collections::BTreeMap;
 
-/// Gives the members one more, in the place of an earlier one of that name. Want of memory leaves them as they were.
+/// Inserts a member, in place of an earlier one with the same name. If memory runs out, the members are unchanged.
 pub fn insert_member(
     alloc: Global,
     members: &mut BTreeMap<String, Tree>,

@@ -1,4 +1,4 @@
-//! The parts of a tree, one level down: what one token of a path can name.
+//! The parts of a tree one level down, which one token of a path can name.
 ghost use Rattle.std.specs.Prelude.{◌≡◌, ◌<◌, ◌^◌, ℕ, List as list_of, false, bytes_eq, IfSome, option_copied};
 ghost use Rattle.std.specs.Option.{option_map, option_copied_mut};
 ghost use Rattle.std.specs.Borrow.{LendsIf, sem};
@@ -14,7 +14,7 @@ use crate::tree::{Node, Tree};
 use std::collections::{BTreeMap, VecDeque};
 
 impl Tree {
-    /// The element at `index`, counted from 0; None past the end and where the tree is no list.
+    /// Returns the element at `index`, counted from 0, or `None` if the index is past the end or the tree is not a list.
     pub fn item(&self, index: usize) -> Option<&Tree>
         ensures { option_copied result ≡ list_item self.now index }
     {
@@ -24,8 +24,8 @@ impl Tree {
         }
     }
 
-    /// The value of the member `name`; None where there is none and where the tree is no object.
-    /// It costs a search by order among the members.
+    /// Returns the value of the member `name`, or `None` if there is no such member or the tree is not an object.
+    /// Costs an ordered search among the members.
     pub fn member(&self, name: &str) -> Option<&Tree>
         ensures { option_copied result ≡ object_member self.now name.now }
     {
@@ -35,8 +35,8 @@ impl Tree {
         }
     }
 
-    /// Takes the member `name` out of an object, and gives its value; None where there is none and where the tree is no object,
-    /// which then stays as it is. No memory is taken.
+    /// Removes the member `name` from an object and returns its value. Returns `None`, with the tree unchanged, if there is no such
+    /// member or the tree is not an object. Allocates nothing.
     pub fn take_member(&mut self, name: &str) -> Option<Tree>
         ensures value { result ≡ object_member self.old name.now }
         ensures others { (other : list_of ℕ) → bytes_eq name.now other ≡ false → object_member self.new other ≡ object_member self.old other }
@@ -47,7 +47,7 @@ impl Tree {
         }
     }
 
-    /// The text that the member `name` is; None where it is no text, and where there is none.
+    /// Returns the text of the member `name`, or `None` if there is no such member or it is not a text.
     pub fn text_at(&self, name: &str) -> Option<&str>
         ensures { option_map (λ text. text.now) result ≡ text_in self.now name.now }
     {
@@ -59,7 +59,7 @@ impl Tree {
 }
 
 impl Node {
-    /// How many elements a list has; None where the node is no list.
+    /// Returns the number of elements of a list, or `None` if the node is not a list.
     pub fn list_len(&self) -> Option<usize>
         ensures len { result ≡ list_len (document_of self.now) }
         ensures few { IfSome result (λ n. n < 2 ^ 64) }
@@ -70,7 +70,7 @@ impl Node {
         }
     }
 
-    /// The element at `index` of a list, for writing. What is written there is all that changes.
+    /// Borrows the element at `index` of a list for writing. Only what is written there changes.
     pub fn item_mut(&mut self, index: usize) -> Option<&mut Tree>
         ensures* writes_back { sem 𝓛 (LendsItem self.entry index result) }
         ensures value { option_copied_mut result ≡ list_item (document_of self.old) index }
@@ -81,7 +81,7 @@ impl Node {
         }
     }
 
-    /// The value of the member `name` of an object, for writing. What is written there is all that changes.
+    /// Borrows the value of the member `name` of an object for writing. Only what is written there changes.
     pub fn member_mut(&mut self, name: &str) -> Option<&mut Tree>
         ensures* writes_back { sem 𝓛 (LendsMember self.entry name.now result) }
         ensures value { option_copied_mut result ≡ object_member (document_of self.old) name.now }

@@ -1,4 +1,4 @@
-//! Trees of JSON texts (RFC 8259), through `serde_json`.
+//! A reader of JSON texts (RFC 8259) that builds trees, through `serde_json`.
 ghost use Rattle.std.specs.Prelude.{◌≡◌, ◌≢◌, Some, None, IfOk, IfErr, OnErr};
 ghost use Rattle.serde_json.specs.Read as json;
 ghost use Rattle.serde_json.specs.View.{view, items_view, members_view};
@@ -14,10 +14,10 @@ use std::alloc::{AllocError, Global};
 use std::collections::{BTreeMap, VecDeque};
 use thiserror::Error;
 
-/// Why a text gives no tree, in the order of the checks.
+/// Why a text does not read as a tree, in the order of the checks.
 #[derive(Clone, Copy, Debug, PartialEq, Eq, Error)]
 pub enum TreeFault {
-    /// `serde_json` reads no value: the text is no JSON, or it nests more than 127 containers.
+    /// `serde_json` rejects the text: it is not JSON, or it nests more than 127 containers.
     #[error("not a JSON text")]
     NotJson,
     /// A number has a fraction or an exponent, or does not fit in `i64`.
@@ -35,7 +35,7 @@ impl From<AllocError> for TreeFault {
     }
 }
 
-/// The tree that a text reads as. The whole text is read before its numbers are judged.
+/// Reads a text as a tree. The whole text is parsed before its numbers are checked.
 pub fn read(alloc: Global, text: &str) -> Result<Tree, TreeFault>
     ensures ok { IfOk result (λ tree. tree_of_text text.now ≡ Some tree) }
     ensures not_json { IfErr result (λ fault. fault ≡ NotJson → json.read text.now ≡ None) }
@@ -48,7 +48,7 @@ pub fn read(alloc: Global, text: &str) -> Result<Tree, TreeFault>
     }
 }
 
-// The value's texts and elements become the tree's.
+// Texts and member names move from the value into the tree.
 #[cycle(tree_from)]
 fn tree_from(alloc: Global, value: Value) -> Result<Tree, TreeFault>
     ensures ok { IfOk result (λ tree. tree_of (view value) ≡ Some tree) }

@@ -1,4 +1,4 @@
-//! Whether two trees are equal (RFC 6902, section 4.6). No memory is taken.
+//! Equality of trees (RFC 6902, section 4.6). Comparing allocates nothing.
 ghost use Rattle.std.specs.Prelude.{◌≡◌, ◌↔◌, IsTrue};
 ghost use Rattle.relay_tree.specs.Seen.{members_of};
 
@@ -7,8 +7,8 @@ use crate::tree::{Node, Tree};
 use std::collections::{BTreeMap, VecDeque};
 
 impl Tree {
-    /// Whether both are the same document: the order in which members were written has no meaning, and texts are equal
-    /// only code point by code point. It costs the smaller of the two.
+    /// Returns whether both are the same document: the order in which members were written has no meaning, and texts are
+    /// equal only code point by code point. Costs at most a walk of the smaller tree.
     pub fn same(&self, other: &Tree) -> bool
         ensures { IsTrue result ↔ (self.now ≡ other.now) }
     {

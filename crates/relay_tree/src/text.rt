@@ -10,12 +10,12 @@ use crate::tree::Tree;
 use json::Writer;
 use std::alloc::{AllocError, Global};
 
-/// How many bytes a text has room for before it first grows.
+/// The initial capacity of a text, in bytes.
 const FIRST_ROOM: usize = 128;
 
 impl Tree {
-    /// The compact text: no white space, member names in byte order, whole numbers in decimal.
-    /// A tree that nests at most 127 containers reads back from it as itself. It costs that one text, and copies nothing.
+    /// Returns the compact text: no white space, member names in byte order, whole numbers in decimal.
+    /// The text of a tree that nests at most 127 containers reads back as that tree. Costs that one text and copies no part of the tree.
     pub fn text(&self, alloc: Global) -> Result<String, AllocError>
         ensures text { IfOk result (λ text. string_bytes text ≡ text_of self.now) }
         ensures reads_back { IfOk result (λ text. json_depth (data_of self.now) ≤ max_depth → tree_of_text (string_bytes text) ≡ Some self.now) }
@@ -26,7 +26,7 @@ impl Tree {
     }
 }
 
-/// A writer that has written nothing.
+/// Returns a writer that has written nothing.
 pub fn begin_text(alloc: Global) -> Result<Writer, AllocError>
     ensures before { IfOk result (λ out. out.before ≡ []) }
     ensures tokens { IfOk result (λ out. out.tokens ≡ []) }
@@ -34,7 +34,7 @@ pub fn begin_text(alloc: Global) -> Result<Writer, AllocError>
     Ok(Writer::new(Vec::with_capacity(alloc, FIRST_ROOM)?))
 }
 
-/// The text that was written, by a writer that began with nothing. No memory is taken.
+/// Returns the text that a writer wrote, if it began with an empty buffer. Allocates nothing.
 pub fn end_text(out: Writer) -> String
     requires { out.before ≡ [] }
     ensures text { string_bytes result ≡ print out.tokens }

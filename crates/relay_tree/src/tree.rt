@@ -7,14 +7,14 @@ use std::marker::Model;
 
 /// A JSON value whose numbers are whole. Contracts see it as a `Document`, and code matches on `&tree.node`.
 ///
-/// Dropping one, like each job over it, recurses once for each level of nesting.
+/// Dropping a tree, like any other walk over it, recurses once for each level of nesting.
 #[cycle(tree)]
 #[derive(Drop)]
 pub struct Tree {
     pub node: Node,
 }
 
-/// The six kinds of JSON value (RFC 8259, section 3). Members stand in the byte order of their names.
+/// The six kinds of JSON value (RFC 8259, section 3). Members are in the byte order of their names.
 #[cycle(tree)]
 #[derive(Drop)]
 pub enum Node {

@@ -1,4 +1,4 @@
-//! Trees written as JSON (RFC 8259), a token at a time.
+//! A writer of trees as JSON (RFC 8259), one token at a time.
 ghost use Rattle.std.specs.Prelude.{◌≡◌, ◌++◌, OnOk};
 ghost use Rattle.relay_tree.specs.Document.{list, object, items_of};
 ghost use Rattle.relay_tree.specs.Seen.{members_of};
@@ -11,8 +11,8 @@ use std::alloc::AllocError;
 use std::collections::{BTreeMap, VecDeque};
 
 impl Tree {
-    /// Writes the tree after what was written: member names in byte order, whole numbers in decimal. It costs the length of
-    /// its text, and copies nothing. After want of memory some first tokens of it may be written.
+    /// Appends the tree to what `out` has written: member names in byte order, whole numbers in decimal. Costs the length of
+    /// its text and copies nothing. If memory runs out, some of its first tokens may already be written.
     pub fn write(&self, out: &mut Writer) -> Result<(), AllocError>
         ensures tokens { OnOk result (out.new.tokens ≡ out.old.tokens ++ tokens_of self.now) }
         ensures before { out.new.before ≡ out.old.before }

@@ -1,4 +1,4 @@
--- How many members an object has, by the entries of its map.
+-- The number of members of an object is the number of entries of its map.
 use Rattle.std.proofs.Common.{◌≡◌, suc, List, [], ◌∷◌, length, String, refl, ap}
 use Rattle.std.specs.declared.alloc.Global.{Global}
 use Rattle.relay_tree.specs.Document.{Document}

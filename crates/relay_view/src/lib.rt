@@ -1,7 +1,7 @@
-//! What a watcher sees of a document: a list of slots, each of which shows what a pointer leads to, or how many parts that has.
+//! A view: the part of a document that a watcher sees, as a list of slots. Each slot shows the value at a pointer, or its size.
 //!
-//! The promise: slot `k` is `[v]` where pointer `k` leads to `v`, and `[]` where it leads to nothing, so null and absent
-//! differ; of a size, `[n]` where it leads to a list of n elements or an object of n members, else `[]`. Contracts see a [`View`] as
+//! The promise: slot `k` is `[v]` if pointer `k` leads to `v`, and `[]` if it leads to nothing, so `null` and absent differ. A slot of
+//! a size is `[n]` if its pointer leads to a list of `n` elements or an object of `n` members, else `[]`. Contracts see a [`View`] as
 //! the list of its slots.
 #![tactic(auto)]
 
@@ -15,4 +15,4 @@ mod write;
 
 pub use fault::ViewFault;
 pub use slot::{Slot, SlotKind};
-pub use view::{SLOTS_MOST, View};
+pub use view::{MAX_SLOTS, View};

@@ -1,4 +1,4 @@
-//! The slots of a document.
+//! The slots that a view shows of a document, as a tree.
 ghost use Rattle.std.specs.Prelude.{◌≡◌, IfOk};
 ghost use Rattle.relay_view.specs.View.{view};
 
@@ -8,7 +8,7 @@ use std::alloc::{AllocError, Global};
 use std::collections::VecDeque;
 
 impl View {
-    /// The list of slots. It costs the parts that the pointers lead to, each copied.
+    /// Returns the list of slots. Copies each value that the pointers lead to.
     pub fn of(&self, alloc: Global, document: &Tree) -> Result<Tree, AllocError>
         ensures { IfOk result (λ seen. seen ≡ view self.now document.now) }
     {

@@ -1,4 +1,4 @@
-//! Views of trees: how a request says what it wants to see.
+//! The reader of views from trees, as requests contain them.
 ghost use Rattle.std.specs.Prelude.{◌≡◌, ◌≢◌, true, Ok, Err, IfOk, IfErr, IsErrOf};
 ghost use Rattle.relay_tree.specs.Document.{items_of};
 ghost use Rattle.relay_tree.specs.Each.{each_from};
@@ -7,16 +7,16 @@ ghost use Rattle.relay_view.specs.declared.fault.ViewFault.TheVariants.{NoMemory
 
 use crate::fault::ViewFault;
 use crate::slot::{Slot, SlotKind};
-use crate::view::{SLOTS_MOST, View};
-use relay_pointer::{Pointer, PointerFault, TOKENS_MOST};
+use crate::view::{MAX_SLOTS, View};
+use relay_pointer::{MAX_TOKENS, Pointer, PointerFault};
 use relay_tree::{Element, Node, Tree};
 use std::alloc::Global;
 use std::collections::VecDeque;
 
 impl View {
-    /// The view that a tree is: a list of at most [`SLOTS_MOST`] slots, each a pointer text of at most [`TOKENS_MOST`] tokens, or an
-    /// object whose member `size` is one; other members are ignored. NoMemory comes only where the tree is a list of so many
-    /// elements.
+    /// Reads a view from a tree: a list of at most [`MAX_SLOTS`] elements, each a pointer text of at most [`MAX_TOKENS`] tokens, or an
+    /// object whose member `size` is such a text; other members are ignored. `NoMemory` comes only if the tree is a list of at most
+    /// [`MAX_SLOTS`] elements. See `docs/PROTOCOL.md`, "Views".
     pub fn read(alloc: Global, tree: &Tree) -> Result<View, ViewFault>
         ensures ok { IfOk result (λ view. view_of tree.now ≡ Ok view) }
         ensures err { IfErr result (λ fault. fault ≢ NoMemory → view_of tree.now ≡ Err fault) }
@@ -25,7 +25,7 @@ impl View {
         let Node::List(items) = &tree.node else {
             return Err(ViewFault::Shape { at: None });
         };
-        if items.len() as u64 > SLOTS_MOST {
+        if items.len() as u64 > MAX_SLOTS {
             return Err(ViewFault::TooMany);
         }
         match slots_of(alloc, items) {
@@ -51,7 +51,7 @@ fn slots_of(alloc: Global, items: &VecDeque<Element>) -> Result<Vec<Slot>, ViewF
     Ok(slots)
 }
 
-/// The slot that the element at place `k` is.
+/// Reads the slot from the element at place `k`.
 fn slot_at(alloc: Global, k: u64, item: &Tree) -> Result<Slot, ViewFault>
     ensures ok { IfOk result (λ slot. slot_at k item.now ≡ Ok slot) }
     ensures err { IfErr result (λ fault. fault ≢ NoMemory → slot_at k item.now ≡ Err fault) }
@@ -69,12 +69,12 @@ fn slot_at(alloc: Global, k: u64, item: &Tree) -> Result<Slot, ViewFault>
     }
 }
 
-/// The slot at place `k`, by the text of its pointer.
+/// Reads the slot at place `k` from the text of its pointer.
 fn slot_spelled(alloc: Global, k: u64, kind: SlotKind, text: &str) -> Result<Slot, ViewFault>
     ensures ok { IfOk result (λ slot. slot_spelled k kind text.now ≡ Ok slot) }
     ensures err { IfErr result (λ fault. fault ≢ NoMemory → slot_spelled k kind text.now ≡ Err fault) }
 {
-    match Pointer::read(alloc, text, TOKENS_MOST) {
+    match Pointer::read(alloc, text, MAX_TOKENS) {
         Ok(pointer) => Ok(Slot { pointer, kind }),
         Err(PointerFault::BadPointer | PointerFault::TooManyTokens) => {
             Err(ViewFault::Pointer { at: k })

@@ -1,4 +1,4 @@
-//! Whether two views are one.
+//! Equality of views.
 ghost use Rattle.std.specs.Prelude.{◌≡◌, ◌↔◌, IsTrue, length};
 
 use crate::slot::Slot;
@@ -6,7 +6,7 @@ use crate::view::View;
 use relay_pointer::same_path;
 
 impl View {
-    /// Whether the other view has the same slots in the same order. No memory is taken.
+    /// Returns whether both views have the same slots in the same order. Allocates nothing.
     pub fn same(&self, other: &View) -> bool
         ensures { IsTrue result ↔ (self.now ≡ other.now) }
     {

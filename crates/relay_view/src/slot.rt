@@ -1,5 +1,7 @@
-//! One slot of a view: a pointer, and what is shown of the value to which it leads.
+//! A slot of a view: a pointer, and what is shown of the value at it.
 ghost use Rattle.std.specs.Prelude.{◌≡◌, ◌-◌, ◌^◌, ◌++◌, min, pos, option_map, option_and_then, IfOk, OnOk};
+ghost use Rattle.relay_tree.specs.Budget.{paid};
+ghost use Rattle.relay_tree.specs.Document.{weight};
 ghost use Rattle.relay_tree.specs.Text.{tokens_of, ReadsBack};
 ghost use Rattle.relay_pointer.specs.Path.{at};
 ghost use Rattle.relay_view.specs.View.{counted, shown, size, slot};
@@ -7,20 +9,23 @@ ghost use Rattle.relay_view.specs.Written.{shown_tokens};
 
 use json::Writer;
 use relay_pointer::{Pointer, resolve};
-use relay_tree::{Element, Node, Tree};
+use relay_tree::{Budget, Element, Node, Tree};
 use std::alloc::{AllocError, Global};
 use std::collections::VecDeque;
+
+/// The weight of the list around a slot's value.
+const LIST_WEIGHT: u64 = 8;
 
 /// What a slot shows.
 #[derive(Clone, Copy, Debug, PartialEq, Eq)]
 pub enum SlotKind {
-    /// The value to which its pointer leads.
+    /// The value at the pointer.
     Value,
-    /// How many elements or members that value has.
+    /// The number of elements or members of that value.
     Size,
 }
 
-/// A slot: where it looks, and what it shows of what stands there.
+/// A slot: its pointer, and what it shows of the value there.
 #[derive(Drop)]
 pub struct Slot {
     pub pointer: Pointer,
@@ -28,8 +33,8 @@ pub struct Slot {
 }
 
 impl Slot {
-    /// What the slot shows of a document: `[v]` where there is something to show, `[]` where there is nothing. It costs a copy of
-    /// the value, of a size none.
+    /// Returns what the slot shows of a document: `[v]` if there is something to show, else `[]`. Copies the value; a size needs no
+    /// copy.
     pub fn of(&self, alloc: Global, document: &Tree) -> Result<Tree, AllocError>
         ensures { IfOk result (λ seen. seen ≡ slot self.now document.now) }
     {
@@ -38,6 +43,25 @@ impl Slot {
             slot.push_back(Element::new(alloc, value)?)?;
         }
         Ok(Tree::from(Node::List(slot)))
+    }
+
+    /// Pays the weight of what the slot shows of a document. Returns what is left of the budget, or `None` if the weight exceeds it.
+    /// Walks no more of the value than the budget pays for. Allocates nothing.
+    #[tactic(auto, using(relay_tree::proofs::Budgets::paid_on, relay_tree::proofs::Budgets::paid_out))]
+    pub fn pay(&self, document: &Tree, budget: Budget) -> Option<Budget>
+        ensures { result ≡ paid (weight (slot self.now document.now)) budget }
+    {
+        let left = budget.pay(LIST_WEIGHT)?;
+        let Some(part) = resolve(document, &self.pointer) else {
+            return Some(left);
+        };
+        match self.kind {
+            SlotKind::Value => part.pay(left),
+            SlotKind::Size => match size_tree(part) {
+                Some(size) => size.pay(left),
+                None => Some(left),
+            },
+        }
     }
 
     fn value(&self, alloc: Global, document: &Tree) -> Result<Option<Tree>, AllocError>
@@ -52,7 +76,7 @@ impl Slot {
         }
     }
 
-    /// Writes what the slot shows of a document after what was written, with no copy of it.
+    /// Appends what the slot shows of a document to the output, without copying it.
     pub(crate) fn write(&self, document: &Tree, out: &mut Writer) -> Result<(), AllocError>
         ensures tokens { OnOk result (out.new.tokens ≡ out.old.tokens ++ tokens_of (slot self.now document.now)) }
         ensures before { out.new.before ≡ out.old.before }
@@ -81,7 +105,7 @@ impl Slot {
     }
 }
 
-/// The size of a value as a tree; None of one without parts.
+/// Returns the size of a value as a tree, or `None` if it is neither a list nor an object.
 fn size_tree(part: &Tree) -> Option<Tree>
     ensures { result ≡ option_map counted (size part.now) }
 {
@@ -89,7 +113,7 @@ fn size_tree(part: &Tree) -> Option<Tree>
     Some(Tree::from(Node::Whole(bounded(size))))
 }
 
-/// How many elements a list has, or members an object.
+/// Returns the number of elements of a list or of members of an object.
 fn size_of(part: &Tree) -> Option<usize>
     ensures { result ≡ size part.now }
 {
@@ -100,7 +124,7 @@ fn size_of(part: &Tree) -> Option<usize>
     }
 }
 
-/// The number, or the largest that a document holds.
+/// Returns the number, or `i64::MAX` if it is larger.
 fn bounded(number: usize) -> i64
     ensures { result ≡ pos (min number (2 ^ 63 - 1)) }
 {

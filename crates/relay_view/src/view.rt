@@ -1,14 +1,14 @@
-//! The slots of a view.
+//! A view, the list of its slots.
 ghost use Rattle.std.specs.Prelude.{◌≡◌, length, option_copied, option_map, slice_get};
 
 use crate::slot::{Slot, SlotKind};
 use relay_pointer::Pointer;
 use std::marker::Model;
 
-/// How many slots a view has at most.
-pub const SLOTS_MOST: u64 = 16;
+/// The most slots of a view.
+pub const MAX_SLOTS: u64 = 16;
 
-/// A list of slots, each of which shows a part of a document, or its size. Contracts see it as that list.
+/// A list of slots, each of which shows a value in a document, or its size. Contracts see it as that list.
 #[derive(Drop)]
 pub struct View {
     slots: Vec<Slot>,
@@ -28,21 +28,21 @@ impl Model for View {
 }
 
 impl View {
-    /// The view of these slots. No memory is taken.
+    /// Creates a view of these slots. Allocates nothing.
     pub fn of_slots(list: Vec<Slot>) -> View
         ensures { result ≡ list.items }
     {
         View { slots: list }
     }
 
-    /// How many slots it has. No memory is taken.
+    /// Returns the number of slots. Allocates nothing.
     pub fn len(&self) -> u64
         ensures { result ≡ length self.now }
     {
         self.slots.len() as u64
     }
 
-    /// The pointer of slot `k`, counted from 0; None past the last. No memory is taken.
+    /// Returns the pointer of slot `k`, counted from 0, or `None` past the last slot. Allocates nothing.
     pub fn pointer(&self, k: u64) -> Option<&Pointer>
         ensures { option_copied result ≡ option_map (λ s. s.pointer) (slice_get self.now k) }
     {
@@ -52,7 +52,7 @@ impl View {
         }
     }
 
-    /// What slot `k` shows, counted from 0; None past the last. No memory is taken.
+    /// Returns what slot `k` shows, counted from 0, or `None` past the last slot. Allocates nothing.
     pub fn kind(&self, k: u64) -> Option<SlotKind>
         ensures { result ≡ option_map (λ s. s.kind) (slice_get self.now k) }
     {
@@ -62,7 +62,7 @@ impl View {
         }
     }
 
-    /// The slots, in order.
+    /// Returns the slots, in order.
     pub fn slots(&self) -> &[Slot]
         ensures { result.now ≡ self.now }
     {

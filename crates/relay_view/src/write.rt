@@ -1,4 +1,4 @@
-//! The slots of a document written as JSON, a token at a time.
+//! The writer of views as JSON, token by token.
 ghost use Rattle.std.specs.Prelude.{◌≡◌, ◌++◌, OnOk};
 ghost use Rattle.relay_tree.specs.Text.{tokens_of, ReadsBack};
 ghost use Rattle.relay_view.specs.View.{view};
@@ -9,8 +9,8 @@ use relay_tree::Tree;
 use std::alloc::AllocError;
 
 impl View {
-    /// Writes the list of slots after what was written, each part of the document where it stands. It costs the length of its
-    /// text, and copies nothing. After want of memory some first tokens of it may be written.
+    /// Appends the list of slots to the output, each value straight from the document. Costs the length of its text and copies
+    /// nothing. If memory runs out, some of its first tokens may have been written.
     pub fn write(&self, document: &Tree, out: &mut Writer) -> Result<(), AllocError>
         ensures tokens { OnOk result (out.new.tokens ≡ out.old.tokens ++ tokens_of (view self.now document.now)) }
         ensures before { out.new.before ≡ out.old.before }

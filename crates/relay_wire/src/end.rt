@@ -1,11 +1,11 @@
-//! The side of a stream that is tested.
+//! The end of a stream that the code under test uses.
 use crate::wire::Wire;
 use std::cell::{RefCell, RefMut};
 use std::io;
 use std::io::{ErrorKind, Read, Write};
 use std::net::OpenStream;
 
-/// The other end of a [`Wire`]: what was fed is read from it, and what is written to it is the wire's output. It never blocks.
+/// The other end of a [`Wire`]: it reads what was fed, and writes to the wire's output. It never blocks.
 #[derive(Drop)]
 pub struct End<'a> {
     /// The wire, which several ends may share.
@@ -13,7 +13,7 @@ pub struct End<'a> {
 }
 
 impl End<'_> {
-    /// The wire, where nobody else borrows it.
+    /// Borrows the wire. Fails with `ErrorKind::Other` if it is borrowed already.
     fn wire(&self) -> io::Result<RefMut<'_, Wire>> {
         self.wire
             .try_borrow_mut()

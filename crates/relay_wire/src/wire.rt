@@ -1,40 +1,40 @@
-//! A test's own side of a stream.
+//! The test's end of a stream.
 ghost use Rattle.std.specs.Prelude.{◌≤◌, length, IfOk};
 
-use crate::trick::Trick;
+use crate::injected_fault::InjectedFault;
 use std::alloc::{AllocError, Global};
 use std::cell::RefCell;
 use std::io;
 use std::io::ErrorKind;
 
-/// What goes over a stream, what goes wrong with it, and how often it was called.
+/// The bytes of a stream, its injected faults, and the counts of its calls.
 #[derive(Drop)]
 pub struct Wire {
     input: Vec<u8>,
     at: usize,
-    /// What was written. A test may clear it.
+    /// The bytes that were written. A test may clear it.
     pub output: Vec<u8>,
-    /// The input ends behind what was fed, where more could come else.
+    /// Whether the input ends after the bytes that were fed. Otherwise a read there returns `WouldBlock`.
     pub ended: bool,
-    /// What each read does; `None`: what it is asked to.
-    pub reads: Option<Trick>,
-    /// What each write does; `None`: what it is asked to.
-    pub writes: Option<Trick>,
-    /// What one call does, by its number from 0, whether it reads, writes or flushes.
-    pub trick: Option<(u64, Trick)>,
-    /// How many calls were made: each reads, writes or flushes.
+    /// The fault of every read. `None` means no fault.
+    pub reads: Option<InjectedFault>,
+    /// The fault of every write. `None` means no fault.
+    pub writes: Option<InjectedFault>,
+    /// The fault of one call, by its number from 0. Reads, writes and flushes are counted together.
+    pub trick: Option<(u64, InjectedFault)>,
+    /// The number of calls so far: reads, writes and flushes.
     pub calls: u64,
-    /// How many of them read. A test may begin at 0 again.
+    /// The number of reads. A test may reset it.
     pub read_calls: u64,
-    /// How many of them wrote. A test may begin at 0 again.
+    /// The number of writes. A test may reset it.
     pub write_calls: u64,
-    /// How many of them failed by [`Trick::Fail`].
+    /// The number of calls that failed by [`InjectedFault::Fail`].
     pub failures: u64,
 }
 
 impl Wire {
-    /// A wire that nothing was fed or written to, on which nothing goes wrong. Behind the cell a test and its [`End`](crate::End)
-    /// hold it both; an end that is called while the test borrows it fails.
+    /// An empty wire without faults. A test and its [`End`](crate::End) share it through the cell; a call of the end fails while the
+    /// test borrows it.
     pub fn new(alloc: Global) -> RefCell<Wire> {
         RefCell::new(Wire {
             input: Vec::new(alloc),
@@ -51,7 +51,7 @@ impl Wire {
         })
     }
 
-    /// Bytes come, behind those that were not read yet. At an error none of them does.
+    /// Appends bytes to the input. After an error none of them was appended.
     pub fn feed(&mut self, bytes: &[u8]) -> Result<(), AllocError> {
         if self.is_read() {
             self.input.clear();
@@ -60,7 +60,8 @@ impl Wire {
         self.input.extend_from_slice(bytes)
     }
 
-    /// A text message of a client comes, in one frame whose mask is of zeros (RFC 6455, section 5.2). At an error a part of it may.
+    /// Appends a client's text message to the input, as one frame with a mask of zeros (RFC 6455, section 5.2). After an error a part
+    /// of it may have been appended.
     pub fn say(&mut self, text: &str) -> Result<(), AllocError> {
         self.feed(&[0x81])?;
         match text.len() {
@@ -78,13 +79,13 @@ impl Wire {
         self.feed(text.as_bytes())
     }
 
-    /// Whether all that was fed was read.
+    /// Whether all the input was read.
     pub fn is_read(&self) -> bool {
         self.at >= self.input.len()
     }
 
-    /// Counts a call of so many bytes. How many of them it may move.
-    fn call(&mut self, len: usize, always: Option<Trick>) -> io::Result<usize> {
+    /// Counts a call of `len` bytes, and applies its fault. Returns how many bytes the call may move.
+    fn call(&mut self, len: usize, always: Option<InjectedFault>) -> io::Result<usize> {
         let call = self.calls;
         self.calls = call.saturating_add(1);
         let trick = match self.trick {
@@ -93,18 +94,18 @@ impl Wire {
         };
         match trick {
             None => Ok(len),
-            Some(Trick::OneByte) => Ok(len.min(1)),
-            Some(Trick::End) => Ok(0),
-            Some(Trick::Nothing) => Err(io::Error::from(ErrorKind::WouldBlock)),
-            Some(Trick::Interrupt) => Err(io::Error::from(ErrorKind::Interrupted)),
-            Some(Trick::Fail) => {
+            Some(InjectedFault::OneByte) => Ok(len.min(1)),
+            Some(InjectedFault::End) => Ok(0),
+            Some(InjectedFault::Nothing) => Err(io::Error::from(ErrorKind::WouldBlock)),
+            Some(InjectedFault::Interrupt) => Err(io::Error::from(ErrorKind::Interrupted)),
+            Some(InjectedFault::Fail) => {
                 self.failures = self.failures.saturating_add(1);
                 Err(io::Error::from(ErrorKind::ConnectionReset))
             }
         }
     }
 
-    /// Gives what a read takes.
+    /// Serves a read of the end.
     pub(crate) fn give(&mut self, buf: &mut [u8]) -> io::Result<usize>
         ensures { IfOk result (λ len. len ≤ length buf.new) }
     {
@@ -120,7 +121,7 @@ impl Wire {
         Ok(len)
     }
 
-    /// Takes what a write gives.
+    /// Serves a write of the end.
     pub(crate) fn take(&mut self, buf: &[u8]) -> io::Result<usize>
         ensures { IfOk result (λ len. len ≤ length buf.now) }
     {
@@ -130,7 +131,7 @@ impl Wire {
         Ok(len)
     }
 
-    /// Nothing waits to be flushed.
+    /// Serves a flush of the end, which has nothing to write.
     pub(crate) fn flush(&mut self) -> io::Result<()> {
         self.call(0, None).map(|_| ())
     }

@@ -4,13 +4,13 @@ ghost use Rattle.relay_tree.specs.Document.{items_of, list};
 ghost use Rattle.relay_patch.specs.Walk.{step};
 ghost use Rattle.relay_patch.specs.Patch.{insert_child, drop_child};
 
-use super::spot::insertion_index;
+use super::insert_target::insertion_index;
 use relay_pointer::index_of;
 use relay_tree::{Element, Node, Tree, insert_member};
 use std::alloc::{AllocError, Global};
 use std::collections::VecDeque;
 
-/// Inserts a value where the token says. Want of memory leaves the container as it was.
+/// Inserts a value at the place that the token names. If memory runs out, the container is unchanged.
 pub(crate) fn insert_child(
     alloc: Global,
     container: &mut Tree,
@@ -44,7 +44,7 @@ fn insert_item(
     }
 }
 
-/// Takes away the part that the token names, and gives it.
+/// Removes the part that the token names and returns it.
 pub(crate) fn drop_child(container: &mut Tree, token: &str) -> Tree
     requires { IsOk (step container.old token.now) }
     ensures value { step container.old token.now ≡ Ok result }

@@ -1,5 +1,5 @@
-//! Changes carried out so that they can be taken back. Memory is taken, and what takes a step back is kept, before the step changes
-//! the tree; a move that carries its value elsewhere is two steps, and where the second finds no memory the first is kept.
+//! Changes that are made so that they can be taken back. Each step allocates all its memory, including space for its [`Undo`], before
+//! it changes the tree. A move that is not within one list is two steps; if the second runs out of memory, the first is kept.
 ghost use Rattle.std.specs.Prelude.{◌≡◌, ◌<◌, ◌^◌, ℕ, true, Ok, Some, OnOk, IfOk, IsOk};
 ghost use Rattle.relay_tree.specs.Document.{Document, list, Items};
 ghost use Rattle.relay_tree.specs.Part.{items_length};
@@ -15,7 +15,7 @@ use super::container::drop_child;
 use super::exchange::exchange;
 use super::making::{make, put, remove_at};
 use super::sliding::{in_one_list, slide};
-use super::undo::{Kept, brought};
+use super::undo::{Undo, brought};
 use super::walk::walk;
 use crate::change::{Change, Place};
 use relay_pointer::{Pointer, copy_tokens, index_of};
@@ -23,11 +23,11 @@ use relay_tree::{Element, Node, Tree};
 use std::alloc::{AllocError, Global};
 use std::collections::VecDeque;
 
-/// Makes a change that is kept. Where memory is refused, what is kept takes back what has been done of it.
+/// Makes a change and keeps what takes it back. If memory runs out, what is kept takes back the part that was done.
 pub(crate) fn make_keeping(
     alloc: Global,
     tree: &mut Tree,
-    kept: &mut Vec<Kept>,
+    kept: &mut Vec<Undo>,
     change: &Change,
 ) -> Result<(), AllocError>
     requires { (next : Document) × Makes tree.old change.now next }
@@ -51,11 +51,11 @@ pub(crate) fn make_keeping(
     }
 }
 
-// Makes a change that does no more than bring a value to the path.
+// Makes a change that only puts a value at the path.
 fn bring(
     alloc: Global,
     tree: &mut Tree,
-    kept: &mut Vec<Kept>,
+    kept: &mut Vec<Undo>,
     path: &Pointer,
     change: &Change,
 ) -> Result<(), AllocError>
@@ -75,7 +75,7 @@ fn bring(
 fn slide_kept(
     alloc: Global,
     tree: &mut Tree,
-    kept: &mut Vec<Kept>,
+    kept: &mut Vec<Undo>,
     from: &Place,
     to: &Place,
 ) -> Result<(), AllocError>
@@ -90,11 +90,11 @@ fn slide_kept(
     Ok(())
 }
 
-/// Puts a copy of a value at a place, which is kept.
+/// Puts a copy of a value at a place and keeps what takes this back.
 pub(crate) fn put_in(
     alloc: Global,
     tree: &mut Tree,
-    kept: &mut Vec<Kept>,
+    kept: &mut Vec<Undo>,
     place: &Place,
     value: &Tree,
 ) -> Result<(), AllocError>
@@ -110,11 +110,11 @@ pub(crate) fn put_in(
     Ok(())
 }
 
-/// Takes away what stands at a place, which is kept.
+/// Removes what is at a place and keeps what takes this back.
 pub(crate) fn take_out(
     alloc: Global,
     tree: &mut Tree,
-    kept: &mut Vec<Kept>,
+    kept: &mut Vec<Undo>,
     place: &Place,
 ) -> Result<(), AllocError>
     requires { IsOk (dropped place.now tree.old) }
@@ -128,11 +128,11 @@ pub(crate) fn take_out(
     }
 }
 
-// Takes an element out of its list.
+// Removes an element from its list.
 fn take_item(
     alloc: Global,
     tree: &mut Tree,
-    kept: &mut Vec<Kept>,
+    kept: &mut Vec<Undo>,
     path: &[String],
 ) -> Result<(), AllocError>
     requires { IsOk (at_path (in_list drop_child) (path_of path.now) tree.old) }
@@ -148,7 +148,7 @@ fn take_item(
     kept.reserve(1)?;
     let index = position(last.as_str());
     let element = place.with_tree(remove_at(tree, path));
-    kept.push_reserved(Kept::Element {
+    kept.push_reserved(Undo::Element {
         list,
         index,
         element,
@@ -157,7 +157,7 @@ fn take_item(
     Ok(())
 }
 
-// How many elements the list at the path has.
+// The number of elements of the list at the path.
 fn length_at(tree: &Tree, path: &[String]) -> usize
     ensures { (ds : Items) → walk tree.now (path_of path.now) ≡ Ok (list ds) → result ≡ items_length ds }
 {
@@ -167,7 +167,7 @@ fn length_at(tree: &Tree, path: &[String]) -> usize
     }
 }
 
-/// The index that a token is.
+/// Returns the index that a token spells.
 pub(crate) fn position(token: &str) -> usize
     ensures { (i : ℕ) → index_of token.now ≡ Some i → i < 2 ^ 64 → result ≡ i }
 {
@@ -177,12 +177,12 @@ pub(crate) fn position(token: &str) -> usize
     }
 }
 
-// Takes a member out of its object. It could not be put back without growth, so the object is exchanged for a copy of it
-// that lacks the member.
+// Removes a member from its object. Putting it back would have to allocate, so the object is replaced by a copy without the
+// member.
 fn take_member(
     alloc: Global,
     tree: &mut Tree,
-    kept: &mut Vec<Kept>,
+    kept: &mut Vec<Undo>,
     path: &[String],
 ) -> Result<(), AllocError>
     requires { IsOk (at_path drop_child (path_of path.now) tree.old) }
@@ -196,7 +196,7 @@ fn take_member(
     let rest = copy_without(alloc, tree, before, last.as_str())?;
     kept.reserve(1)?;
     let part = exchange(tree, &path, rest);
-    kept.push_reserved(Kept::Part { path, part });
+    kept.push_reserved(Undo::Part { path, part });
     Ok(())
 }
 

@@ -1,4 +1,4 @@
-//! Changes carried out on a tree.
+//! Changes made to a tree.
 ghost use Rattle.std.specs.Prelude.{◌≡◌, Ok, None, false, OnOk, OnErr, IfOk, IsOk, is_some};
 ghost use Rattle.relay_tree.specs.Document.{Document};
 ghost use Rattle.relay_pointer.specs.Path.{path_of};
@@ -15,7 +15,7 @@ use relay_pointer::{child_mut, resolve};
 use relay_tree::Tree;
 use std::alloc::{AllocError, Global};
 
-/// Makes a change that carries nothing, and gives what went with it. Want of memory leaves the tree as it was.
+/// Makes a change that carries nothing, and returns the value that it removed or replaced. If memory runs out, the tree is unchanged.
 pub(crate) fn make(
     alloc: Global,
     tree: &mut Tree,
@@ -47,7 +47,7 @@ pub(crate) fn make(
     }
 }
 
-/// Puts a value at a place, and gives the member that stood there, if one did.
+/// Puts a value at a place and returns the one that it replaced, if any.
 pub(crate) fn put(
     alloc: Global,
     tree: &mut Tree,
@@ -72,7 +72,7 @@ fn is_taken(tree: &Tree, place: &Place) -> bool
     !place.item && resolve(tree, &place.path).is_some()
 }
 
-// Inserts a copy of a value where none goes for it.
+// Inserts a copy of a value that replaces none.
 fn insert_copy(
     alloc: Global,
     tree: &mut Tree,
@@ -105,7 +105,7 @@ fn insert_at(alloc: Global, tree: &mut Tree, path: &[String], value: Tree) -> Re
     insert_at(alloc, part, rest, value)
 }
 
-/// Takes the value at the path away, and gives it.
+/// Removes the value at the path and returns it.
 pub(crate) fn remove_at(tree: &mut Tree, path: &[String]) -> Tree
     requires { IsOk (at_path drop_child (path_of path.now) tree.old) }
     ensures value { walk tree.old (path_of path.now) ≡ Ok result }

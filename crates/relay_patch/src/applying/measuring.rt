@@ -1,4 +1,4 @@
-//! The bounds on a document, measured whole, or from what a change brought and took.
+//! Checks of the bounds on a document, which is measured as a whole or from what a change added and removed.
 ghost use Rattle.std.specs.Prelude.{◌≡◌, ◌≢◌, ◌<◌, ◌≤◌, ◌-◌, ◌+◌, ◌^◌, Some, Ok, Err, OnOk, IfOk, IfErr, IsOk, false, length, option_copied};
 ghost use Rattle.relay_tree.specs.Document.{Document, depth, weight, saturated};
 ghost use Rattle.relay_pointer.specs.Path.{path_of};
@@ -13,7 +13,7 @@ use crate::fault::Cause;
 use relay_pointer::{Pointer, resolve};
 use relay_tree::Tree;
 
-/// The weight of a document within the bounds, which is told where it is bounded. Without a bound nothing is measured.
+/// Returns the weight of a document that is within the bounds; 0 if the weight is not bounded. What is not bounded is not measured.
 pub(crate) fn measure(tree: &Tree, bounds: Bounds) -> Result<u64, Cause>
     ensures ok { OnOk result (within bounds tree.now ≡ Ok tree.now) }
     ensures weight { IfOk result (λ n. bounds.weight < 2 ^ 64 - 1 → n ≡ weight tree.now) }
@@ -39,9 +39,9 @@ fn exceeds_depth(tree: &Tree, most: u64) -> bool
     most < u64::MAX && most < tree.depth()
 }
 
-/// The weight that a document has after a change, from the one before it, and from what the change takes away. The
-/// document before it is within the bounds, and neither is walked.
-pub(crate) fn foresee(
+/// Returns the weight of a document after a change, from its weight before and from what the change removes. The document
+/// before the change is within the bounds. Only the values that the change adds and removes are walked.
+pub(crate) fn weight_after(
     known: u64,
     change: &Change,
     went: Option<&Tree>,
@@ -55,7 +55,7 @@ pub(crate) fn foresee(
     judge(known, change, went, bounds)
 }
 
-/// What is no longer there after a change that carries nothing.
+/// Returns the value that a change that carries nothing removes or replaces.
 pub(crate) fn gone<'t>(tree: &'t Tree, change: &Change) -> Option<&'t Tree>
     ensures { carries change.now ≡ false → option_copied result ≡ gone tree.now change.now }
 {
@@ -70,7 +70,7 @@ pub(crate) fn gone<'t>(tree: &'t Tree, change: &Change) -> Option<&'t Tree>
     }
 }
 
-/// What stands where a value is put.
+/// Returns the value that is replaced when one is put at the place. In a list none is.
 pub(crate) fn displaced<'t>(tree: &'t Tree, place: &Place) -> Option<&'t Tree>
     ensures { option_copied result ≡ displaced place.now tree.now }
 {
@@ -81,8 +81,8 @@ pub(crate) fn displaced<'t>(tree: &'t Tree, place: &Place) -> Option<&'t Tree>
     }
 }
 
-// The weight after a change, from the weight before it. The document before was within the bounds, so it is too deep
-// after the change exactly where the value that came stands too deep.
+// The weight after a change, from the weight before it. The document before was within the bounds, so it is too deep after
+// the change exactly if the value that was added reaches too deep.
 fn judge(weight: u64, change: &Change, went: Option<&Tree>, bounds: Bounds) -> Result<u64, Cause>
     requires { bounds.weight < 2 ^ 64 - 1 → lost change.now (option_copied went) ≤ weight }
     ensures ok { OnOk result (IsOk (judged bounds change.now (weight - lost change.now (option_copied went.entry) + gained change.now (option_copied went.entry)))) }
@@ -109,7 +109,7 @@ fn exceeds_reach(change: &Change, most: u64) -> bool
     most < u64::MAX && most < reach(change)
 }
 
-// How deep the value stands that a change brings.
+// The level that the value added by a change reaches; 0 if none is added.
 fn reach(change: &Change) -> u64
     ensures { result ≡ saturated (reach change.now) }
 {
@@ -130,7 +130,7 @@ fn reach_at(path: &Pointer, value: &Tree) -> u64
     (path.tokens().len() as u64).saturating_add(value.depth())
 }
 
-// The weight of what a change takes away.
+// The weight that a change removes.
 fn lost(change: &Change, went: Option<&Tree>) -> u64
     ensures { result ≡ saturated (lost change.now (option_copied went.entry)) }
 {
@@ -142,7 +142,7 @@ fn lost(change: &Change, went: Option<&Tree>) -> u64
     part_weight(went).saturating_add(name)
 }
 
-// The weight of what a change brings.
+// The weight that a change adds.
 fn gained(change: &Change, went: Option<&Tree>) -> u64
     ensures { result ≡ saturated (gained change.now (option_copied went.entry)) }
 {
@@ -166,7 +166,7 @@ fn part_weight(part: Option<&Tree>) -> u64
     }
 }
 
-// The name of a member that is new at the place.
+// The weight of the member name at the place, or 0 if a value was there, whose name stays.
 fn new_name(place: &Place, went: Option<&Tree>) -> u64
     ensures { result ≡ saturated (new_name (place_weight place.now) (option_copied went.entry)) }
 {
@@ -176,7 +176,7 @@ fn new_name(place: &Place, went: Option<&Tree>) -> u64
     }
 }
 
-// The name of a member at the place, which an element has not.
+// The weight of the member name at the place, or 0 for an element, which has none.
 fn place_weight(place: &Place) -> u64
     ensures { result ≡ saturated (place_weight place.now) }
 {
@@ -187,7 +187,7 @@ fn place_weight(place: &Place) -> u64
     }
 }
 
-// The bytes of a path's last token.
+// The number of bytes of a path's last token.
 fn name_weight(path: &Pointer) -> u64
     ensures { result ≡ saturated (name_weight path.now) }
 {

@@ -1,5 +1,4 @@
-//! The checks of a move: where its value goes is decided before it is taken away, so that a refusal leaves nothing to
-//! put back.
+//! The checks of a move. They find the target before the value is removed, so that a refusal leaves nothing to put back.
 ghost use Rattle.std.specs.Prelude.{◌≡◌, ◌≢◌, ◌<◌, ◌^◌, Ok, Err, false, IsOk, IfOk, IfErr, bytes_eq, length, string_bytes};
 ghost use Rattle.relay_tree.specs.Document.{Document};
 ghost use Rattle.relay_pointer.specs.Path.{path_of, is_proper_prefix, same_path};
@@ -9,66 +8,70 @@ ghost use Rattle.relay_patch.specs.Patch.{at_path, drop_child};
 ghost use Rattle.relay_patch.specs.Steps.{landing_in, landing, shifted, is_end, ends, is_same_end};
 ghost use Rattle.relay_patch.specs.declared.fault.Cause.TheVariants.{NoMemory};
 
-use super::spot::{Spot, insertion_index, land, land_in};
+use super::insert_target::{InsertTarget, insertion_index, resolve_insert, resolve_insert_in};
 use super::walk::{is_dash, step, walk};
 use crate::fault::Cause;
 use relay_pointer::{index_of, same_path};
 use relay_tree::{Node, Tree};
 
-/// Where an insertion at the path goes once the part at `from` is taken away.
-pub(crate) fn land_without(tree: &Tree, from: &[String], path: &[String]) -> Result<Spot, Cause>
+/// Returns where an insertion at the path would go after the part at `from` is removed.
+pub(crate) fn resolve_insert_without(
+    tree: &Tree,
+    from: &[String],
+    path: &[String],
+) -> Result<InsertTarget, Cause>
     requires outside { is_proper_prefix (path_of from.now) (path_of path.now) ≡ false }
     requires elsewhere { same_path (path_of from.now) (path_of path.now) ≡ false }
-    ensures spot { (rest : Document) → at_path drop_child (path_of from.now) tree.now ≡ Ok rest → result ≡ landing rest (path_of path.now) }
+    ensures insert_target { (rest : Document) → at_path drop_child (path_of from.now) tree.now ≡ Ok rest → result ≡ landing rest (path_of path.now) }
     ensures other { IfErr result (λ cause. cause ≢ NoMemory) }
 {
     let [gone, deeper @ ..] = from else {
-        return Ok(Spot::Root);
+        return Ok(InsertTarget::Root);
     };
     let [token, onward @ ..] = path else {
-        return Ok(Spot::Root);
+        return Ok(InsertTarget::Root);
     };
     if onward.is_empty() {
         return if deeper.is_empty() {
-            land_beside(tree, gone.as_str(), token.as_str())
+            resolve_insert_beside(tree, gone.as_str(), token.as_str())
         } else {
-            land_in(tree, token.as_str())
+            resolve_insert_in(tree, token.as_str())
         };
     }
     if deeper.is_empty() {
         return match step_beside(tree, gone.as_str(), token.as_str()) {
-            Ok(part) => land(part, onward),
+            Ok(part) => resolve_insert(part, onward),
             Err(cause) => Err(cause),
         };
     }
     match step(tree, token.as_str()) {
         Ok(part) => {
             if gone == token {
-                land_without(part, deeper, onward)
+                resolve_insert_without(part, deeper, onward)
             } else {
-                land(part, onward)
+                resolve_insert(part, onward)
             }
         }
         Err(cause) => Err(cause),
     }
 }
 
-// Where a token inserts in a container that loses the part `gone`.
-fn land_beside(container: &Tree, gone: &str, token: &str) -> Result<Spot, Cause>
+// Where a token would insert in a container after the part `gone` is removed.
+fn resolve_insert_beside(container: &Tree, gone: &str, token: &str) -> Result<InsertTarget, Cause>
     requires { bytes_eq gone.now token.now ≡ false }
-    ensures spot { (rest : Document) → drop_child gone.now container.now ≡ Ok rest → result ≡ landing_in rest token.now }
+    ensures insert_target { (rest : Document) → drop_child gone.now container.now ≡ Ok rest → result ≡ landing_in rest token.now }
     ensures other { IfErr result (λ cause. cause ≢ NoMemory) }
 {
     match container.node.list_len() {
         Some(length) => match insertion_index(length.saturating_sub(1), token) {
-            Ok(index) => Ok(Spot::Item { index }),
+            Ok(index) => Ok(InsertTarget::Item { index }),
             Err(cause) => Err(cause),
         },
-        None => land_in(container, token),
+        None => resolve_insert_in(container, token),
     }
 }
 
-// The part that a token names in a container that loses the part `gone`.
+// The part that a token would name in a container after the part `gone` is removed.
 fn step_beside<'t>(container: &'t Tree, gone: &str, token: &str) -> Result<&'t Tree, Cause>
     requires { bytes_eq gone.now token.now ≡ false }
     ensures ok { IfOk result (λ part. (rest : Document) → drop_child gone.now container.now ≡ Ok rest → step rest token.now ≡ Ok part.now) }
@@ -81,7 +84,7 @@ fn step_beside<'t>(container: &'t Tree, gone: &str, token: &str) -> Result<&'t T
     }
 }
 
-// The index, while the element `gone` of a list is still there, of one behind it.
+// The present index of the element that `token` would name after the element `gone` is removed, if the removal shifts it.
 fn shifted(container: &Tree, gone: &str, token: &str) -> Option<usize>
     ensures { result ≡ shifted container.now gone.now token.now }
 {
@@ -95,7 +98,7 @@ fn shifted(container: &Tree, gone: &str, token: &str) -> Option<usize>
     }
 }
 
-/// Whether the path leads, once the part at `from` is taken away, to the place that it had.
+/// Returns whether the path, after the part at `from` is removed, would name the place that the part had.
 pub(crate) fn stays(tree: &Tree, from: &[String], path: &[String]) -> bool
     ensures place { (rest : Document) → at_path drop_child (path_of from.now) tree.now ≡ Ok rest → result ≡ same_path (path_of from.now) (place_of rest (path_of path.now)).path }
     ensures elsewhere { result ≡ false → same_path (path_of from.now) (path_of path.now) ≡ false }
@@ -109,7 +112,7 @@ pub(crate) fn stays(tree: &Tree, from: &[String], path: &[String]) -> bool
     same_path(before, parent) && is_same_end(tree, before, token, last)
 }
 
-// Whether both tokens name the same place of the container at the path, which loses the part of the first one.
+// Whether both tokens name the same place of the container at the path, the second one after the part of the first is removed.
 fn is_same_end(tree: &Tree, path: &[String], token: &str, last: &str) -> bool
     ensures { result ≡ is_same_end (walk tree.now (path_of path.now)) token.now last.now }
 {

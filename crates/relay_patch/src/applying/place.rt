@@ -5,41 +5,49 @@ ghost use Rattle.relay_pointer.specs.Index.{index_text};
 ghost use Rattle.relay_patch.specs.Walk.{is_dash};
 ghost use Rattle.relay_patch.specs.Steps.{final, is_item, landed};
 
-use super::spot::Spot;
+use super::insert_target::InsertTarget;
 use super::walk::is_dash;
 use crate::change::Place;
 use relay_pointer::{Pointer, copy_tokens};
 use std::alloc::{AllocError, Global};
 
-/// The place at a path where an insertion goes to a spot.
-pub(crate) fn place(alloc: Global, path: &Pointer, spot: Spot) -> Result<Place, AllocError>
-    ensures { IfOk result (λ place. place ≡ landed spot path.now) }
+/// Returns the place of an insertion at a path, given its target.
+pub(crate) fn place(
+    alloc: Global,
+    path: &Pointer,
+    insert_target: InsertTarget,
+) -> Result<Place, AllocError>
+    ensures { IfOk result (λ place. place ≡ landed insert_target path.now) }
 {
-    let item = is_item(spot);
+    let item = is_item(insert_target);
     let [before @ .., last] = path.tokens() else {
         let path = Pointer::root(alloc);
         return Ok(Place { path, item });
     };
     let mut tokens = copy_tokens(alloc, before)?;
-    tokens.push(final_token(alloc, spot, last)?)?;
+    tokens.push(final_token(alloc, insert_target, last)?)?;
     Ok(Place {
         path: Pointer::from_tokens(tokens),
         item,
     })
 }
 
-fn is_item(spot: Spot) -> bool
-    ensures { result ≡ is_item spot }
+fn is_item(insert_target: InsertTarget) -> bool
+    ensures { result ≡ is_item insert_target }
 {
-    matches!(spot, Spot::Item { .. })
+    matches!(insert_target, InsertTarget::Item { .. })
 }
 
-// The last token of the place.
-fn final_token(alloc: Global, spot: Spot, token: &String) -> Result<String, AllocError>
-    ensures { IfOk result (λ copy. string_bytes copy ≡ final spot (string_bytes token.now)) }
+// The last token of the place of an insertion.
+fn final_token(
+    alloc: Global,
+    insert_target: InsertTarget,
+    token: &String,
+) -> Result<String, AllocError>
+    ensures { IfOk result (λ copy. string_bytes copy ≡ final insert_target (string_bytes token.now)) }
 {
-    match spot {
-        Spot::Item { index } => canonical(alloc, index, token),
+    match insert_target {
+        InsertTarget::Item { index } => canonical(alloc, index, token),
         _ => token.clone(),
     }
 }

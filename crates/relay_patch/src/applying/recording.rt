@@ -1,4 +1,4 @@
-//! The change that an operation makes: the operation's own checks, then what the change holds. The tree stays as it is.
+//! The change that an operation makes: first the operation's own checks, then the parts of the change. The tree is not changed.
 ghost use Rattle.std.specs.Prelude.{◌≡◌, ◌≢◌, Ok, Err, IsOk, IfOk, IfErr, OnOk};
 ghost use Rattle.relay_patch.specs.Place.{place_of};
 ghost use Rattle.relay_patch.specs.Patch.{effect, Add, Remove, Replace, Move, Copy, Test};
@@ -7,9 +7,9 @@ ghost use Rattle.relay_patch.specs.Steps.{Refuses, insertion, removal, landed, l
 ghost use Rattle.relay_patch.specs.declared.change.Change.TheVariants as change;
 ghost use Rattle.relay_patch.specs.declared.fault.Cause.TheVariants.{NoMemory};
 
-use super::moving::{land_without, stays};
+use super::insert_target::{InsertTarget, is_item_at, resolve_existing, resolve_insert};
+use super::moving::{resolve_insert_without, stays};
 use super::place::place;
-use super::spot::{Spot, is_item_at, land, stand};
 use super::walk::walk;
 use crate::change::{Change, Place};
 use crate::fault::Cause;
@@ -18,7 +18,7 @@ use relay_pointer::Pointer;
 use relay_tree::Tree;
 use std::alloc::{AllocError, Global};
 
-/// The change that an operation makes, if any. Memory is taken only once the operation's own checks have passed.
+/// Returns the change that an operation makes, if any. Allocates only after the operation's own checks have passed.
 pub(crate) fn record(alloc: Global, tree: &Tree, op: &Op) -> Result<Option<Change>, Cause>
     ensures ok { OnOk result (IsOk (effect tree.now op.now)) }
     ensures changes { IfOk result (λ change. listed change ≡ changes_of tree.now op.now) }
@@ -44,8 +44,8 @@ fn record_add(
     ensures changes { IfOk result (λ change. listed change ≡ changes_of tree.now (Add path.now value.now)) }
     ensures err { IfErr result (Refuses (effect tree.now (Add path.now value.now))) }
 {
-    let spot = land(tree, path.tokens())?;
-    Ok(Some(insertion(alloc, path, spot, value)?))
+    let insert_target = resolve_insert(tree, path.tokens())?;
+    Ok(Some(insertion(alloc, path, insert_target, value)?))
 }
 
 fn record_remove(alloc: Global, tree: &Tree, path: &Pointer) -> Result<Option<Change>, Cause>
@@ -53,7 +53,7 @@ fn record_remove(alloc: Global, tree: &Tree, path: &Pointer) -> Result<Option<Ch
     ensures changes { IfOk result (λ change. listed change ≡ changes_of tree.now (Remove path.now)) }
     ensures err { IfErr result (Refuses (effect tree.now (Remove path.now))) }
 {
-    let item = stand(tree, path.tokens())?;
+    let item = resolve_existing(tree, path.tokens())?;
     Ok(Some(removal(alloc, path, item)?))
 }
 
@@ -88,9 +88,9 @@ fn record_move(
     if stays(tree, from.tokens(), path.tokens()) {
         return Ok(None);
     }
-    let spot = land_without(tree, from.tokens(), path.tokens())?;
+    let insert_target = resolve_insert_without(tree, from.tokens(), path.tokens())?;
     let item = is_item_at(tree, from.tokens());
-    Ok(Some(relocation(alloc, from, item, path, spot, value)?))
+    Ok(Some(relocation(alloc, from, item, path, insert_target, value)?))
 }
 
 fn record_copy(
@@ -104,8 +104,8 @@ fn record_copy(
     ensures err { IfErr result (Refuses (effect tree.now (Copy from.now path.now))) }
 {
     let value = walk(tree, from.tokens())?;
-    let spot = land(tree, path.tokens())?;
-    Ok(Some(duplication(alloc, from, path, spot, value)?))
+    let insert_target = resolve_insert(tree, path.tokens())?;
+    Ok(Some(duplication(alloc, from, path, insert_target, value)?))
 }
 
 fn record_test(tree: &Tree, path: &Pointer, value: &Tree) -> Result<Option<Change>, Cause>
@@ -120,16 +120,21 @@ fn record_test(tree: &Tree, path: &Pointer, value: &Tree) -> Result<Option<Chang
     }
 }
 
-// What an insertion makes, by where it goes.
-fn insertion(alloc: Global, path: &Pointer, spot: Spot, value: &Tree) -> Result<Change, AllocError>
-    ensures { IfOk result (λ made. made ≡ insertion spot (landed spot path.now).path value.now) }
+// The change that an insertion makes, by its target.
+fn insertion(
+    alloc: Global,
+    path: &Pointer,
+    insert_target: InsertTarget,
+    value: &Tree,
+) -> Result<Change, AllocError>
+    ensures { IfOk result (λ made. made ≡ insertion insert_target (landed insert_target path.now).path value.now) }
 {
-    let Place { path, .. } = place(alloc, path, spot)?;
+    let Place { path, .. } = place(alloc, path, insert_target)?;
     let value = value.copy(alloc)?;
-    Ok(match spot {
-        Spot::Root | Spot::Member { there: true } => Change::Set { path, value },
-        Spot::Member { there: false } => Change::AddMember { path, value },
-        Spot::Item { .. } => Change::AddItem { path, value },
+    Ok(match insert_target {
+        InsertTarget::Root | InsertTarget::Member { there: true } => Change::Set { path, value },
+        InsertTarget::Member { there: false } => Change::AddMember { path, value },
+        InsertTarget::Item { .. } => Change::AddItem { path, value },
     })
 }
 
@@ -157,16 +162,16 @@ fn relocation(
     from: &Pointer,
     item: bool,
     path: &Pointer,
-    spot: Spot,
+    insert_target: InsertTarget,
     value: &Tree,
 ) -> Result<Change, AllocError>
-    ensures { IfOk result (λ made. made ≡ change.Move (record { path = from.now; item = item }) (landed spot path.now) value.now) }
+    ensures { IfOk result (λ made. made ≡ change.Move (record { path = from.now; item = item }) (landed insert_target path.now) value.now) }
 {
     let from = Place {
         path: from.copy(alloc)?,
         item,
     };
-    let to = place(alloc, path, spot)?;
+    let to = place(alloc, path, insert_target)?;
     let value = value.copy(alloc)?;
     Ok(Change::Move { from, to, value })
 }
@@ -175,13 +180,13 @@ fn duplication(
     alloc: Global,
     from: &Pointer,
     path: &Pointer,
-    spot: Spot,
+    insert_target: InsertTarget,
     value: &Tree,
 ) -> Result<Change, AllocError>
-    ensures { IfOk result (λ made. made ≡ change.Copy from.now (landed spot path.now) value.now) }
+    ensures { IfOk result (λ made. made ≡ change.Copy from.now (landed insert_target path.now) value.now) }
 {
     let from = from.copy(alloc)?;
-    let to = place(alloc, path, spot)?;
+    let to = place(alloc, path, insert_target)?;
     let value = value.copy(alloc)?;
     Ok(Change::Copy { from, to, value })
 }

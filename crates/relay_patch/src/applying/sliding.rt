@@ -1,5 +1,5 @@
-//! Moves within one list: an element slides from its place to another. No tree is moved or copied, only pointers to elements: over a few
-//! places it changes places with its neighbours, and over more those on the shorter side of each place move.
+//! Moves within one list: an element slides from its place to another. No tree is moved or copied, only pointers to elements. Over a few
+//! places the element is exchanged with its neighbours; over more, the elements on the shorter side of each place move.
 ghost use Rattle.std.specs.Prelude.{◌≡◌, ◌<◌, ◌^◌, ℕ, true, Some, length, OnOk, OnErr, IfOk};
 ghost use Rattle.std.specs.VecDeque.{deque_len};
 ghost use Rattle.relay_tree.specs.Document.{Document, list, Items, items_of};
@@ -12,17 +12,17 @@ ghost use Rattle.relay_patch.specs.Change.{Moves};
 ghost use Rattle.relay_patch.specs.Undo.{slid_items, slid, with_part, undone};
 
 use super::keeping::position;
-use super::undo::Kept;
+use super::undo::Undo;
 use crate::change::Place;
 use relay_pointer::{Pointer, copy_tokens, resolve_mut, same_path};
 use relay_tree::{Element, Node, Tree};
 use std::alloc::{AllocError, Global};
 use std::collections::VecDeque;
 
-// How many places an element goes at most by changing places with its neighbours.
+// The most places over which an element is exchanged with its neighbours.
 const NEAR: usize = 64;
 
-/// Whether both places are items of one list.
+/// Returns whether both places are items of one list.
 pub(crate) fn in_one_list(from: &Place, to: &Place) -> bool
     ensures { result ≡ in_one_list from.now to.now }
 {
@@ -42,14 +42,14 @@ fn beside(path: &[String], other: &[String]) -> bool
     same_path(before, parent)
 }
 
-/// Makes a move within one list, and gives what takes it back. Memory is taken for the list's path alone; want of it leaves
-/// the tree as it was.
+/// Makes a move within one list and returns what takes it back. Allocates only the list's path. If memory runs out, the tree
+/// is unchanged.
 pub(crate) fn slide(
     alloc: Global,
     tree: &mut Tree,
     from: &Place,
     to: &Place,
-) -> Result<Kept, AllocError>
+) -> Result<Undo, AllocError>
     requires list { in_one_list from.now to.now ≡ true }
     requires moves { (v next : Document) × Moves tree.old from.now to.now v next }
     ensures made { OnOk result ((v next : Document) → Moves tree.old from.now to.now v next → tree.new ≡ next) }
@@ -60,14 +60,14 @@ pub(crate) fn slide(
     let from = index_at(from.path.tokens());
     let to = index_at(to.path.tokens());
     slide_at(tree, &list, from, to);
-    Ok(Kept::Slid {
+    Ok(Undo::Slid {
         list,
         from: to,
         to: from,
     })
 }
 
-// The path of the container in which the part at the path is.
+// The path of the container that holds the part at the path.
 fn container_of(alloc: Global, path: &[String]) -> Result<Pointer, AllocError>
     ensures { IfOk result (λ container. container ≡ front (path_of path.now)) }
 {
@@ -77,7 +77,7 @@ fn container_of(alloc: Global, path: &[String]) -> Result<Pointer, AllocError>
     Ok(Pointer::from_tokens(copy_tokens(alloc, before)?))
 }
 
-// The index that the last token of the path is.
+// The index that the last token of the path spells.
 fn index_at(path: &[String]) -> usize
     ensures { (i : ℕ) → index_of (last_of (path_of path.now)) ≡ Some i → i < 2 ^ 64 → result ≡ i }
 {
@@ -87,7 +87,7 @@ fn index_at(path: &[String]) -> usize
     }
 }
 
-/// Slides an element of the list at the path from one index to another, if both are there. No memory is taken.
+/// Slides an element of the list at the path from one index to another, if both exist. Allocates nothing.
 pub(crate) fn slide_at(tree: &mut Tree, path: &Pointer, from: usize, to: usize)
     ensures slid { tree.new ≡ with_part (slid from to) path.now (at tree.old path.now) tree.old }
     ensures few { (ds : Items) → at tree.old path.now ≡ Some (list ds) → items_length ds < 2 ^ 64 }
@@ -106,7 +106,7 @@ fn slide_in(node: &mut Node, from: usize, to: usize)
     }
 }
 
-// A removal leaves room for an insertion.
+// The removal leaves capacity for the insertion.
 fn slide_item(items: &mut VecDeque<Element>, from: usize, to: usize)
     ensures slid { items_of items.new.items ≡ slid_items from to (items_of items.old.items) }
     ensures few { length items.old.items < 2 ^ 64 }
@@ -121,7 +121,7 @@ fn slide_item(items: &mut VecDeque<Element>, from: usize, to: usize)
     items.insert(to, element).unwrap();
 }
 
-// Neighbours change places, one after another. One of the two loops is empty.
+// Exchanges neighbours, one pair after another. At most one of the two loops runs.
 fn slide_near(items: &mut VecDeque<Element>, from: usize, to: usize)
     requires from_in_bounds { from < deque_len items.old }
     requires to_in_bounds { to < deque_len items.old }

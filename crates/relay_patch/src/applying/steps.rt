@@ -1,4 +1,4 @@
-//! One operation of a patch: its checks, the change that it comes to, and the bounds on what that makes.
+//! One operation of a patch: its checks, the change that it makes, and the bounds on the document after it.
 ghost use Rattle.std.specs.Prelude.{◌≡◌, ◌≢◌, ◌<◌, ◌++◌, Ok, Err, Some, false, is_some, IsOk, IsSome, OnOk, OnErr, IfOk, IfErr, IfSome};
 ghost use Rattle.relay_tree.specs.Document.{Document};
 ghost use Rattle.relay_patch.specs.Walk.{then_do};
@@ -12,10 +12,10 @@ ghost use Rattle.relay_patch.specs.declared.fault.Cause.TheVariants.{NoMemory};
 
 use super::keeping::{make_keeping, put_in, take_out};
 use super::making::make;
-use super::measuring::{displaced, foresee, gone, measure};
+use super::measuring::{displaced, gone, measure, weight_after};
 use super::recording::record;
 use super::sliding::in_one_list;
-use super::undo::Kept;
+use super::undo::Undo;
 use crate::bounds::Bounds;
 use crate::change::{Change, Place};
 use crate::fault::Cause;
@@ -27,16 +27,16 @@ use std::alloc::Global;
 #[derive(Drop)]
 pub(crate) struct Done {
     pub(crate) changes: Vec<Change>,
-    /// The weight of the document, as far as it is bounded, once that is known to be within the bounds.
+    /// The weight of the document, once it is known to be within the bounds. Unspecified if the weight is not bounded.
     pub(crate) weight: Option<u64>,
 }
 
-/// One operation, which so many others follow, and the bounds on what it makes. What takes it back is kept, unless it is the
-/// last one.
+/// Performs one operation, which `left` others follow, and checks the bounds on the document after it. Keeps what takes it
+/// back, if others follow.
 pub(crate) fn perform(
     alloc: Global,
     tree: &mut Tree,
-    kept: &mut Vec<Kept>,
+    kept: &mut Vec<Undo>,
     done: Done,
     op: &Op,
     bounds: Bounds,
@@ -60,7 +60,7 @@ pub(crate) fn perform(
 fn advance(
     alloc: Global,
     tree: &mut Tree,
-    kept: &mut Vec<Kept>,
+    kept: &mut Vec<Undo>,
     done: Done,
     change: Option<Change>,
     bounds: Bounds,
@@ -100,7 +100,7 @@ fn advance(
     })
 }
 
-// The weight of a document within the bounds, which is measured unless it is known.
+// The weight of a document that is within the bounds, measured unless it is known.
 fn weigh(tree: &Tree, known: Option<u64>, bounds: Bounds) -> Result<u64, Cause>
     requires { Known bounds tree.now known }
     ensures ok { IfOk result (λ n. Known bounds tree.now (Some n)) }
@@ -112,11 +112,11 @@ fn weigh(tree: &Tree, known: Option<u64>, bounds: Bounds) -> Result<u64, Cause>
     }
 }
 
-// Makes a change, and gives the weight after it.
+// Makes a change and returns the weight after it.
 fn alter(
     alloc: Global,
     tree: &mut Tree,
-    kept: &mut Vec<Kept>,
+    kept: &mut Vec<Undo>,
     known: Option<u64>,
     change: &Change,
     bounds: Bounds,
@@ -139,14 +139,14 @@ fn alter(
     }
 }
 
-// Whether a change takes a value out before it puts it in elsewhere, which may want memory.
+// Whether a change removes a value before it inserts it elsewhere, which may run out of memory.
 fn carries(change: &Change) -> bool
     ensures { result ≡ carries change.now }
 {
     carried(change).is_some()
 }
 
-// What a change carries, from which place to which. A move within one list carries nothing: the element slides.
+// The value that a change carries, with its old and its new place. A move within one list carries nothing: the element slides.
 fn carried(change: &Change) -> Option<(&Place, &Place, &Tree)>
     ensures what { IfSome result (λ m. change.now ≡ Move m.0.now m.1.now m.2.now) }
     ensures carries { is_some result ≡ carries change.now }
@@ -157,7 +157,7 @@ fn carried(change: &Change) -> Option<(&Place, &Place, &Tree)>
     }
 }
 
-// Makes a change once nothing can refuse it any more, of a document of this weight.
+// Makes the last change of a patch, to a document of this weight. It is judged before it is made, so nothing has to be kept.
 fn alter_last(
     alloc: Global,
     tree: &mut Tree,
@@ -173,16 +173,16 @@ fn alter_last(
     ensures refused { IfErr result (λ cause. cause ≢ NoMemory → (next : Document) × Makes tree.old change.now next × (within bounds next ≡ Err cause)) }
     ensures unchanged { OnErr result (tree.new ≡ tree.old) }
 {
-    let weight = foresee(weight, change, gone(tree, change), bounds)?;
+    let weight = weight_after(weight, change, gone(tree, change), bounds)?;
     drop(make(alloc, tree, change)?);
     Ok(weight)
 }
 
-// Makes a change that is kept, of a document of this weight. What is carried is taken out before it is judged.
+// Makes a change to a document of this weight and keeps what takes it back. A carried value is removed before the change is judged.
 fn alter_keeping(
     alloc: Global,
     tree: &mut Tree,
-    kept: &mut Vec<Kept>,
+    kept: &mut Vec<Undo>,
     weight: u64,
     change: &Change,
     bounds: Bounds,
@@ -195,12 +195,12 @@ fn alter_keeping(
     ensures back { taken_back tree.new kept.new.items ≡ taken_back tree.old kept.old.items }
 {
     let Some((from, to, value)) = carried(change) else {
-        let next = foresee(weight, change, gone(tree, change), bounds)?;
+        let next = weight_after(weight, change, gone(tree, change), bounds)?;
         make_keeping(alloc, tree, kept, change)?;
         return Ok(next);
     };
     take_out(alloc, tree, kept, from)?;
-    let next = match foresee(weight, change, displaced(tree, to), bounds) {
+    let next = match weight_after(weight, change, displaced(tree, to), bounds) {
         Ok(next) => next,
         Err(cause) => return Err(cause),
     };
@@ -208,11 +208,11 @@ fn alter_keeping(
     Ok(next)
 }
 
-// Makes a change that is kept, of a document that is not within the bounds, and measures what that has made.
+// Makes a change to a document that is not within the bounds, keeps what takes it back, and measures the result.
 fn alter_unjudged(
     alloc: Global,
     tree: &mut Tree,
-    kept: &mut Vec<Kept>,
+    kept: &mut Vec<Undo>,
     change: &Change,
     bounds: Bounds,
 ) -> Result<u64, Cause>

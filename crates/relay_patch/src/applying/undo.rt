@@ -1,4 +1,4 @@
-//! What is kept of changes, so that they can be taken back without taking memory.
+//! Records of changes, by which they are taken back without allocating.
 ghost use Rattle.std.specs.Prelude.{◌≡◌};
 ghost use Rattle.std.specs.VecDeque.{deque_capacity};
 ghost use Rattle.relay_tree.specs.Document.{items_of};
@@ -7,17 +7,17 @@ ghost use Rattle.relay_pointer.specs.Path.{path_of, at, put};
 ghost use Rattle.relay_patch.specs.Patch.{at_path, drop_child};
 ghost use Rattle.relay_patch.specs.Undo.{brought, or_same, refilled_items, refilled, with_part, undone, taken_back};
 
+use super::insert_target::resolve_existing;
 use super::making::remove_at;
 use super::sliding::slide_at;
-use super::spot::stand;
 use relay_pointer::{Pointer, exchange, resolve_mut};
 use relay_tree::{Element, Node, Tree};
 use std::collections::VecDeque;
 
-/// What takes a change back.
+/// The record that takes a change back.
 #[derive(Drop)]
-pub enum Kept {
-    /// A value came to the path: this part stood there.
+pub enum Undo {
+    /// A value was put at the path, in place of this part.
     Part {
         path: Pointer,
         part: Tree,
@@ -26,15 +26,15 @@ pub enum Kept {
     Inserted {
         path: Pointer,
     },
-    /// The element went from the index of a list. The room holds as many elements as the list had: only a queue with
-    /// spare room takes one more without growing, and what room the list itself keeps is not seen through a tree.
+    /// The element was removed from the index of a list. `room` has capacity for as many elements as the list had: only a
+    /// queue with spare capacity accepts one more without growing, and the list's own capacity is not visible through a tree.
     Element {
         list: Pointer,
         index: usize,
         element: Element,
         room: VecDeque<Element>,
     },
-    /// An element slid within its list: it goes from this index back to the other.
+    /// An element slid within its list: it slides back from the index `from` to the index `to`.
     Slid {
         list: Pointer,
         from: usize,
@@ -42,39 +42,39 @@ pub enum Kept {
     },
 }
 
-/// What is kept where a value came to the path, and what stood there, if something did.
-pub(crate) fn brought(path: Pointer, part: Option<Tree>) -> Kept
+/// Returns the record of a value that was put at the path, given the part that it replaced, if any.
+pub(crate) fn brought(path: Pointer, part: Option<Tree>) -> Undo
     ensures { result ≡ brought path part }
 {
     match part {
-        Some(part) => Kept::Part { path, part },
-        None => Kept::Inserted { path },
+        Some(part) => Undo::Part { path, part },
+        None => Undo::Inserted { path },
     }
 }
 
-/// Takes the changes back, the last one first. No memory is taken.
-pub(crate) fn take_back(tree: &mut Tree, kept: Vec<Kept>)
+/// Takes the changes back, the last one first. Allocates nothing.
+pub(crate) fn take_back(tree: &mut Tree, kept: Vec<Undo>)
     ensures { tree.new ≡ taken_back tree.old kept.items }
 {
     let mut kept = kept;
     while let Some(last) = kept.pop() {
-        undo(tree, last);
+        undo_one(tree, last);
     }
 }
 
-fn undo(tree: &mut Tree, kept: Kept)
+fn undo_one(tree: &mut Tree, kept: Undo)
     ensures { tree.new ≡ undone kept tree.old }
 {
     match kept {
-        Kept::Part { path, part } => put_back(tree, &path, part),
-        Kept::Inserted { path } => drop_again(tree, path.tokens()),
-        Kept::Element {
+        Undo::Part { path, part } => put_back(tree, &path, part),
+        Undo::Inserted { path } => drop_again(tree, path.tokens()),
+        Undo::Element {
             list,
             index,
             element,
             room,
         } => refill_at(tree, &list, index, element, room),
-        Kept::Slid { list, from, to } => slide_at(tree, &list, from, to),
+        Undo::Slid { list, from, to } => slide_at(tree, &list, from, to),
     }
 }
 
@@ -87,7 +87,7 @@ fn put_back(tree: &mut Tree, path: &Pointer, part: Tree)
 fn drop_again(tree: &mut Tree, path: &[String])
     ensures { tree.new ≡ or_same (at_path drop_child (path_of path.now) tree.old) tree.old }
 {
-    if stand(tree, path).is_ok() {
+    if resolve_existing(tree, path).is_ok() {
         drop(remove_at(tree, path));
     }
 }
@@ -114,7 +114,7 @@ fn refill(node: &mut Node, index: usize, element: Element, room: VecDeque<Elemen
     }
 }
 
-// Moves the elements into the room, if that is large enough for one more.
+// Moves the elements and the new one into `room`, if its capacity is large enough and the index is not past the end.
 fn insert_with_room(
     items: &mut VecDeque<Element>,
     index: usize,

@@ -1,4 +1,4 @@
-//! Walks along a path that say why they end early.
+//! Walks along a path that return the cause if they end early.
 ghost use Rattle.std.specs.Prelude.{◌≡◌, ◌≢◌, Ok, Err, None, IfOk, IfErr};
 ghost use Rattle.relay_pointer.specs.Path.{path_of, child};
 ghost use Rattle.relay_patch.specs.Walk.{step, walk, is_dash};
@@ -8,7 +8,7 @@ use crate::fault::Cause;
 use relay_pointer::{child, index_of};
 use relay_tree::{Node, Tree};
 
-/// The value to which the path leads, or why it leads nowhere.
+/// Returns the value to which the path leads, or why it leads to none.
 pub(crate) fn walk<'t>(tree: &'t Tree, path: &[String]) -> Result<&'t Tree, Cause>
     ensures ok { IfOk result (λ part. walk tree.now (path_of path.now) ≡ Ok part.now) }
     ensures err { IfErr result (λ cause. walk tree.now (path_of path.now) ≡ Err cause) }
@@ -21,7 +21,7 @@ pub(crate) fn walk<'t>(tree: &'t Tree, path: &[String]) -> Result<&'t Tree, Caus
     Ok(part)
 }
 
-/// The part that one token names, or why it names none.
+/// Returns the part that one token names, or why it names none.
 #[tactic(auto, using(crate::proofs::Walks::found_step))]
 pub(crate) fn step<'t>(tree: &'t Tree, token: &str) -> Result<&'t Tree, Cause>
     ensures ok { IfOk result (λ part. step tree.now token.now ≡ Ok part.now) }
@@ -48,7 +48,7 @@ fn why_none(tree: &Tree, token: &str) -> Cause
     }
 }
 
-/// Whether the token names the place behind the last element.
+/// Returns whether the token is `-`, which names the place after the last element.
 pub(crate) fn is_dash(token: &str) -> bool
     ensures { result ≡ is_dash token.now }
 {

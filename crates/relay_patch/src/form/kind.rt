@@ -1,4 +1,4 @@
-//! The word that `op` spells.
+//! The kind of operation that the member `op` names.
 ghost use Rattle.std.specs.Prelude.{◌≡◌};
 ghost use Rattle.relay_patch.specs.Form.{kind_of};
 

@@ -1,4 +1,4 @@
-//! Patches of trees (RFC 6902, sections 3 and 4).
+//! A reader of patches from trees (RFC 6902, sections 3 and 4).
 ghost use Rattle.std.specs.Prelude.{◌≡◌, ◌≢◌, ◌≤◌, Ok, Err, IfOk, IfErr, IsSomeAnd};
 ghost use Rattle.std.specs.Option.{option_map};
 ghost use Rattle.relay_tree.specs.Document.{items_of};
@@ -17,10 +17,10 @@ use relay_tree::{Element, Node, Tree};
 use std::alloc::Global;
 
 impl Patch {
-    /// The patch that a tree is. Members that an operation does not need are ignored. The fault is the first: of the
-    /// list, then of its elements in order, each judged by `op`, `path`, the `value` or `from` that its operation needs,
-    /// and the pointers `path` and `from`. It costs a copy of the tree; no memory is taken for a tree that is no list or too
-    /// long a one.
+    /// Reads a tree as a patch. Members that an operation does not need are ignored. The first fault is returned: of the
+    /// list, then of its elements in order. Each element is checked for `op`, `path`, the `value` or `from` that its
+    /// operation needs, and then for the pointers `path` and `from`. Costs a copy of the tree. Allocates nothing if the
+    /// tree is not a list or is too long.
     pub fn from_tree(alloc: Global, tree: &Tree, limits: PatchLimits) -> Result<Patch, PatchFault>
         ensures ok { IfOk result (λ patch. patch_of limits.ops limits.tokens tree.now ≡ Ok patch) }
         ensures err { IfErr result (λ fault. fault ≢ NoMemory → patch_of limits.ops limits.tokens tree.now ≡ Err fault) }
@@ -36,7 +36,7 @@ impl Patch {
         }
     }
 
-    /// As [`Patch::from_tree`], of a tree that goes: its values become those of the operations, without a copy.
+    /// Reads a tree as [`Patch::from_tree`] does, but consumes it: its values move into the operations without a copy.
     pub fn from_owned(alloc: Global, tree: Tree, limits: PatchLimits) -> Result<Patch, PatchFault>
         ensures ok { IfOk result (λ patch. patch_of limits.ops limits.tokens tree ≡ Ok patch) }
         ensures err { IfErr result (λ fault. fault ≢ NoMemory → patch_of limits.ops limits.tokens tree ≡ Err fault) }
@@ -71,7 +71,7 @@ fn ops_of(alloc: Global, items: Vec<Element>, tokens: u64) -> Result<Vec<Op>, Pa
     Ok(ops)
 }
 
-/// The operation that the element at place `at` is.
+/// Reads the element at place `at` as an operation.
 fn op_at(alloc: Global, at: u64, tree: Tree, tokens: u64) -> Result<Op, PatchFault>
     ensures ok { IfOk result (λ op. op_at tokens at tree ≡ Ok op) }
     ensures err { IfErr result (λ fault. fault ≢ NoMemory → op_at tokens at tree ≡ Err fault) }
@@ -132,7 +132,7 @@ fn op_of_kind(
     }
 }
 
-/// The path and the value of an operation that has both.
+/// Returns the path and the value of an operation that needs both.
 fn valued(
     alloc: Global,
     at: u64,
@@ -150,7 +150,7 @@ fn valued(
     Ok((path, value))
 }
 
-/// The two paths of an operation that has a source: `from` and `path`.
+/// Returns the two paths of an operation that has a source: `from` and `path`.
 fn sourced(
     alloc: Global,
     at: u64,

@@ -1,4 +1,4 @@
-//! Patches written as JSON, a token at a time (RFC 6902, sections 3 and 4): exactly the members that each operation defines.
+//! A writer of patches as JSON, one token at a time (RFC 6902, sections 3 and 4): exactly the members that each operation defines.
 ghost use Rattle.std.specs.Prelude.{◌≡◌, [], ◌∷◌, ◌++◌, OnOk, codes};
 ghost use Rattle.json.specs.Token.{key, string};
 ghost use Rattle.relay_tree.specs.Document.{object, no_members};
@@ -14,8 +14,8 @@ use relay_tree::Tree;
 use std::alloc::{AllocError, Global};
 
 impl Patch {
-    /// Writes the patch after what was written. It costs the length of its text: a copy of each pointer's text for a moment,
-    /// and none of a value. After want of memory some first tokens of it may be written.
+    /// Appends the patch to what `out` has written. Costs the length of its text: each pointer's text is copied briefly, and no
+    /// value is copied. If memory runs out, some of its first tokens may already be written.
     pub fn write(&self, alloc: Global, out: &mut Writer) -> Result<(), AllocError>
         ensures tokens { OnOk result (out.new.tokens ≡ out.old.tokens ++ tokens_of (patch_document self.now)) }
         ensures before { out.new.before ≡ out.old.before }

@@ -1,4 +1,4 @@
-//! Trees of patches (RFC 6902, sections 3 and 4): exactly the members that each operation defines.
+//! A writer of patches as trees (RFC 6902, sections 3 and 4): exactly the members that each operation defines.
 ghost use Rattle.std.specs.Prelude.{◌≡◌, ◌≤◌, ℕ, Ok, IfOk, OnOk, codes, length};
 ghost use Rattle.std.specs.List.{AllByRecursion};
 ghost use Rattle.relay_tree.specs.Document.{object, text};
@@ -16,7 +16,7 @@ use std::alloc::{AllocError, Global};
 use std::collections::{BTreeMap, VecDeque};
 
 impl Patch {
-    /// The patch as a tree. It costs a copy of its values, and reads back as the patch under limits that it keeps.
+    /// Returns the patch as a tree, which reads back as the patch under any limits that it is within. Costs a copy of its values.
     pub fn to_tree(&self, alloc: Global) -> Result<Tree, AllocError>
         ensures form { IfOk result (λ tree. tree ≡ patch_document self.now) }
         ensures reads_back { IfOk result (λ tree. (ops tokens deepest : ℕ) → length self.now ≤ ops → AllByRecursion (OpFits tokens deepest) self.now → patch_of ops tokens tree ≡ Ok self.now) }
@@ -59,7 +59,7 @@ fn op_tree(alloc: Global, op: &Op) -> Result<Tree, AllocError>
     Ok(Tree::from(Node::Members(members)))
 }
 
-/// Gives an object the members that every operation has.
+/// Inserts the members that every operation has.
 fn put_named(
     alloc: Global,
     members: &mut BTreeMap<String, Tree>,

@@ -1,14 +1,14 @@
 use Rattle.std.proofs.Common.{subst, ◌≡◌, Some}
 use Rattle.relay_room.specs.Room.{revision}
 use Rattle.relay_hub.specs.Session.{Session, newcomer}
-use Rattle.relay_hub.specs.State.{Group}
+use Rattle.relay_hub.specs.State.{RoomSessions}
 use Rattle.relay_hub.specs.Step.{ChangesOnly}
 use Rattle.relay_hub.proofs.entering.join_room.Goals as goal
 
 pub returns-clause-ok : goal.returns-clause-ok
 returns-clause-ok c =
-    let guest = c.args.guest in
-    let g : Group = c.args.group.now in
-    let is : c.in_ok-session.session ≡ newcomer guest.made.epoch (revision g.room) guest.number guest.made.waiting =
+    let new_session = c.args.new_session in
+    let g : RoomSessions = c.args.room_sessions.now in
+    let is : c.in_ok-session.session ≡ newcomer new_session.made (revision g.room) new_session.number =
     rw (c.revision.ensures.revision, c.room.ensures) at c.in_ok-session.ensures in
     subst (λ (x : Session). ChangesOnly x.number (Some x) g c.join.new.self) is c.in_ok-join.ensures.ok

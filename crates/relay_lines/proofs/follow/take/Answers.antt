@@ -1,4 +1,4 @@
--- What the follower made of the text.
+-- The text is applied, or refused with its fault.
 use Rattle.std.proofs.Common.{subst, sym}
 use Rattle.std.specs.Result.{result_err}
 use Rattle.std.specs.Str.{IsUtf8}

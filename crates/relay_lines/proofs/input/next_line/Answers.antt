@@ -2,7 +2,7 @@
 use Rattle.std.proofs.Common.{rules}
 use Rattle.std.proofs.lemmas.Result.{err_from_is_err_and}
 use Rattle.std.proofs.KnownBytes.{Consumes-kept, Keeps-refl, prepend_known-end}
-use Rattle.relay_lines.specs.declared.input.TheConstants.{LINE_MOST}
+use Rattle.relay_lines.specs.declared.input.TheConstants.{MAX_LINE}
 use Rattle.relay_lines.proofs.LineLemmas.{TakesLine-end, TakesLine-part, BeginsTooLong-part}
 use Rattle.relay_lines.proofs.input.next_line.Goals as goal
 
@@ -18,7 +18,7 @@ returns-in_err-take_part-clause-too_long g c =
     rw (p.1, p.2) (λ too_long.
     let (part, rest, clean, split, long) = c.in_err-take_part.ensures.too_long too_long in
     let front = Consumes-kept _ _ _ _ c.parts.invariant.front c.in_ok-has_more.ensures.same in
-    BeginsTooLong-part LINE_MOST _ _ _ rest _ part c.parts.invariant.within_line clean front split (search rules))
+    BeginsTooLong-part MAX_LINE _ _ _ rest _ part c.parts.invariant.within_line clean front split (search rules))
 
 pub returns-then-branch-clause-line : goal.returns-then-branch-clause-line
 returns-then-branch-clause-line g c =

@@ -1,4 +1,4 @@
--- What one more write took goes behind what was written.
+-- One more write appends to what was written.
 use Rattle.std.proofs.Common.{arith, sym, subst, length-drop}
 use Rattle.std.proofs.Math.Seq.{take-add}
 use Rattle.std.proofs.lemmas.List.{take_rest}

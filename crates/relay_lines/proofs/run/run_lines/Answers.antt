@@ -1,10 +1,10 @@
--- A line more was answered, or a fault stopped the run.
+-- One more line was answered, or a fault stopped the run.
 use Rattle.std.proofs.Common.{◌≤◌, ℕ, List, [], ◌∷◌, ◌++◌, length, ◌≡◌, true, refl, rules, arith, length-append, string_bytes, vec_len}
 use Rattle.std.proofs.lemmas.List.Elements.{All-nil, All-push}
 use Rattle.std.proofs.lemmas.Result.{err_from_is_err_and}
 use Rattle.std.proofs.KnownBytes.{Appends-trans, Appends-nil}
-use Rattle.relay_lines.specs.declared.input.TheConstants.{LINE_MOST}
-use Rattle.relay_lines.specs.declared.run.TheConstants.{LINES_MOST}
+use Rattle.relay_lines.specs.declared.input.TheConstants.{MAX_LINE}
+use Rattle.relay_lines.specs.declared.run.TheConstants.{MAX_LINES}
 use Rattle.relay_lines.specs.Lines.{TakesLine}
 use Rattle.relay_lines.specs.Respond.{start, AreWithin}
 use Rattle.relay_lines.proofs.RunLemmas.{step_at, TakesLines-start, TakesLines-more, TakesLines-kept, AnswersSome-whole, AnswersSome-cut, Stops-reading, Stops-input, Stops-no_memory, Stops-too_many, Stops-more}
@@ -53,7 +53,7 @@ loop-before-preserved g c =
       TakesLines-more _ _ _ lines line taken found,
       Appends-trans _ _ _ _ _ wrote more,
       omega (arith, long, length-append lines (line ∷ [])),
-      All-push (λ (l : List ℕ). length l ≤ LINE_MOST) lines line short (rw (← counted) c.in_ok-next_line.ensures.fits),
+      All-push (λ (l : List ℕ). length l ≤ MAX_LINE) lines line short (rw (← counted) c.in_ok-next_line.ensures.fits),
     )
 
 pub returns-in_err-has_more-clause-stopped : goal.returns-in_err-has_more-clause-stopped
@@ -75,5 +75,5 @@ pub returns-then-branch-clause-too_many : goal.returns-then-branch-clause-too_ma
 returns-then-branch-clause-too_many g c =
     let (lines, written, run, taken, wrote, long, short) = c.loop-before.invariant in
     let some = c.in_ok-has_more.ensures.more.0 (search rules) in
-    let all : length lines ≡ LINES_MOST = omega (arith, long) in
+    let all : length lines ≡ MAX_LINES = omega (arith, long) in
     λ _. Stops-more _ _ lines (TakesLines-kept _ _ _ lines taken c.in_ok-has_more.ensures.same) (Stops-too_many lines _ _ all some)

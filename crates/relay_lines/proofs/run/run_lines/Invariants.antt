@@ -1,7 +1,7 @@
--- The lines taken so far were answered, and their answers were written.
+-- The lines read so far were answered, and their answers were written.
 use Rattle.std.proofs.Common.{◌≡◌, ◌≤◌, ℕ, List, length, All}
 use Rattle.std.specs.Io.KnownBytes.{Appends, prepend_known}
-use Rattle.relay_lines.specs.declared.input.TheConstants.{LINE_MOST}
+use Rattle.relay_lines.specs.declared.input.TheConstants.{MAX_LINE}
 use Rattle.relay_lines.specs.Respond.{Runs, TakesLines}
 use Rattle.relay_lines.proofs.run.run_lines.Given as goal
 
@@ -11,4 +11,4 @@ invariant-loop-before g l = (lines : List (List ℕ)) × (written : List ℕ)
     × TakesLines (g.R.Read.remaining l.initial.reader) (prepend_known l.lines (g.R.Read.remaining l.reader)) lines
     × Appends (g.W.Write.contents l.initial.writer) (g.W.Write.contents l.writer) written
     × (length lines ≡ l.before)
-    × All (λ line. length line ≤ LINE_MOST) lines
+    × All (λ line. length line ≤ MAX_LINE) lines

@@ -1,4 +1,4 @@
--- A run of the code is a run of the follower that it keeps.
+-- A run of `Following` is a run of its follower.
 use Rattle.std.proofs.Common.{subst}
 use Rattle.relay_lines.specs.declared.follow.Following.{Following}
 use Rattle.relay_lines.specs.Follow.{Answers}

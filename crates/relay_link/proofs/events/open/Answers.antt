@@ -1,4 +1,4 @@
--- An opening that has an answer is the one event, and gives a session where it was not refused.
+-- An opening that has an answer is the one event, and opens a session unless it was refused.
 use Rattle.std.proofs.Common.{refl}
 use Rattle.relay_hub.specs.declared.event.Answer.TheVariants.{Opened}
 use Rattle.relay_hub.specs.declared.event.Event.TheVariants.{Open}

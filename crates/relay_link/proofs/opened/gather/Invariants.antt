@@ -1,4 +1,4 @@
--- Each draw so far is in the list.
+-- Each pass so far added at most one event, a draw.
 use Rattle.std.proofs.Common.{Some}
 use Rattle.relay_link.specs.Adds.{Adds}
 use Rattle.relay_link.specs.Follows.{Follows, at}

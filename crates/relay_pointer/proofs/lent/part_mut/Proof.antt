@@ -1,4 +1,5 @@
--- `part_mut` walks down a path, by a walk of its MIR by hand. The lender's way to the current node is composed, turn by turn (`denote.Follow`'s `follows_then`).
+-- `part_mut` walks down a path, proved by a manual walk of its MIR. The lender's way to the current node is composed, one turn at a time
+-- (`follows_then` of `denote.Follow`).
 use Rattle.std.proofs.Common.{◌≡◌, ℕ, zero, suc, ◌+◌, ◌-◌, ◌^◌, ◌<◌, ◌≤◌, Option, Some, None, List, [], ◌∷◌, ◌++◌, length, get_or, take, refl, sym, ap, ◌∙◌, lit<, nltb→le, w64, Bor, MutBor, arith, ltb→lt, OnSome}
 use Rattle.std.proofs.raw_atomic.Walks.{proved}
 use seplogic.Ra.Ura.{Ura}

@@ -1,8 +1,9 @@
--- What each job was ended by.
-use Rattle.std.proofs.Common.{None, refl}
+-- The end of each job.
+use Rattle.std.proofs.Common.{None, refl, subst}
+use Rattle.relay_hub.specs.declared.config.HubConfig.{HubConfig}
 use Rattle.relay_lines.specs.Follow as follow
-use Rattle.relay_lines.specs.Script as script
-use Rattle.relay_lines.specs.Script.{new_stage}
+use Rattle.relay_lines.specs.Script.{HubAnswers, new_stage}
+use Rattle.relay_server.specs.Jobs.{Ends}
 use Rattle.relay_server.proofs.JobLemmas.{JobEnds-at, Ends-limited, Ends-free, no_limits, untouched}
 use Rattle.relay_server.proofs.jobs.carry_out.Goals as goal
 
@@ -14,8 +15,13 @@ returns-in-Script g c =
     let new = g.W.Write.contents c.run_script.new.writer in
     let run = c.run_script in
     let same = untouched run.result g.R.Read.remaining g.W.Write.contents _ _ _ _ run.ensures.untouched in
-    JobEnds-at _ _ _ input left old new c.in-Script.is
-    (run.result, c.report.ensures, run.ensures.bad_limit, Ends-limited script.Answers _ input left old new run.result run.ensures.done run.ensures.read run.ensures.stopped same)
+    JobEnds-at _ _ _ input left old new c.in-Script.is (
+      run.result,
+      c.report.ensures,
+      rw c.config_of.ensures at run.ensures.bad_limit,
+      subst (λ (made : HubConfig). Ends HubAnswers (new_stage made) run.result input left old new) c.config_of.ensures
+          (Ends-limited HubAnswers (new_stage c.config_of.result) input left old new run.result run.ensures.done run.ensures.read run.ensures.stopped same),
+    )
 
 pub returns-in-Follow : goal.returns-in-Follow
 returns-in-Follow g c =

@@ -1,4 +1,4 @@
--- Why there was nothing to do.
+-- The end of the program without a job.
 use Rattle.std.proofs.Common.{◌≡◌, ℕ, refl, sym, subst, List, Option, Result, Ok, Err, OnOk, OnErr, IfErr}
 use Rattle.std.specs.Io.KnownBytes.{Appends}
 use Rattle.relay_options.specs.declared.job.Stop.{Stop}
@@ -12,7 +12,7 @@ use Rattle.relay_server.proofs.jobs.explain.Goals as goal
 at_stop : (why known : Stop) (status : Status) (old new : Option (List ℕ)) → why ≡ known → StopEnds known status old new → StopEnds why status old new
 at_stop why known status old new e ends = subst (λ s. StopEnds s status old new) (sym e) ends
 
--- a text that was written whole, or in part
+-- a text that was written completely, or in part
 shown : (text : List ℕ) (written : Result (Unit {0}) ScriptFault) (old new : Option (List ℕ)) → OnOk written (Appends old new text)
     → OnErr written (AppendsPart old new text) → IfErr written (λ fault. fault ≡ Output) → Shows text (status_of written) old new
 shown text (Ok u) old new all part which = all

@@ -1,6 +1,6 @@
--- What was printed is a part of both lines: a part of the first, all of it, or all of it and a part of the second.
+-- The output is a prefix of both lines: a part of the first, all of it, or all of it and a part of the second.
 use Rattle.std.proofs.lemmas.Result.{err_from_is_err_and}
-use Rattle.relay_lines.specs.Words.{listening_text, turns_text}
+use Rattle.relay_server.specs.Printed.{listening_text, turns_text}
 use Rattle.relay_server.proofs.ServeLemmas.{part_whole, part_front, then_part}
 use Rattle.relay_server.proofs.serve.host.Goals as goal
 

@@ -1,4 +1,4 @@
--- What was passed over is space.
+-- The skipped bytes are spaces and tabs.
 use Rattle.std.proofs.Common.{◌≡◌, length}
 use Rattle.httparse.specs.Grammar.{skip_ows}
 use Rattle.relay_shake.proofs.fields.trimmed_start.Given as goal

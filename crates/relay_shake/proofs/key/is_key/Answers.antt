@@ -1,4 +1,4 @@
--- A short value has nothing behind 22 characters.
+-- A short value has nothing after 22 characters.
 use Rattle.std.proofs.Common.{arith}
 use Rattle.std.proofs.lemmas.List.{drop_all}
 use Rattle.relay_shake.proofs.key.is_key.Goals as goal

@@ -1,4 +1,4 @@
--- There is room for each field that the window can hold.
+-- `FIELDS_ROOM` is enough for every field that the window can hold.
 use Rattle.std.proofs.Common.{◌≡◌, rules, ap, Err, length}
 use Rattle.relay_shake.specs.declared.reading.TheConstants.{FIELDS_ROOM}
 use Rattle.relay_shake.proofs.Heads.{no_excess}

@@ -5,9 +5,9 @@ use Rattle.relay_shake.specs.Shaken.{Shows}
 use Rattle.relay_shake.proofs.Heads.{past_limit}
 use Rattle.relay_shake.proofs.reading.without_head.Goals as goal
 
-pub returns-then-bytes-gt-HEAD_MOST-clause-no_head :
-    goal.returns-then-bytes-gt-HEAD_MOST-clause-no_head
-returns-then-bytes-gt-HEAD_MOST-clause-no_head c =
+pub returns-then-bytes-gt-MAX_HEAD-clause-no_head :
+    goal.returns-then-bytes-gt-MAX_HEAD-clause-no_head
+returns-then-bytes-gt-MAX_HEAD-clause-no_head c =
     IfOk-weaker c.refused.result _ _
-    (λ answer shows none. inl (c.requires.unfinished, subst (Shows answer) (sym (past_limit c.args.bytes.now c.if-bytes-gt-HEAD_MOST.true)) shows))
+    (λ answer shows none. inl (c.requires.unfinished, subst (Shows answer) (sym (past_limit c.args.bytes.now c.if-bytes-gt-MAX_HEAD.true)) shows))
     c.refused.ensures

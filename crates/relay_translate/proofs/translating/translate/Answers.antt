@@ -9,7 +9,7 @@ use Rattle.relay_translate.proofs.Sizes.{fits_with_changes}
 use Rattle.relay_translate.proofs.Slots.{translation}
 use Rattle.relay_translate.proofs.translating.translate.Goals as goal
 
-made : (c : goal.After-from_ops) → c.from_ops.result ≡ local (map (λ (x : Bor Change). x.now) c.args.changes.now) c.args.now.now c.args.view.now
+made : (c : goal.In-Some) → c.in-Some.patch ≡ local (map (λ (x : Bor Change). x.now) c.args.changes.now) c.args.now.now c.args.view.now
 made c = grind (arith, common_steps)
 
 pub returns-clause-apart : goal.returns-clause-apart

@@ -1,5 +1,5 @@
 use Rattle.std.proofs.Common.{◌≡◌, ◌≤◌, length}
-use Rattle.relay_history.specs.Kept.{left_of}
+use Rattle.relay_history.specs.Representation.{left_of}
 use Rattle.relay_history.proofs.since.SinceIterator.next.Given as goal
 
 -- what is left stays the same

@@ -1,5 +1,5 @@
 use Rattle.std.proofs.Common.{◌∙◌, sym, arith}
-use Rattle.relay_hub.specs.Kept.{hub_of}
+use Rattle.relay_hub.specs.Representation.{hub_of}
 use Rattle.relay_hub.proofs.Opening.{place_is, rooms_full, sessions_full, exhausted, admitted}
 use Rattle.relay_hub.proofs.hub.Hub.admit.Goals as goal
 
@@ -10,21 +10,21 @@ returns-then-is_crowded-clause-refused c =
     let crowded = rw (← c.self.view_is, place) at c.if-is_crowded.ensures in
     rw (← c.self.view_is) (rooms_full (hub_of c.self.inside) name (sym c.if-not-is_room_name.ensures) (sym crowded))
 
-pub returns-then-len-ge-SESSIONS_MOST-clause-refused : goal.returns-then-len-ge-SESSIONS_MOST-clause-refused
-returns-then-len-ge-SESSIONS_MOST-clause-refused c =
+pub returns-then-len-self-clause-refused : goal.returns-then-len-self-clause-refused
+returns-then-len-self-clause-refused c =
     let name = c.args.room.now in
     let place = c.get_index_of-place.ensures.index ∙ place_is name c.self.inside.rooms.entries in
     let free = rw (← c.self.view_is, place) at c.if-is_crowded.ensures in
     rw (← c.self.view_is) (sessions_full (hub_of c.self.inside) name (sym c.if-not-is_room_name.ensures) (sym free)
-    (omega (arith, c.len.ensures.len, c.if-len-ge-SESSIONS_MOST.true)))
+    (omega (arith, c.len.ensures.len, c.if-len-self.true)))
 
-pub returns-then-self-gt-COUNT_MOST-clause-refused : goal.returns-then-self-gt-COUNT_MOST-clause-refused
-returns-then-self-gt-COUNT_MOST-clause-refused c =
+pub returns-then-self-gt-MAX_COUNT-clause-refused : goal.returns-then-self-gt-MAX_COUNT-clause-refused
+returns-then-self-gt-MAX_COUNT-clause-refused c =
     let name = c.args.room.now in
     let place = c.get_index_of-place.ensures.index ∙ place_is name c.self.inside.rooms.entries in
     let free = rw (← c.self.view_is, place) at c.if-is_crowded.ensures in
     rw (← c.self.view_is) (exhausted (hub_of c.self.inside) name (sym c.if-not-is_room_name.ensures) (sym free)
-    (omega (arith, c.len.ensures.len, c.if-len-ge-SESSIONS_MOST.false)) c.if-self-gt-COUNT_MOST.true)
+    (omega (arith, c.len.ensures.len, c.if-len-self.false)) c.if-self-gt-MAX_COUNT.true)
 
 pub returns-clause-ok : goal.returns-clause-ok
 returns-clause-ok c = rw (← c.self.view_is) (c.get_index_of-place.ensures.index ∙ place_is c.args.room.now c.self.inside.rooms.entries)
@@ -35,4 +35,4 @@ returns-clause-admitted c =
     let place = c.get_index_of-place.ensures.index ∙ place_is name c.self.inside.rooms.entries in
     let free = rw (← c.self.view_is, place) at c.if-is_crowded.ensures in
     rw (← c.self.view_is) (admitted (hub_of c.self.inside) name (sym c.if-not-is_room_name.ensures) (sym free)
-    (omega (arith, c.len.ensures.len, c.if-len-ge-SESSIONS_MOST.false)) c.if-self-gt-COUNT_MOST.false)
+    (omega (arith, c.len.ensures.len, c.if-len-self.false)) c.if-self-gt-MAX_COUNT.false)

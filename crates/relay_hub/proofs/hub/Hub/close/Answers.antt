@@ -1,10 +1,10 @@
 use Rattle.std.proofs.Common.{◌∙◌, sym}
-use Rattle.relay_hub.specs.Kept.{hub_of}
-use Rattle.relay_hub.specs.State.{Group}
+use Rattle.relay_hub.specs.Representation.{hub_of}
+use Rattle.relay_hub.specs.State.{RoomSessions}
 use Rattle.relay_hub.specs.Step.{Step}
 use Rattle.relay_hub.specs.declared.event.Answer.TheVariants as answer
 use Rattle.relay_hub.specs.declared.event.Event.TheVariants.{Close}
-use Rattle.relay_hub.proofs.Kept.{never_missing, session_there, hub_closed, closes}
+use Rattle.relay_hub.proofs.Representation.{never_missing, session_there, hub_closed, closes}
 use Rattle.relay_hub.proofs.Members.{step_is_hub}
 use Rattle.relay_hub.proofs.Stands.{step_stands}
 use Rattle.relay_hub.proofs.hub.Hub.close.Goals as goal
@@ -12,12 +12,12 @@ use Rattle.relay_hub.proofs.hub.Hub.close.Goals as goal
 pub unreachable-requires : goal.unreachable-requires
 unreachable-requires c = never_missing c.self.inside c.args.session c.in-Some.place.now c.self.invariant (sym c.in-Some.ensures.value) (sym c.in_default-get_index_mut.ensures.value)
 
-abbrev left : goal.After-swap_remove → Group
+abbrev left : goal.After-swap_remove → RoomSessions
 left c = c.leave.new.self
 
 goes : (c : goal.After-swap_remove) → Step (hub_of c.self.inside) (Close c.args.session) answer.Closed (hub_closed c.self.inside c.in-Some.place.now (left c) c.swap_remove.new.self.entries)
 goes c =
-    let g = c.in-Some-get_index_mut.group.now in
+    let g = c.in-Some-get_index_mut.room_sessions.now in
     let s = c.args.session in
     let there = session_there c.self.inside s c.in-Some.place.now c.self.invariant (sym c.in-Some.ensures.value) g (sym c.in-Some-get_index_mut.ensures.value) in
     let count = rw (c.swap_remove.ensures.value ∙ sym c.in-Some.ensures.value) at c.swap_remove.ensures.len in

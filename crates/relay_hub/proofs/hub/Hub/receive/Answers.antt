@@ -1,19 +1,19 @@
 use Rattle.std.proofs.Common.{refl, sym}
 use Rattle.relay_hub.specs.Call.{StepIf, receiving}
-use Rattle.relay_hub.specs.Kept.{hub_of}
-use Rattle.relay_hub.specs.State.{Group}
+use Rattle.relay_hub.specs.Representation.{hub_of}
+use Rattle.relay_hub.specs.State.{RoomSessions}
 use Rattle.relay_hub.specs.declared.event.Event.TheVariants.{Receive}
-use Rattle.relay_hub.proofs.Kept.{never_missing, session_there, hears, hub_with, receives, stays_hub}
+use Rattle.relay_hub.proofs.Representation.{never_missing, session_there, hears, hub_with, receives, stays_hub}
 use Rattle.relay_hub.proofs.Promises.{refuses_edits}
 use Rattle.relay_hub.proofs.Stands.{call_stands}
 use Rattle.relay_hub.proofs.hub.Hub.receive.Goals as goal
 
-abbrev left : goal.After-self-2-1 → Group
+abbrev left : goal.After-self-2-1 → RoomSessions
 left c = c.receive.new.self
 
 step : (c : goal.After-self-2-1) → StepIf (hub_of c.self.inside) (Receive c.args.session c.args.text.now) (receiving c.receive.result) (hub_with c.self.inside c.in-Some.place.now (left c))
 step c =
-    let g = c.in-Some-get_index_mut.group.now in
+    let g = c.in-Some-get_index_mut.room_sessions.now in
     receives c.self.inside c.args.session c.in-Some.place.now g (left c) (sym c.in-Some.ensures.value) (sym c.in-Some-get_index_mut.ensures.value) c.args.text.now (receiving c.receive.result) c.receive.ensures.step
 
 pub unreachable-requires : goal.unreachable-requires
@@ -21,7 +21,7 @@ unreachable-requires c = never_missing c.self.inside c.args.session c.in-Some.pl
 
 pub receive-requires : goal.receive-requires
 receive-requires c =
-    let there = session_there c.self.inside c.args.session c.in-Some.place.now c.self.invariant (sym c.in-Some.ensures.value) c.in-Some-get_index_mut.group.now (sym c.in-Some-get_index_mut.ensures.value) in
+    let there = session_there c.self.inside c.args.session c.in-Some.place.now c.self.invariant (sym c.in-Some.ensures.value) c.in-Some-get_index_mut.room_sessions.now (sym c.in-Some-get_index_mut.ensures.value) in
     rw there.1 refl
 
 pub invariant_of-self : goal.invariant_of-self
@@ -36,6 +36,6 @@ returns c =
       step = step c;
       stands = λ b E h. call_stands b E old new event (receiving c.receive.result) h (step c);
       refused = refuses_edits old new c.args.session c.args.text.now c.receive.result (step c);
-      no_memory = λ e. hears c.self.inside c.args.session c.in-Some.place.now c.self.invariant (sym c.in-Some.ensures.value) c.in-Some-get_index_mut.group.now (sym c.in-Some-get_index_mut.ensures.value)
+      no_memory = λ e. hears c.self.inside c.args.session c.in-Some.place.now c.self.invariant (sym c.in-Some.ensures.value) c.in-Some-get_index_mut.room_sessions.now (sym c.in-Some-get_index_mut.ensures.value)
           (c.receive.ensures.no_memory e);
     })

@@ -1,4 +1,4 @@
--- The rest of the window.
+-- The unread bytes after `count` were consumed.
 use Rattle.std.proofs.Common.{drop, sym, ap, ◌∙◌, arith, length-take}
 use Rattle.relay_lines.proofs.LineLemmas.{window_rest}
 use Rattle.relay_lines.proofs.input.LineReader.advance.Goals as goal

@@ -1,4 +1,4 @@
--- What followed closed the session, if it is there no longer.
+-- If the link no longer has its session, one of the events closed it.
 use Rattle.std.proofs.Common.{◌≡◌, ◌∙◌, Some, ap, rules}
 use Rattle.relay_link.specs.Stage.{session_of}
 use Rattle.relay_link.proofs.Closed.{closed}

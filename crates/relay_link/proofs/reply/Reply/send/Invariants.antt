@@ -1,4 +1,4 @@
--- What is left becomes less.
+-- The rest becomes shorter.
 use Rattle.std.proofs.Common.{◌≡◌, vec_len}
 use Rattle.relay_link.proofs.reply.Reply.send.Given as goal
 

@@ -2,8 +2,8 @@ use Rattle.std.proofs.Common.{◌++◌, true, Ok, [], ◌∷◌, sym, ap, ◌∙
 use Rattle.std.specs.VecDeque.{deque_capacity}
 use Rattle.relay_pointer.specs.Path.{path_of}
 use Rattle.relay_pointer.proofs.Tokens.{tokens_back}
-use Rattle.relay_patch.specs.declared.applying.undo.Kept.{Kept}
-use Rattle.relay_patch.specs.declared.applying.undo.Kept.TheVariants as kept
+use Rattle.relay_patch.specs.declared.applying.undo.Undo.{Undo}
+use Rattle.relay_patch.specs.declared.applying.undo.Undo.TheVariants as undo
 use Rattle.relay_patch.proofs.Carried.{drops_plainly, drops_so}
 use Rattle.relay_patch.proofs.Regained.{item_again}
 use Rattle.relay_patch.proofs.Undone.{kept_back}
@@ -23,7 +23,7 @@ returns-clause-back c =
     let here = c.from_tokens-list.ensures ∙ c.in_ok-copy_tokens.ensures in
     let gone = c.remove_at.new.tree in
     let element = c.with_tree-element.result in
-    let k : Kept = kept.Element c.from_tokens-list.result c.position-index.result element c.in_ok-room.room in
+    let k : Undo = undo.Element c.from_tokens-list.result c.position-index.result element c.in_ok-room.room in
     let at_it = rw c.as_str.ensures.value at c.position-index.ensures in
     kept_back d gone c.args.kept.now.items c.push_reserved.new.self.items k
     (rw here (item_again (path_of path) _ _ d gone element c.length_at.result c.position-index.result (deque_capacity c.in_ok-room.room) is (returns-clause-made c) (c.remove_at.ensures.value ∙ ap Ok (sym c.with_tree-element.ensures)) c.length_at.type_inv c.length_at.ensures c.in_ok-room.ensures.exact at_it))

@@ -1,8 +1,8 @@
 use Rattle.std.proofs.Common.{◌++◌, [], ◌∷◌, ap, ◌∙◌}
 use Rattle.relay_pointer.specs.Path.{path_of}
 use Rattle.relay_pointer.proofs.Tokens.{tokens_back}
-use Rattle.relay_patch.specs.declared.applying.undo.Kept.{Kept}
-use Rattle.relay_patch.specs.declared.applying.undo.Kept.TheVariants as kept
+use Rattle.relay_patch.specs.declared.applying.undo.Undo.{Undo}
+use Rattle.relay_patch.specs.declared.applying.undo.Undo.TheVariants as undo
 use Rattle.relay_patch.proofs.Regained.{leaves_rest, leaves_there, leaves_so}
 use Rattle.relay_patch.proofs.Undone.{kept_back, exchange_back}
 use Rattle.relay_patch.proofs.Walks.{at_reached}
@@ -33,7 +33,7 @@ returns-clause-back c =
     let d = c.args.tree.now in
     let path = c.from_tokens-path.result in
     let part = c.exchange-part.result in
-    let k : Kept = kept.Part path part in
+    let k : Undo = undo.Part path part in
     kept_back d c.exchange-part.new.tree c.args.kept.now.items c.push_reserved.new.self.items k
     (exchange_back path c.in_ok-rest.rest d c.exchange-part.new.tree part (at_reached path d part c.exchange-part.ensures.old) c.exchange-part.ensures.new)
     (c.push_reserved.ensures.items ∙ ap (λ xs. xs ++ k ∷ []) c.in_ok-reserve.ensures.items)

@@ -1,4 +1,4 @@
--- The element has come as far as the loop has; the second counts down, and does nothing where the first did.
+-- The element is at the place that the loop has reached. The second loop counts down, and does not run if the first one did.
 use Rattle.std.proofs.Common.{◌≡◌, ◌≤◌, max}
 use Rattle.std.specs.VecDeque.{deque_len}
 use Rattle.relay_patch.proofs.Slides.{moved}

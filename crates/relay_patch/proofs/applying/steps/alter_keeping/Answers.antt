@@ -2,8 +2,8 @@ use Rattle.std.proofs.Common.{◌∙◌}
 use Rattle.relay_patch.proofs.Carried.{move_gone, move_made}
 use Rattle.relay_patch.proofs.applying.steps.alter_keeping.Goals as goal
 
-pub foresee-requires-2 : goal.foresee-requires-2
-foresee-requires-2 c =
+pub weight_after-requires-2 : goal.weight_after-requires-2
+weight_after-requires-2 c =
     let m = c.requires.makes in
     let took = c.displaced.ensures ∙ move_gone c.args.change.now c.args.tree.now c.in-Some.from.now c.in-Some.to.now c.in-Some.value.now c.take_out.new.tree c.in-Some.ensures.what c.in_ok-take_out.ensures.made in
     (m.0, record { before = c.args.tree.now; made = m.1; took = took; was = c.requires.known })

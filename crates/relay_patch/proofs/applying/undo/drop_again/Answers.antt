@@ -4,7 +4,7 @@ use Rattle.relay_patch.proofs.Undone.{stands_drops, stands_not}
 use Rattle.relay_patch.proofs.applying.undo.drop_again.Goals as goal
 
 pub remove_at-requires : goal.remove_at-requires
-remove_at-requires c = stands_drops c.stand.result (path_of c.args.path.now) c.args.tree.now c.stand.ensures.item (sym c.is_ok.ensures.value ∙ c.if-is_ok.true)
+remove_at-requires c = stands_drops c.resolve_existing.result (path_of c.args.path.now) c.args.tree.now c.resolve_existing.ensures.item (sym c.is_ok.ensures.value ∙ c.if-is_ok.true)
 
 pub returns-else-is_ok : goal.returns-else-is_ok
-returns-else-is_ok c = stands_not c.stand.result (path_of c.args.path.now) c.args.tree.now c.stand.ensures.item (sym c.is_ok.ensures.value ∙ c.if-is_ok.false)
+returns-else-is_ok c = stands_not c.resolve_existing.result (path_of c.args.path.now) c.args.tree.now c.resolve_existing.ensures.item (sym c.is_ok.ensures.value ∙ c.if-is_ok.false)

@@ -1,0 +1,22 @@
+-- A history trimmed to the newest revisions that together weigh no more than a budget.
+use Rattle.std.specs.Prelude.{ℕ, min, List, [], ◌∷◌, Some, None}
+use Rattle.relay_tree.specs.declared.count.TheConstants.{MAX_COUNT}
+use Rattle.relay_tree.specs.declared.budget.Budget.{Budget}
+use Rattle.relay_tree.specs.Budget.{paid}
+use Rattle.relay_patch.specs.declared.change.Change.{Change}
+use Rattle.relay_patch.specs.Weight.{changes_weight}
+use Rattle.relay_history.specs.History.{Past}
+
+-- the weight of a revision: that of its changes, or MAX_COUNT if they are heavier, so that the sum of all held ones fits in 64 bits
+abbrev pub revision_weight : List Change → ℕ
+revision_weight revision = min (changes_weight revision) MAX_COUNT
+
+-- the newest revisions that a budget pays for, up to the first that it does not
+abbrev pub afforded : Budget → List (List Change) → List (List Change)
+afforded budget [] = []
+afforded budget (newest ∷ older) =
+    elim (paid (revision_weight newest) budget) [ Some left ↦ newest ∷ afforded left older | None ↦ [] ]
+
+-- the history with only those revisions
+abbrev pub trimmed : Budget → Past → Past
+trimmed budget past = record past { changes = afforded budget past.changes }

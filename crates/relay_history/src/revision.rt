@@ -1,0 +1,75 @@
+//! A revision: its changes and their weight, so that a history adds and subtracts the weight without a walk.
+ghost use Rattle.std.specs.Prelude.{◌≡◌};
+ghost use Rattle.relay_history.specs.Trimmed.{revision_weight};
+ghost use Rattle.relay_history.specs.Representation.{weight_of};
+
+use relay_patch::{Change, pay_changes};
+use relay_tree::{Budget, MAX_COUNT};
+use std::marker::Model;
+
+/// The changes of one revision. Contracts see it as the list of its changes.
+#[derive(Drop)]
+pub(crate) struct Revision {
+    changes: Vec<Change>,
+    weight: u64,
+}
+
+impl Model for Revision {
+    ghost use Rattle.std.specs.Prelude.{◌≡◌, List};
+    ghost use Rattle.std.specs.Coded.{coded_list};
+    ghost use Rattle.relay_patch.specs.declared.change.Change.{Change};
+    ghost use Rattle.relay_patch.specs.contracts.change.Change as change;
+    ghost use Rattle.relay_history.specs.Trimmed.{revision_weight};
+
+    ghost Value = { List Change };
+
+    ghost coded = { coded_list change.the_row.coded };
+
+    ghost view = { λ r. r.changes.items };
+
+    ghost invariant = { λ r. r.weight ≡ revision_weight r.changes.items };
+}
+
+impl Revision {
+    /// Creates the revision with these changes, which are walked once. Allocates nothing.
+    pub(crate) fn of(changes: Vec<Change>) -> Revision
+        ensures { result ≡ changes.items }
+    {
+        let weight = weigh(&changes);
+        Revision { changes, weight }
+    }
+
+    /// Returns the changes, in the order in which they were made.
+    pub(crate) fn changes(&self) -> &[Change]
+        ensures { result.now ≡ self.now }
+    {
+        &self.changes
+    }
+
+    /// Returns the weight of its changes, or [`MAX_COUNT`] if they are heavier.
+    pub(crate) fn weight(&self) -> u64
+        ensures { result ≡ revision_weight self.now }
+    {
+        self.weight
+    }
+}
+
+/// Drops a revision and returns its weight, or 0 if there is none.
+pub(crate) fn weight_of(revision: Option<Revision>) -> u64
+    ensures { result ≡ weight_of revision }
+{
+    match revision {
+        Some(revision) => revision.weight(),
+        None => 0,
+    }
+}
+
+/// Returns the weight of changes, or [`MAX_COUNT`] if they are heavier.
+fn weigh(changes: &[Change]) -> u64
+    ensures { result ≡ revision_weight changes.now }
+{
+    match pay_changes(changes, Budget::Left(MAX_COUNT)) {
+        Some(Budget::Left(left)) => MAX_COUNT - left,
+        _ => MAX_COUNT,
+    }
+}

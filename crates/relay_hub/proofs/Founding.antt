@@ -1,0 +1,32 @@
+-- A new room in the map that the code keeps: behind the others, or in the place of one.
+use Rattle.std.proofs.Common.{◌≡◌, ◌∙◌, ◌<◌, ◌-◌, ap, sym, arith, ℕ, zero, suc, Option, Some, None, slice_get, List, [], ◌∷◌, ◌++◌, length, length-append, slice_set}
+use Rattle.std.specs.Prelude.{swap_remove, IfSome}
+use Rattle.std.specs.declared.string.String.{String}
+use Rattle.std.proofs.lemmas.List.{length-set, map-append, map-set, set-append_left}
+use Rattle.std.proofs.Math.Seq.{get_or-append_seam, take-append_seam}
+use Rattle.relay_hub.specs.Representation.{named, rooms_of}
+use Rattle.relay_hub.specs.State.{RoomSessions}
+
+pub put_last : {A : Type 0} (es new : List (String A × RoomSessions)) (entry : String A × RoomSessions) (room : List ℕ × RoomSessions) → new ≡ es ++ entry ∷ [] → named entry ≡ room
+    → rooms_of new ≡ rooms_of es ++ room ∷ []
+put_last es new entry room is same = ap (λ xs. rooms_of xs) is ∙ (map-append named es (entry ∷ []) ∙ ap (λ r. rooms_of es ++ r ∷ []) same)
+
+-- the last one comes to the place of another
+swap_last : {X : Type 0} (xs : List X) (v d : X) (i : ℕ) → i < length xs → swap_remove (xs ++ v ∷ []) i d ≡ slice_set xs i v
+swap_last xs v d i within =
+    let n : length (xs ++ v ∷ []) - 1 ≡ length xs = omega (arith, length-append xs (v ∷ [])) in
+    rw (n, get_or-append_seam xs v [] d, set-append_left xs (v ∷ []) i v within) (rw (length-set xs i v) at (take-append_seam (slice_set xs i v) (v ∷ [])))
+
+within_found : {X : Type 0} (xs : List X) (i : ℕ) → i < length xs → slice_get xs i ≡ None → ⊥
+within_found [] i within none = absurd (omega (arith, within))
+within_found (x ∷ xs) zero within none = absurd (cc none)
+within_found (x ∷ xs) (suc i) within none = within_found xs i (omega (arith, within)) none
+
+pub put_at : {A : Type 0} (es mid new : List (String A × RoomSessions)) (entry : String A × RoomSessions) (gone : Option (String A × RoomSessions)) (room : List ℕ × RoomSessions) (i : ℕ)
+    → mid ≡ es ++ entry ∷ [] → i < length es → gone ≡ slice_get mid i → IfSome gone (λ e. new ≡ swap_remove mid i e) → named entry ≡ room → rooms_of new ≡ slice_set (rooms_of es) i room
+put_at es mid new entry (Some e) room i is within there swapped same =
+    ap (λ xs. rooms_of xs) (swapped ∙ (ap (λ xs. swap_remove xs i e) is ∙ swap_last es entry e i within))
+    ∙ (map-set named es i entry ∙ ap (λ r. slice_set (rooms_of es) i r) same)
+put_at es mid new entry None room i is within there swapped same =
+    let more : i < length (es ++ entry ∷ []) = omega (arith, within, length-append es (entry ∷ [])) in
+    absurd (within_found (es ++ entry ∷ []) i more (ap (λ xs. slice_get xs i) (sym is) ∙ sym there))

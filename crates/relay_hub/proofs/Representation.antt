@@ -1,0 +1,159 @@
+-- What the maps in the code mean for the hub that contracts see.
+use Rattle.std.proofs.Common.{◌≡◌, ℕ, ◌+◌, true, arith, List, [], ◌∷◌, Option, Some, None, refl, sym, ◌∙◌, ap, subst, map, length, zero, suc, slice_get, slice_set, nat_lt, option_map, string_bytes, nat_eq, ◌==◌, if◌then◌else◌}
+use Rattle.std.specs.Map.{lookup, values_of}
+use Rattle.std.specs.declared.string.String.{String}
+use Rattle.std.proofs.lemmas.Bool.Decides.{nat_tests}
+use Rattle.std.proofs.lemmas.Option.{slice_get-map}
+use Rattle.indexmap.specs.IndexMap.{set_value_at, with_value_at, values}
+use Rattle.relay_outbox.specs.declared.outbox.TheConstants.{MAX_REPLIES}
+use Rattle.relay_hub.specs.Call.{StepIf, ReceivesIf, DrawsIf, HasRoom}
+use Rattle.relay_hub.specs.Representation.{named, hub_of}
+use Rattle.relay_hub.specs.Session.{Session}
+use Rattle.relay_hub.specs.State.{RoomSessions, State, IsHub, place_of, place_named, session_in, session_of}
+use Rattle.relay_hub.specs.Step.{ChangesOnly, with_room, Step}
+use Rattle.relay_hub.specs.Queries.{room_and_session, may_hear}
+use Rattle.relay_hub.specs.declared.event.Answer.{Answer}
+use Rattle.relay_hub.specs.declared.event.Answer.TheVariants as answer
+use Rattle.relay_hub.specs.declared.event.Event.{Event}
+use Rattle.relay_hub.specs.declared.event.Event.TheVariants.{Receive, Draw, Close}
+use Rattle.relay_hub.specs.declared.hub.Hub.TheInside.{Inside}
+use Rattle.relay_hub.proofs.Members.{step_is_hub}
+use Rattle.relay_hub.proofs.Places.{slice_set_same}
+use Rattle.relay_hub.proofs.Rooms.{some_named}
+
+-- the room at a place
+pub room_at : {A : Type 0} (es : List (String A × RoomSessions)) (i : ℕ) (key : String A) (g : RoomSessions) → slice_get es i ≡ Some (key, g)
+    → slice_get (map named es) i ≡ Some (string_bytes key, g)
+room_at es i key g h = slice_get-map named es i ∙ ap (option_map named) h
+
+-- the room and the session of a number, once its place is known
+pub found_home : (hub : State) (s place : ℕ) (home : List ℕ × RoomSessions) → place_of hub s ≡ Some place → slice_get hub.rooms place ≡ Some home
+    → room_and_session hub s ≡ option_map (λ x. (home.1.room, x)) (session_in home.1.sessions s)
+found_home hub s place home h k = rw (h, k) refl
+
+-- Writes, and the room of a session that is open.
+
+-- if a room's sessions are written, its name stays
+pub record Written {A : Type 0} (es : List (String A × RoomSessions)) (i : ℕ) (old new : RoomSessions) : Type 0 where
+  pub name : List ℕ
+  pub was : slice_get (map named es) i ≡ Some (name, old)
+  pub is : map named (set_value_at es i new) ≡ slice_set (map named es) i (name, new)
+
+pub written : {A : Type 0} (es : List (String A × RoomSessions)) (i : ℕ) (old new : RoomSessions) → slice_get (values_of es) i ≡ Some old → Written es i old new
+written [] i old new h = absurd cc
+written (e ∷ es) zero old new h = let same : e.1 ≡ old = cc in record { name = string_bytes e.0; was = ap (λ g. Some (string_bytes e.0, g)) same; is = refl }
+written (e ∷ es) (suc i) old new h =
+    let rest = written es i old new h in
+    record { name = rest.name; was = rest.was; is = ap (λ rooms. named e ∷ rooms) rest.is }
+
+gone : {A : Type 0} (es : List (String A × RoomSessions)) (i : ℕ) → slice_get (values_of es) i ≡ None → slice_get (map named es) i ≡ None
+gone [] i h = refl
+gone (e ∷ es) zero h = absurd (cc h)
+gone (e ∷ es) (suc i) h = gone es i h
+
+-- there is a room at the place of a name
+pub never_unnamed : {A : Type 0} (es : List (String A × RoomSessions)) (name : List ℕ) (i : ℕ) → place_named name (map named es) ≡ Some i → slice_get (values_of es) i ≡ None → ⊥
+never_unnamed es name i found none =
+    let room = some_named (map named es) name i found in
+    absurd (cc (gone es i none, room.1))
+
+module _ (h : Inside) (s i : ℕ) (is : IsHub (hub_of h)) (at : place_of (hub_of h) s ≡ Some i) where
+  home : (name : List ℕ) × (g : RoomSessions) × (x : Session) × (slice_get (hub_of h).rooms i ≡ Some (name, g)) × (session_in g.sessions s ≡ Some x)
+  home =
+      let found = is.homes s i at in
+      let r = found.room in
+      let both : Some r.place ≡ Some i = sym found.at ∙ at in
+      let same : r.place ≡ i = cc in
+      (r.name, r.room_sessions, found.session, subst (λ p. slice_get (hub_of h).rooms p ≡ Some (r.name, r.room_sessions)) same r.there, found.is)
+
+  -- a room is at its place
+  pub never_missing : slice_get (values h.rooms) i ≡ None → ⊥
+  never_missing none = absurd (cc (gone h.rooms.entries i none, home.3))
+
+  pub never_no_entry : slice_get h.rooms.entries i ≡ None → ⊥
+  never_no_entry none = let no = slice_get-map named h.rooms.entries i ∙ ap (option_map named) none in absurd (cc (no, home.3))
+
+  same_room_sessions : (name : List ℕ) (g : RoomSessions) → slice_get (hub_of h).rooms i ≡ Some (name, g) → home.1 ≡ g
+  same_room_sessions name g there =
+      let both : ◌≡◌ {A = Option (List ℕ × RoomSessions)} (Some (home.0, home.1)) (Some (name, g)) = sym home.3 ∙ there in
+      let one : ◌≡◌ {A = List ℕ × RoomSessions} (home.0, home.1) (name, g) = cc in
+      ap (λ (r : List ℕ × RoomSessions). r.1) one
+
+  -- and the session is in it
+  pub entry_session : (name : List ℕ) (g : RoomSessions) → slice_get (hub_of h).rooms i ≡ Some (name, g) → (x : Session) × (session_in g.sessions s ≡ Some x)
+  entry_session name g there = (home.2, subst (λ (k : RoomSessions). session_in k.sessions s ≡ Some home.2) (same_room_sessions name g there) home.4)
+
+  module _ (g : RoomSessions) (there : slice_get (values h.rooms) i ≡ Some g) where
+    here : Written h.rooms.entries i g g
+    here = written h.rooms.entries i g g there
+
+    pub session_there : (x : Session) × (session_in g.sessions s ≡ Some x)
+    session_there = entry_session here.name g here.was
+
+    pub session_is : session_of (hub_of h) s ≡ session_in g.sessions s
+    session_is = rw (at, here.was) refl
+
+    pub hears : HasRoom g.sessions s → may_hear (session_of (hub_of h) s) ≡ true
+    hears space =
+        let x = session_there in
+        let fits : nat_lt (length x.0.outbox.replies) MAX_REPLIES ≡ true = grind (arith, nat_tests, space x.0 x.1) in
+        rw (session_is, x.1) fits
+
+-- Steps.
+
+-- the hub after the sessions of the room at a place were written
+abbrev pub hub_with : Inside → ℕ → RoomSessions → State
+hub_with h i g = hub_of (record { made = h.made; next = h.next; rooms = with_value_at h.rooms i g; homes = h.homes })
+
+-- the same, with another list of homes
+abbrev pub hub_closed : Inside → ℕ → RoomSessions → List (ℕ × ℕ) → State
+hub_closed h i g homes = record { made = h.made; next = h.next; rooms = map named (set_value_at h.rooms.entries i g); homes = homes }
+
+hub_with-is : (h : Inside) (i : ℕ) (old new : RoomSessions) (w : Written h.rooms.entries i old new) → hub_with h i new ≡ with_room i w.name new (hub_of h)
+hub_with-is h i old new w =
+    ap (λ rooms. record { made = h.made; next = h.next; rooms = rooms; homes = h.homes.entries }) w.is
+
+with_room_same : (hub : State) (i : ℕ) (name : List ℕ) (g : RoomSessions) → slice_get hub.rooms i ≡ Some (name, g) → with_room i name g hub ≡ hub
+with_room_same hub i name g h =
+    ap (λ rooms. record { made = hub.made; next = hub.next; rooms = rooms; homes = hub.homes }) (slice_set_same hub.rooms i (name, g) h)
+
+-- what is done in a session's room, or nothing, is a step if it is one in the room
+module _ (h : Inside) (s i : ℕ) (old new : RoomSessions) (home : place_of (hub_of h) s ≡ Some i) (there : slice_get (values h.rooms) i ≡ Some old) where
+  unchanged : new ≡ old → hub_with h i new ≡ hub_of h
+  unchanged same =
+      let w = written h.rooms.entries i old new there in
+      hub_with-is h i old new w ∙ (ap (λ g. with_room i w.name g (hub_of h)) same ∙ with_room_same (hub_of h) i w.name old w.was)
+
+  pub receives : (text : List ℕ) (answer : Option Answer) → ReceivesIf h.made s text answer old new
+      → StepIf (hub_of h) (Receive s text) answer (hub_with h i new)
+  receives text (Some answer) does =
+      let w = written h.rooms.entries i old new there in
+      rw (home, w.was) (new, does, hub_with-is h i old new w)
+  receives text None same = unchanged same
+
+  pub draws : (answer : Option Answer) → DrawsIf s answer old new → StepIf (hub_of h) (Draw s) answer (hub_with h i new)
+  draws (Some answer) does =
+      let w = written h.rooms.entries i old new there in
+      rw (home, w.was) (new, does, hub_with-is h i old new w)
+  draws None same = unchanged same
+
+  -- a session that is closed is removed from the room and from the list of homes
+  pub closes : (homes : List (ℕ × ℕ)) (x : Session) → session_in old.sessions s ≡ Some x → ChangesOnly s None old new
+      → ((t : ℕ) → lookup (nat_eq t) homes ≡ (if s == t then None else place_of (hub_of h) t)) → length homes + 1 ≡ length h.homes.entries
+      → Step (hub_of h) (Close s) answer.Closed (hub_closed h i new homes)
+  closes homes x is leaves home_after count =
+      let w = written h.rooms.entries i old new there in
+      rw (home, w.was, is) (record {
+        next = refl;
+        made = refl;
+        left = new;
+        leaves = leaves;
+        rooms = w.is;
+        home = home_after;
+        count = count;
+      })
+
+-- a call that is a step, or changes nothing, keeps `IsHub`
+pub stays_hub : (old new : State) (event : Event) (answer : Option Answer) → IsHub old → StepIf old event answer new → IsHub new
+stays_hub old new event (Some answer) h step = step_is_hub old new event answer h step
+stays_hub old new event None h same = subst IsHub (sym same) h

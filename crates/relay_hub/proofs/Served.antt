@@ -1,0 +1,156 @@
+-- Requests that are answered and leave the documents unchanged.
+use Rattle.std.proofs.Common.{◌≡◌, ◌≢◌, ℕ, ◌<◌, ◌≤◌, ◌==◌, inl, inr, Bool, true, false, List, ◌∷◌, length, get_or, Option, Some, None, Result, Ok, refl, arith, slice_get, nat_lt, nat_le}
+use Rattle.std.proofs.lemmas.Bool.{cases_lt}
+use Rattle.std.proofs.lemmas.Bool.Decides.{nat_tests}
+use Rattle.std.proofs.lemmas.Option.{slice_get-get_or, slice_get_past}
+use Rattle.relay_history.specs.History.{Reaches, oldest}
+use Rattle.relay_outbox.specs.Outbox.{with_reply, cleared}
+use Rattle.relay_proto.specs.Client.{nothing, holds}
+use Rattle.relay_proto.specs.Request.{request_of_text}
+use Rattle.relay_proto.specs.Written.{IsCount, HasCounts}
+use Rattle.relay_proto.specs.declared.refusal.Refusal.{Refusal}
+use Rattle.relay_proto.specs.declared.reply.ResumeOutcome.TheVariants as how
+use Rattle.relay_proto.specs.declared.reply.Reply.{Reply}
+use Rattle.relay_proto.specs.declared.reply.Reply.TheVariants.{Watching, Resumed, Unwatched}
+use Rattle.relay_proto.specs.declared.request.Request.{Request}
+use Rattle.relay_proto.specs.declared.request.Request.TheVariants.{Watch, Resume, Unwatch}
+use Rattle.relay_room.specs.CatchUp.{caught_up_within, LeadsOn, Fits}
+use Rattle.relay_room.specs.Room.{State as Room, revision}
+use Rattle.relay_room.specs.declared.catch_up.CatchUp.{CatchUp}
+use Rattle.relay_room.specs.declared.catch_up.CatchUp.TheVariants.{Nothing, Patch, Snapshot}
+use Rattle.relay_room.proofs.Missed.{caught_up_present}
+use Rattle.relay_tree.specs.Document.{Document, null}
+use Rattle.relay_tree.specs.declared.budget.Budget.{Budget}
+use Rattle.relay_view.specs.View.{View, view}
+use Rattle.relay_hub.specs.Log.{Log, Watching as Watched, begun, entry, home, documents, requested, asked, watching}
+use Rattle.relay_hub.specs.Refusal.{refused, future_refusal}
+use Rattle.relay_hub.specs.Session.{Session, session_with, replied, watches, unwatches, resumes}
+use Rattle.relay_hub.specs.Stands.{RoomStands, LineStands, WatchStands, StandsFor}
+use Rattle.relay_hub.specs.State.{RoomSessions, State, Home}
+use Rattle.relay_hub.specs.Step.{ChangesOnly, ResumeServed, with_room}
+use Rattle.relay_hub.specs.declared.config.HubConfig.{HubConfig}
+use Rattle.relay_hub.specs.declared.event.Answer.TheVariants.{Heard}
+use Rattle.relay_hub.specs.declared.event.Event.TheVariants.{Receive}
+use Rattle.relay_hub.specs.declared.event.Heard.TheVariants.{Answered}
+use Rattle.relay_hub.proofs.Follow.{Follows-snapshot, level_follows, resumed_follows}
+use Rattle.relay_hub.proofs.Frames.{session_changes, here}
+use Rattle.relay_hub.proofs.Rooms.{none_added, others_stay}
+use Rattle.relay_hub.proofs.Waiting.{line_replied, line_folded, line_cleared, line_patched}
+
+-- a reply changes nothing that a watcher holds
+pub watch_replied : (ds : List Document) (room : Room) (x : Session) (r : Reply) (w : Option Watched) → WatchStands ds room x w → WatchStands ds room (replied r x) w
+watch_replied ds room x r (Some w) h = h
+watch_replied ds room x r None h = h
+
+-- a session that watches from now on, with a snapshot due
+watch_begun : (most : HubConfig) (ds : List Document) (room : Room) (v : View) → RoomStands most ds room → (id : ℕ) (x : Session)
+    → WatchStands ds room (watches id v x) (Some (begun v nothing))
+watch_begun most ds room v h id x = (refl, Follows-snapshot most ds (begun v nothing) room h tt)
+
+-- Resuming.
+
+-- a resume from a revision is answered without a snapshot only if the history reaches back to that revision
+reached : (budget : Budget) (room : Room) (rev : ℕ) (v : View) → caught_up_within budget room rev v ≢ Snapshot → rev ≤ revision room → Reaches room.history rev
+reached budget room rev v other past = go (nat_lt rev (oldest room.history)) refl
+  where
+    go : (x : Bool) → nat_lt rev (oldest room.history) ≡ x → Reaches room.history rev
+    go true e = absurd (other (rw e refl))
+    go false e = record { back = grind (arith, nat_tests, e); made = past }
+
+watch_resumed : (most : HubConfig) (ds : List Document) (room : Room) (rev id : ℕ) (v : View) (d : Document) (up : CatchUp) (x : Session) → RoomStands most ds room → slice_get ds rev ≡ Some d
+    → rev ≤ revision room → caught_up_within x.budget room rev v ≡ up → LeadsOn room rev v up → WatchStands ds room (resumes (revision room) id v up x) (Some (begun v (holds rev (view v d))))
+watch_resumed most ds room rev id v d Nothing x h at past is leads =
+    let reach = reached x.budget room rev v (λ e. absurd (cc (is, e))) past in
+    (refl, level_follows most ds v room rev d h at (leads d (h.led rev d at reach)))
+watch_resumed most ds room rev id v d (Patch ops) x h at past is leads =
+    let reach = reached x.budget room rev v (λ e. absurd (cc (is, e))) past in
+    let earlier : rev < revision room =
+    elim (cases_lt rev (revision room)) [
+      | inl below ↦ below
+      | inr above ↦ absurd (cc (is, caught_up_present x.budget room rev v (omega (arith, past, above))))
+    ] in
+    (refl, resumed_follows most ds v room rev d ops x.budget (cleared (with_reply (Resumed id how.Patch) x.outbox)) h earlier (leads d (h.led rev d at reach)) refl refl)
+watch_resumed most ds room rev id v d Snapshot x h at past is leads = (refl, Follows-snapshot most ds (begun v (holds rev (view v d))) room h tt)
+
+line_resumed : (most rev id : ℕ) (v : View) (up : CatchUp) (x : Session) → IsCount id → IsCount rev → Fits up → LineStands most x → LineStands most (resumes rev id v up x)
+line_resumed most rev id v Nothing x i r fits h = line_cleared most (replied (Resumed id how.Nothing) x) (Some v) (line_replied most x (Resumed id how.Nothing) i h)
+line_resumed most rev id v (Patch ops) x i r fits h =
+    line_patched most rev ops (session_with (Some v) (cleared (with_reply (Resumed id how.Patch) x.outbox)) x) (Some v) (r, fits) (line_cleared most (replied (Resumed id how.Patch) x) (Some v) (line_replied most x (Resumed id how.Patch) i h))
+line_resumed most rev id v Snapshot x i r fits h = line_folded most (replied (Resumed id how.Snapshot) x) (Some v) (line_replied most x (Resumed id how.Snapshot) i h)
+
+-- A request of session s, which is open.
+
+module _ (b : HubConfig) (E : Log) (old : State) (s : ℕ) (mine : Home old s) (h : RoomSessions) (short : ℕ) (text : List ℕ) (stands : StandsFor b E old) where
+  abbrev g : RoomSessions
+  g = mine.room.room_sessions
+
+  abbrev x : Session
+  x = mine.session
+
+  abbrev ds : List Document
+  ds = documents E mine.room.name
+
+  -- the hub in which the room of s is h
+  abbrev next : State
+  next = with_room mine.room.place mine.room.name h old
+
+  was : RoomStands b ds g.room
+  was = stands.rooms mine.room.place mine.room.name g mine.room.there
+
+  at_home : (home E s ≡ Some mine.room.name) × LineStands b.waiting x × WatchStands ds g.room x (watching b.epoch E s)
+  at_home = here b E old s mine stands
+
+  -- a request that adds no document, and that changes the session alone
+  pub served : (r : Result Request Refusal) (y : Session) → request_of_text text ≡ r → requested ds r ≡ None → ChangesOnly s (Some y) g h → LineStands b.waiting y
+      → WatchStands ds g.room y (asked b.epoch ds (watching b.epoch E s) r)
+      → StandsFor b (entry (Receive s text) (Heard (Answered short)) ∷ E) next
+  served r y read none changes line watch =
+      let e = entry (Receive s text) (Heard (Answered short)) in
+      let same : (s == s) ≡ true = grind (arith, nat_tests) in
+      session_changes b E e old mine.room h stands (others_stay E s short text mine.room.name at_home.0)
+      (record { opened = refl; count = refl; rooms = λ name. refl; home = λ t. refl })
+      (none_added E s short text mine.room.name at_home.0 (rw read none))
+      s y mine.at at_home.0 changes
+      (λ t apart. let other : (s == t) ≡ false = grind (arith, nat_tests, apart) in rw other refl)
+      line
+      (rw (same, at_home.0, read) watch)
+
+  pub served_reply : (r : Result Request Refusal) (why : Reply) → request_of_text text ≡ r → requested ds r ≡ None
+      → asked b.epoch ds (watching b.epoch E s) r ≡ watching b.epoch E s → ChangesOnly s (Some (replied why x)) g h → HasCounts why
+      → StandsFor b (entry (Receive s text) (Heard (Answered short)) ∷ E) next
+  served_reply r why read none same changes counts =
+      served r (replied why x) read none changes (line_replied b.waiting x why counts at_home.1)
+      (rw same (watch_replied ds g.room x why (watching b.epoch E s) at_home.2))
+
+  pub served_watch : (id : ℕ) (v : View) → request_of_text text ≡ Ok (Watch id v) → ChangesOnly s (Some (watches id v x)) g h → IsCount id
+      → StandsFor b (entry (Receive s text) (Heard (Answered short)) ∷ E) next
+  served_watch id v read changes i =
+      served (Ok (Watch id v)) (watches id v x) read refl changes
+      (line_folded b.waiting (replied (Watching id) x) (Some v) (line_replied b.waiting x (Watching id) i at_home.1))
+      (watch_begun b ds g.room v was id x)
+
+  pub served_unwatch : (id : ℕ) → request_of_text text ≡ Ok (Unwatch id) → ChangesOnly s (Some (unwatches id x)) g h → IsCount id
+      → StandsFor b (entry (Receive s text) (Heard (Answered short)) ∷ E) next
+  served_unwatch id read changes i =
+      served (Ok (Unwatch id)) (unwatches id x) read refl changes
+      (line_cleared b.waiting (replied (Unwatched id) x) None (line_replied b.waiting x (Unwatched id) i at_home.1))
+      (refl, refl, refl)
+
+  pub served_resume : (id e rev : ℕ) (v : View) (present past : Bool) → request_of_text text ≡ Ok (Resume id e rev v) → (e == b.epoch) ≡ present → nat_le rev (revision g.room) ≡ past
+      → ResumeServed present past id rev v s x g h → IsCount id → StandsFor b (entry (Receive s text) (Heard (Answered short)) ∷ E) next
+  served_resume id e rev v false past read p q step i =
+      served (Ok (Resume id e rev v)) (resumes (revision g.room) id v Snapshot x) read refl step
+      (line_folded b.waiting (replied (Resumed id how.Snapshot) x) (Some v) (line_replied b.waiting x (Resumed id how.Snapshot) i at_home.1))
+      (rw p (refl, Follows-snapshot b ds (begun v nothing) g.room was tt))
+  served_resume id e rev v true false read p q step i =
+      let room = was in
+      let beyond : length ds ≤ rev = grind (arith, nat_tests, q, room.made) in
+      served_reply (Ok (Resume id e rev v)) (refused (future_refusal id)) read refl (rw (p, slice_get_past ds rev beyond) refl) step (i, tt, tt)
+  served_resume id e rev v true true read p q step i =
+      let room = was in
+      let past : rev ≤ revision g.room = grind (arith, nat_tests, q) in
+      let within : rev < length ds = omega (arith, past, room.made) in
+      let found = slice_get-get_or ds rev null within in
+      served (Ok (Resume id e rev v)) (resumes (revision g.room) id v (caught_up_within x.budget g.room rev v) x) read refl step.2
+      (line_resumed b.waiting (revision g.room) id v (caught_up_within x.budget g.room rev v) x i room.is.history.last step.1 at_home.1)
+      (rw (p, found) (watch_resumed b ds g.room rev id v (get_or ds rev null) (caught_up_within x.budget g.room rev v) x room found past refl step.0))

@@ -1,0 +1,222 @@
+-- A hub that gives back what it can stays a hub, and stands for the same log.
+use Rattle.std.proofs.Common.{◌≡◌, ℕ, zero, suc, ◌+◌, ◌≤◌, ◌==◌, inl, inr, Bool, true, false, cond, not, List, [], ◌∷◌, length, map, Option, Some, None, refl, sym, ◌∙◌, ap, slice_get, slice_set, option_map, option_and_then, bytes_eq, nat_lt, arith, if◌then◌else◌}
+use Rattle.std.specs.List.{position_or_len}
+use Rattle.std.proofs.lemmas.Bool.Decides.{eqb_tells, leb_tells, nat_tests}
+use Rattle.std.proofs.lemmas.List.{length-map}
+use Rattle.std.proofs.lemmas.Option.{slice_get-map}
+use Rattle.relay_outbox.specs.Outbox.{Line}
+use Rattle.relay_patch.specs.declared.op.Op.{Op}
+use Rattle.relay_proto.specs.declared.reply.Reply.{Reply}
+use Rattle.relay_room.specs.Room.{State as Room, trimmed}
+use Rattle.relay_translate.specs.Watches.{Watches}
+use Rattle.relay_tree.specs.Document.{Document}
+use Rattle.relay_tree.specs.declared.budget.Budget.{Budget}
+use Rattle.relay_tree.specs.declared.budget.Budget.TheVariants.{Unbounded}
+use Rattle.relay_hub.specs.Log.{Log, Watching, home, documents, watching}
+use Rattle.relay_hub.specs.Session.{Session, with_line, later}
+use Rattle.relay_hub.specs.Shed.{shed_budget, fold_patches, shed_session, shed_room, shed_named, shed}
+use Rattle.relay_hub.specs.Stands.{RoomStands, LineStands, WatchStands, SessionStands, RoomSessionsStand, HomeStands, Follows, StandsFor}
+use Rattle.relay_hub.specs.State.{RoomSessions, State, EachOnce, IsHub, numbers, place_of, place_named, session_in}
+use Rattle.relay_hub.specs.Watched.{IsIndexed}
+use Rattle.relay_hub.specs.declared.config.HubConfig.{HubConfig}
+use Rattle.relay_hub.proofs.Documents.{trimmed_stands}
+use Rattle.relay_hub.proofs.Follow.{EachLeads-left, Follows-snapshot}
+use Rattle.relay_hub.proofs.Places.{slice_get-set, slice_get-set_other}
+use Rattle.relay_hub.proofs.Rising.{same_rises}
+
+-- Sessions.
+
+pub shed_found : (xs : List Session) (t : ℕ) → session_in (map shed_session xs) t ≡ option_map shed_session (session_in xs t)
+shed_found [] t = refl
+shed_found (x ∷ xs) t = step (x.number == t) (session_in (map shed_session xs) t) (session_in xs t) (shed_found xs t)
+  where
+    step : (b : Bool) (o p : Option Session) → o ≡ option_map shed_session p
+        → (if b then Some (shed_session x) else o) ≡ option_map shed_session (if b then Some x else p)
+    step true o p h = refl
+    step false o p h = h
+
+pub shed_once : (xs : List Session) → EachOnce xs → EachOnce (map shed_session xs)
+shed_once [] h = tt
+shed_once (x ∷ xs) h = (shed_found xs x.number ∙ ap (option_map shed_session) h.0, shed_once xs h.1)
+
+shed_numbers : (xs : List Session) → numbers (map shed_session xs) ≡ numbers xs
+shed_numbers [] = refl
+shed_numbers (x ∷ xs) = ap (λ ns. x.number ∷ ns) (shed_numbers xs)
+
+pub shed_indexed : (w : Watches) (xs : List Session) → IsIndexed w xs → IsIndexed w (map shed_session xs)
+shed_indexed w xs h = record {
+  rising = same_rises xs (map shed_session xs) (shed_numbers xs) h.rising;
+  agrees = λ t. h.agrees t ∙ same_view (session_in xs t) (session_in (map shed_session xs) t) (shed_found xs t);
+}
+  where
+    same_view : (o p : Option Session) → p ≡ option_map shed_session o → option_and_then (λ x. x.view) o ≡ option_and_then (λ x. x.view) p
+    same_view (Some x) p h = rw h refl
+    same_view None p h = rw h refl
+
+-- Rooms.
+
+-- a room that was there
+record Was (hub : State) (budget : Budget) (place : ℕ) (name : List ℕ) (g : RoomSessions) : Type 0 where
+  old : RoomSessions
+  there : slice_get hub.rooms place ≡ Some (name, old)
+  is : g ≡ shed_room budget old
+
+was : (hub : State) (budget : Budget) (place : ℕ) (name : List ℕ) (g : RoomSessions) → slice_get (map (shed_named budget) hub.rooms) place ≡ Some (name, g) → Was hub budget place name g
+was hub budget place name g at = go (slice_get hub.rooms place) refl (sym (slice_get-map (shed_named budget) hub.rooms place) ∙ at)
+  where
+    go : (o : Option (List ℕ × RoomSessions)) → slice_get hub.rooms place ≡ o → option_map (shed_named budget) o ≡ Some (name, g) → Was hub budget place name g
+    go None there h = absurd (cc h)
+    go (Some r) there h =
+        let both : ◌≡◌ {A = List ℕ × RoomSessions} (r.0, shed_room budget r.1) (name, g) = cc in
+        let named : r.0 ≡ name = ap (λ (x : List ℕ × RoomSessions). x.0) both in
+        record { old = r.1; there = there ∙ ap (λ n. Some (n, r.1)) named; is = sym (ap (λ (x : List ℕ × RoomSessions). x.1) both) }
+
+shed_names : (name : List ℕ) (budget : Budget) (rooms : List (List ℕ × RoomSessions)) → place_named name (map (shed_named budget) rooms) ≡ place_named name rooms
+shed_names name budget rooms = rw (go rooms, length-map rooms (shed_named budget)) refl
+  where
+    go : (rs : List (List ℕ × RoomSessions)) → position_or_len (λ room. bytes_eq name room.0) (map (shed_named budget) rs) ≡ position_or_len (λ room. bytes_eq name room.0) rs
+    go [] = refl
+    go (r ∷ rs) = ap (λ n. cond (not (bytes_eq name r.0)) (1 + n) 0) (go rs)
+
+some_shed : (o p : Option Session) (y : Session) → p ≡ option_map shed_session o → p ≡ Some y → (x : Session) × (o ≡ Some x)
+some_shed (Some x) p y h is = (x, refl)
+some_shed None p y h is = absurd (cc (h, is))
+
+pub shed_is_hub : (hub : State) → IsHub hub → IsHub (shed hub)
+shed_is_hub hub h = record {
+  made = h.made;
+  below = h.below;
+  homes = λ t place at.
+      let mine = h.homes t place at in
+      let r = mine.room in
+      record {
+        room = record { place = r.place; name = r.name; room_sessions = shed_room budget r.room_sessions; there = slice_get-map (shed_named budget) hub.rooms r.place ∙ ap (option_map (shed_named budget)) r.there };
+        session = shed_session mine.session;
+        at = mine.at;
+        is = shed_found r.room_sessions.sessions t ∙ ap (option_map shed_session) mine.is;
+      };
+  members = λ place name g at t y is.
+      let w = was hub budget place name g at in
+      let found = ap (λ (k : RoomSessions). session_in k.sessions t) (sym w.is) ∙ is in
+      let x = some_shed (session_in w.old.sessions t) (session_in (map shed_session w.old.sessions) t) y (shed_found w.old.sessions t) found in
+      h.members place name w.old w.there t x.0 x.1;
+  once = λ place name g at.
+      let w = was hub budget place name g at in
+      rw w.is (shed_once w.old.sessions (h.once place name w.old w.there));
+}
+  where
+    budget : Budget
+    budget = shed_budget hub.made.history_weight
+
+-- The log.
+
+fold_stands : (most : ℕ) (x : Session) → LineStands most x → LineStands most (shed_session x)
+fold_stands most x h = go x.outbox.patches refl
+  where
+    go : (ps : List (ℕ × List Op)) → x.outbox.patches ≡ ps → LineStands most (with_line (fold_patches ps x.outbox) x)
+    go [] is = h
+    go (p ∷ ps) is = record { limit = h.limit; replies = h.replies; patches = tt }
+
+fold_follows : (b : HubConfig) (ds : List Document) (room : Room) (w : Watching) (line : Line Reply (ℕ × List Op)) → RoomStands b ds room
+    → Follows ds w (later room w.view line) → Follows ds w (later room w.view (fold_patches line.patches line))
+fold_follows b ds room w line stands h = go line.patches refl
+  where
+    go : (ps : List (ℕ × List Op)) → line.patches ≡ ps → Follows ds w (later room w.view (fold_patches ps line))
+    go [] is = h
+    go (p ∷ ps) is = Follows-snapshot b ds w room stands (EachLeads-left ds w.view w.start w.heard (later room w.view line) h.each)
+
+watch_stands : (b : HubConfig) (ds : List Document) (room : Room) (budget : Budget) (x : Session) (w : Option Watching) → RoomStands b ds room → WatchStands ds room x w
+    → WatchStands ds (trimmed budget room) (shed_session x) w
+watch_stands b ds room budget x (Some w) stands h = (h.0, fold_follows b ds room w x.outbox stands h.1)
+watch_stands b ds room budget x None stands h = let i = idle x.outbox.patches h.1 in (h.0, i.0, i.1)
+  where
+    idle : (ps : List (ℕ × List Op)) → ps ≡ [] → ((fold_patches ps x.outbox).patches ≡ []) × ((fold_patches ps x.outbox).due ≡ false)
+    idle [] e = (h.1, h.2)
+    idle (p ∷ ps) e = absurd (cc e)
+
+session_stands : (b : HubConfig) (docs : List ℕ → List Document) (name : List ℕ) (room : Room) (budget : Budget) (o : Option Session) (there : Option (List ℕ)) (w : Option Watching)
+    → RoomStands b (docs name) room → SessionStands b.waiting docs name room o there w → SessionStands b.waiting docs name (trimmed budget room) (option_map shed_session o) there w
+session_stands b docs name room budget (Some x) there w stands h = (h.0, fold_stands b.waiting x h.1, watch_stands b (docs name) room budget x w stands h.2)
+session_stands b docs name room budget None there w stands h = h
+
+module _ (b : HubConfig) (E : Log) (hub : State) (h : StandsFor b E hub) where
+  abbrev budget : Budget
+  budget = shed_budget hub.made.history_weight
+
+  free : b.history_weight ≡ Unbounded → budget ≡ Unbounded
+  free is = let same : hub.made.history_weight ≡ Unbounded = ap (λ (made : HubConfig). made.history_weight) h.made ∙ is in ap shed_budget same
+
+  room_stands : (t : ℕ) (o : Option (List ℕ × RoomSessions)) (place : ℕ) → slice_get hub.rooms place ≡ o → RoomSessionsStand b.waiting (documents E) t o (home E t) (watching b.epoch E t)
+      → RoomSessionsStand b.waiting (documents E) t (option_map (shed_named budget) o) (home E t) (watching b.epoch E t)
+  room_stands t (Some r) place at k =
+      rw (shed_found r.1.sessions t) (session_stands b (documents E) r.0 r.1.room budget (session_in r.1.sessions t) (home E t) (watching b.epoch E t) (h.rooms place r.0 r.1 at) k)
+  room_stands t None place at k = k
+
+  home_stands : (t : ℕ) (o : Option ℕ) → HomeStands b.waiting (documents E) hub.rooms t o (home E t) (watching b.epoch E t)
+      → HomeStands b.waiting (documents E) (map (shed_named budget) hub.rooms) t o (home E t) (watching b.epoch E t)
+  home_stands t (Some place) k = rw (slice_get-map (shed_named budget) hub.rooms place) (room_stands t (slice_get hub.rooms place) place refl k)
+  home_stands t None k = k
+
+  pub shed_stands : StandsFor b E (shed hub)
+  shed_stands = record {
+    made = h.made;
+    is = h.is;
+    next = h.next;
+    count = h.count;
+    rooms = λ place name g at.
+        let w = was hub budget place name g at in
+        rw w.is (trimmed_stands b (documents E name) w.old.room budget free (h.rooms place name w.old w.there));
+    names = λ place name g at.
+        let w = was hub budget place name g at in
+        shed_names name budget hub.rooms ∙ h.names place name w.old w.there;
+    known = λ name place there. h.known name place (sym (shed_names name budget hub.rooms) ∙ there);
+    others = λ name none. h.others name (sym (shed_names name budget hub.rooms) ∙ none);
+    sessions = λ t. home_stands t (place_of hub t) (h.sessions t);
+  }
+
+same_slots : {X : Type 0} (xs ys : List X) → ((p : ℕ) → slice_get xs p ≡ slice_get ys p) → xs ≡ ys
+same_slots [] [] h = refl
+same_slots [] (y ∷ ys) h = absurd (cc (h 0))
+same_slots (x ∷ xs) [] h = absurd (cc (h 0))
+same_slots (x ∷ xs) (y ∷ ys) h = let e = h 0 in let first : x ≡ y = cc in (λ i. first i ∷ same_slots xs ys (λ p. h (suc p)) i)
+
+-- Written one by one.
+
+-- the first i of a list are mapped, and the others are not yet
+abbrev pub MappedTo : {X : Type 0} (f : X → X) (i : ℕ) (old new : List X) → Type 0
+MappedTo f i old new = (p : ℕ) → slice_get new p ≡ (if nat_lt p i then option_map f (slice_get old p) else slice_get old p)
+
+pub none_mapped : {X : Type 0} (f : X → X) (xs : List X) → MappedTo f 0 xs xs
+none_mapped f xs p = let none : nat_lt p 0 ≡ false = grind (arith, nat_tests) in rw none refl
+
+-- one more
+pub one_mapped : {X : Type 0} (f : X → X) (i : ℕ) (old mid : List X) (x : X) → MappedTo f i old mid → slice_get mid i ≡ Some x → MappedTo f (i + 1) old (slice_set mid i (f x))
+one_mapped f i old mid x h at p =
+    elim (eqb_tells p i) [
+      | inl same ↦
+          let less : nat_lt p (i + 1) ≡ true = grind (arith, nat_tests, same.1) in
+          let not_yet : nat_lt i i ≡ false = grind (arith, nat_tests) in
+          let was : slice_get old i ≡ Some x = (rw not_yet at (sym (h i))) ∙ at in
+          rw (less, same.1, slice_get-set mid i x (f x) at, was) refl
+      | inr other ↦
+          let same : nat_lt p (i + 1) ≡ nat_lt p i = grind (arith, nat_tests, other.1) in
+          rw (slice_get-set_other mid i p (f x) other.1, same) (h p)
+    ]
+
+-- all of them
+pub all_mapped : {X : Type 0} (f : X → X) (i : ℕ) (old new : List X) → i ≡ length old → MappedTo f i old new → new ≡ map f old
+all_mapped {X = X} f i old new all h = same_slots new (map f old) (λ p. h p ∙ step p ∙ sym (slice_get-map f old p))
+  where
+    past : (xs : List X) (p : ℕ) → length xs ≤ p → slice_get xs p ≡ None
+    past [] p h = refl
+    past (x ∷ xs) zero h = absurd (omega (arith, h))
+    past (x ∷ xs) (suc p) h = past xs p (omega (arith, h))
+
+    step : (p : ℕ) → (if nat_lt p i then option_map f (slice_get old p) else slice_get old p) ≡ option_map f (slice_get old p)
+    step p = elim (leb_tells i p) [
+      | inl late ↦
+          let no : nat_lt p i ≡ false = grind (arith, nat_tests, late.1) in
+          let none : slice_get old p ≡ None = past old p (omega (arith, late.1, all)) in
+          rw (no, none) refl
+      | inr soon ↦ let yes : nat_lt p i ≡ true = grind (arith, nat_tests, soon.1) in rw yes refl
+    ]

@@ -1,0 +1,30 @@
+use Rattle.std.proofs.Common.{◌≡◌, ◌+◌, ◌<◌, ℕ, length, true, false, rules, arith, is_err, if◌then◌else◌}
+use Rattle.relay_hub.proofs.Among.{none_among, next_among}
+use Rattle.relay_hub.proofs.broadcast.notify_those.Goals as goal
+use Rattle.relay_hub.proofs.broadcast.notify_those.Goals.{then-is_err, else-is_err}
+
+pub loop-number-init : goal.loop-number-init
+loop-number-init c = record {
+  told = λ d changes since leads. none_among d changes c.args.room.now c.args.sessions.now;
+  ordered = c.requires.ordered;
+  kept = tt;
+  count = omega arith;
+}
+
+pub loop-number-preserved : goal.loop-number-preserved
+loop-number-preserved c =
+    let l = c.loop-number in
+    let within : l.number-index < length c.args.numbers.now = omega (arith, c.loop-number-test.true) in
+    let more : ℕ = if is_err c.notify_one.result then 1 else 0 in
+    let short : c.if-is_err.short ≡ l.short + more =
+    elim c.if-is_err.branch [
+      | then-is_err w ↦ let short : is_err c.notify_one.result ≡ true = search rules in rw short (omega (arith, w.short-is))
+      | else-is_err w ↦ let told : is_err c.notify_one.result ≡ false = search rules in rw told (omega (arith, w.short-is))
+    ] in
+    record {
+      told = λ d changes since leads. rw short (next_among d changes c.args.room.now c.args.numbers.now l.number-index 0 c.args.sessions.now l.sessions c.notify_one.new.sessions l.short more
+          c.requires.rising within (l.invariant.told d changes since leads) (c.notify_one.ensures.told d changes since leads));
+      ordered = c.notify_one.ensures.ordered;
+      kept = c.notify_one.ensures.kept;
+      count = elim c.if-is_err.branch [ then-is_err w ↦ omega (arith, w.short-is, l.invariant.count) | else-is_err w ↦ omega (arith, w.short-is, l.invariant.count) ];
+    }

@@ -1,0 +1,10 @@
+use Rattle.std.proofs.Common.{◌≡◌, ◌∙◌, ap, List, [], ◌∷◌, ◌++◌}
+use Rattle.relay_hub.specs.Session.{Session}
+use Rattle.relay_hub.proofs.Indexed.{first_indexed}
+use Rattle.relay_hub.proofs.room_sessions.RoomSessions.begin.Goals as goal
+
+pub invariant_of-result : goal.invariant_of-result
+invariant_of-result c =
+    let first = c.args.first in
+    let one : c.push.new.self.items ≡ first ∷ [] = c.in_ok-push.ensures.items ∙ ap (λ (xs : List Session). xs ++ first ∷ []) c.new-sessions.ensures.items in
+    rw (c.new-watches.ensures, one) (first_indexed first c.requires)

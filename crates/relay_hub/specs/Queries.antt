@@ -1,0 +1,64 @@
+-- What a hub returns for a session, when no hub can be made, and what a refused edit changes.
+use Rattle.std.specs.Prelude.{ℕ, ◌≡◌, ◌≢◌, map, ◌<◌, ◌⊎◌, Bool, false, length, nat_lt, Option, Some, None, option_map, option_and_then, List, Ok, Err}
+use Rattle.relay_history.specs.declared.history.TheConstants.{MAX_REVISIONS}
+use Rattle.relay_outbox.specs.declared.outbox.TheConstants.{MAX_REPLIES, MAX_PATCHES}
+use Rattle.relay_patch.specs.declared.op.Op.{Op}
+use Rattle.relay_proto.specs.Request.{request_of_text}
+use Rattle.relay_proto.specs.declared.refusal.Refusal.{Refusal}
+use Rattle.relay_proto.specs.declared.reply.Reply.{Reply}
+use Rattle.relay_proto.specs.declared.request.Request.TheVariants.{Edit}
+use Rattle.relay_room.specs.Edit.{edited}
+use Rattle.relay_room.specs.Room.{State as Room, revision}
+use Rattle.relay_room.specs.declared.fault.EditFault.{EditFault}
+use Rattle.relay_tree.specs.Document.{Document}
+use Rattle.relay_tree.specs.declared.count.TheConstants.{MAX_COUNT}
+use Rattle.relay_view.specs.View.{view}
+use Rattle.relay_hub.specs.declared.config.HubConfig.{HubConfig}
+use Rattle.relay_hub.specs.declared.config.TheConstants.{MAX_ROOMS, MAX_SESSIONS}
+use Rattle.relay_hub.specs.Refusal.{refused, edit_refusal}
+use Rattle.relay_hub.specs.Session.{Session, replied}
+use Rattle.relay_hub.specs.State.{RoomSessions, State, home_of, session_in, session_of, without_sessions}
+
+-- one of the numbers of a configuration is no count, or out of its range
+abbrev pub BadLimits : HubConfig → Type 0
+BadLimits made =
+    (MAX_COUNT < made.epoch) ⊎ (MAX_COUNT < made.first)
+    ⊎ (made.history < 1) ⊎ (MAX_REVISIONS < made.history) ⊎ (made.waiting < 1) ⊎ (MAX_PATCHES < made.waiting)
+    ⊎ (made.rooms < 1) ⊎ (MAX_ROOMS < made.rooms) ⊎ (made.sessions < 1) ⊎ (MAX_SESSIONS < made.sessions)
+
+-- the session is open, and a further reply may wait for it
+abbrev pub may_hear : Option Session → Bool
+may_hear (Some x) = nat_lt (length x.outbox.replies) MAX_REPLIES
+may_hear None = false
+
+-- the room of session s, and the session
+abbrev pub room_and_session : State → ℕ → Option (Room × Session)
+room_and_session hub s = option_and_then (λ home. option_map (λ x. (home.1.room, x)) (session_in home.1.sessions s)) (home_of hub s)
+
+-- the present revision and the view of the present document, if the session watches a view
+abbrev pub shown : Room → Session → Option (ℕ × Document)
+shown room x = option_map (λ pointers. (revision room, view pointers room.document)) x.view
+
+-- the same of session s, if it is open
+abbrev pub truth : State → ℕ → Option (Option (ℕ × Document))
+truth hub s = option_and_then (λ home. option_map (shown home.1.room) (session_in home.1.sessions s)) (home_of hub s)
+
+-- session s is y, and nothing else changed
+pub record LeavesNoTrace (s : ℕ) (y : Session) (old new : State) : Type 0 where
+  pub rooms : map without_sessions new.rooms ≡ map without_sessions old.rooms
+  pub homes : new.homes ≡ old.homes
+  pub next : new.next ≡ old.next
+  pub others : (t : ℕ) → s ≢ t → session_of new t ≡ session_of old t
+  pub sender : session_of new s ≡ Some y
+
+-- a refused edit of session s changes no room and no other session, and adds one reply to its own
+pub record RefusesEdits (s : ℕ) (text : List ℕ) (old new : State) : Type 0 where
+  -- refused when it is read, like any text that is no request
+  pub unread : (name : List ℕ) (g : RoomSessions) (x : Session) (r : Refusal)
+      → home_of old s ≡ Some (name, g) → session_in g.sessions s ≡ Some x → request_of_text text ≡ Err r
+      → LeavesNoTrace s (replied (refused r) x) old new
+  -- refused by its room
+  pub unmade : (name : List ℕ) (g : RoomSessions) (x : Session) (id : ℕ) (base : Option ℕ) (patch : List Op) (fault : EditFault)
+      → home_of old s ≡ Some (name, g) → session_in g.sessions s ≡ Some x
+      → request_of_text text ≡ Ok (Edit id base patch) → edited g.room base patch ≡ Err fault
+      → (r : Reply) × (edit_refusal id fault ≡ Some r) × LeavesNoTrace s (replied r x) old new

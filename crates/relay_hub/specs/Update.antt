@@ -1,0 +1,31 @@
+-- What brings a view to a later revision, and what it does to an outbox.
+use Rattle.std.specs.Prelude.{ℕ, List}
+use Rattle.relay_outbox.specs.Outbox.{Line, folded}
+use Rattle.relay_patch.specs.declared.op.Op.{Op}
+use Rattle.relay_proto.specs.declared.reply.ResumeOutcome.{ResumeOutcome}
+use Rattle.relay_proto.specs.declared.reply.ResumeOutcome.TheVariants as how
+use Rattle.relay_proto.specs.declared.reply.Reply.{Reply}
+use Rattle.relay_room.specs.declared.catch_up.CatchUp.{CatchUp}
+use Rattle.relay_room.specs.declared.catch_up.CatchUp.TheVariants as caught
+use Rattle.relay_tree.specs.declared.budget.Budget.{Budget}
+use Rattle.relay_hub.specs.Session.{with_patch_within}
+use Rattle.relay_hub.specs.declared.update.Update.{Update}
+use Rattle.relay_hub.specs.declared.update.Update.TheVariants.{Nothing, Patch, Snapshot}
+
+-- the update to that revision: a patch comes with it
+abbrev pub update_of : ℕ → CatchUp → Update
+update_of rev caught.Nothing = Nothing
+update_of rev (caught.Patch ops) = Patch (rev, ops)
+update_of rev caught.Snapshot = Snapshot
+
+-- the word for it in a reply
+abbrev pub word_of : Update → ResumeOutcome
+word_of Nothing = how.Nothing
+word_of (Patch p) = how.Patch
+word_of Snapshot = how.Snapshot
+
+-- an outbox after an update, if its patches may weigh as much as a budget pays for
+abbrev pub heard : Budget → Update → Line Reply (ℕ × List Op) → Line Reply (ℕ × List Op)
+heard budget Nothing line = line
+heard budget (Patch p) line = with_patch_within budget p line
+heard budget Snapshot line = folded line

@@ -1,0 +1,99 @@
+//! The configuration of a hub.
+ghost use Rattle.std.specs.Prelude.{◌≡◌, ◌≤◌, ◌<◌, ◌⊎◌, ◌↔◌, OnOk, IsErrOf};
+ghost use Rattle.std.specs.Bool.{MatchBool};
+ghost use Rattle.relay_tree.specs.declared.count.TheConstants.{MAX_COUNT};
+ghost use Rattle.relay_hub.specs.Queries.{BadLimits};
+ghost use Rattle.relay_hub.specs.State.{IsConfig, config};
+ghost use Rattle.relay_hub.specs.declared.fault.HubNewFault.TheVariants.{BadLimit};
+
+use crate::fault::HubNewFault;
+use relay_history::MAX_REVISIONS;
+use relay_outbox::MAX_PATCHES;
+use relay_tree::{Budget, MAX_COUNT};
+
+/// The number of rooms that [`HubConfig::new`] allows.
+pub const DEFAULT_ROOMS: u64 = 64;
+
+/// The number of open sessions that [`HubConfig::new`] allows.
+pub const DEFAULT_SESSIONS: u64 = 256;
+
+/// The most rooms that a configuration may allow.
+pub const MAX_ROOMS: u64 = 65_536;
+
+/// The most open sessions that a configuration may allow.
+pub const MAX_SESSIONS: u64 = 65_536;
+
+/// The configuration of a hub, which never changes.
+#[derive(Clone, Copy, Debug, PartialEq, Eq)]
+pub struct HubConfig {
+    /// The number of this run of the relay. A client of another epoch starts over.
+    pub epoch: u64,
+    /// The number of the first session.
+    pub first: u64,
+    /// The most rooms, 1 to 65,536.
+    pub rooms: u64,
+    /// The most sessions that are open at once, 1 to 65,536.
+    pub sessions: u64,
+    /// The most revisions whose changes a room keeps, 1 to 1,024.
+    pub history: u64,
+    /// The most patches that wait for a session, 1 to 256.
+    pub waiting: u64,
+    /// The most that the changes a room keeps may weigh together.
+    pub history_weight: Budget,
+    /// The most that the patches waiting for a session may weigh together.
+    pub waiting_weight: Budget,
+}
+
+impl HubConfig {
+    /// A configuration with these numbers, 64 rooms, 256 sessions, and no bound on weight.
+    pub fn new(epoch: u64, first: u64, history: u64, waiting: u64) -> HubConfig
+        ensures { result ≡ config epoch first history waiting }
+    {
+        HubConfig {
+            epoch,
+            first,
+            rooms: DEFAULT_ROOMS,
+            sessions: DEFAULT_SESSIONS,
+            history,
+            waiting,
+            history_weight: Budget::Unbounded,
+            waiting_weight: Budget::Unbounded,
+        }
+    }
+
+    /// `BadLimit`: a number is out of its range, or `epoch` or `first` is not a count.
+    #[tactic(auto, using(crate::proofs::Configs::bad_counts, crate::proofs::Configs::bad_history, crate::proofs::Configs::bad_waiting, crate::proofs::Configs::bad_rooms, crate::proofs::Configs::bad_sessions, crate::proofs::Configs::none_bad))]
+    pub(crate) fn check(self) -> Result<(), HubNewFault>
+        ensures ok { OnOk result (IsConfig self) }
+        ensures bad_limit { IsErrOf result BadLimit ↔ BadLimits self }
+    {
+        if !are_counts(self.epoch, self.first) {
+            return Err(HubNewFault::BadLimit);
+        }
+        if !is_in_range(self.history, MAX_REVISIONS) {
+            return Err(HubNewFault::BadLimit);
+        }
+        if !is_in_range(self.waiting, MAX_PATCHES) {
+            return Err(HubNewFault::BadLimit);
+        }
+        if !is_in_range(self.rooms, MAX_ROOMS) {
+            return Err(HubNewFault::BadLimit);
+        }
+        if !is_in_range(self.sessions, MAX_SESSIONS) {
+            return Err(HubNewFault::BadLimit);
+        }
+        Ok(())
+    }
+}
+
+fn are_counts(epoch: u64, first: u64) -> bool
+    ensures { MatchBool result ((epoch ≤ MAX_COUNT) × (first ≤ MAX_COUNT)) ((MAX_COUNT < epoch) ⊎ (MAX_COUNT < first)) }
+{
+    epoch <= MAX_COUNT && first <= MAX_COUNT
+}
+
+fn is_in_range(limit: u64, most: u64) -> bool
+    ensures { MatchBool result ((1 ≤ limit) × (limit ≤ most)) ((limit < 1) ⊎ (most < limit)) }
+{
+    1 <= limit && limit <= most
+}

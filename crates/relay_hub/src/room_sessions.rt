@@ -1,0 +1,140 @@
+//! A room with its open sessions, and an index of the views that they watch, by which an edit finds the sessions that it touches.
+use crate::config::HubConfig;
+use crate::event::Heard;
+use crate::fault::HubFault;
+use crate::requests;
+use crate::session::Session;
+use crate::shed::shed_sessions;
+use relay_room::Room;
+use relay_translate::WatchIndex;
+use relay_tree::Budget;
+use std::alloc::{AllocError, Global};
+use std::marker::Model;
+
+/// A room with its sessions in the order in which they were opened, so that their numbers rise and one is found by a binary search.
+/// Contracts see the room and the sessions, but not the index, which has the view of each session that watches.
+#[derive(Drop)]
+pub struct RoomSessions {
+    room: Room,
+    sessions: Vec<Session>,
+    watches: WatchIndex,
+}
+
+impl Model for RoomSessions {
+    ghost use Rattle.relay_patch.specs.contracts.change.Change as change;
+    ghost use Rattle.relay_hub.specs.contracts.session.Session as session;
+    ghost use Rattle.relay_hub.specs.State.{RoomSessions, room_sessions, room_sessions_code};
+    ghost use Rattle.relay_hub.specs.Watched.{IsIndexed};
+
+    ghost Value = { RoomSessions };
+
+    ghost coded = { room_sessions_code change.the_row.coded session.the_row.coded };
+
+    ghost view = { λ g. room_sessions g.room g.sessions.items };
+
+    ghost invariant = { λ g. IsIndexed g.watches g.sessions.items };
+}
+
+impl RoomSessions {
+    ghost use Rattle.std.specs.Prelude.{◌≡◌, ◌<◌, [], ◌∷◌, Some, None, IfOk, OnOk, OnErr, IsErrOf, IsSome, IsSomeAnd, option_map};
+    ghost use Rattle.relay_hub.specs.Call.{receiving, drawing, ReceivesIf, DrawsIf, HasRoom, IsAbove};
+    ghost use Rattle.relay_hub.specs.Session.{waiting};
+    ghost use Rattle.relay_hub.specs.Shed.{shed_room};
+    ghost use Rattle.relay_hub.specs.State.{room_sessions, is_untouched, session_in};
+    ghost use Rattle.relay_hub.specs.Step.{ChangesOnly};
+
+    /// A room with its first session, which watches nothing.
+    pub fn begin(alloc: Global, room: Room, first: Session) -> Result<RoomSessions, AllocError>
+        requires { first.view ≡ None }
+        ensures { IfOk result (λ g. g ≡ room_sessions room (first ∷ [])) }
+    {
+        let mut sessions = Vec::new(alloc);
+        sessions.push(first)?;
+        let watches = WatchIndex::new(alloc);
+        Ok(RoomSessions {
+            room,
+            sessions,
+            watches,
+        })
+    }
+
+    /// The room. Allocates nothing.
+    pub fn room(&self) -> &Room
+        ensures { result.now ≡ self.now.room }
+    {
+        &self.room
+    }
+
+    /// Whether it has no session and no edit was ever accepted, so that it is as if it had never been opened. Allocates nothing.
+    pub fn is_untouched(&self) -> bool
+        ensures { result ≡ is_untouched self.now }
+    {
+        self.room.revision() == 0 && self.sessions.is_empty()
+    }
+
+    /// The session with that number, which is there. Allocates nothing.
+    pub fn session(&self, number: u64) -> &Session
+        requires { IsSome (session_in self.now.sessions number) }
+        ensures { session_in self.now.sessions number ≡ Some result.now }
+    {
+        requests::session_at(self.sessions.as_slice(), number)
+    }
+
+    /// Adds a session, which watches nothing, behind the others. Its number is above theirs. Out of memory changes nothing.
+    pub fn join(&mut self, session: Session) -> Result<(), AllocError>
+        requires fresh { IsAbove session.number self.old.sessions }
+        requires idle { session.view ≡ None }
+        ensures ok { OnOk result (ChangesOnly session.number (Some session) self.old self.new) }
+        ensures err { OnErr result (self.new ≡ self.old) }
+    {
+        self.sessions.push(session)?;
+        Ok(())
+    }
+
+    /// Removes a session. Allocates nothing.
+    pub fn leave(&mut self, number: u64)
+        ensures { ChangesOnly number None self.old self.new }
+    {
+        requests::remove(&mut self.sessions, &mut self.watches, number);
+    }
+
+    /// Drops the oldest changes that the budget does not pay for, and folds the patches that wait. Allocates nothing.
+    pub fn shed(&mut self, budget: Budget)
+        ensures { self.new ≡ shed_room budget self.old }
+    {
+        self.room.trim(budget);
+        shed_sessions(&mut self.sessions);
+    }
+
+    /// Serves a text from a session that is there ([`requests::receive`]).
+    pub fn receive(
+        &mut self,
+        alloc: Global,
+        made: HubConfig,
+        number: u64,
+        text: &str,
+    ) -> Result<Heard, HubFault>
+        requires { IsSome (session_in self.old.sessions number) }
+        ensures step { ReceivesIf made number text.now (receiving result) self.old self.new }
+        ensures no_memory { IsErrOf result HubFault.NoMemory → HasRoom self.old.sessions number }
+    {
+        requests::receive(
+            alloc,
+            made,
+            &mut self.room,
+            &mut self.watches,
+            self.sessions.as_mut_slice(),
+            number,
+            text,
+        )
+    }
+
+    /// Removes and returns the text at the front of the outbox of a session that is there ([`requests::draw`]).
+    pub fn draw(&mut self, alloc: Global, number: u64) -> Result<Option<String>, HubFault>
+        requires { IsSome (session_in self.old.sessions number) }
+        ensures step { DrawsIf number (drawing result) self.old self.new }
+        ensures no_memory { IsErrOf result HubFault.NoMemory → IsSomeAnd (option_map waiting (session_in self.old.sessions number)) (λ n. 0 < n) }
+    {
+        requests::draw(alloc, &self.room, self.sessions.as_mut_slice(), number)
+    }
+}

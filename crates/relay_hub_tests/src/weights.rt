@@ -1,0 +1,163 @@
+//! Tests of what waits, and of what a room keeps, within a weight.
+use crate::hub::Call::{Draw, Open, Say, Waiting};
+use crate::hub::{Call, tells};
+use relay_hub::{Hub, HubConfig};
+use relay_tree::Budget;
+use std::alloc::AllocGlobal;
+use std::process::Abort;
+
+const WATCH: &str = r#"{"do":"watch","id":1,"view":[""]}"#;
+
+/// The change that this edit makes weighs 17: 1 for the byte of the path's token, 8 for the token, and 8 for the number. In a view of the
+/// whole document two tokens of one byte come in front, so the patch weighs 35.
+const EDIT: &str = r#"{"do":"edit","id":2,"patch":[{"op":"add","path":"/x","value":1}]}"#;
+
+const ROOT: &str = r#"{"do":"edit","id":2,"patch":[{"op":"add","path":"","value":{}}]}"#;
+
+const ANSWERED: &str = "Ok(Answered { short: 0 })";
+
+/// A hub with bounds on what a room keeps and on what waits.
+fn hub(rt: &(impl Abort + AllocGlobal), history_weight: Budget, waiting_weight: Budget) -> Hub {
+    let config = HubConfig {
+        history_weight,
+        waiting_weight,
+        ..HubConfig::new(1, 1, 64, 32)
+    };
+    Hub::with_config(rt.alloc(), config).expect(rt, "a hub")
+}
+
+/// Session 1 watches the whole document, an object, and has drawn all that waits; session 2 watches nothing.
+const WATCHING: &[(Call, &str)] = &[
+    (Open("r"), "Ok(1)"),
+    (Open("r"), "Ok(2)"),
+    (Say(2, ROOT), ANSWERED),
+    (Say(1, WATCH), ANSWERED),
+    (
+        Draw(1),
+        r#"{"epoch":1,"kind":"welcome","rev":0,"session":1}"#,
+    ),
+    (Draw(1), r#"{"id":1,"kind":"watching"}"#),
+    (Draw(1), r#"{"kind":"snapshot","rev":1,"view":[[{}]]}"#),
+];
+
+/// Two patches wait if the bound allows both. A third folds them into a snapshot, which weighs nothing.
+#[test]
+fn patches_wait_within_a_weight(rt: HostRuntime) {
+    let mut hub = hub(&rt, Budget::Unbounded, Budget::Left(70));
+    tells(&rt, &mut hub, WATCHING);
+    tells(
+        &rt,
+        &mut hub,
+        &[
+            (Say(2, EDIT), ANSWERED),
+            (Say(2, EDIT), ANSWERED),
+            (Waiting(1), "Some(2)"),
+            (Say(2, EDIT), ANSWERED),
+            (Waiting(1), "Some(1)"),
+            (Draw(1), r#"{"kind":"snapshot","rev":4,"view":[[{"x":1}]]}"#),
+            (Say(2, EDIT), ANSWERED),
+            (Say(2, EDIT), ANSWERED),
+            (Waiting(1), "Some(2)"),
+        ],
+    );
+}
+
+/// A patch that was drawn weighs nothing, so the next one fits.
+#[test]
+fn what_is_drawn_weighs_nothing(rt: HostRuntime) {
+    let mut hub = hub(&rt, Budget::Unbounded, Budget::Left(69));
+    tells(&rt, &mut hub, WATCHING);
+    tells(
+        &rt,
+        &mut hub,
+        &[
+            (Say(2, EDIT), ANSWERED),
+            (
+                Draw(1),
+                r#"{"kind":"patch","patch":[{"op":"add","path":"/0/0/x","value":1}],"rev":2}"#,
+            ),
+            (Say(2, EDIT), ANSWERED),
+            (Waiting(1), "Some(1)"),
+            (Say(2, EDIT), ANSWERED),
+            (Draw(1), r#"{"kind":"snapshot","rev":4,"view":[[{"x":1}]]}"#),
+        ],
+    );
+}
+
+/// A patch that alone is heavier than the bound is not made.
+#[test]
+fn a_heavy_patch_is_a_snapshot(rt: HostRuntime) {
+    let mut hub = hub(&rt, Budget::Unbounded, Budget::Left(34));
+    tells(&rt, &mut hub, WATCHING);
+    tells(
+        &rt,
+        &mut hub,
+        &[
+            (Say(2, EDIT), ANSWERED),
+            (Draw(1), r#"{"kind":"snapshot","rev":2,"view":[[{"x":1}]]}"#),
+        ],
+    );
+}
+
+/// A room with a bound of 34 keeps two revisions of 17. A client that resumes from an earlier revision receives a snapshot.
+#[test]
+fn a_room_remembers_within_a_weight(rt: HostRuntime) {
+    let mut hub = hub(&rt, Budget::Left(34), Budget::Unbounded);
+    tells(&rt, &mut hub, WATCHING);
+    tells(
+        &rt,
+        &mut hub,
+        &[
+            (Say(2, EDIT), ANSWERED),
+            (Say(2, EDIT), ANSWERED),
+            (Say(2, EDIT), ANSWERED),
+            (Open("r"), "Ok(3)"),
+            (
+                Draw(3),
+                r#"{"epoch":1,"kind":"welcome","rev":4,"session":3}"#,
+            ),
+            (
+                Say(3, r#"{"do":"resume","epoch":1,"id":1,"rev":2,"view":[""]}"#),
+                ANSWERED,
+            ),
+            (Draw(3), r#"{"how":"patch","id":1,"kind":"resumed"}"#),
+            (
+                Say(3, r#"{"do":"resume","epoch":1,"id":1,"rev":1,"view":[""]}"#),
+                ANSWERED,
+            ),
+            (Draw(3), r#"{"how":"snapshot","id":1,"kind":"resumed"}"#),
+        ],
+    );
+}
+
+/// A hub that gives memory back keeps documents and replies. Waiting patches fold, and a resume is answered by a snapshot.
+#[test]
+fn gives_memory_back(rt: HostRuntime) {
+    let mut hub = hub(&rt, Budget::Left(1_000), Budget::Left(1_000));
+    tells(&rt, &mut hub, WATCHING);
+    tells(
+        &rt,
+        &mut hub,
+        &[
+            (Say(2, EDIT), ANSWERED),
+            (Say(2, EDIT), ANSWERED),
+            (Waiting(1), "Some(2)"),
+            (Waiting(2), "Some(4)"),
+        ],
+    );
+    hub.shed();
+    tells(
+        &rt,
+        &mut hub,
+        &[
+            (Waiting(1), "Some(1)"),
+            (Waiting(2), "Some(4)"),
+            (Draw(1), r#"{"kind":"snapshot","rev":3,"view":[[{"x":1}]]}"#),
+            (
+                Say(1, r#"{"do":"resume","epoch":1,"id":1,"rev":2,"view":[""]}"#),
+                ANSWERED,
+            ),
+            (Draw(1), r#"{"how":"snapshot","id":1,"kind":"resumed"}"#),
+        ],
+    );
+}

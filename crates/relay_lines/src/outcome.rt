@@ -1,0 +1,31 @@
+//! The outcome of an event of a script.
+ghost use Rattle.std.specs.Prelude.{◌≡◌};
+ghost use Rattle.relay_lines.specs.Transport.{session_after};
+
+use relay_hub::Answer;
+
+/// The outcome of an event of a script.
+#[derive(Drop)]
+pub enum Outcome {
+    /// The hub's answer.
+    Answered(Answer),
+    /// The hub was out of memory, and nothing changed.
+    NoMemory,
+    /// The handshake was refused with this status.
+    Rejected(u16),
+    /// The sockets gave no result within the limit of turns.
+    Stuck,
+}
+
+impl Outcome {
+    /// The session that a name has after the event, given its session before.
+    pub fn session_after(&self, was: Option<u64>) -> Option<u64>
+        ensures { result ≡ session_after self.now was }
+    {
+        match self {
+            Outcome::Answered(Answer::Opened(session)) => Some(*session),
+            Outcome::Answered(Answer::Closed) => None,
+            _ => was,
+        }
+    }
+}

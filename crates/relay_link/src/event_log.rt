@@ -1,0 +1,52 @@
+//! The events of a turn, in a buffer that is allocated before the turn begins.
+use relay_hub::Event;
+use std::alloc::{AllocError, Global};
+use std::marker::Model;
+
+/// The maximum number of events of a turn.
+pub(crate) const MAX_EVENTS: usize = 34;
+
+/// The events that a turn has made so far. Contracts see only the list.
+#[derive(Drop)]
+pub(crate) struct EventLog {
+    events: Vec<Event>,
+}
+
+impl Model for EventLog {
+    ghost use Rattle.std.specs.Prelude.{List, ◌≤◌, vec_capacity};
+    ghost use Rattle.relay_hub.specs.declared.event.Event.{Event};
+    ghost use Rattle.relay_link.specs.declared.event_log.TheConstants.{MAX_EVENTS};
+
+    ghost Value = { List Event };
+
+    ghost view = { λ made. made.events.items };
+
+    ghost invariant = { λ made. MAX_EVENTS ≤ vec_capacity made.events };
+}
+
+impl EventLog {
+    ghost use Rattle.std.specs.Prelude.{◌≡◌, ◌<◌, [], ◌∷◌, ◌++◌, length, IfOk};
+
+    /// An empty log, with capacity for the events of a turn.
+    pub(crate) fn new(alloc: Global) -> Result<EventLog, AllocError>
+        ensures { IfOk result (λ made. made ≡ []) }
+    {
+        Ok(EventLog {
+            events: Vec::with_capacity(alloc, MAX_EVENTS)?,
+        })
+    }
+
+    /// Appends an event. Allocates nothing.
+    pub(crate) fn note(&mut self, event: Event)
+        requires { length self.old < MAX_EVENTS }
+        ensures { self.new ≡ self.old ++ event ∷ [] }
+    {
+        self.events.push_reserved(event);
+    }
+
+    pub(crate) fn into_events(self) -> Vec<Event>
+        ensures { result.items ≡ self }
+    {
+        self.events
+    }
+}

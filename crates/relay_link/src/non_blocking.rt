@@ -1,0 +1,111 @@
+//! A stream that never blocks a turn.
+use std::io;
+use std::io::{Error, ErrorKind, Read, Write};
+
+/// The maximum number of reads (of 4 KiB each) in a turn. So a side that never stops sending, in however small frames, cannot delay
+/// the others.
+const MAX_READS: u64 = 32;
+
+/// A stream that returns `WouldBlock` for an interruption, since a socket would otherwise retry at once and forever. It also returns
+/// `WouldBlock` after the maximum number of reads in a turn, and rejects writes after a write has failed.
+#[derive(Drop)]
+pub(crate) struct NonBlocking<S> {
+    stream: S,
+    /// The number of reads left in this turn.
+    reads: u64,
+    /// Whether another turn may have work although no new event is ready.
+    wants_poll: bool,
+    /// Whether a write failed, or accepted no byte.
+    broken: bool,
+}
+
+impl<S> NonBlocking<S> {
+    ghost use Rattle.std.specs.Prelude.{◌≡◌, Ok, IfOk, not};
+
+    pub(crate) fn new(stream: S) -> NonBlocking<S> {
+        NonBlocking {
+            stream,
+            reads: MAX_READS,
+            wants_poll: false,
+            broken: false,
+        }
+    }
+
+    /// Begins a read turn.
+    pub(crate) fn begin_poll(&mut self) {
+        self.reads = MAX_READS;
+        self.wants_poll = false;
+    }
+
+    /// Asks for another turn.
+    pub(crate) fn request_poll(&mut self) {
+        self.wants_poll = true;
+    }
+
+    /// Whether, since the last read turn began, no byte was read, no call was interrupted, and nothing asked for another turn.
+    /// A write does not ask for one: pending output waits until the stream is writable.
+    pub(crate) fn is_idle(&self) -> bool
+        ensures { result ≡ not self.now.wants_poll }
+    {
+        !self.wants_poll
+    }
+
+    /// The result of a call. An interrupted call asks for another turn, and becomes `WouldBlock`.
+    fn noted<T>(&mut self, called: io::Result<T>) -> io::Result<T>
+        ensures { IfOk result (λ value. called ≡ Ok value) }
+    {
+        match called {
+            Err(error) if error.kind() == ErrorKind::Interrupted => {
+                self.request_poll();
+                Err(Error::from(ErrorKind::WouldBlock))
+            }
+            _ => called,
+        }
+    }
+}
+
+impl<S: Read> Read for NonBlocking<S> {
+    fn read(&mut self, buf: &mut [u8]) -> io::Result<usize> {
+        match self.reads.checked_sub(1) {
+            Some(reads) => self.reads = reads,
+            None => {
+                self.request_poll();
+                return Err(Error::from(ErrorKind::WouldBlock));
+            }
+        }
+        let read = self.stream.read(buf);
+        if matches!(read, Ok(1..)) {
+            self.request_poll();
+        }
+        self.noted(read)
+    }
+}
+
+impl<S: Write> Write for NonBlocking<S> {
+    fn write(&mut self, buf: &[u8]) -> io::Result<usize> {
+        if self.broken {
+            return Err(Error::from(ErrorKind::BrokenPipe));
+        }
+        let written = self.stream.write(buf);
+        self.broken = is_break(&written);
+        self.noted(written)
+    }
+
+    fn flush(&mut self) -> io::Result<()> {
+        let flushed = self.stream.flush();
+        self.noted(flushed)
+    }
+}
+
+/// Whether a write failed permanently.
+fn is_break(written: &io::Result<usize>) -> bool {
+    match written {
+        Ok(len) => *len == 0,
+        Err(error) => !matches!(error.kind(), ErrorKind::WouldBlock | ErrorKind::Interrupted),
+    }
+}
+
+/// Whether the stream merely has nothing to read, or no capacity to write, for now.
+pub(crate) fn is_nothing_now(error: &Error) -> bool {
+    error.kind() == ErrorKind::WouldBlock
+}

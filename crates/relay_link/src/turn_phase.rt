@@ -1,0 +1,13 @@
+//! The phases of a turn: reading, writing, or both.
+ghost use Rattle.std.specs.Prelude.{◌≡◌};
+
+/// Which phases a turn runs.
+#[derive(Clone, Copy, Debug, PartialEq, Eq)]
+pub(crate) enum TurnPhase {
+    /// The link reads, and an open link receives at most one text. Its output stays corked.
+    Read,
+    /// The link reads nothing, and sends all pending and corked output.
+    Write,
+    /// The link reads, and sends all output.
+    Both,
+}

@@ -1,0 +1,32 @@
+-- The outcomes that loopback sockets can give for an event of a script.
+use Rattle.std.specs.Prelude.{◌≡◌, ⊤, ℕ, List, []}
+use Rattle.relay_hub.specs.declared.event.Answer.TheVariants as answer
+use Rattle.relay_hub.specs.declared.event.Event.{Event}
+use Rattle.relay_hub.specs.declared.event.Event.TheVariants.{Open, Receive, Draw, Close}
+use Rattle.relay_hub.specs.declared.event.Heard.TheVariants.{Answered, Busy}
+use Rattle.relay_lines.specs.Script as script
+use Rattle.relay_lines.specs.Script.{Stage, stage}
+use Rattle.relay_lines.specs.declared.outcome.Outcome.{Outcome}
+use Rattle.relay_lines.specs.declared.outcome.Outcome.TheVariants as outcome
+
+-- The outcomes of an event that a client can see: the hub's answer, without the number of outboxes that folded; the status of a
+-- refused handshake; or nothing within the limit of turns.
+abbrev pub CanCome : Event → Outcome → Type 0
+CanCome (Open room) (outcome.Answered (answer.Opened s)) = ⊤
+CanCome (Open room) (outcome.Rejected status) = ⊤
+CanCome (Receive s text) (outcome.Answered (answer.Heard (Answered short))) = short ≡ 0
+CanCome (Receive s text) (outcome.Answered (answer.Heard Busy)) = ⊤
+CanCome (Draw s) (outcome.Answered (answer.Drawn text)) = ⊤
+CanCome (Close s) (outcome.Answered answer.Closed) = ⊤
+CanCome event (outcome.Answered answer.NoSession) = ⊤
+CanCome event outcome.Stuck = ⊤
+CanCome event came = ⊥
+
+-- the answers to a script whose events have any of the outcomes that sockets can give
+abbrev pub LoopbackAnswers : Stage ⊤ → ℕ → List ℕ → Stage ⊤ → List ℕ → Type 0
+LoopbackAnswers old number line new written =
+    script.Answers (λ before event came after. CanCome event came) (λ before session shown. ⊤) old number line new written
+
+-- a script before its first line
+abbrev pub unopened : Stage ⊤
+unopened = stage tt []

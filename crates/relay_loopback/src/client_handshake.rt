@@ -1,0 +1,70 @@
+//! The client side of a handshake, written without `tungstenite`.
+ghost use Rattle.std.specs.Prelude.{◌≤◌, length, IfSome};
+
+use crate::client::Client;
+use std::alloc::{AllocError, Global};
+use std::io::{Read, Write};
+use std::str;
+
+/// The size of one read of a reply, in bytes.
+const MAX_READ: usize = 1_024;
+
+/// A client that has sent its handshake and waits for the reply.
+#[derive(Drop)]
+pub struct ClientHandshake<S> {
+    stream: S,
+    /// The bytes of the reply that were read so far.
+    reply: Vec<u8>,
+}
+
+impl<S: Read + Write + Drop> ClientHandshake<S> {
+    /// Sends the request for a room. `None` if it cannot be sent. After `AllocError` nothing was sent.
+    pub fn at(
+        alloc: Global,
+        mut stream: S,
+        room: &str,
+    ) -> Result<Option<ClientHandshake<S>>, AllocError> {
+        let head = format!(in alloc;
+            "GET /rooms/{room} HTTP/1.1\r\nHost: localhost\r\nUpgrade: websocket\r\nConnection: Upgrade\r\nSec-WebSocket-Key: dGhlIHNhbXBsZSBub25jZQ==\r\nSec-WebSocket-Version: 13\r\n\r\n"
+        )?;
+        if stream.write_all(head.as_bytes()).is_err() {
+            return Ok(None);
+        }
+        let reply = Vec::new(alloc);
+        Ok(Some(ClientHandshake { stream, reply }))
+    }
+
+    /// Reads once, and returns the status of the reply once its head is complete. If it is out of memory nothing is read, and the next
+    /// call tries again.
+    pub fn status(&mut self) -> Option<u16> {
+        self.reply.reserve(MAX_READ).ok()?;
+        let mut part = [0; MAX_READ];
+        if let Ok(count) = self.stream.read(&mut part) {
+            let _ = self.reply.extend_from_slice(&part[..count]);
+        }
+        head_len(self.reply.as_slice())?;
+        let digits = self.reply.get(9..12)?;
+        str::from_utf8(digits).ok()?.parse::<u16>().ok()
+    }
+
+    /// The client, once its handshake was accepted. The bytes after the reply's head are its first messages.
+    pub fn client(self, alloc: Global) -> Client<S> {
+        let ClientHandshake { stream, mut reply } = self;
+        if let Some(len) = head_len(reply.as_slice()) {
+            reply.drain(..len);
+        }
+        Client::of(alloc, stream, reply)
+    }
+}
+
+/// The length of a reply's head in bytes, with the empty line that ends it. `None` if the head is incomplete.
+fn head_len(reply: &[u8]) -> Option<usize>
+    ensures { IfSome result (λ len. len ≤ length reply.now) }
+{
+    for start in 0..reply.len() {
+        if reply[start..].starts_with(b"\r\n\r\n") {
+            return Some(start.saturating_add(4).min(reply.len()));
+        }
+    }
+    None
+}

@@ -1,0 +1,54 @@
+//! The fault that ends a job with sockets early.
+use relay_hub::HubNewFault;
+use relay_lines::ScriptFault;
+use std::alloc::AllocError;
+use thiserror::Error;
+
+/// Why a job with sockets ended early. Its connections are dropped.
+#[derive(Clone, Copy, Debug, PartialEq, Eq, Error)]
+pub enum ServeFault {
+    /// The port cannot be opened for listening.
+    #[error("cannot listen")]
+    Listen,
+    /// The system's poll for ready sockets cannot be set up.
+    #[error("cannot wait for sockets")]
+    Wait,
+    /// A fault with which a script can end too.
+    #[error("{0}")]
+    Ended(ScriptFault),
+}
+
+impl From<ScriptFault> for ServeFault {
+    ghost use Rattle.std.specs.Prelude.{◌≡◌};
+    ghost use Rattle.relay_loopback.specs.declared.fault.ServeFault.TheVariants.{Ended};
+
+    ghost from_gives = { λ fault ended. ended ≡ Ended fault };
+
+    fn from(fault: ScriptFault) -> ServeFault {
+        ServeFault::Ended(fault)
+    }
+}
+
+impl From<HubNewFault> for ServeFault {
+    ghost use Rattle.std.specs.Prelude.{◌≡◌};
+    ghost use Rattle.relay_lines.specs.Faults.{not_made};
+    ghost use Rattle.relay_loopback.specs.declared.fault.ServeFault.TheVariants.{Ended};
+
+    ghost from_gives = { λ fault ended. ended ≡ Ended (not_made fault) };
+
+    fn from(fault: HubNewFault) -> ServeFault {
+        ServeFault::Ended(ScriptFault::from(fault))
+    }
+}
+
+impl From<AllocError> for ServeFault {
+    ghost use Rattle.std.specs.Prelude.{◌≡◌};
+    ghost use Rattle.relay_lines.specs.declared.fault.ScriptFault.TheVariants.{NoMemory};
+    ghost use Rattle.relay_loopback.specs.declared.fault.ServeFault.TheVariants.{Ended};
+
+    ghost from_gives = { λ _ ended. ended ≡ Ended NoMemory };
+
+    fn from(_: AllocError) -> ServeFault {
+        ServeFault::Ended(ScriptFault::NoMemory)
+    }
+}

@@ -1,0 +1,93 @@
+//! The transport over loopback sockets: a hub, whose server and clients alternate in one thread.
+ghost use Rattle.std.specs.Prelude.{◌≡◌, ◌↔◌, ◌⊎◌, IfErr, IsErrOf};
+ghost use Rattle.relay_hub.specs.Queries.{BadLimits};
+ghost use Rattle.relay_lines.specs.declared.fault.ScriptFault.TheVariants as script;
+ghost use Rattle.relay_loopback.specs.declared.fault.ServeFault.TheVariants.{Ended, Listen};
+
+use crate::connection::Connection;
+use crate::fault::ServeFault;
+use crate::listener::{Entering, LoopbackListener};
+use crate::sockets::listen;
+use indexmap::IndexMap;
+use relay_hub::{Answer, Hub, HubConfig, HubFault};
+use relay_lines::{Outcome, Transport};
+use relay_tree::Tree;
+use std::alloc::{AllocError, Global};
+use std::net::Net;
+
+/// A hub behind a listener, and both ends of each session's socket.
+#[derive(Drop)]
+pub struct Loopback<'n, N: Net> {
+    listener: LoopbackListener<'n, N>,
+    hub: Hub,
+    connections: IndexMap<u64, Connection<N::Stream>>,
+}
+
+impl<'n, N: Net> Loopback<'n, N> {
+    /// Creates a hub behind a port that the system chooses, with no sessions. The limits are those of [`Hub::with_config`].
+    pub fn new(alloc: Global, net: &'n N, made: HubConfig) -> Result<Loopback<'n, N>, ServeFault>
+        ensures fault { IfErr result (λ fault. (fault ≡ Listen) ⊎ (fault ≡ Ended script.NoMemory) ⊎ (fault ≡ Ended script.BadLimit)) }
+        ensures bad_limit { IsErrOf result (Ended script.BadLimit) ↔ BadLimits made }
+    {
+        let hub = Hub::with_config(alloc, made)?;
+        let Some(listener) = LoopbackListener::new(net, listen(net, 0)?) else {
+            return Err(ServeFault::Listen);
+        };
+        Ok(Loopback {
+            listener,
+            hub,
+            connections: IndexMap::new(alloc),
+        })
+    }
+}
+
+impl<'n, N: Net> Transport for Loopback<'n, N> {
+    ghost use Rattle.relay_loopback.specs.Loopback.{CanCome};
+    ghost use Rattle.std.specs.Prelude.{⊤};
+
+    // No proof covers what a socket does. Tests show which of these outcomes comes.
+    ghost comes = { λ old event outcome new. CanCome event outcome };
+
+    ghost tells = { λ loopback session shown. ⊤ };
+
+    fn open_session(&mut self, alloc: Global, room: &str) -> Result<Outcome, AllocError> {
+        match self.listener.enter(alloc, &mut self.hub, room)? {
+            Entering::Opened(connection) => {
+                let session = connection.session;
+                drop(self.connections.insert(session, connection)?);
+                Ok(Outcome::Answered(Answer::Opened(session)))
+            }
+            Entering::Rejected(status) => Ok(Outcome::Rejected(status)),
+            Entering::Stuck => Ok(Outcome::Stuck),
+        }
+    }
+
+    fn say(&mut self, alloc: Global, session: u64, text: &str) -> Result<Outcome, AllocError> {
+        match self.connections.get_mut(&session) {
+            Some(connection) => connection.say(alloc, &mut self.hub, text),
+            None => Ok(Outcome::Answered(Answer::NoSession)),
+        }
+    }
+
+    fn draw_one(&mut self, alloc: Global, session: u64) -> Result<Outcome, AllocError> {
+        match self.connections.get_mut(&session) {
+            Some(connection) => connection.draw(alloc, &mut self.hub),
+            None => Ok(Outcome::Answered(Answer::NoSession)),
+        }
+    }
+
+    fn close_session(&mut self, alloc: Global, session: u64) -> Result<Outcome, AllocError> {
+        let Some(connection) = self.connections.get_mut(&session) else {
+            return Ok(Outcome::Answered(Answer::NoSession));
+        };
+        if !connection.close(alloc, &mut self.hub) {
+            return Ok(Outcome::Stuck);
+        }
+        drop(self.connections.swap_remove(&session));
+        Ok(Outcome::Answered(Answer::Closed))
+    }
+
+    fn truth_of(&self, alloc: Global, session: u64) -> Result<Option<(u64, Tree)>, HubFault> {
+        self.hub.truth(alloc, session)
+    }
+}

@@ -1,0 +1,18 @@
+-- The configuration of a job's hub.
+use Rattle.relay_hub.specs.Config.{bounded_by}
+use Rattle.relay_hub.specs.declared.config.HubConfig.{HubConfig}
+use Rattle.relay_lines.specs.declared.script.TheConstants.{FIRST_SESSION}
+use Rattle.relay_options.specs.declared.settings.Settings.{Settings}
+
+-- the hub configuration for some settings, with the number of the first session
+abbrev pub config_of : Settings → HubConfig
+config_of settings = record {
+  epoch = settings.epoch;
+  first = FIRST_SESSION;
+  rooms = settings.rooms;
+  sessions = settings.sessions;
+  history = settings.history;
+  waiting = settings.outbox;
+  history_weight = bounded_by settings.history_weight;
+  waiting_weight = bounded_by settings.waiting_weight;
+}

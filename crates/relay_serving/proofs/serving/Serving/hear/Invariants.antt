@@ -1,7 +1,0 @@
--- Links go, and none comes.
-use Rattle.std.proofs.Common.{◌≤◌}
-use Rattle.relay_serving.specs.Seats.{links_of}
-use Rattle.relay_serving.proofs.serving.Serving.hear.Given as goal
-
-abbrev pub invariant-loop : goal.invariant-loop
-invariant-loop g l = links_of l.self ≤ links_of l.initial.self

@@ -1,0 +1,93 @@
+//! A connection of a server: a link, and whether a turn of it would do anything.
+ghost use Rattle.std.specs.Prelude.{◌≡◌, ◌↔◌, ◌&&◌, ◌||◌, IsTrue, is_none, not};
+ghost use Rattle.relay_link.specs.Stage.{stage_of, session_of, is_idle};
+ghost use Rattle.relay_link.specs.declared.stage.Stage.TheVariants.{Closing};
+ghost use Rattle.relay_serving.specs.Connections.{has_room};
+
+use crate::ready::{Known, Watched};
+use relay_hub::Hub;
+use relay_link::{Link, Stage};
+use std::alloc::{AllocError, Global};
+use std::io::{Read, Write};
+
+/// A link, and what the server knows about it.
+#[derive(Drop)]
+pub(crate) struct Connection<S: Write + Drop> {
+    pub link: Link<Watched<S>>,
+    pub known: Known,
+    /// Whether something became ready since the last read turn of the link.
+    pub read_pending: bool,
+    /// Its position in the order of arrival, from 0.
+    pub place: u64,
+    /// The round in which it was accepted.
+    pub since: u64,
+}
+
+impl<S: Read + Write + Drop> Connection<S> {
+    /// A connection that was just accepted.
+    pub(crate) fn new(
+        alloc: Global,
+        stream: S,
+        place: u64,
+        since: u64,
+    ) -> Result<Connection<S>, AllocError> {
+        let (stream, known) = Watched::new(alloc, stream)?;
+        Ok(Connection {
+            link: Link::new(alloc, stream)?,
+            known,
+            read_pending: true,
+            place,
+            since,
+        })
+    }
+
+    /// Records what became ready.
+    pub(crate) fn wake(&mut self, readable: bool, writable: bool) {
+        self.known.add(readable, writable);
+        self.read_pending = true;
+    }
+
+    /// Whether a read turn might do something: something became ready, or the link is not idle, and the hub has space for a reply.
+    pub(crate) fn may_read(&self, hub: &Hub) -> bool
+        ensures { result ≡ (self.now.read_pending || not (is_idle self.now.link)) && has_room hub.now (session_of self.now.link) }
+    {
+        if !self.read_pending && self.link.is_idle() {
+            return false;
+        }
+        match self.link.session() {
+            Some(session) => hub.may_hear(session),
+            None => true,
+        }
+    }
+
+    /// Whether the link has corked output that could be sent.
+    pub(crate) fn may_uncork(&self) -> bool {
+        self.known.is_writable() && self.link.has_corked_output()
+    }
+
+    /// Whether the link has waiting messages or corked output that could be sent.
+    pub(crate) fn may_write(&self, hub: &Hub) -> bool {
+        if !self.known.is_writable() {
+            return false;
+        }
+        match self.link.session() {
+            Some(session) => self.link.has_corked_output()
+                || matches!(hub.waiting(session), Some(1..)),
+            None => false,
+        }
+    }
+
+    /// Whether the link waits for the other side's close.
+    pub(crate) fn is_closing(&self) -> bool
+        ensures { IsTrue result ↔ (stage_of self.now.link ≡ Closing) }
+    {
+        self.link.stage() == Stage::Closing
+    }
+
+    /// Whether the connection has no session: none was opened, or it is closed.
+    pub(crate) fn is_unserved(&self) -> bool
+        ensures { result ≡ is_none (session_of self.now.link) }
+    {
+        self.link.session().is_none()
+    }
+}

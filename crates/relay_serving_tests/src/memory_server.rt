@@ -1,0 +1,174 @@
+//! A server over in-memory streams, whose readiness the test controls.
+use relay_hub::Hub;
+use relay_server::{LogLines, Readiness, ReadyEvent, Server};
+use relay_wire::{End, Wire};
+use std::alloc::{AllocGlobal, Global};
+use std::cell::{RefCell, RefMut};
+use std::io::ErrorKind;
+use std::net::{Ipv4Addr, OpenListener, SocketAddr};
+use std::process::Abort;
+use std::time::Duration;
+use std::{io, mem};
+
+fn busy() -> io::Error {
+    io::Error::from(ErrorKind::Other)
+}
+
+/// A listener with the connections that wait to be accepted.
+#[derive(Drop)]
+pub(crate) struct MemoryListener<'a> {
+    waiting: RefCell<Vec<&'a RefCell<Wire>>>,
+}
+
+impl<'a> OpenListener for MemoryListener<'a> {
+    type Stream = End<'a>;
+
+    fn accept(&self) -> io::Result<(End<'a>, SocketAddr)> {
+        let Ok(mut waiting) = self.waiting.try_borrow_mut() else {
+            return Err(busy());
+        };
+        match waiting.pop() {
+            Some(wire) => Ok((End { wire }, SocketAddr::from((Ipv4Addr::LOCALHOST, 1)))),
+            None => Err(io::Error::from(ErrorKind::WouldBlock)),
+        }
+    }
+}
+
+/// The readiness of the streams, as the test sets it.
+#[derive(Drop)]
+pub(crate) struct ReadinessScript {
+    /// The events of the next round.
+    next: Vec<ReadyEvent>,
+    /// How many events the next wait has space for. The others come with the wait after it.
+    capacity: usize,
+    /// Whether the next wait fails, after the events that it has space for; the others are lost.
+    fails: bool,
+    /// The time limit of the last wait, in milliseconds.
+    waited: u64,
+}
+
+/// Reports the events that the test set.
+#[derive(Drop)]
+pub(crate) struct ScriptedReadiness<'a> {
+    script: &'a RefCell<ReadinessScript>,
+}
+
+impl ReadinessScript {
+    pub fn new(alloc: Global) -> RefCell<ReadinessScript> {
+        RefCell::new(ReadinessScript {
+            next: Vec::new(alloc),
+            capacity: usize::MAX,
+            fails: false,
+            waited: 0,
+        })
+    }
+
+    fn wait(&mut self, most: Duration, events: &mut Vec<ReadyEvent>) -> io::Result<()> {
+        self.waited = most
+            .as_secs()
+            .saturating_mul(1_000)
+            .saturating_add(u64::from(most.subsec_millis()));
+        let capacity = mem::replace(&mut self.capacity, usize::MAX).min(self.next.len());
+        for event in self.next.drain(..capacity) {
+            events.push(event)?;
+        }
+        if self.fails {
+            self.fails = false;
+            self.next.clear();
+            return Err(busy());
+        }
+        Ok(())
+    }
+}
+
+impl<'a> Readiness<End<'a>> for ScriptedReadiness<'_> {
+    fn watch(&mut self, _key: usize, _stream: &End<'a>) -> io::Result<()> {
+        Ok(())
+    }
+
+    fn wait(&mut self, most: Duration, events: &mut Vec<ReadyEvent>) -> io::Result<()> {
+        match self.script.try_borrow_mut() {
+            Ok(mut script) => script.wait(most, events),
+            Err(_) => Err(busy()),
+        }
+    }
+}
+
+/// A server, its listener, and the readiness of its streams.
+#[derive(Drop)]
+pub(crate) struct MemoryServer<'a> {
+    listener: MemoryListener<'a>,
+    script: &'a RefCell<ReadinessScript>,
+    server: Server<End<'a>, ScriptedReadiness<'a>>,
+    /// The server's log.
+    pub log: Vec<u8>,
+}
+
+impl<'a> MemoryServer<'a> {
+    /// A server without connections. Its hub lets `outbox` patches wait for each session.
+    pub fn new(
+        rt: &(impl Abort + AllocGlobal),
+        script: &'a RefCell<ReadinessScript>,
+        outbox: u64,
+    ) -> MemoryServer<'a> {
+        let hub = Hub::new(rt.alloc(), 1, 1, 64, outbox).expect(rt, "a hub");
+        MemoryServer {
+            listener: MemoryListener {
+                waiting: RefCell::new(Vec::new(rt.alloc())),
+            },
+            script,
+            server: Server::new(rt.alloc(), hub, ScriptedReadiness { script }),
+            log: Vec::new(rt.alloc()),
+        }
+    }
+
+    /// Adds a waiting connection, and its event to the next round.
+    pub fn connect(&self, rt: &impl Abort, wire: &'a RefCell<Wire>) {
+        let mut waiting = self
+            .listener
+            .waiting
+            .try_borrow_mut()
+            .expect(rt, "a listener");
+        waiting.push(wire).expect(rt, "memory");
+        self.event(rt, ReadyEvent::Incoming);
+    }
+
+    fn script(&self, rt: &impl Abort) -> RefMut<'a, ReadinessScript> {
+        self.script.try_borrow_mut().expect(rt, "the script")
+    }
+
+    /// Adds an event to the next round.
+    pub fn event(&self, rt: &impl Abort, event: ReadyEvent) {
+        let mut script = self.script(rt);
+        script.next.push(event).expect(rt, "memory");
+    }
+
+    /// Limits the next round to this number of events.
+    pub fn capacity(&self, rt: &impl Abort, capacity: usize) {
+        self.script(rt).capacity = capacity;
+    }
+
+    /// Makes the next round's wait fail.
+    pub fn fail(&self, rt: &impl Abort) {
+        self.script(rt).fails = true;
+    }
+
+    /// The number of connections that the server holds.
+    pub fn connections(&self) -> usize {
+        self.server.connections()
+    }
+
+    /// Runs `count` rounds.
+    pub fn rounds(&mut self, rt: &(impl Abort + AllocGlobal), count: u64) {
+        for _ in 0..count {
+            self.round(rt);
+        }
+    }
+
+    /// Runs a round. Returns the time limit of its wait, in milliseconds.
+    pub fn round(&mut self, rt: &(impl Abort + AllocGlobal)) -> u64 {
+        let mut log = LogLines::to(&mut self.log);
+        self.server.round(rt.alloc(), &self.listener, &mut log);
+        self.script(rt).waited
+    }
+}
