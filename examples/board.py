@@ -1,34 +1,57 @@
 #!/usr/bin/env python3
-"""The first list of a board in a terminal: shows its cards as they change, and adds each line that is typed.
+"""The first list of a board in a terminal: shows its cards as they change, and adds each line that is typed. A line `undo` takes the last
+one back.
 
     python3 examples/board.py PORT [ROOM]
 
-It wants websockets and jsonpatch, from pip or as Debian's python3-websockets and python3-jsonpatch.
+It needs the package websockets (Debian: python3-websockets).
 """
 import asyncio, os, sys
 
 sys.path.insert(0, f"{os.path.dirname(os.path.abspath(__file__))}/../clients/python")
 import relay_client
 
+EMPTY = {"todo": [], "doing": [], "done": [], "away": [], "here": {}}
+
 
 def show(change):
-    print(change.rev, "patch:" if change.patch else "snapshot:", *(change.slots[0][0] if change.slots[0] else ["no board yet"]), flush=True)
+    """What is typed shows at once, and is `saving` until the relay has shown it."""
+    cards = change.slots[0][0] if change.slots[0] else ["no board yet"]
+    print(change.rev, "saving:" if change.pending else "saved:", ", ".join(map(str, cards)), flush=True)
 
 
-async def edit(board, *patch):
+def taken_back(patch, cause):
+    print("not done:", cause, flush=True)
+
+
+async def begin(board):
+    """Refused, and so without effect, if the room has a board already."""
     try:
-        await board.edit(list(patch))
+        await board.edit([{"op": "test", "path": "", "value": None}, {"op": "add", "path": "", "value": EMPTY}], undo=False)
     except (relay_client.Refused, relay_client.Unknown) as error:
-        print(error, flush=True)
+        print("not begun:", error, flush=True)
+
+
+async def undo(board):
+    try:
+        if await board.undo() is None:
+            print("nothing to undo", flush=True)
+    except (relay_client.Refused, relay_client.Unknown) as error:
+        print("not undone:", error, flush=True)
 
 
 async def main(port, room="board"):
-    async with relay_client.connect(f"ws://127.0.0.1:{port}/rooms/{room}", view=["/todo"], on_change=show) as board:
-        # Refused, and so without effect, where the room has a board already.
-        empty = {"todo": [], "doing": [], "done": [], "away": []}
-        await edit(board, {"op": "test", "path": "", "value": None}, {"op": "add", "path": "", "value": empty})
+    told = {"on_change": show, "on_taken_back": taken_back}
+    async with relay_client.connect(f"ws://127.0.0.1:{port}/rooms/{room}", view=["/todo"], **told) as board:
+        await begin(board)
+        newest = None
         while line := await asyncio.to_thread(sys.stdin.readline):
-            await edit(board, {"op": "add", "path": "/todo/-", "value": line.strip()})
+            if line.strip() == "undo":
+                await undo(board)
+            else:
+                newest = board.edit([{"op": "add", "path": "/todo/-", "value": line.strip()}], optimistic=True)
+        if newest:
+            await asyncio.wait([newest])  # answers come in order, so this is the last one
 
 
 if __name__ == "__main__":

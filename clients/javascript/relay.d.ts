@@ -1,22 +1,49 @@
-// Types of relay.js. As a script it makes the global `relay`; in Node it is a module.
+// Types of relay.js, which as a script makes the global `relay`, and of relay.mjs.
 export as namespace relay;
 
 /** A JSON Pointer (RFC 6901) into the document; `""` is the whole. */
 export type Pointer = string;
 
-export type Json = null | boolean | number | string | Json[] | { [name: string]: Json };
+/** What the relay tells. */
+export type Json = null | boolean | number | string | readonly Json[] | { readonly [name: string]: Json };
 
-/** What is shown: the value to which a pointer leads, or how many elements or members that has. */
-export type Shown = Pointer | { size: Pointer };
+/**
+ * What is written: JSON, also of an interface or a class. Numbers are whole and within 2^53; what JSON cannot say is refused by a `TypeError`
+ * that names its path.
+ */
+export type Writable = null | boolean | number | string | readonly Writable[] | object;
+
+/** What a slot shows: the value to which a pointer leads, or how many elements or members that has. */
+export type Shown = Pointer | { readonly size: Pointer };
 
 /** What stands there: `[value]`, or `[]` where the pointer leads to nothing; of a size `[number]`, or `[]` where there is no list and no object. */
-export type Slot = [] | [Json];
+export type Slot<T = Json> = readonly [value?: T];
 
-/** An operation of a JSON Patch (RFC 6902). Numbers are whole; those above 2^53 go into texts. */
+type Unescaped<T extends string> = T extends `${infer A}~1${infer B}` ? `${Unescaped<A>}/${Unescaped<B>}` : T extends `${infer A}~0${infer B}` ? `${Unescaped<A>}~${Unescaped<B>}` : T;
+type Member<D, T extends string> = D extends readonly (infer E)[] ? E : T extends keyof D ? NonNullable<D[T]> : string extends keyof D ? D[keyof D] : D extends null | undefined ? never : unknown;
+
+/** The type of what stands at a pointer into a document of the type `D`. */
+export type At<D, P extends string> = string extends P
+  ? any
+  : P extends ""
+  ? D
+  : P extends `/${infer T}/${infer Rest}`
+  ? At<Member<D, Unescaped<T>>, `/${Rest}`>
+  : P extends `/${infer T}`
+  ? Member<D, Unescaped<T>>
+  : never;
+
+/** The type of what a slot shows. */
+export type ValueOf<D, S extends Shown> = S extends string ? (Json extends D ? any : At<D, S>) : number;
+
+/** The types of a view's slots. */
+export type SlotsOf<D, V extends readonly Shown[]> = { readonly [K in keyof V]: V[K] extends Shown ? Slot<ValueOf<D, V[K]>> : never };
+
+/** An operation of a JSON Patch (RFC 6902). */
 export type Operation =
-  | { op: "add" | "replace" | "test"; path: Pointer; value: Json }
-  | { op: "remove"; path: Pointer }
-  | { op: "move" | "copy"; from: Pointer; path: Pointer };
+  | { readonly op: "add" | "replace" | "test"; readonly path: Pointer; readonly value: Writable }
+  | { readonly op: "remove"; readonly path: Pointer }
+  | { readonly op: "move" | "copy"; readonly from: Pointer; readonly path: Pointer };
 
 /**
  * - `connecting`: a connection is being made, or its slots are awaited.
@@ -26,22 +53,50 @@ export type Operation =
  */
 export type State = "connecting" | "open" | "waiting" | "closed";
 
-export interface Change {
-  /** One for each pointer of the view. No later change writes to it. */
-  slots: Slot[];
-  /** The revision whose slots these are. */
-  rev: number;
-  /** What led here from the slots before, with slot `k`'s value at `/k/0`; null where all slots came anew. */
-  patch: Operation[] | null;
+export interface Change<Slots = readonly Slot[]> {
+  /** What is shown: what the relay showed, with the optimistic edits that wait laid over it. No later change writes to it. */
+  readonly slots: Slots;
+  /** What the relay showed. */
+  readonly confirmed: Slots;
+  /** The revision of `confirmed`. */
+  readonly rev: number;
+  /** How many optimistic edits wait. */
+  readonly pending: number;
+  /** What led to `confirmed` from the one before, with slot `k`'s value at `/k/0`; null where it came anew, or where it is as before. */
+  readonly patch: readonly Operation[] | null;
 }
 
-export interface Options {
+/** An optimistic edit that is shown no more, since it was refused, or its answer was lost. */
+export interface TakenBack {
+  readonly patch: readonly Operation[];
+  readonly cause: Error;
+}
+
+/** Where edits that wait are kept beyond a page, as `localStorage` and `sessionStorage` do. */
+export interface Store {
+  getItem(key: string): string | null;
+  setItem(key: string, text: string): void;
+  removeItem(key: string): void;
+}
+
+export interface Options<V extends readonly Shown[] = readonly Shown[], Slots = readonly Slot<any>[]> {
   /** What is to be shown, at most 16. */
-  view: Shown[];
-  /** Told after each change of the slots. */
-  onChange?: (change: Change) => void;
-  /** Told of each new state; with `closed`, of the cause, if there is one. */
+  view: readonly [...V];
+  /** Told after each change of the slots, and of how many edits wait. */
+  onChange?: (change: Change<Slots>) => void;
+  /** Told of each new state: with `waiting` and a `HandshakeFailed`, where no connection could be had; with `closed` and its cause, if there is one. */
   onState?: (state: State, cause: Error | null) => void;
+  /** Told of each optimistic edit that is taken back. The promise of such an edit need not be looked at then. */
+  onTakenBack?: (told: TakenBack) => void;
+  /**
+   * What may wait for the connection while it is lost. `all`: every edit. `guarded`: only one with a `base`, or with a `test` in front;
+   * others are `Refused` at once, as `away`. `all` if nothing is said.
+   */
+  queue?: "guarded" | "all";
+  /** Where edits that were not sent yet are kept, so that the next page with the same key sends them. Nowhere, if nothing is said. */
+  storage?: Store;
+  /** The key in `storage`, of one page at a time. The URL, if nothing is said. */
+  storageKey?: string;
   /** The class of the sockets; the global one, if nothing is said. */
   WebSocket?: new (url: string) => unknown;
   /** How long the first try after a loss waits at most, in milliseconds; each further one waits up to twice as long. 200 if nothing is said. */
@@ -50,37 +105,69 @@ export interface Options {
   longestWait?: number;
   /** After how many milliseconds without a message the relay is asked for one. 20,000 if nothing is said. */
   quiet?: number;
-  /** After how many milliseconds without an answer a connection is given up. 10,000 if nothing is said. */
+  /** For how many milliseconds the oldest request may have no answer, before the connection is given up. 10,000 if nothing is said. */
   patience?: number;
 }
 
-/** What an edit was made for. */
-export interface Seen {
+export interface EditOptions {
   /** The revision at which alone it is to be done, as `rev` of the slots from which it was made. */
-  base?: number;
+  base?: number | null;
   /** The run of the relay of which the base is a revision. If nothing is said, that of the slots. To be kept beside a base that is used later. */
   epoch?: number | null;
+  /** Whether it shows at once. */
+  optimistic?: boolean;
+  /** `false` keeps it out of what `undo` takes back. */
+  undo?: boolean;
 }
 
-export interface Board {
-  /** What is shown. */
-  readonly view: Shown[];
-  /** What they show; null before the first snapshot. */
-  readonly slots: Slot[] | null;
-  /** The revision whose slots these are; null before the first snapshot. */
+/** One slot of a board. */
+export interface Place<T> {
+  /** What stands there; undefined where nothing does, or before the first slots. */
+  readonly value: T | undefined;
+  /** What stands there as the relay showed it. */
+  readonly confirmed: T | undefined;
+  /** Tells of each other value. Gives its end. */
+  subscribe(listener: (value: T | undefined) => void): () => void;
+  /** Writes another value, which shows at once. Fails as `edit`. */
+  set(value: T, options?: EditOptions): Promise<number>;
+  /**
+   * Writes the value that `change` makes of the one that stands there, and does it again until nobody was faster; where it makes
+   * `undefined`, nothing. Fails as `edit`; with `stale` after that many `tries`, 20 if nothing is said.
+   */
+  update(change: (value: T | undefined) => T | undefined, options?: { tries?: number; undo?: boolean }): Promise<number>;
+}
+
+export interface Board<D = Json, V extends readonly Shown[] = readonly Shown[]> {
+  /** The view whose slots these are. */
+  readonly view: readonly Shown[];
+  /** What is shown: what the relay showed, with the optimistic edits that wait laid over it. Null before the first snapshot. */
+  readonly slots: SlotsOf<D, V> | null;
+  /** What the relay showed. Null before the first snapshot. */
+  readonly confirmed: SlotsOf<D, V> | null;
+  /** The revision of `confirmed`; null before the first snapshot. */
   readonly rev: number | null;
-  /** The run of the relay of which they are; null before the first snapshot. */
+  /** The run of the relay of which it is; null before the first snapshot. */
   readonly epoch: number | null;
+  /** How many optimistic edits wait. */
+  readonly pending: number;
   readonly state: State;
   /** The first slots. Fails with `Refused` where the view is refused, and with `Closed`. */
-  readonly ready: Promise<Slot[]>;
+  readonly ready: Promise<SlotsOf<D, V>>;
+  /** Tells a listener after each change. Gives its end. */
+  subscribe(listener: (change: Change<SlotsOf<D, V>>) => void): () => void;
+  /** One slot of the view. */
+  at<P extends Shown>(shown: P): Place<ValueOf<D, P>>;
   /** Shows another view from now on. Gives its slots, or those of a later view where one was asked for in the meantime. Fails with `Refused`, and the view before stays; and with `Closed`. */
-  watch(view: Shown[]): Promise<Slot[]>;
+  watch<W extends readonly Shown[]>(view: readonly [...W]): Promise<SlotsOf<D, W>>;
   /**
    * Edits the document, all of it or nothing. Gives the new revision, which the slots may still be on their way to.
    *
-   * Fails with `Refused`, where nothing changed; with `Unknown`, where the connection was lost before the answer; with `Closed`. At most
-   * 31 requests are on their way at once; the others wait here, also for a connection, and are sent in order.
+   * Fails with `Refused`, where nothing changed; with `Unknown`, where the connection was lost before the answer; with `Closed`; and with
+   * a `TypeError`, where a value is none that the relay takes. At most 31 requests are on their way at once; the others wait here, also
+   * for a connection, and are sent in order.
+   *
+   * With `optimistic` it shows at once, as far as the slots tell what it does. A patch is done whole or not at all: where an operation does
+   * not fit what is shown, nothing of it is. Where it is refused, or its answer is lost, it is taken back, and `onTakenBack` is told.
    *
    * With a `base` it is done only where the room is at that revision, and gives the next one. Else it is refused, as `stale`: what was seen
    * may have changed, or anything else in the document. Then `watch(view)` gives slots of the room's revision; `rev` by itself stays
@@ -90,17 +177,89 @@ export interface Board {
    * `Unknown` only where the relay was restarted in between, where the board is closed, and after five lost connections. One that was
    * not sent yet when the relay was restarted is refused, as `stale`, without being sent.
    */
-  edit(patch: Operation[], seen?: Seen): Promise<number>;
+  edit(patch: readonly Operation[], options?: EditOptions): Promise<number>;
+  /**
+   * Takes back the newest edit of this board that was done, and gives the revision of that; null where there is none. It waits until all
+   * edits before it are shown. Refused, as `changed`, where somebody changed what the edit did; then the edit before it is the newest. Edits
+   * of what the slots did not show are not taken back.
+   */
+  undo(): Promise<number | null>;
+  /** Does again what `undo` took back last, until another edit is made. */
+  redo(): Promise<number | null>;
+  /** How many edits `undo` can take back. */
+  readonly undoable: number;
+  /** How many edits `redo` can do again. */
+  readonly redoable: number;
   /** Leaves the room, and does not come back. */
   close(): void;
 }
 
-/** Connects to a room, as `ws://127.0.0.1:8080/rooms/NAME`, and comes back to it whenever the connection is lost. */
-export function connect(url: string, options: Options): Board;
+/**
+ * Connects to a room, as `ws://127.0.0.1:8080/rooms/NAME`, and comes back to it whenever the connection is lost. Fails with a `RangeError`
+ * where the name is none of a room.
+ *
+ * `connect<Document>(url, { view })` types what `at` gives; `connect<Document, typeof view>(url, { view })` the slots as well, of a
+ * `const view = [...] as const`.
+ */
+export function connect<V extends readonly Shown[]>(url: string, options: Options<V, SlotsOf<Json, V>>): Board<Json, V>;
+export function connect<D, V extends readonly Shown[] = readonly Shown[]>(url: string, options: Options<V, SlotsOf<D, V>>): Board<D, V>;
+
+/** What one part of a page shows of a room. */
+export interface View<D = Json, V extends readonly Shown[] = readonly Shown[]> {
+  /** One slot for each pointer; null until they are there. */
+  readonly slots: SlotsOf<D, V> | null;
+  readonly ready: Promise<SlotsOf<D, V>>;
+  /** Tells a listener of each change of these slots. Gives its end. */
+  subscribe(listener: (slots: SlotsOf<D, V>) => void): () => void;
+  at<P extends Shown>(shown: P): Place<ValueOf<D, P>>;
+  edit(patch: readonly Operation[], options?: EditOptions): Promise<number>;
+  close(): void;
+}
+
+export interface Room<D = Json> {
+  /** Shows pointers, over the connection of the other views where 16 slots are enough for all, and else over another one. */
+  view<V extends readonly Shown[]>(view: readonly [...V]): View<D, V>;
+  /** How many connections the views take. */
+  readonly connections: number;
+  close(): void;
+}
+
+/** Several views of a room over as few connections as they need. `onConnections` is told how many they are, with each new one. */
+export function room<D = Json>(url: string, options?: Omit<Options, "view" | "onChange"> & { onConnections?: (count: number) => void }): Room<D>;
+
+export interface Presence<E extends object> {
+  readonly id: string;
+  /** The entries of all who are here, by their ids. */
+  readonly people: Readonly<Record<string, E & { readonly beat: number }>>;
+  readonly ready: Promise<void>;
+  /** Tells who is here with each change. Gives its end. */
+  subscribe(listener: (people: Readonly<Record<string, E & { readonly beat: number }>>) => void): () => void;
+  /** Shows another entry of this client from now on. */
+  set(entry: E): Promise<void>;
+  /** Takes this client's entry away. */
+  leave(): Promise<void>;
+}
+
+/**
+ * Keeps an entry of this client in the object at a pointer of the board's view, renews it every 20 seconds, and takes away entries that were
+ * not renewed for a minute, by this client's clock. Each renewal is an edit: a revision of the room, told to every watcher of the object,
+ * and it makes an edit with an earlier `base` stale.
+ */
+export function presence<E extends object>(board: Board<any, any>, path: Pointer, entry: E, options?: { id?: string; every?: number; gone?: number }): Presence<E>;
+
+/**
+ * What the slots of a view show when a patch is laid over them, as far as they tell it: of the others each is as it was, and `known` is
+ * false. Fails where an operation is known not to fit.
+ */
+export function overlaid(view: readonly Shown[], slots: readonly Slot[], patch: readonly Operation[]): { slots: Slot[]; known: boolean[] };
 
 /** The relay refused a request, and nothing changed by it; but see `resent`. */
 export class Refused extends Error {
-  /** The word of the fault (docs/PROTOCOL.md, "Messages"). */
+  constructor(reply: { fault: string; at?: number | null; rev?: number | null }, resent?: boolean);
+  /**
+   * The word of the fault (docs/PROTOCOL.md, "Messages"). The client itself refuses with `away` what may not wait for the connection, and with
+   * `changed` an undo of what somebody changed since.
+   */
   readonly fault: string;
   /** The place of the operation or pointer that is at fault, counted from 0; null where no single one is. */
   readonly at: number | null;
@@ -118,3 +277,11 @@ export class Unknown extends Error {}
 
 /** The board was closed before what was asked for was sent. */
 export class Closed extends Error {}
+
+/** No connection could be had; the client goes on trying. */
+export class HandshakeFailed extends Error {
+  /** `refused` where something answers at the address, `unreachable` where nothing does. */
+  readonly reason: "refused" | "unreachable";
+  /** The status of the answer, as 404 or 503, where the platform tells it: Node does, and a browser for a page of the same origin. */
+  readonly status: number | null;
+}

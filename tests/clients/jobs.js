@@ -10,6 +10,7 @@ globalThis.play = ({ connect }, url, view) => {
 
   // What an edit comes to; on the revision of the board's slots, if it is to have a base.
   async function answer(board, patch, based) {
+    await board.ready;
     const { rev: base, epoch: of } = board;
     const seen = based ? { base, of } : {};
     const edited = based ? board.edit(patch, { base }) : board.edit(patch);
@@ -19,7 +20,59 @@ globalThis.play = ({ connect }, url, view) => {
     );
   }
 
+  // What is shown over time, beside the edits that were asked for: each line says how the slots were, which edits had been asked for, and
+  // which of those had been taken back.
+  const lines = [];
+  const asked = [];
+  const showing = {
+    board: null,
+    line() {
+      const { view, slots, confirmed, rev, epoch, pending } = this.board;
+      const back = asked.flatMap(({ back }, k) => (back ? [k] : []));
+      lines.push({ view, slots, confirmed, rev, epoch, pending, asked: asked.length, back });
+    },
+    connect() {
+      const onTakenBack = ({ patch }) => {
+        const k = asked.findIndex((edit) => edit.patch.at(-1).value === patch.at(-1).value);
+        asked[k].back = true;
+        // The last line was written without it.
+        lines.at(-1)?.back.push(k);
+      };
+      this.board ??= connect(url, { view, onChange: () => this.line(), onTakenBack, WebSocket: Noting, ...waits });
+      return this.board;
+    },
+  };
+
+  // The run of the relay to which the newest connection leads.
+  let run = null;
+  class Noting extends WebSocket {
+    constructor(url) {
+      super(url);
+      this.addEventListener("message", ({ data }) => {
+        const { kind, epoch } = JSON.parse(data);
+        if (kind === "welcome") run = epoch;
+      });
+    }
+  }
+
   const jobs = {
+    // An edit that shows at once, whose last operation leaves a tag.
+    show: async ({ patch, based }) => {
+      const board = showing.connect();
+      await board.ready;
+      const edit = { patch, back: false, done: null };
+      asked.push(edit);
+      const { rev: base } = board;
+      return board.edit(patch, { optimistic: true, ...(based ? { base } : {}) }).then(
+        (rev) => (Object.assign(edit, { done: rev, epoch: run }), { rev }),
+        ({ name, fault, message }) => ({ fails: name, fault: fault ?? message }),
+      );
+    },
+    // All lines so far, and what the edits came to.
+    lines: async () => {
+      const { slots, confirmed, pending, state } = showing.connect();
+      return { lines: lines.splice(0), edits: asked, last: { slots, confirmed, pending, state } };
+    },
     edit: ({ patch, based }) => answer(board, patch, based),
     // Reads the count and writes the next one, until nobody was faster.
     count: async ({ logged }) => {

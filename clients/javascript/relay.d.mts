@@ -1,0 +1,2 @@
+// Types of relay.mjs: those of relay.js.
+export * from "./relay.js";

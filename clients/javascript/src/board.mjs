@@ -1,0 +1,309 @@
+// A room, as an application has it: the slots of a view, and edits.
+import { Closed, Refused } from "./errors.mjs";
+import { Edit } from "./edit.mjs";
+import { Follower } from "./follower.mjs";
+import { History } from "./history.mjs";
+import { fits } from "./inverse.mjs";
+import { Link } from "./link.mjs";
+import { Listeners } from "./listeners.mjs";
+import { Overlay } from "./overlay.mjs";
+import { Place, compareAndSet } from "./place.mjs";
+import { Queue } from "./queue.mjs";
+import { checked } from "./json.mjs";
+import { knownBy } from "./known.mjs";
+
+/**
+ * @typedef {import("../relay.js").Shown} Shown
+ * @typedef {import("../relay.js").State} State
+ * @typedef {import("../relay.js").Operation} Operation
+ * @typedef {import("./follower.mjs").Held} Held
+ * @typedef {import("./history.mjs").Role} Role
+ */
+
+// How often an undo that has to be sure of an empty place tries.
+const TRIES = 10;
+
+const DEFAULTS = {
+  firstWait: 200,
+  longestWait: 10_000,
+  quiet: 20_000,
+  patience: 10_000,
+};
+
+export class Board {
+  /** @type {Link} */
+  #link;
+  /** @type {Follower} */
+  #follower;
+  #overlay = new Overlay();
+  #history = new History();
+  #queue;
+  /** @type {Listeners<any>} */
+  #changes = new Listeners();
+  #options;
+  /** @type {State} */
+  #state = "connecting";
+  #wasOpen = false;
+  /** @type {any} */
+  #shown = null;
+  /** @type {Promise<unknown>} */
+  #stepping = Promise.resolve(); // the undo or redo that was asked for last
+  /** @type {(() => void)[]} */
+  #quietWaiters = []; // told when no edit of this client waits to be shown
+
+  /** @param {string} url @param {any} options */
+  constructor(url, { view, ...options }) {
+    this.#options = { WebSocket: globalThis.WebSocket, onState: () => {}, onTakenBack: null, ...DEFAULTS, ...options };
+    if (options.onChange) this.#changes.add(options.onChange);
+    this.#queue = new Queue(options.queue, options.storage, options.storageKey ?? url);
+    this.#link = new Link(url, this.#options, {
+      entered: () => this.#follower.entered(),
+      told: (message) => this.#follower.told(message),
+      lost: (cause) => this.#enter("waiting", cause),
+      connecting: () => this.#enter("connecting", null),
+      waiting: (asked) => this.#queue.keep(asked),
+    });
+    this.#follower = new Follower(view, this.#link, {
+      took: (before, patch) => this.#took(before, patch),
+      present: () => this.#present(),
+      refused: (cause) => this.#end(cause),
+    });
+    /** The first slots. */
+    this.ready = this.#follower.shown().then(() => this.slots);
+    this.ready.catch(() => {});
+    this.subscribe = this.subscribe.bind(this);
+    for (const { patch, ...seen } of this.#queue.left()) this.edit(patch, { optimistic: true, ...seen }).catch(() => {});
+    this.#link.connect();
+  }
+
+  /** The view whose slots these are. */
+  get view() {
+    return this.#follower.held.view;
+  }
+
+  /** What is shown: what the relay showed, with the optimistic edits that wait laid over it. */
+  get slots() {
+    return this.#shown;
+  }
+
+  /** What the relay showed. */
+  get confirmed() {
+    return this.#follower.held.slots;
+  }
+
+  /** How many optimistic edits wait. */
+  get pending() {
+    return this.#overlay.pending;
+  }
+
+  get rev() {
+    return this.#follower.held.rev;
+  }
+
+  get epoch() {
+    return this.#follower.held.epoch;
+  }
+
+  get state() {
+    return this.#state;
+  }
+
+  get undoable() {
+    return this.#history.undoable;
+  }
+
+  get redoable() {
+    return this.#history.redoable;
+  }
+
+  /** @param {(change: any) => void} listener Gives its end. */
+  subscribe(listener) {
+    return this.#changes.add(listener);
+  }
+
+  /** @param {Shown} shown */
+  at(shown) {
+    return new Place(this, shown);
+  }
+
+  /** @param {readonly Shown[]} view */
+  watch(view) {
+    return this.#follower.watch(view).then(() => this.slots);
+  }
+
+  /**
+   * @param {readonly Operation[]} patch
+   * @param {import("../relay.js").EditOptions} [options]
+   * @returns {Promise<number>}
+   */
+  edit(patch, options = {}) {
+    return this.#edit(patch, options, options.undo === false ? null : "edit");
+  }
+
+  undo() {
+    return this.#step("undo");
+  }
+
+  redo() {
+    return this.#step("redo");
+  }
+
+  close() {
+    this.#end(null);
+  }
+
+  // Edits.
+
+  /** @param {readonly Operation[]} patch @param {any} options @param {Role | null} role @returns {Promise<number>} */
+  #edit(patch, { base, epoch = this.epoch, optimistic = false }, role) {
+    const done = new Promise((resolve, reject) => {
+      const own = checked(patch);
+      /** @type {import("./overlay.mjs").Unconfirmed} */
+      const unconfirmed = { patch: own, optimistic, rev: null, epoch: null, left: (inverse) => inverse && role && this.#history.record(role, inverse) };
+      const edit = new Edit({ patch: own, base: revision(base), epoch }, {
+        done: (rev, run) => {
+          Object.assign(unconfirmed, { rev, epoch: run });
+          resolve(rev);
+          this.#settled();
+        },
+        failed: (cause) => {
+          reject(cause);
+          this.#failed(unconfirmed, cause);
+        },
+      });
+      if (this.#state === "closed") throw new Closed();
+      if (this.#isAway && !this.#queue.takes(edit)) throw new Refused({ fault: "away" });
+      this.#overlay.add(unconfirmed);
+      if (optimistic) this.#tell(null);
+      this.#link.ask(edit);
+    });
+    // Whoever hears of what is taken back need not look at the promise as well.
+    if (optimistic && this.#options.onTakenBack) done.catch(() => {});
+    return done;
+  }
+
+  get #isAway() {
+    return this.#wasOpen && this.#link.welcome === null;
+  }
+
+  #settled() {
+    const { held } = this.#follower;
+    const { pending } = this;
+    this.#overlay.settleTraceless(held);
+    this.#becomeQuiet();
+    if (this.pending !== pending) this.#tell(null);
+  }
+
+  /** @param {import("./overlay.mjs").Unconfirmed} edit @param {Error} cause */
+  #failed(edit, cause) {
+    const there = this.#overlay.drop(edit);
+    this.#becomeQuiet();
+    if (!there || !edit.optimistic) return;
+    try {
+      this.#tell(null);
+    } finally {
+      this.#options.onTakenBack?.({ patch: edit.patch, cause });
+    }
+  }
+
+  // Undo and redo: one after the other, each when all edits before it are shown.
+
+  /** @param {"undo" | "redo"} role @returns {Promise<number | null>} */
+  #step(role) {
+    const step = this.#stepping.then(async () => {
+      await this.#quiet();
+      const inverse = this.#history.take(role);
+      return inverse === null ? null : this.#takeBack(inverse, role);
+    });
+    this.#stepping = step.catch(() => {}).then(() => this.#quiet());
+    return step;
+  }
+
+  /** @param {import("./inverse.mjs").Inverse} inverse @param {Role} role @returns {Promise<number>} */
+  async #takeBack({ patch, putsBack }, role) {
+    try {
+      return await (putsBack ? this.#putBack(patch, role) : this.#edit(patch, { optimistic: true }, role));
+    } catch (error) {
+      if (!(error instanceof Refused) || error.fault === "away") throw error;
+      throw new Refused({ fault: "changed", at: error.at, rev: error.rev }, error.resent);
+    }
+  }
+
+  // That nothing stands in a place no operation tests: it is seen here, and the base has it so until the edit is done.
+  /** @param {Operation[]} patch @param {Role} role */
+  #putBack(patch, role) {
+    const make = () => {
+      if (!fits(knownBy(this.view, this.confirmed ?? []), patch)) throw new Refused({ fault: "changed" });
+      return patch;
+    };
+    return compareAndSet(this, TRIES, make, (own, seen) => this.#edit(own, { optimistic: true, ...seen }, role));
+  }
+
+  /** @returns {Promise<void>} */
+  #quiet() {
+    if (this.#overlay.isEmpty) return Promise.resolve();
+    return new Promise((resolve) => this.#quietWaiters.push(resolve));
+  }
+
+  #becomeQuiet() {
+    if (!this.#overlay.isEmpty) return;
+    for (const resolve of this.#quietWaiters.splice(0)) resolve();
+  }
+
+  // What is shown.
+
+  /** @param {Held} before @param {Operation[] | null} patch */
+  #took(before, patch) {
+    const { held } = this.#follower;
+    // What this client did was done to a document that is not there any more.
+    if (before.epoch !== null && before.epoch !== held.epoch) this.#history.forget();
+    this.#overlay.settle(before, held);
+    this.#becomeQuiet();
+    this.#shown = this.#overlay.shown(held);
+    this.#enter("open", null);
+    this.#tell(patch);
+  }
+
+  // After a loss nothing was missed.
+  #present() {
+    const { pending } = this;
+    this.#overlay.settleAll(this.#follower.held);
+    this.#becomeQuiet();
+    this.#enter("open", null);
+    if (this.pending !== pending) this.#tell(null);
+  }
+
+  /** @param {Operation[] | null} patch */
+  #tell(patch) {
+    const { held } = this.#follower;
+    if (held.slots === null) return;
+    this.#shown = this.#overlay.shown(held);
+    this.#changes.tell({ slots: this.#shown, confirmed: held.slots, rev: held.rev, pending: this.pending, patch });
+  }
+
+  /** @param {Error | null} cause */
+  #end(cause) {
+    if (this.#state === "closed") return;
+    this.#link.close();
+    this.#follower.end(cause);
+    this.#enter("closed", cause);
+  }
+
+  /** @param {State} state @param {Error | null} cause */
+  #enter(state, cause) {
+    if (this.#state === state) return;
+    this.#state = state;
+    if (state === "open") this.#wasOpen = true;
+    this.#options.onState(state, cause);
+  }
+}
+
+/**
+ * None where there are no slots yet.
+ * @param {unknown} base
+ */
+function revision(base) {
+  if (base === undefined || base === null) return undefined;
+  if (!Number.isSafeInteger(base) || Number(base) < 0) throw new TypeError(`a base is a revision, and not ${base}`);
+  return Number(base);
+}

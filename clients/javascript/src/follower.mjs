@@ -1,0 +1,141 @@
+// The slots of a view as the relay shows them, kept right over lost connections and restarts (docs/PROTOCOL.md, "What a client does").
+import { Closed, Refused } from "./errors.mjs";
+import { applied } from "./patch.mjs";
+import { checked } from "./json.mjs";
+
+/**
+ * @typedef {import("./link.mjs").Link} Link
+ * @typedef {import("../relay.js").Shown} Shown
+ * @typedef {import("../relay.js").Operation} Operation
+ * @typedef {readonly [] | readonly [any]} Slot
+ * @typedef {{ number: number, view: readonly Shown[] }} Wanted
+ * @typedef {Wanted & { slots: readonly Slot[] | null, rev: number | null, epoch: number | null }} Held
+ * @typedef {{ number: number, resolve: (slots: any) => void, reject: (cause: Error) => void }} Waiter
+ * @typedef {{ took: (before: Held, patch: Operation[] | null) => void, present: () => void, refused: (cause: Refused) => void }} Hearer
+ */
+
+export class Follower {
+  #link;
+  #on;
+  /** @type {Wanted} */
+  #wanted; // the view that was asked for last, by the number of its asking
+  /** @type {Wanted | null} */
+  #taken = null; // the view that the newest `watching` or `resumed` of this connection is about
+  /** @type {Held} */
+  #held = { number: -1, view: [], slots: null, rev: null, epoch: null };
+  /** @type {Waiter[]} */
+  #waiters = []; // each is told when the snapshot of its view, or of a later one, is there
+  /** @type {Error | null} */
+  #ended = null;
+
+  /** @param {readonly Shown[]} view @param {Link} link @param {Hearer} on */
+  constructor(view, link, on) {
+    this.#link = link;
+    this.#on = on;
+    this.#wanted = { number: 0, view: checked(view) };
+  }
+
+  get held() {
+    return this.#held;
+  }
+
+  /** @param {readonly Shown[]} view */
+  watch(view) {
+    this.#wanted = { number: this.#wanted.number + 1, view: checked(view) };
+    const shown = this.shown();
+    if (this.#link.welcome !== null) this.#link.ask(this.#watching());
+    return shown;
+  }
+
+  /**
+   * The slots of the view that was asked for last.
+   * @returns {Promise<any>}
+   */
+  shown() {
+    const { number } = this.#wanted;
+    return new Promise((resolve, reject) => {
+      if (this.#ended !== null) reject(this.#ended);
+      else this.#waiters.push({ number, resolve, reject });
+    });
+  }
+
+  /** The first request of a connection goes on where the slots are, if they are those of the view that is wanted. */
+  entered() {
+    this.#taken = null;
+    this.#link.askFirst(this.#held.number === this.#wanted.number ? this.#resuming() : this.#watching());
+  }
+
+  /** @param {any} message A snapshot or a patch. */
+  told(message) {
+    if (message.kind === "snapshot") this.#take(message.rev, message.view, null);
+    else this.#follow(message);
+  }
+
+  /** @param {Error | null} cause */
+  end(cause) {
+    this.#ended = cause ?? new Closed();
+    for (const waiter of this.#waiters.splice(0)) waiter.reject(this.#ended);
+  }
+
+  #watching() {
+    const wanted = this.#wanted;
+    const answered = (/** @type {any} */ reply) => {
+      if (reply.kind === "watching") this.#taken = wanted;
+      else this.#refuse(wanted, reply);
+    };
+    return { request: { do: "watch", view: wanted.view }, answered };
+  }
+
+  #resuming() {
+    const { number, view, rev, epoch } = this.#held;
+    const answered = (/** @type {any} */ reply) => {
+      // `future`: an epoch was given to two runs, and what is held is of the other one.
+      if (reply.kind !== "resumed") return this.#link.ask(this.#watching());
+      this.#taken = { number, view };
+      if (reply.how === "nothing") this.#on.present();
+    };
+    return { request: { do: "resume", epoch, rev, view }, answered };
+  }
+
+  // A view that the relay does not take: the one before it stays. Without any there is nothing to be had.
+  /** @param {Wanted} wanted @param {any} reply */
+  #refuse({ number }, reply) {
+    const refused = new Refused(reply);
+    for (const waiter of this.#waiters.filter((waiter) => waiter.number === number)) waiter.reject(refused);
+    this.#waiters = this.#waiters.filter((waiter) => waiter.number !== number);
+    if (this.#wanted.number !== number) return;
+    if (this.#held.slots === null) return this.#on.refused(refused);
+    this.#wanted = this.#taken ?? { number: this.#held.number, view: this.#held.view };
+    if (this.#taken === null) this.#link.ask(this.#watching());
+  }
+
+  /** @param {{ rev: number, patch: Operation[] }} message */
+  #follow({ rev, patch }) {
+    let slots = null;
+    try {
+      if (rev > (this.#held.rev ?? Infinity)) slots = applied(this.#held.slots, patch);
+    } catch {
+      // What is held is not what the patch was made for.
+    }
+    if (slots !== null) return this.#take(rev, slots, patch);
+    // Should never be: the slots are asked for anew, by a connection that has nothing to resume.
+    this.#held = { ...this.#held, number: -1 };
+    this.#link.renew();
+  }
+
+  /** @param {number} rev @param {readonly Slot[]} slots @param {Operation[] | null} patch */
+  #take(rev, slots, patch) {
+    const before = this.#held;
+    const epoch = this.#link.welcome?.epoch ?? null;
+    const seen = patch === null ? { ...(this.#taken ?? this.#wanted), epoch } : before;
+    this.#held = { ...seen, slots, rev };
+    const { number } = this.#held;
+    const told = this.#waiters.filter((waiter) => waiter.number <= number);
+    this.#waiters = this.#waiters.filter((waiter) => waiter.number > number);
+    try {
+      this.#on.took(before, patch);
+    } finally {
+      for (const waiter of told) waiter.resolve(this.#held.slots);
+    }
+  }
+}

@@ -1,0 +1,206 @@
+// A connection to a room that comes back when it is lost, and the requests that go over it, in order.
+import { HandshakeFailed } from "./errors.mjs";
+import { failure } from "./handshake.mjs";
+
+// With one more on the way 32 replies could wait, and the relay would read nothing from this client until it drew one.
+const ON_THE_WAY = 31;
+
+/**
+ * A request: what is sent, and what becomes of it. Only an edit has the last four; others end with their connection.
+ *
+ * @typedef {{ epoch: number, rev: number }} Welcome
+ * @typedef {{
+ *   request: object,
+ *   answered: (reply: any) => void,
+ *   goesTo?: (welcome: Welcome) => boolean,
+ *   lost?: () => boolean,
+ *   dropped?: () => void,
+ *   kept?: import("./queue.mjs").Kept,
+ * }} Asked
+ * @typedef {{
+ *   entered: (welcome: Welcome) => void,
+ *   told: (message: any) => void,
+ *   lost: (cause: Error | null) => void,
+ *   connecting: () => void,
+ *   waiting: (asked: Asked[]) => void,
+ * }} Hearer
+ * @typedef {{ WebSocket: any, firstWait: number, longestWait: number, quiet: number, patience: number }} Options
+ */
+
+export class Link {
+  #url;
+  #options;
+  #on;
+  /** @type {any} */
+  #socket = null;
+  #opened = false; // whether the handshake of this connection is done
+  /** @type {Welcome | null} */
+  #welcome = null; // of this connection
+  /** @type {Asked[]} */
+  #unsent = [];
+  /** @type {Asked[]} */
+  #sent = []; // without an answer, oldest first
+  #ids = 0;
+  #failures = 0;
+  /** @type {ReturnType<typeof setTimeout> | undefined} */
+  #timer;
+  /** @type {ReturnType<typeof setTimeout> | undefined} */
+  #patience;
+  #closed = false;
+
+  /** @param {string} url @param {Options} options @param {Hearer} on */
+  constructor(url, options, on) {
+    this.#url = url;
+    this.#options = options;
+    this.#on = on;
+  }
+
+  /** Of this connection; null while there is none. */
+  get welcome() {
+    return this.#welcome;
+  }
+
+  connect() {
+    if (this.#closed) return;
+    this.#on.connecting();
+    const socket = new this.#options.WebSocket(this.#url);
+    this.#socket = socket;
+    this.#opened = false;
+    /** @param {(event: any) => void} act @returns {(event: any) => void} */
+    const here = (act) => (event) => {
+      if (this.#socket === socket) act(event);
+    };
+    socket.onopen = here(() => (this.#opened = true));
+    socket.onmessage = here(({ data }) => this.#hear(JSON.parse(data)));
+    socket.onclose = here(() => this.#lose(null));
+    // Where a connection cannot be had, Node's sockets say so and no more.
+    socket.onerror = here((event) => this.#abandon(event));
+    this.#beginPatience();
+  }
+
+  /** @param {Asked} asked */
+  ask(asked) {
+    if (this.#closed) return asked.dropped?.();
+    this.#unsent.push(asked);
+    this.#send();
+  }
+
+  /**
+   * Before whatever waits.
+   * @param {Asked} asked
+   */
+  askFirst(asked) {
+    this.#unsent.unshift(asked);
+  }
+
+  /** Leaves this connection for another one. */
+  renew() {
+    this.#abandon(null);
+  }
+
+  close() {
+    this.#closed = true;
+    const socket = this.#socket;
+    this.#detach();
+    socket?.close();
+    const unsent = this.#unsent.splice(0);
+    this.#on.waiting([]);
+    for (const asked of unsent) asked.dropped?.();
+  }
+
+  // Leaves the connection: what was sent has no answer any more, and only edits wait for the next one.
+  #detach() {
+    clearTimeout(this.#timer);
+    clearTimeout(this.#patience);
+    this.#socket = null;
+    this.#welcome = null;
+    const again = this.#sent.splice(0).filter((asked) => asked.lost?.());
+    this.#unsent = [...again, ...this.#unsent.filter((asked) => asked.dropped)];
+    this.#on.waiting(this.#unsent);
+  }
+
+  /** @param {any} event of the socket, or the cause */
+  #lose(event) {
+    const handshaken = this.#opened;
+    this.#detach();
+    if (handshaken) return this.#wait(null);
+    if (event instanceof HandshakeFailed) return this.#wait(event);
+    failure(this.#url, event).then((cause) => this.#wait(cause));
+  }
+
+  /** @param {Error | null} cause */
+  #wait(cause) {
+    if (this.#closed) return;
+    const { firstWait, longestWait } = this.#options;
+    const wait = Math.min(firstWait * 2 ** this.#failures, longestWait) * (0.5 + Math.random() / 2);
+    this.#failures += 1;
+    this.#timer = setTimeout(() => this.connect(), wait);
+    this.#on.lost(cause);
+  }
+
+  /** @param {any} event of the socket, or the cause */
+  #abandon(event) {
+    const socket = this.#socket;
+    this.#lose(event);
+    socket?.close();
+  }
+
+  // Whether the other end is there. What has waited longest for an answer, or for the welcome, says it; each answer shows that it is. Where
+  // nothing waits and nothing comes, a request that does nothing asks for an answer: it has no `do`, and is refused.
+
+  #beginPatience() {
+    clearTimeout(this.#patience);
+    const gone = () => this.#abandon(this.#opened ? null : new HandshakeFailed("unreachable"));
+    this.#patience = setTimeout(gone, this.#options.patience);
+  }
+
+  #listen() {
+    clearTimeout(this.#timer);
+    this.#timer = setTimeout(() => this.ask({ request: {}, answered: () => {} }), this.#options.quiet);
+  }
+
+  #send() {
+    while (this.#welcome !== null && this.#sent.length < ON_THE_WAY && this.#unsent.length > 0) {
+      const asked = /** @type {Asked} */ (this.#unsent.shift());
+      // What is kept elsewhere ends there before it is sent, so that it is never sent twice.
+      if (asked.dropped) this.#on.waiting(this.#unsent);
+      if (asked.goesTo?.(this.#welcome) === false) continue;
+      this.#ids += 1;
+      this.#sent.push(asked);
+      if (this.#sent.length === 1) this.#beginPatience();
+      this.#socket.send(JSON.stringify({ id: this.#ids, ...asked.request }));
+    }
+    if (this.#welcome === null) this.#on.waiting(this.#unsent);
+  }
+
+  /** @param {any} message */
+  #hear(message) {
+    try {
+      if (message.kind === "welcome") this.#enter(message);
+      else if (message.kind === "snapshot" || message.kind === "patch") this.#on.told(message);
+      else this.#answer(message);
+    } finally {
+      // Also where an application's function throws.
+      if (this.#socket !== null) {
+        this.#send();
+        this.#listen();
+      }
+    }
+  }
+
+  /** @param {Welcome} welcome */
+  #enter(welcome) {
+    this.#welcome = welcome;
+    this.#failures = 0;
+    clearTimeout(this.#patience);
+    this.#on.entered(welcome);
+  }
+
+  /** @param {any} reply */
+  #answer(reply) {
+    const asked = this.#sent.shift();
+    clearTimeout(this.#patience);
+    if (this.#sent.length > 0) this.#beginPatience();
+    asked?.answered(reply);
+  }
+}

@@ -1,0 +1,29 @@
+// JSON Pointers (RFC 6901).
+
+/** @param {string} pointer */
+export function tokens(pointer) {
+  if (!/^(\/([^~/]|~[01])*)*$/.test(pointer)) throw new RangeError(`"${pointer}" is no JSON Pointer`);
+  return pointer.split("/").slice(1).map((token) => token.replaceAll("~1", "/").replaceAll("~0", "~"));
+}
+
+/** @param {readonly (string | number)[]} path */
+export function pointer(path) {
+  return path.map((token) => `/${String(token).replaceAll("~", "~0").replaceAll("/", "~1")}`).join("");
+}
+
+/**
+ * The place in a list that a token names, or null where it names none.
+ * @param {string} token
+ */
+export function index(token) {
+  return /^(0|[1-9][0-9]*)$/.test(token) ? Number(token) : null;
+}
+
+/**
+ * Whether a path is another one, or leads into its value.
+ * @param {readonly string[]} path
+ * @param {readonly string[]} start
+ */
+export function startsWith(path, start) {
+  return start.length <= path.length && start.every((token, k) => token === path[k]);
+}

@@ -1,0 +1,49 @@
+// Edits that wait for a connection: which are taken while there is none, and where they are kept beyond this page.
+
+/**
+ * @typedef {import("./edit.mjs").Edit} Edit
+ * @typedef {{ patch: any[], base?: number, epoch: number | null }} Kept
+ */
+
+export class Queue {
+  #mode;
+  #storage;
+  #key;
+
+  /**
+   * @param {"guarded" | "all"} [mode]
+   * @param {import("../relay.js").Store | null} [storage]
+   * @param {string} [key]
+   */
+  constructor(mode = "all", storage = null, key = "relay") {
+    if (mode !== "all" && mode !== "guarded") throw new RangeError(`queue is "guarded" or "all", and not ${mode}`);
+    this.#mode = mode;
+    this.#storage = storage;
+    this.#key = key;
+  }
+
+  /**
+   * Whether an edit may wait for the connection to come back.
+   * @param {Edit} edit
+   */
+  takes(edit) {
+    return this.#mode === "all" || edit.isGuarded;
+  }
+
+  /** @param {readonly { kept?: Kept }[]} asked What waits now. */
+  keep(asked) {
+    if (this.#storage === null) return;
+    const waiting = asked.flatMap(({ kept }) => (kept === undefined ? [] : [kept]));
+    if (waiting.length > 0) this.#storage.setItem(this.#key, JSON.stringify(waiting));
+    else this.#storage.removeItem(this.#key);
+  }
+
+  /**
+   * What an earlier page left, in its order.
+   * @returns {Kept[]}
+   */
+  left() {
+    const text = this.#storage?.getItem(this.#key) ?? null;
+    return text === null ? [] : JSON.parse(text);
+  }
+}

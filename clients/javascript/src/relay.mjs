@@ -1,0 +1,41 @@
+// A client of the relay (docs/PROTOCOL.md): the slots of a view, which stay right when connections are lost and the relay is restarted.
+import { Board } from "./board.mjs";
+import { Room } from "./room.mjs";
+import { checkRoom } from "./handshake.mjs";
+import { after, knownBy, slotOf, slotsOf } from "./known.mjs";
+
+export { Closed, HandshakeFailed, Refused, Unknown } from "./errors.mjs";
+export { presence } from "./presence.mjs";
+
+/** @typedef {import("../relay.js").Shown} Shown */
+/** @typedef {import("../relay.js").Operation} Operation */
+
+/** @param {string} url @param {any} options @returns {any} */
+export function connect(url, options) {
+  checkSockets(options);
+  checkRoom(url);
+  return new Board(url, options);
+}
+
+/** @param {string} url @param {any} [options] @returns {any} */
+export function room(url, options = {}) {
+  checkSockets(options);
+  checkRoom(url);
+  return new Room(url, options);
+}
+
+/**
+ * What the slots of a view show when a patch is laid over them, as far as they tell it: of the others each is as it was, and `known` is
+ * false. Fails where an operation is known not to fit.
+ * @param {readonly Shown[]} view @param {readonly any[]} slots @param {readonly Operation[]} patch
+ */
+export function overlaid(view, slots, patch) {
+  const whole = patch.reduce(after, knownBy(view, slots));
+  return { slots: slotsOf(whole, view, slots), known: view.map((shown) => slotOf(whole, shown) !== null) };
+}
+
+/** @param {any} options */
+function checkSockets(options) {
+  const sockets = options.WebSocket ?? globalThis.WebSocket;
+  if (typeof sockets !== "function") throw new TypeError("no WebSocket here: hand in a class of sockets");
+}

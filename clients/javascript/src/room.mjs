@@ -1,0 +1,159 @@
+// Several views of one room over as few connections as they need: each part of a page watches what it shows, and knows of no other part.
+import { Board } from "./board.mjs";
+import { isSame } from "./place.mjs";
+import { pathOf } from "./known.mjs";
+
+/** @typedef {import("../relay.js").Shown} Shown */
+
+// The relay takes no more slots in a view.
+const SLOTS = 16;
+
+export class Room {
+  #url;
+  #options;
+  /** @type {Shared[]} */
+  #boards = [];
+
+  /** @param {string} url @param {any} options */
+  constructor(url, { onConnections = () => {}, ...options } = {}) {
+    this.#url = url;
+    this.#options = { ...options, onConnections };
+  }
+
+  /** How many connections the views take: one, until they have more than 16 slots. */
+  get connections() {
+    return this.#boards.length;
+  }
+
+  /** @param {readonly Shown[]} pointers */
+  view(pointers) {
+    if (pointers.length > SLOTS) throw new RangeError(`a view has at most ${SLOTS} slots`);
+    pointers.forEach(pathOf);
+    const shared = this.#boards.find((board) => board.hasPlaceFor(pointers)) ?? this.#another(pointers);
+    return new View(shared, [...pointers]);
+  }
+
+  close() {
+    for (const { board } of this.#boards) board.close();
+    this.#boards = [];
+  }
+
+  /** @param {readonly Shown[]} view */
+  #another(view) {
+    const { onConnections, ...options } = this.#options;
+    const shared = new Shared(new Board(this.#url, { ...options, view: distinct(view) }), view);
+    this.#boards.push(shared);
+    onConnections(this.#boards.length);
+    return shared;
+  }
+}
+
+// A board whose view is what all its views show.
+class Shared {
+  /** @type {readonly Shown[]} */
+  #wanted;
+  /** @type {Promise<unknown>} */
+  #shown; // of what is wanted
+  /** @type {Map<View, readonly Shown[]>} */
+  #views = new Map();
+
+  /** @param {Board} board @param {readonly Shown[]} view */
+  constructor(board, view) {
+    this.board = board;
+    this.#wanted = distinct(view);
+    this.#shown = board.ready;
+  }
+
+  /** @param {readonly Shown[]} pointers */
+  hasPlaceFor(pointers) {
+    return this.#with(pointers).length <= SLOTS;
+  }
+
+  /** @param {View} view @param {readonly Shown[]} pointers @returns {Promise<unknown>} of the slots */
+  join(view, pointers) {
+    const wanted = this.#with(pointers);
+    this.#views.set(view, pointers);
+    if (wanted.length !== this.#wanted.length || !wanted.every((shown, k) => isSame(shown, this.#wanted[k]))) {
+      this.#shown = this.board.watch(wanted);
+    }
+    this.#wanted = wanted;
+    return this.#shown;
+  }
+
+  /** @param {View} view */
+  leave(view) {
+    this.#views.delete(view);
+  }
+
+  // What nobody shows any more is watched as long as there is room for it, so that no slots are asked for anew.
+  /** @param {readonly Shown[]} pointers */
+  #with(pointers) {
+    const shown = distinct([...this.#views.values(), pointers].flat());
+    const both = distinct([...this.#wanted, ...shown]);
+    return both.length <= SLOTS ? both : shown;
+  }
+}
+
+/** @param {readonly Shown[]} all */
+function distinct(all) {
+  return all.filter((shown, k) => all.findIndex((other) => isSame(other, shown)) === k);
+}
+
+// What one part of a page shows.
+class View {
+  #shared;
+  #pointers;
+  /** @type {{ slots: unknown, own: readonly unknown[] | null }} */
+  #seen = { slots: undefined, own: null };
+
+  /** @param {Shared} shared @param {readonly Shown[]} pointers */
+  constructor(shared, pointers) {
+    this.#shared = shared;
+    this.#pointers = pointers;
+    this.ready = shared.join(this, pointers).then(() => this.slots);
+    this.ready.catch(() => {});
+    this.subscribe = this.subscribe.bind(this);
+  }
+
+  /** One slot for each pointer; null until they are there. */
+  get slots() {
+    const { slots, view } = this.#shared.board;
+    if (this.#seen.slots !== slots) {
+      const own = slots && this.#pointers.map((shown) => slots[view.findIndex((/** @type {Shown} */ other) => isSame(other, shown))]);
+      this.#seen = { slots, own: own === null || own.includes(undefined) ? null : this.#stable(own) };
+    }
+    return this.#seen.own;
+  }
+
+  // The same list as before where no slot of this view changed.
+  /** @param {readonly unknown[]} own */
+  #stable(own) {
+    const before = this.#seen.own;
+    return before !== null && own.every((slot, k) => slot === before[k]) ? before : own;
+  }
+
+  /** @param {(slots: any) => void} listener Told of each change of these slots. Gives its end. */
+  subscribe(listener) {
+    let last = this.slots;
+    return this.#shared.board.subscribe(() => {
+      const { slots } = this;
+      if (slots === null || slots === last) return;
+      last = slots;
+      listener(slots);
+    });
+  }
+
+  /** @param {Shown} shown */
+  at(shown) {
+    return this.#shared.board.at(shown);
+  }
+
+  /** @param {readonly import("../relay.js").Operation[]} patch @param {any} [options] */
+  edit(patch, options) {
+    return this.#shared.board.edit(patch, options);
+  }
+
+  close() {
+    this.#shared.leave(this);
+  }
+}

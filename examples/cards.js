@@ -1,0 +1,72 @@
+// The cards of board.html on the page. A card keeps its element while it is shown, wherever it goes, so that it flies from where it was to
+// where it is, and keeps the focus. It is known by its text, and among equal ones by which of them it is.
+"use strict";
+
+const FLIGHT = { duration: 160, easing: "cubic-bezier(.2, .7, .3, 1)" };
+
+class Cards {
+  #lists; // elements, one for each list
+  #make;
+  #shown = new Map(); // from what a card is known by to its element
+
+  /** @param lists elements that hold cards @param make gives the element of a text */
+  constructor(lists, make) {
+    this.#lists = lists;
+    this.#make = make;
+  }
+
+  /** Where an element's card is: its list, its place there, and its text. */
+  seen(element) {
+    const list = this.#lists.indexOf(element.parentElement);
+    return { list, place: this.of(list).indexOf(element), text: element.dataset.text };
+  }
+
+  /** The elements of the cards of a list. */
+  of(list) {
+    return [...this.#lists[list].children].filter((item) => item.dataset.text !== undefined);
+  }
+
+  /** The element of a text; of equal ones, the last. */
+  find(text) {
+    return [...this.#shown.values()].filter((element) => element.dataset.text === text).at(-1);
+  }
+
+  /** Shows lists of texts. */
+  show(texts) {
+    const before = new Map([...this.#shown.values()].map((element) => [element, element.getBoundingClientRect()]));
+    const kept = this.#shown;
+    this.#shown = new Map();
+    const counts = new Map();
+    const wanted = texts.map((list) => list.map((text) => this.#element(text, counts, kept)));
+    const focused = document.activeElement;
+    for (const gone of before.keys()) if (!wanted.flat().includes(gone)) gone.remove();
+    this.#lists.forEach((list, k) => this.#fill(k, list, wanted[k]));
+    if (focused !== document.activeElement && focused.isConnected) focused.focus();
+    for (const [element, box] of before) fly(element, box);
+  }
+
+  #element(text, counts, kept) {
+    const count = counts.get(text) ?? 0;
+    counts.set(text, count + 1);
+    const key = `${count} ${text}`;
+    const element = kept.get(key) ?? this.#make(text);
+    this.#shown.set(key, element);
+    return element;
+  }
+
+  // Only what is not in its place is moved, since an element that is moved loses the focus.
+  #fill(k, list, elements) {
+    elements.forEach((element, place) => {
+      const there = this.of(k)[place];
+      if (there !== element) list.insertBefore(element, there ?? null);
+    });
+  }
+}
+
+/** From a place of before to where it is now. */
+function fly(element, { left, top }) {
+  const now = element.getBoundingClientRect();
+  const [x, y] = [left - now.left, top - now.top];
+  if ((x === 0 && y === 0) || !element.isConnected || matchMedia("(prefers-reduced-motion: reduce)").matches) return;
+  element.animate([{ transform: `translate(${x}px, ${y}px)` }, { transform: "none" }], FLIGHT);
+}

@@ -1,0 +1,419 @@
+// What the JavaScript client offers beyond slots that stay right: each in a room of its own of one relay (RELAY names the program).
+import assert from "node:assert/strict";
+import { spawn } from "node:child_process";
+import { copyFileSync, mkdirSync, mkdtempSync, rmSync, writeFileSync } from "node:fs";
+import { tmpdir } from "node:os";
+import { join } from "node:path";
+import { createInterface } from "node:readline";
+import { after, before, test } from "node:test";
+import { pathToFileURL } from "node:url";
+import { Closed, HandshakeFailed, Refused, connect, overlaid, presence, room } from "../../clients/javascript/relay.mjs";
+import { relayStore } from "../../clients/javascript/adapters/svelte.mjs";
+
+const BEGUN = { cards: ["milk", "bread"], title: "Shopping", count: 0, away: [] };
+let port;
+let relay;
+let rooms = 0;
+
+before(async () => {
+  [relay, port] = await serve();
+});
+after(() => relay.kill());
+
+async function serve(...words) {
+  const program = spawn(process.env.RELAY, ["serve", "--port", words[0] ?? "0", "--epoch", words[1] ?? "1000"], { stdio: ["ignore", "pipe", "ignore"] });
+  const { value } = await createInterface({ input: program.stdout })[Symbol.asyncIterator]().next();
+  return [program, Number(value.split(" ")[1])];
+}
+
+/** Boards of one new room, which has begun; they are closed when the test ends. */
+async function boards(t, ...views) {
+  const url = `ws://127.0.0.1:${port}/rooms/r${(rooms += 1)}`;
+  const begin = connect(url, { view: [] });
+  await begin.edit([{ op: "test", path: "", value: null }, { op: "add", path: "", value: BEGUN }]);
+  begin.close();
+  const all = views.map((options) => connect(url, { firstWait: 10, ...(Array.isArray(options) ? { view: options } : options) }));
+  t.after(() => all.forEach((board) => board.close()));
+  await Promise.all(all.map(({ ready }) => ready));
+  return all;
+}
+
+async function until(holds) {
+  for (let tries = 0; !holds(); tries += 1) {
+    assert.ok(tries < 500, `${holds} does not come to hold`);
+    await pause(5);
+  }
+}
+
+function pause(wait) {
+  return new Promise((resolve) => setTimeout(resolve, wait));
+}
+
+/** A class of sockets whose connections a test can cut, and keep from being made. */
+function cuttable() {
+  return class Cuttable extends WebSocket {
+    static all = new Set();
+    static away = false;
+    constructor(url) {
+      super(Cuttable.away ? url.replace(/:\d+/, ":1") : url);
+      Cuttable.all.add(this);
+    }
+    static cut(away) {
+      Cuttable.away = away;
+      for (const socket of Cuttable.all) socket.close();
+      Cuttable.all.clear();
+    }
+  };
+}
+
+/** A class of sockets to a relay that welcomes, and then answers as `answer` says, or not. */
+function scripted(answer) {
+  return class Scripted {
+    constructor() {
+      setTimeout(() => {
+        this.onopen();
+        this.tell({ kind: "welcome", epoch: 1, rev: 1, session: 1 });
+      });
+    }
+    tell(message) {
+      this.onmessage({ data: JSON.stringify(message) });
+    }
+    send(text) {
+      answer(JSON.parse(text), (message) => setTimeout(() => this.tell(message)));
+    }
+    close() {}
+  };
+}
+
+test("a value that JSON cannot say, or the relay refuses, is named by its path", async (t) => {
+  const [board] = await boards(t, ["/cards"]);
+  const loop = {};
+  loop.self = loop;
+  for (const bad of [NaN, Infinity, 0.5, 2 ** 53, undefined, 1n, () => {}, Symbol("s"), new Map(), "\ud800", { "\udc00": 1 }]) {
+    const refused = board.edit([{ op: "add", path: "/cards/-", value: { a: ["b", { "c/d": bad }] } }]);
+    await assert.rejects(refused, (error) => error instanceof TypeError && error.message.startsWith("/0/value/a/1/c~1d"));
+  }
+  await assert.rejects(board.edit([{ op: "add", path: "/cards/-", value: loop }]), TypeError);
+  await board.edit([{ op: "add", path: "/cards/-", value: [-0, 2 ** 53 - 1, new Date(0), "😀", JSON.parse('{"__proto__":1}')] }]);
+  await until(() => board.slots[0][0].length === 3);
+  assert.equal(JSON.stringify(board.slots[0][0][2]), '[0,9007199254740991,"1970-01-01T00:00:00.000Z","😀",{"__proto__":1}]');
+  assert.equal(board.rev, 2);
+});
+
+test("a room's name is checked at once", () => {
+  for (const name of ["", "a b", "ä", "a.b", "x".repeat(65)]) {
+    assert.throws(() => connect(`ws://127.0.0.1:${port}/rooms/${name}`, { view: [] }), RangeError);
+  }
+  assert.throws(() => room("ws://127.0.0.1:1/rooms/a%20b"), RangeError);
+});
+
+test("a failed handshake has a cause", async () => {
+  const cause = (url) =>
+    new Promise((resolve) => {
+      const board = connect(url, { view: [], onState: (state, cause) => state === "waiting" && (resolve(cause), board.close()) });
+    });
+  const refused = await cause(`ws://127.0.0.1:${port}/elsewhere/a`);
+  assert.ok(refused instanceof HandshakeFailed);
+  assert.deepEqual([refused.reason, refused.status], ["refused", 404]);
+  const unreachable = await cause("ws://127.0.0.1:1/rooms/a");
+  assert.deepEqual([unreachable.reason, unreachable.status], ["unreachable", null]);
+});
+
+test("patience counts from the oldest request without an answer", async () => {
+  const begun = Date.now();
+  const sockets = scripted((asked, tell) => {
+    if (asked.do !== "watch") return;
+    tell({ kind: "watching", id: asked.id });
+    tell({ kind: "snapshot", rev: 1, view: [[1]] });
+  });
+  const noticed = new Promise((resolve) => {
+    const board = connect("ws://127.0.0.1:1/rooms/a", { view: ["/n"], WebSocket: sockets, patience: 300, onState: (state) => {
+      if (state !== "waiting") return;
+      clearInterval(editing);
+      board.close();
+      resolve(Date.now() - begun);
+    } });
+    const editing = setInterval(() => board.edit([]).catch(() => {}), 50);
+  });
+  const took = await noticed;
+  assert.ok(took < 600, `a peer that is gone was noticed after ${took} ms`);
+});
+
+test("an optimistic edit shows at once, and stays", async (t) => {
+  const [board, other] = await boards(t, ["/cards", { size: "/cards" }, "/title"], ["/cards"]);
+  const seen = [];
+  board.subscribe(({ slots, confirmed, pending }) => seen.push([slots[0][0].length, confirmed[0][0].length, pending]));
+  const done = board.edit([{ op: "add", path: "/cards/-", value: "eggs" }], { optimistic: true });
+  assert.deepEqual(board.slots, [[["milk", "bread", "eggs"]], [3], ["Shopping"]]);
+  assert.deepEqual(board.confirmed, [[["milk", "bread"]], [2], ["Shopping"]]);
+  assert.equal(board.pending, 1);
+  await done;
+  await until(() => board.pending === 0);
+  assert.deepEqual(board.slots, board.confirmed);
+  assert.deepEqual(seen, [[3, 2, 1], [3, 3, 0]]);
+  await until(() => other.slots[0][0].length === 3);
+});
+
+test("a refused edit is taken back, with its cause", async (t) => {
+  const told = [];
+  const [board, other] = await boards(t, { view: ["/cards"], onTakenBack: ({ cause, patch }) => told.push([cause.fault, patch.length]) }, ["/cards"]);
+  await other.edit([{ op: "remove", path: "/cards/0" }]);
+  const edit = board.edit([{ op: "test", path: "/cards/0", value: "milk" }, { op: "remove", path: "/cards/0" }], { optimistic: true });
+  await assert.rejects(edit, Refused);
+  await until(() => board.slots[0][0].length === 1);
+  assert.deepEqual(board.slots, [[["bread"]]]);
+  assert.deepEqual(told, [["test-failed", 2]]);
+});
+
+test("pending edits are laid over anew on what others did", async (t) => {
+  const sockets = cuttable();
+  const [board, other] = await boards(t, { view: ["/cards"], WebSocket: sockets, firstWait: 200 }, ["/cards"]);
+  sockets.cut(true);
+  await until(() => board.state === "waiting");
+  const edits = [
+    board.edit([{ op: "add", path: "/cards/0", value: "mine" }], { optimistic: true }),
+    board.edit([{ op: "remove", path: "/cards/1" }], { optimistic: true }),
+  ];
+  assert.deepEqual(board.slots, [[["mine", "bread"]]]);
+  await other.edit([{ op: "add", path: "/cards/-", value: "theirs" }]);
+  sockets.away = false;
+  await Promise.all(edits);
+  await until(() => board.pending === 0);
+  assert.deepEqual(board.slots, [[["mine", "bread", "theirs"]]]);
+});
+
+test("an edit that leaves no trace in the slots does not wait", async (t) => {
+  const [board] = await boards(t, ["/title"]);
+  await board.edit([{ op: "add", path: "/cards/-", value: "eggs" }], { optimistic: true });
+  assert.equal(board.pending, 0);
+  await board.edit([{ op: "test", path: "/title", value: "Shopping" }], { optimistic: true });
+  await until(() => board.pending === 0);
+  await board.edit([{ op: "move", from: "", path: "" }], { optimistic: true });
+  await until(() => board.pending === 0);
+  // The last element moves to the end: nothing changes, and the slot does not tell that it is the last one.
+  await board.watch(["/cards/2"]);
+  await board.edit([{ op: "move", from: "/cards/2", path: "/cards/-" }], { optimistic: true });
+  await until(() => board.pending === 0);
+  assert.deepEqual(board.slots, [["eggs"]]);
+});
+
+test("what the slots do not tell stays as it is", () => {
+  const laid = (view, slots, ...patch) => overlaid(view, slots, patch);
+  assert.deepEqual(laid(["/a/1"], [["x"]], { op: "add", path: "/a/0", value: 1 }), { slots: [["x"]], known: [false] });
+  assert.deepEqual(laid(["/a/0"], [["x"]], { op: "add", path: "/a/0", value: 1 }), { slots: [[1]], known: [true] });
+  assert.deepEqual(laid(["/a"], [[[1]]], { op: "copy", from: "/b", path: "/a/-" }), { slots: [[[1]]], known: [false] });
+  assert.deepEqual(laid(["/a", "/b/0"], [[[1]], [2]], { op: "move", from: "/b/0", path: "/a/0" }), { slots: [[[2, 1]], [2]], known: [true, false] });
+  assert.deepEqual(laid([{ size: "/o" }, "/o/x"], [[1], []], { op: "add", path: "/o/x", value: 1 }), { slots: [[2], [1]], known: [true, true] });
+  assert.deepEqual(laid(["/a/b"], [[1]], { op: "replace", path: "/a", value: { b: 2 } }), { slots: [[2]], known: [true] });
+  assert.throws(() => laid(["/a"], [[[1]]], { op: "remove", path: "/a/1" }));
+});
+
+test("what is known of a slot is what the patch makes of it", () => {
+  let state = 1;
+  const chance = (count) => (state = (state * 48271) % 2147483647) % count;
+  const one = (list) => list[chance(list.length)];
+  const value = (deep) => {
+    if (deep === 0 || chance(3) === 0) return one([0, 1, "a", null]);
+    const parts = Array.from({ length: chance(4) }, () => value(deep - 1));
+    return chance(2) ? parts : Object.fromEntries(parts.map((part, k) => [one(["a", "b", "0", "-"]) + (k || ""), part]));
+  };
+  const path = () => Array.from({ length: chance(4) }, () => `/${one(["a", "b", "0", "1", "-", "a1"])}`).join("");
+  const operation = () => ({ op: one(["add", "remove", "replace", "move", "copy", "test"]), path: path(), from: path(), value: value(1) });
+  let known = 0;
+  let slots = 0;
+  for (let tries = 0; tries < 40_000; tries += 1) {
+    const document = value(3);
+    const patch = [operation(), operation()];
+    const view = Array.from({ length: 4 }, () => (chance(3) ? path() : { size: path() }));
+    let after;
+    try {
+      after = overlaid([""], [[document]], patch).slots[0][0];
+    } catch {
+      continue;
+    }
+    const shown = (whole) => overlaid(["", ...view], [[whole], ...view.map(() => [])], []).slots.slice(1);
+    const laid = overlaid(view, shown(document), patch);
+    const wanted = shown(after);
+    laid.known.forEach((told, k) => told && assert.deepEqual(laid.slots[k], wanted[k], JSON.stringify({ document, patch, view, k })));
+    slots += view.length;
+    known += laid.known.filter(Boolean).length;
+  }
+  assert.ok(known > slots / 2, `${known} of ${slots} slots are known`);
+});
+
+test("one slot: its value, its listeners, and counting by many", async (t) => {
+  const all = await boards(t, ["/count", "/title"], ["/count"], ["/count"], ["/count"]);
+  const count = all[0].at("/count");
+  const seen = [];
+  const end = all[0].at("/title").subscribe((title) => seen.push(title));
+  await all[0].at("/title").set("Party");
+  await Promise.all(all.flatMap((board) => [1, 2, 3].map(() => board.at("/count").update((n) => n + 1))));
+  await until(() => count.value === 12);
+  end();
+  await all[0].at("/title").set("Other");
+  assert.deepEqual(seen, ["Party"]);
+  assert.equal(await count.update(() => undefined), all[0].rev);
+  assert.equal(all[0].at("/nothing").value, undefined);
+});
+
+test("undo and redo", async (t) => {
+  const [board, other] = await boards(t, ["/cards", "/title"], ["/cards", "/title"]);
+  const cards = () => board.slots[0][0].join();
+  await board.edit([{ op: "move", from: "/cards/0", path: "/cards/-" }, { op: "add", path: "/cards/1", value: "eggs" }]);
+  await board.at("/title").set("Party");
+  await board.edit([{ op: "remove", path: "/cards/2" }], { optimistic: true });
+  assert.equal(cards(), "bread,eggs");
+  await Promise.all([board.undo(), board.undo(), board.undo()]);
+  await until(() => board.pending === 0);
+  assert.deepEqual([cards(), board.slots[1][0]], ["milk,bread", "Shopping"]);
+  assert.equal(await board.undo(), null);
+  await Promise.all([board.redo(), board.redo(), board.redo()]);
+  await until(() => board.pending === 0);
+  assert.deepEqual([cards(), board.slots[1][0], board.undoable, board.redoable], ["bread,eggs", "Party", 3, 0]);
+  await board.undo();
+  await until(() => other.slots[0][0].length === 3);
+  await other.at("/title").set("Theirs");
+  await assert.rejects(board.undo(), (error) => error instanceof Refused && error.fault === "changed");
+  await board.undo();
+  await until(() => cards() === "milk,bread");
+  assert.equal(board.slots[1][0], "Theirs");
+});
+
+test("an undo of moves that shift or replace what is put back", async (t) => {
+  const [board] = await boards(t, [""]);
+  const [[before]] = board.slots;
+  for (const patch of [
+    [{ op: "move", from: "/cards/1", path: "/cards" }],
+    [{ op: "move", from: "/cards", path: "" }],
+    [{ op: "add", path: "/cards/0", value: { text: "eggs" } }, { op: "move", from: "/cards/0/text", path: "/cards/0" }],
+    [{ op: "add", path: "/cards/2", value: { text: "eggs" } }, { op: "move", from: "/cards/0", path: "/cards/1/text" }],
+  ]) {
+    await board.edit(patch);
+    await board.undo();
+    await until(() => board.pending === 0);
+    assert.deepEqual(board.slots, [[before]], JSON.stringify(patch));
+  }
+});
+
+test("an undo of a removed member is refused where somebody put one there", async (t) => {
+  const [board, other] = await boards(t, [""], [""]);
+  await board.edit([{ op: "remove", path: "/title" }]);
+  await board.undo();
+  await until(() => board.slots[0][0].title === "Shopping");
+  await board.edit([{ op: "remove", path: "/title" }]);
+  await other.edit([{ op: "add", path: "/title", value: "Theirs" }]);
+  await until(() => board.slots[0][0].title === "Theirs");
+  await assert.rejects(board.undo(), (error) => error.fault === "changed");
+  assert.equal(board.slots[0][0].title, "Theirs");
+});
+
+test("edits made while away wait in order; without a guard only where the application says so", async (t) => {
+  const sockets = cuttable();
+  const kept = new Map();
+  const storage = { getItem: (key) => kept.get(key) ?? null, setItem: (key, text) => kept.set(key, text), removeItem: (key) => kept.delete(key) };
+  const [board] = await boards(t, { view: ["/cards"], queue: "guarded", storage, storageKey: "q", WebSocket: sockets });
+  sockets.cut(true);
+  await until(() => board.state === "waiting");
+  await assert.rejects(board.edit([{ op: "add", path: "/cards/-", value: "never" }]), (error) => error.fault === "away");
+  const guarded = (value) => board.edit([{ op: "test", path: "/title", value: "Shopping" }, { op: "add", path: "/cards/-", value }], { optimistic: true });
+  const edits = [guarded("one"), guarded("two")];
+  assert.equal(JSON.parse(kept.get("q")).length, 2);
+  assert.deepEqual(board.slots, [[["milk", "bread", "one", "two"]]]);
+  sockets.away = false;
+  await Promise.all(edits);
+  await until(() => board.pending === 0);
+  assert.deepEqual(board.confirmed, [[["milk", "bread", "one", "two"]]]);
+  assert.equal(kept.size, 0);
+});
+
+test("what a page left in its storage the next one sends", async (t) => {
+  const kept = new Map([["q", JSON.stringify([{ patch: [{ op: "add", path: "/cards/-", value: "kept" }], epoch: null }])]]);
+  const storage = { getItem: (key) => kept.get(key) ?? null, setItem: (key, text) => kept.set(key, text), removeItem: (key) => kept.delete(key) };
+  const [board] = await boards(t, { view: ["/cards"], storage, storageKey: "q" });
+  await until(() => board.confirmed[0][0].length === 3 && board.pending === 0);
+  assert.equal(kept.size, 0);
+});
+
+test("views of one room share connections of 16 slots", async (t) => {
+  const [other] = await boards(t, ["/cards"]);
+  const counts = [];
+  const shared = room(`ws://127.0.0.1:${port}/rooms/r${rooms}`, { onConnections: (count) => counts.push(count) });
+  t.after(() => shared.close());
+  const cards = shared.view(["/cards"]);
+  const both = shared.view(["/title", "/cards"]);
+  assert.deepEqual(await both.ready, [["Shopping"], [["milk", "bread"]]]);
+  assert.deepEqual(await cards.ready, [[["milk", "bread"]]]);
+  const titles = [];
+  both.subscribe(([title]) => titles.push(title[0]));
+  const told = [];
+  cards.subscribe((slots) => told.push(slots));
+  await both.at("/title").set("Party");
+  await other.edit([{ op: "add", path: "/cards/-", value: "eggs" }]);
+  await until(() => both.slots[1][0].length === 3);
+  assert.equal(titles[0], "Party");
+  assert.equal(told.length, 1);
+  const many = shared.view(Array.from({ length: 15 }, (_, k) => `/more/${k}`));
+  assert.equal((await many.ready).length, 15);
+  assert.deepEqual(counts, [1, 2]);
+  many.close();
+  const another = shared.view(["/count", ...Array.from({ length: 14 }, (_, k) => `/others/${k}`)]);
+  assert.deepEqual((await another.ready)[0], [0]);
+  assert.equal(shared.connections, 2);
+});
+
+test("who is here, and who is not any more", async (t) => {
+  const [ann, bob] = await boards(t, ["/here"], ["/here"]);
+  const waits = { every: 30, gone: 150 };
+  const first = presence(ann, "/here", { name: "Ann" }, waits);
+  const second = presence(bob, "/here", { name: "Bob" }, waits);
+  await Promise.all([first.ready, second.ready]);
+  const names = (here) => Object.values(here.people).map(({ name }) => name).sort().join();
+  await until(() => names(first) === "Ann,Bob" && names(second) === "Ann,Bob");
+  await first.set({ name: "Anne" });
+  await until(() => names(second) === "Anne,Bob");
+  bob.close();
+  await pause(100);
+  assert.equal(names(first), "Anne,Bob");
+  await until(() => names(first) === "Anne");
+  assert.equal(ann.undoable, 0);
+  await first.leave();
+  await until(() => names(first) === "");
+});
+
+test("a Svelte store tells at once, and is written", async (t) => {
+  const [board] = await boards(t, ["/title"]);
+  const title = relayStore(board.at("/title"));
+  const seen = [];
+  const end = title.subscribe((value) => seen.push(value));
+  await title.set("Party");
+  end();
+  await title.set("Other");
+  assert.deepEqual(seen, ["Shopping", "Party"]);
+  assert.deepEqual(relayStore(board).subscribe(() => {}).length, 0);
+});
+
+test("a Vue ref holds what is shown, until its component ends", async (t) => {
+  // Debian has no Vue 3: the two functions of it that the adapter calls stand here, as its documentation has them.
+  const folder = mkdtempSync(join(tmpdir(), "vue-"));
+  t.after(() => rmSync(folder, { recursive: true }));
+  mkdirSync(join(folder, "node_modules/vue"), { recursive: true });
+  writeFileSync(join(folder, "node_modules/vue/package.json"), JSON.stringify({ exports: "./vue.mjs" }));
+  writeFileSync(join(folder, "node_modules/vue/vue.mjs"), "export const ends = []; export const onScopeDispose = (end) => ends.push(end); export const shallowRef = (value) => ({ value });");
+  copyFileSync(new URL("../../clients/javascript/adapters/vue.mjs", import.meta.url), join(folder, "adapter.mjs"));
+  const { useRelay } = await import(pathToFileURL(join(folder, "adapter.mjs")));
+  const { ends } = await import(pathToFileURL(join(folder, "node_modules/vue/vue.mjs")));
+  const [board] = await boards(t, ["/title"]);
+  const title = useRelay(board.at("/title"));
+  await board.at("/title").set("Party");
+  assert.equal(title.value, "Party");
+  ends.forEach((end) => end());
+  await board.at("/title").set("Other");
+  assert.equal(title.value, "Party");
+});
+
+test("a closed board sends nothing", async (t) => {
+  const [board] = await boards(t, ["/title"]);
+  board.close();
+  await assert.rejects(board.edit([]), Closed);
+  await assert.rejects(board.watch([""]), Closed);
+});

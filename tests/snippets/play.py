@@ -1,0 +1,151 @@
+"""Runs the snippets of documents in Python, each in a room of its own of one relay (RELAY names the program), and compares what it prints
+with the block `text` behind it; then uses the board in a terminal, examples/board.py: play.py DOCUMENT...
+
+A snippet may use `url`, `board` and `show`, as docs/CLIENTS.md says, and await. One that runs an event loop is a program, which goes on
+until it is ended: it has to edit its room, and what it prints last has to be what the room shows.
+"""
+import ast, asyncio, os, re, sys
+
+ROOT = os.path.dirname(os.path.dirname(os.path.dirname(os.path.abspath(__file__))))
+PACKAGE = f"{ROOT}/clients/python"
+sys.path[:0] = [PACKAGE, f"{ROOT}/tests/clients"]
+import relay_client
+from server import Relay
+
+BLOCK = re.compile(r"^```(\w+)\n(.*?)^```$", re.MULTILINE | re.DOTALL)
+BEGUN = {"cards": ["milk", "bread"], "title": "Shopping", "count": 0}
+PATIENCE = 20
+
+
+class Wrong(Exception):
+    pass
+
+
+class Snippet:
+    def __init__(self, place, body, prints):
+        self.place, self.body, self.prints = place, body, prints
+
+    @property
+    def is_program(self):
+        return "asyncio.run(" in self.body
+
+
+def snippets(document):
+    with open(document) as file:
+        text = file.read()
+    blocks = list(BLOCK.finditer(text))
+    for block, behind in zip(blocks, [*blocks[1:], None]):
+        if block[1] in ("python", "py"):
+            line = text.count("\n", 0, block.start()) + 2
+            prints = behind[2] if behind and behind[1] == "text" else None
+            yield Snippet(f"{os.path.relpath(document, ROOT)}, line {line}", block[2], prints)
+
+
+async def run(snippet, relay, room):
+    """In a room that has begun."""
+    url = f"ws://127.0.0.1:{relay.port}/rooms/{room}"
+    async with relay_client.connect(url, view=["/cards", "/title", "/count"]) as board:
+        await board.edit([{"op": "add", "path": "", "value": BEGUN}], undo=False)
+        await until(lambda: board.rev == 1)
+        if snippet.is_program:
+            await run_program(snippet, relay, room)
+        else:
+            await run_part(snippet, url, board)
+
+
+async def run_part(snippet, url, board):
+    lines = []
+    show = lambda *things: lines.append(" ".join(map(str, things)) + "\n")
+    code = compile(snippet.body, snippet.place, "exec", ast.PyCF_ALLOW_TOP_LEVEL_AWAIT)
+    awaits = eval(code, {"url": url, "board": board, "show": show, "print": show})
+    if awaits is not None:
+        await asyncio.wait_for(awaits, PATIENCE)
+    if snippet.prints is not None and "".join(lines) != snippet.prints:
+        raise Wrong(f"it prints\n{''.join(lines)}and not\n{snippet.prints}")
+
+
+async def run_program(snippet, relay, room):
+    body = re.sub(r"ws://127\.0\.0\.1:8080/rooms/\w+", f"ws://127.0.0.1:{relay.port}/rooms/{room}", snippet.body)
+    words, pipe = [sys.executable, "-u", "-c", body], asyncio.subprocess.PIPE
+    program = await asyncio.create_subprocess_exec(*words, stdout=pipe, env={**os.environ, "PYTHONPATH": PACKAGE})
+    try:
+        while True:
+            line = (await asyncio.wait_for(program.stdout.readline(), PATIENCE)).decode()
+            rev, slots = await relay.shows(room, ["/cards"])
+            if not line:
+                raise Wrong(f"it ends with {await program.wait()}")
+            if rev > 1 and line == f"{rev} {slots}\n":
+                return
+    finally:
+        await ended(program)
+
+
+TYPED = [
+    (None, ["0 saved: no board yet", "1 saved: "]),
+    ("milk", ["1 saving: milk", "2 saved: milk"]),
+    ("bread", ["2 saving: milk, bread", "3 saved: milk, bread"]),
+    ("undo", ["3 saving: milk", "4 saved: milk"]),
+    ("undo", ["4 saving: ", "5 saved: "]),
+    ("undo", ["nothing to undo"]),
+]
+"""What is typed into examples/board.py, and what it prints then."""
+
+
+async def use_board(relay):
+    words, pipe = [sys.executable, f"{ROOT}/examples/board.py", str(relay.port), "board"], asyncio.subprocess.PIPE
+    program = await asyncio.create_subprocess_exec(*words, stdin=pipe, stdout=pipe)
+    try:
+        for typed, prints in TYPED:
+            program.stdin.write(b"" if typed is None else f"{typed}\n".encode())
+            for wanted in prints:
+                line = (await asyncio.wait_for(program.stdout.readline(), PATIENCE)).decode()
+                if line != f"{wanted}\n":
+                    raise Wrong(f"it prints {line!r} at {typed}, and not {wanted!r}")
+        # The last line is added before it ends.
+        rest, _ = await asyncio.wait_for(program.communicate(b"tea"), PATIENCE)
+        if program.returncode != 0 or await relay.shows("board", ["/todo"]) != (6, [[["tea"]]]):
+            raise Wrong(f"it ends with {program.returncode}: {rest!r}")
+    finally:
+        await ended(program)
+    print("examples/board.py shows at once what is typed, and undoes it")
+
+
+async def ended(program):
+    if program.returncode is None:
+        program.kill()
+    await program.wait()
+
+
+async def until(holds):
+    for _ in range(PATIENCE * 100):
+        if holds():
+            return
+        await asyncio.sleep(0.01)
+    raise Wrong("the room does not begin")
+
+
+async def main(*documents):
+    relay, number = await Relay.begin(os.environ["RELAY"], 1000, 64, 32), 0
+    try:
+        for document in documents:
+            first = number
+            for number, snippet in enumerate(snippets(document), number + 1):
+                await checked(snippet.place, run(snippet, relay, f"p{number}"))
+            if number > first:
+                print(f"{os.path.relpath(document, ROOT)}: {number - first} snippets run in Python", flush=True)
+        await checked("examples/board.py", use_board(relay))
+    finally:
+        await relay.end()
+    if not number:
+        sys.exit("no snippets")
+
+
+async def checked(place, playing):
+    try:
+        await playing
+    except Exception as wrong:
+        raise SystemExit(f"{place}: {type(wrong).__name__}: {wrong}") from wrong
+
+
+if __name__ == "__main__":
+    asyncio.run(main(*sys.argv[1:]))

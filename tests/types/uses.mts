@@ -1,0 +1,58 @@
+// How an application in TypeScript uses the client: it compiles in strict mode, and what is marked does not.
+import { Refused, connect, presence, room, type Board, type Json } from "@bolsteregret/relay";
+
+interface Card {
+  text: string;
+  done?: boolean;
+}
+
+interface Plan {
+  cards: Card[];
+  title: string;
+  count: number;
+  here: Record<string, { name: string }>;
+  "a/b": { "m~n": boolean };
+}
+
+const url = "ws://127.0.0.1:8080/rooms/plan";
+const view = ["/cards", { size: "/cards" }, "/title"] as const;
+const card: Card = { text: "milk" };
+
+// Without a type of the document: the slots are as many as the pointers, and a size is a number.
+const plain = connect(url, { view: ["/title", { size: "/cards" }], onChange: ({ slots: [title, size] }) => use<number | undefined>(size[0] ?? title[0]) });
+use<number | undefined>(plain.slots?.[1][0]);
+
+// With the document's type: places by their pointers.
+const plan = connect<Plan>(url, { view });
+use<Card[] | undefined>(plan.at("/cards").value);
+use<boolean | undefined>(plan.at("/cards/0/done").value);
+use<boolean | undefined>(plan.at("/a~1b/m~0n").value);
+use<number | undefined>(plan.at({ size: "/cards" }).value);
+use<Promise<number>>(plan.at("/count").update((count = 0) => count + 1));
+// @ts-expect-error: a number is no title.
+plan.at("/title").set(5);
+// @ts-expect-error: there is no such member.
+use<string | undefined>(plan.at("/titel").value);
+
+// With the view's type as well: the slots by their pointers. A view may be read-only.
+const whole = connect<Plan, typeof view>(url, { view, onChange: ({ confirmed }) => use<string | undefined>(confirmed[2][0]) });
+use<Card[]>(whole.slots?.[0][0] ?? []);
+use<number | undefined>(whole.slots?.[1][0]);
+// @ts-expect-error: the view has three slots.
+use<unknown>(whole.slots?.[3]);
+
+// An interface is written as it is.
+use<Promise<number>>(whole.edit([{ op: "add", path: "/cards/-", value: card }], { base: whole.rev, optimistic: true }));
+// @ts-expect-error: JSON has no functions among its scalars.
+use<Json>(() => 0);
+// @ts-expect-error: a removal has no value to move from.
+whole.edit([{ op: "move", path: "/title" }]);
+
+const shared = room<Plan>(url);
+use<string | undefined>(shared.view(["/title"]).slots?.[0][0]);
+use<string | undefined>(presence(whole, "/here", { name: "Ann" }).people["1"]?.name);
+whole.edit([]).catch((error) => error instanceof Refused && use<string>(error.fault));
+
+function use<T>(_: T) {}
+function takes(_: Board<any, any>) {}
+takes(whole);
