@@ -1,0 +1,38 @@
+"""What an application writes, as `mypy --strict` reads it."""
+from __future__ import annotations
+
+from typing import List, Optional
+
+import relay_client
+
+
+def show(change: relay_client.Change) -> None:
+    slots: List[List[relay_client.Json]] = change.slots
+    print(change.rev, slots, change.patch)
+
+
+def tell(state: relay_client.State, cause: Optional[Exception]) -> None:
+    if isinstance(cause, relay_client.HandshakeFailed) and cause.status == 404:
+        print(state, cause.reason)
+
+
+async def main() -> None:
+    url = "ws://127.0.0.1:8080/rooms/board"
+    async with relay_client.connect(url, view=["/cards", {"size": "/cards"}], on_change=show, on_state=tell) as board:
+        slots: relay_client.Slots = await board.ready
+        rev: int = await board.edit([{"op": "add", "path": "/cards/-", "value": "milk"}], optimistic=True)
+        rev = await board.edit([], base=board.rev, epoch=board.epoch)
+        rev = await board.at("/cards/0").set({"title": "tea"})
+        rev = await board.at("/cards/0").update(lambda card: {**card, "done": True})
+        end = board.subscribe(show)
+        end()
+        async for change in board.changes():
+            show(change)
+        async for value in board.at("/cards").changes():
+            print(value, slots, rev)
+        undone: Optional[int] = await board.undo()
+        redone: Optional[int] = await board.redo()
+        print(undone, redone)
+        pending: int = board.pending
+        confirmed: Optional[relay_client.Slots] = board.confirmed
+        print(pending, confirmed)

@@ -1,0 +1,90 @@
+"""A client under test, over the lines of docs/CONFORMANCE.md."""
+import json, queue, subprocess, threading
+
+URL = "ws://127.0.0.1:1/rooms/board"
+"""A room's address at which nothing listens: the client's connections are played over the driver's lines."""
+PATIENCE = 10
+"""Seconds for an answer of the driver, or for another connection."""
+
+
+class Failed(Exception):
+    """The client did something that it may not, or did not do what it has to."""
+
+
+class Driver:
+    def __init__(self, command):
+        pipe = subprocess.PIPE
+        self.process = subprocess.Popen(command, stdin=pipe, stdout=pipe, text=True, encoding="utf-8")
+        self.lines = queue.Queue()
+        threading.Thread(target=self._read, daemon=True).start()
+
+    def begin(self, view):
+        self.opened, self.said, self.ended, self.left = 0, [], {}, False
+        self.tell(do="connect", url=URL, view=view)
+
+    def end(self):
+        self.tell(do="end")
+        self.look()
+
+    def quit(self):
+        self.process.stdin.close()
+        try:
+            return self.process.wait(PATIENCE)
+        except subprocess.TimeoutExpired:
+            self.process.kill()
+            return self.process.wait()
+
+    def tell(self, **line):
+        try:
+            self.process.stdin.write(json.dumps(line, ensure_ascii=False) + "\n")
+            self.process.stdin.flush()
+        except OSError as error:
+            raise Failed("the client has ended") from error
+
+    def look(self):
+        """What the client holds, when it has done all that follows from what it was told."""
+        self.tell(do="look")
+        return self._until("held")
+
+    def until_opening(self):
+        """Waits for the next handshake, if it has not begun yet."""
+        if not self.opened:
+            self._until("opens")
+        self.opened -= 1
+
+    def _read(self):
+        for line in self.process.stdout:
+            self.lines.put(line)
+        self.lines.put(None)
+
+    def _until(self, word):
+        while True:
+            try:
+                line = self.lines.get(timeout=PATIENCE)
+            except queue.Empty:
+                raise Failed(f"no line with {word} within {PATIENCE} seconds") from None
+            if line is None:
+                raise Failed("the client has ended")
+            try:
+                told = json.loads(line)
+                self._take(told)
+            except (ValueError, TypeError, KeyError) as error:
+                raise Failed(f"not a line of a driver: {line.strip()[:200]}") from error
+            if word in told:
+                return told[word]
+
+    def _take(self, told):
+        if "opens" in told:
+            self.opened += 1
+            if told["opens"] != URL:
+                raise Failed(f"it opens {told['opens']}, and not {URL}")
+        elif "says" in told:
+            self.said.append(told["says"])
+        elif "leaves" in told:
+            self.left = True
+        elif "ends" in told:
+            if told["ends"] in self.ended:
+                raise Failed(f"{told['ends']} ends a second time: {told}")
+            self.ended[told.pop("ends")] = told
+        elif "held" not in told:
+            raise KeyError("no known member")

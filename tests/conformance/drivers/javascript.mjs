@@ -1,0 +1,60 @@
+// The JavaScript client, driven by the lines of docs/CONFORMANCE.md.
+import { createInterface } from "node:readline";
+import { setTimeout as after } from "node:timers/promises";
+import { pathToFileURL } from "node:url";
+
+const root = new URL("../../../", import.meta.url);
+const { JAVASCRIPT: file } = process.env;
+const { connect } = await import(file ? pathToFileURL(file) : new URL("clients/javascript/relay.mjs", root));
+
+const tell = (line) => process.stdout.write(JSON.stringify(line) + "\n");
+let socket = null;
+let board = null;
+
+class FakeSocket {
+  constructor(url) {
+    socket = this;
+    tell({ opens: url });
+  }
+  send(text) {
+    tell({ says: text });
+  }
+  close() {
+    if (socket === this) tell({ leaves: true });
+  }
+}
+
+const ends = (key, word, asked) =>
+  asked.then(
+    (value) => tell({ ends: key, [word]: value }),
+    ({ name, fault, at, rev, message }) => {
+      if (name === "Refused") tell({ ends: key, refused: fault, at, rev });
+      else if (name === "Unknown" || name === "Closed") tell({ ends: key, [name.toLowerCase()]: true });
+      else throw new Error(message);
+    },
+  );
+
+const does = {
+  connect: ({ url, view }) => {
+    board = connect(url, { view, WebSocket: FakeSocket, firstWait: 1, longestWait: 1 });
+  },
+  accept: () => socket.onopen?.({}),
+  fail: () => socket.onerror?.({}),
+  hear: ({ text }) => socket.onmessage({ data: text }),
+  cut: () => socket.onclose?.({}),
+  edit: ({ key, patch, ...options }) => ends(key, "done", board.edit(patch, options)),
+  watch: ({ key, view }) => ends(key, "shown", board.watch(view)),
+  look: () => {
+    const { view, confirmed: slots, rev, epoch } = board;
+    tell({ held: { view, slots, rev, epoch } });
+  },
+  end: () => board.close(),
+};
+
+for await (const line of createInterface({ input: process.stdin })) {
+  const words = JSON.parse(line);
+  does[words.do](words);
+  // What follows without time has followed behind this: promises have settled.
+  await after(0);
+}
+process.exit(0);

@@ -1,0 +1,99 @@
+#!/usr/bin/env python3
+"""The Python client, driven by the lines of docs/CONFORMANCE.md."""
+import asyncio, json, os, sys
+from contextlib import asynccontextmanager
+
+sys.path.insert(0, f"{os.path.dirname(os.path.abspath(__file__))}/../../../clients/python")
+import relay_client
+
+SETTLED = 50
+"""Rounds of the event loop after which everything has followed that follows without time."""
+
+
+def tell(**line):
+    print(json.dumps(line), flush=True)
+
+
+class Link:
+    def __init__(self):
+        self.heard = asyncio.Queue()  # None ends it
+
+    async def __aiter__(self):
+        while (text := await self.heard.get()) is not None:
+            yield text
+
+    async def send(self, text):
+        tell(says=text)
+
+    def abort(self):
+        self.heard.put_nowait(None)
+
+
+class Driver:
+    def __init__(self):
+        self.board, self.link, self.handshake = None, None, None
+
+    @asynccontextmanager
+    async def open_link(self, url):
+        self.handshake = asyncio.get_running_loop().create_future()
+        tell(opens=url)
+        await self.handshake
+        self.link = link = Link()
+        try:
+            yield link
+        finally:
+            if self.link is link:
+                tell(leaves=True)
+                self.link = None
+
+    async def connect(self, url, view):
+        waits = {"first_wait": 0.001, "longest_wait": 0.001}
+        self.board = relay_client.connect(url, view=view, open_link=self.open_link, **waits)
+
+    async def accept(self):
+        self.handshake.set_result(None)
+
+    async def fail(self):
+        self.handshake.set_exception(relay_client.HandshakeFailed("unreachable"))
+
+    async def hear(self, text):
+        self.link.heard.put_nowait(text)
+
+    async def cut(self):
+        link, self.link = self.link, None
+        link.heard.put_nowait(None)
+
+    async def edit(self, key, patch, **more):
+        asyncio.ensure_future(self.ends(key, "done", self.board.edit(patch, **more)))
+
+    async def watch(self, key, view):
+        asyncio.ensure_future(self.ends(key, "shown", self.board.watch(view)))
+
+    async def ends(self, key, word, asked):
+        try:
+            tell(ends=key, **{word: await asked})
+        except relay_client.Refused as refused:
+            tell(ends=key, refused=refused.fault, at=refused.at, rev=refused.rev)
+        except relay_client.Unknown:
+            tell(ends=key, unknown=True)
+        except relay_client.Closed:
+            tell(ends=key, closed=True)
+
+    async def look(self):
+        board = self.board
+        tell(held={"view": board.view, "slots": board.confirmed, "rev": board.rev, "epoch": board.epoch})
+
+    async def end(self):
+        await self.board.close()
+
+
+async def main():
+    driver = Driver()
+    while line := await asyncio.to_thread(sys.stdin.readline):
+        words = json.loads(line)
+        await getattr(driver, words.pop("do"))(**words)
+        for _ in range(SETTLED):
+            await asyncio.sleep(0)
+
+
+asyncio.run(main())

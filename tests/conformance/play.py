@@ -1,0 +1,143 @@
+"""What a case of the suite says: a client under test, a relay, and what is between them."""
+import json
+from driver import Failed
+from relay import shows, text
+
+
+class Play:
+    def __init__(self, driver, relay, view):
+        self.driver, self.relay = driver, relay
+        self.keys = 0
+        self.resumes_of = None  # what the slots are that a resume has to be of
+        driver.begin(view)
+
+    # Connections.
+
+    def accept(self):
+        """The client's next handshake is good, and the welcome comes."""
+        self.driver.until_opening()
+        self.driver.left = False
+        self.relay.open()
+        self.driver.tell(do="accept")
+        self.draw(1)
+
+    def fail(self):
+        """There is no connection to be had."""
+        self.driver.until_opening()
+        self.driver.tell(do="fail")
+
+    def cut(self):
+        self.resumes_of = self.held()
+        self.driver.tell(do="cut")
+
+    # What the client says.
+
+    def heard(self):
+        """The relay reads what the client has said, and answers. Gives the requests."""
+        self.driver.look()
+        said, self.driver.said = self.driver.said, []
+        requests = []
+        for text in said:
+            requests.append(self.relay.hear(text))
+            if requests[-1].get("do") == "resume":
+                self.check_resume(requests[-1])
+        return requests
+
+    def check_resume(self, request):
+        """A resume is of what the client holds."""
+        held = self.resumes_of
+        if held is None or held["slots"] is None:
+            raise Failed(f"it resumes, and holds nothing: {request}")
+        for member in ("view", "rev", "epoch"):
+            if request[member] != held[member]:
+                raise Failed(f"it resumes with the {member} {request[member]}, and its slots are of {held}")
+
+    def asked(self, *words):
+        """The relay reads: requests of these kinds came, in this order."""
+        requests = self.heard()
+        if [request.get("do") for request in requests] != list(words):
+            raise Failed(f"it says {requests}, and not {words}")
+        return requests
+
+    def asked_for_slots(self):
+        """The first request of a connection is a resume or a watch, of which a client may take either."""
+        requests = self.heard()
+        if not requests or requests[0].get("do") not in ("resume", "watch"):
+            raise Failed(f"it says {requests}, and first of all neither resume nor watch")
+        return requests
+
+    # What the relay says.
+
+    def draw(self, count=None):
+        """So many messages, or all that wait."""
+        drawn = []
+        while count is None or len(drawn) < count:
+            message = self.relay.draw()
+            if message is None:
+                break
+            self.say(message)
+            drawn.append(message)
+        if count is not None and len(drawn) < count:
+            raise Failed(f"{drawn} alone wait for the client, which has not asked for more")
+        return drawn
+
+    def say(self, message):
+        """In the relay's words: compact, with members in order."""
+        self.driver.tell(do="hear", text=json.dumps(message, ensure_ascii=False, separators=(",", ":"), sort_keys=True))
+
+    def talk(self, rounds=20):
+        """Both say what they have to say, until nobody says more. Connections that the client leaves are opened anew."""
+        for _ in range(rounds):
+            self.heard()
+            if self.driver.left:
+                self.resumes_of = self.held()
+                self.accept()
+            elif not self.draw():
+                return
+        raise Failed("it goes on saying something")
+
+    # What an application asks.
+
+    def edit(self, *patch, **more):
+        self.keys += 1
+        self.driver.tell(do="edit", key=self.keys, patch=list(patch), **more)
+        return self.keys
+
+    def watch(self, view):
+        self.keys += 1
+        self.driver.tell(do="watch", key=self.keys, view=view)
+        return self.keys
+
+    # What has to hold.
+
+    def held(self):
+        return self.driver.look()
+
+    def holds(self, view, slots, rev, epoch=7):
+        held, wanted = self.held(), {"view": view, "slots": slots, "rev": rev, "epoch": epoch}
+        for member, value in wanted.items():
+            if text(held[member]) != text(value):
+                raise Failed(f"it holds the {member} {short(held[member])}, and not {short(value)}")
+
+    def holds_nothing(self):
+        if self.held()["slots"] is not None:
+            raise Failed(f"it holds {self.held()}, and was shown nothing")
+
+    def holds_present(self, view):
+        self.holds(view, shows(self.relay.document, view), self.relay.rev, self.relay.epoch)
+
+    def ended(self, key, **wanted):
+        self.driver.look()
+        end = self.driver.ended.get(key)
+        if end is None or any(end.get(member) != value for member, value in wanted.items()):
+            raise Failed(f"request {key} ends with {end}, and not with {wanted}")
+
+    def has_not_ended(self, key):
+        self.driver.look()
+        if key in self.driver.ended:
+            raise Failed(f"request {key} ends with {self.driver.ended[key]}, and has no answer yet")
+
+
+def short(value):
+    told = text(value)
+    return told if len(told) < 200 else f"{told[:200]}.."

@@ -1,0 +1,188 @@
+"""The relay's part: a room, and one session that is played to the client (docs/PROTOCOL.md). Nothing is said until it is drawn."""
+import json
+import jsonpatch
+from driver import Failed
+
+LARGEST = 2**53 - 1
+HISTORY = 8
+"""Revisions that the room can be resumed from."""
+
+
+class Relay:
+    def __init__(self, document=None, epoch=7, rev=1):
+        self.epoch, self.rev, self.documents = epoch, rev, {rev: document}
+        self.close()
+
+    @property
+    def document(self):
+        return self.documents[self.rev]
+
+    def close(self):
+        """The session ends with its connection."""
+        self.view, self.replies, self.patches, self.due = None, [], [], False
+        self.requests = 0
+
+    def open(self):
+        self.close()
+        self.replies.append({"epoch": self.epoch, "kind": "welcome", "rev": self.rev, "session": 1})
+
+    def restart(self, document, epoch, rev=1):
+        self.__init__(document, epoch, rev)
+
+    def draw(self):
+        """The next message; None if nothing waits."""
+        if self.replies:
+            return self.replies.pop(0)
+        if self.patches:
+            return self.patches.pop(0)
+        if self.due:
+            self.due = False
+            return {"kind": "snapshot", "rev": self.rev, "view": shows(self.document, self.view)}
+        return None
+
+    # Requests.
+
+    def hear(self, text):
+        """Answers a request, and gives it."""
+        request = json.loads(text)
+        number = request.get("id") if isinstance(request, dict) else None
+        if not is_count(number):
+            raise Failed(f"a request whose id is no count: {text[:200]}")
+        self.requests += 1
+        answers = {"edit": self._edit, "watch": self._watch, "resume": self._resume, "unwatch": self._unwatch}
+        answers.get(request.get("do"), self._nothing)(number, request)
+        return request
+
+    def _nothing(self, number, request):
+        self._refuse(number, "shape")
+
+    def _refuse(self, number, fault, at=None, **more):
+        self.replies.append({"at": at, "fault": fault, "id": number, "kind": "refused", **more})
+
+    def _watch(self, number, request):
+        view, at = request["view"], faulty(request["view"])
+        if at is not None:
+            return self._refuse(number, "pointer", at)
+        self.view, self.patches, self.due = view, [], True
+        self.replies.append({"id": number, "kind": "watching"})
+
+    def _unwatch(self, number, request):
+        self.view, self.patches, self.due = None, [], False
+        self.replies.append({"id": number, "kind": "unwatched"})
+
+    def _resume(self, number, request):
+        epoch, rev, view = request["epoch"], request["rev"], request["view"]
+        if not is_count(epoch) or not is_count(rev):
+            raise Failed(f"a resume whose epoch or rev is no count: {request}")
+        if self.requests > 1:
+            raise Failed("a resume that is not the first request of its connection")
+        if epoch == self.epoch and rev > self.rev:
+            return self._refuse(number, "future")
+        self.view, self.patches = view, []
+        self.due = epoch != self.epoch or rev not in self.documents
+        how = "snapshot"
+        if not self.due:
+            patch = difference(shows(self.documents[rev], view), shows(self.document, view))
+            self._put(patch)
+            how = "patch" if patch else "nothing"
+        self.replies.append({"how": how, "id": number, "kind": "resumed"})
+
+    def _edit(self, number, request):
+        if request.get("base", self.rev) != self.rev:
+            return self._refuse(number, "stale", rev=self.rev)
+        try:
+            document = jsonpatch.apply_patch(self.document, request["patch"])
+        except jsonpatch.JsonPatchTestFailed:
+            return self._refuse(number, "test-failed", 0)
+        except (jsonpatch.JsonPatchException, jsonpatch.JsonPointerException):
+            return self._refuse(number, "missing", 0)
+        self.become(document)
+        self.replies.append({"id": number, "kind": "done", "rev": self.rev})
+
+    # Edits.
+
+    def edit(self, *operations):
+        """Another client's edit."""
+        self.become(jsonpatch.apply_patch(self.document, list(operations)))
+
+    def become(self, document):
+        before = self.document
+        self.rev += 1
+        self.documents[self.rev] = document
+        self.documents.pop(self.rev - HISTORY, None)
+        if self.view is not None and not self.due:
+            self._put(difference(shows(before, self.view), shows(document, self.view)))
+
+    def fold(self):
+        """So many patches wait that a snapshot is due in their place."""
+        self.patches, self.due = [], True
+
+    def _put(self, patch):
+        if patch:
+            self.patches.append({"kind": "patch", "patch": patch, "rev": self.rev})
+
+
+def is_count(value):
+    return isinstance(value, int) and not isinstance(value, bool) and 0 <= value <= LARGEST
+
+
+def faulty(view):
+    pointers = [shown if isinstance(shown, str) else shown["size"] for shown in view]
+    return next((place for place, pointer in enumerate(pointers) if pointer and not pointer.startswith("/")), None)
+
+
+def shows(document, view):
+    """The slots of a view."""
+    return [slot(document, shown) for shown in view]
+
+
+def slot(document, shown):
+    missing = object()
+    found = jsonpatch.JsonPointer(shown if isinstance(shown, str) else shown["size"]).resolve(document, missing)
+    if isinstance(shown, str):
+        return [] if found is missing else [found]
+    return [len(found)] if isinstance(found, (list, dict)) else []
+
+
+def difference(before, after):
+    """A patch that leads from one list of slots to the other: within a slot's value, if it is still that value."""
+    patch = []
+    for place, (one, other) in enumerate(zip(before, after)):
+        if text(one) == text(other):
+            continue
+        if one and other and type(one[0]) is type(other[0]) and isinstance(one[0], (dict, list)):
+            patch += within(one[0], other[0], f"/{place}/0") or replaced(f"/{place}", other)
+        else:
+            patch += replaced(f"/{place}", other)
+    return patch
+
+
+def within(before, after, path):
+    """A patch that leads from one value to the other, part by part."""
+    if text(before) == text(after):
+        return []
+    if isinstance(before, dict) and isinstance(after, dict):
+        gone = [{"op": "remove", "path": path + token(name)} for name in before if name not in after]
+        come = [{"op": "add", "path": path + token(name), "value": after[name]} for name in after if name not in before]
+        return gone + sum([within(before[name], after[name], path + token(name)) for name in before if name in after], come)
+    if isinstance(before, list) and isinstance(after, list):
+        start = next((place for place, (one, other) in enumerate(zip(before, after)) if text(one) != text(other)), None)
+        start = min(len(before), len(after)) if start is None else start
+        if len(before) == len(after):
+            return sum([within(one, other, f"{path}/{place}") for place, (one, other) in enumerate(zip(before, after))], [])
+        # From the first element that is another one on: those that were there go, and those that are there come.
+        gone = [{"op": "remove", "path": f"{path}/{start}"} for _ in before[start:]]
+        return gone + [{"op": "add", "path": f"{path}/{start + place}", "value": value} for place, value in enumerate(after[start:])]
+    return replaced(path, after)
+
+
+def replaced(path, value):
+    return [{"op": "replace", "path": path, "value": value}]
+
+
+def token(name):
+    return "/" + name.replace("~", "~0").replace("/", "~1")
+
+
+def text(value):
+    return json.dumps(value, sort_keys=True)
