@@ -1,0 +1,281 @@
+"""The relay, its keeper, or both are killed by signal 9 at random moments, while clients edit as fast as they can
+
+After each kill the file of each room has to be whole, and no older than what the relay had answered 100 milliseconds and two writes
+to this disk before; with --slow FACTOR that is as many times longer, for a machine that is slow, or busy with other work. Then what
+was killed is started again. A room has to have its document again, unless another client was first: then the old document has to stand
+aside, whole. All the while a reader looks whether a whole document stands under each name.
+"""
+import argparse, asyncio, collections, itertools, json, os, pathlib, random, sys, tempfile, time
+
+ROOT = os.path.dirname(os.path.dirname(os.path.dirname(os.path.abspath(__file__))))
+sys.path.insert(0, f"{ROOT}/tests/clients")
+import websockets
+from keeper import Keeper, Manager
+from server import Proxy, Relay
+
+OLDEST = 0.1
+"""How many seconds before a kill the state of a file may be, beside two writes."""
+SIZES = {"small": 0, "middle": 10_000, "large": 150_000}
+"""The rooms, and how many bytes their documents have beside what is counted."""
+
+
+def first_document(room, by):
+    return {"room": room, "by": by, "n": 0, "twin": 0, "rest": "x" * SIZES[room]}
+
+
+def whole(text):
+    """A document that some edit made: both its numbers were changed by the same one."""
+    document = json.loads(text)
+    assert document["n"] == document["twin"], (document["n"], document["twin"])
+    assert len(document["rest"]) == SIZES[document["room"]], document["room"]
+    return document
+
+
+class Editor:
+    """Raises the numbers of a room, as fast as answers come, with 16 edits on the way."""
+
+    def __init__(self, room):
+        self.room = room
+        self.sent = 0  # the highest number that was sent
+        self.answered = collections.deque(maxlen=100_000)  # when a number was answered, and which
+
+    async def edit(self, port):
+        """Until the relay is gone."""
+        try:
+            async with websockets.connect(f"ws://127.0.0.1:{port}/rooms/{self.room}", max_size=None) as link:
+                await link.recv()
+                await self._edit(link)
+        except (OSError, websockets.exceptions.WebSocketException):
+            pass
+
+    async def _edit(self, link):
+        on_the_way = 0
+        while True:
+            while on_the_way < 16:
+                self.sent += 1
+                patch = [{"op": "replace", "path": f"/{name}", "value": self.sent} for name in ("n", "twin")]
+                await link.send(json.dumps({"do": "edit", "id": self.sent, "patch": patch}))
+                on_the_way += 1
+            answer = json.loads(await link.recv())
+            assert answer["kind"] == "done", answer
+            self.answered.append((time.monotonic(), answer["id"]))
+            on_the_way -= 1
+
+    def answered_before(self, moment):
+        """The highest number that was answered by then; 0 if none was."""
+        return max((number for at, number in self.answered if at <= moment), default=0)
+
+    def age(self, number, moment):
+        """How old a state is that has this number: for how long the next one had been answered."""
+        return max([moment - at for at, other in self.answered if other > number and at <= moment], default=0.0)
+
+
+class Play:
+    def __init__(self, folder, seed, slow):
+        self.folder, self.slow = pathlib.Path(folder, "kept"), slow
+        self.manager, self.random = Manager(folder), random.Random(seed)
+        self.epochs = itertools.count(1)
+        self.editors = {room: Editor(room) for room in SIZES}
+        self.editing = []
+        self.oldest, self.looks, self.edits = 0.0, 0, 0
+        self.write = 0.0  # how long the longest of the test's own writes took
+        self.counts = collections.Counter()
+
+    def file(self, room):
+        return self.folder / f"{room}.json"
+
+    async def begin(self):
+        self.proxy = Proxy()
+        self.port = await self.proxy.begin()
+        await self.start_relay()
+        await self.start_keeper()
+        for room in SIZES:
+            assert await self.claim(room, "first")
+        self.start_editors()
+        while not all(self.file(room).exists() for room in SIZES):
+            await asyncio.sleep(0.01)
+        self.looking = asyncio.ensure_future(self.look())
+
+    async def start_relay(self):
+        self.epoch = next(self.epochs)
+        self.relay = await Relay.begin(os.environ["RELAY"], self.epoch, 64, 32)
+        self.proxy.port = self.relay.port
+
+    async def start_keeper(self):
+        self.keeper = await Keeper.begin(self.port, self.folder, self.manager, SIZES, errors=asyncio.subprocess.DEVNULL)
+        await self.manager.hears("READY=1")
+
+    def start_editors(self):
+        self.editing = [asyncio.ensure_future(editor.edit(self.relay.port)) for editor in self.editors.values()]
+
+    async def look(self):
+        """At every moment a whole document stands under each name."""
+        while True:
+            for room in SIZES:
+                whole(self.file(room).read_text())
+                self.looks += 1
+            await asyncio.sleep(0.005)
+
+    async def claim(self, room, by):
+        """Begins a room, as a client does that was not told to wait. Whether it was first."""
+        patch = [{"op": "test", "path": "", "value": None}, {"op": "add", "path": "", "value": first_document(room, by)}]
+        async with websockets.connect(f"ws://127.0.0.1:{self.relay.port}/rooms/{room}", max_size=None) as link:
+            await link.recv()
+            await link.send(json.dumps({"do": "edit", "id": 1, "patch": patch}))
+            return json.loads(await link.recv())["kind"] == "done"
+
+    async def kill(self, round):
+        """Kills one or both, and begins again what was killed."""
+        await asyncio.sleep(self.random.uniform(0.1, 0.6))
+        self.check_alive()
+        what = self.random.choice(["relay", "keeper", "both"])
+        moment = time.monotonic()
+        if what != "relay":
+            self.keeper.process.kill()
+        if what != "keeper":
+            self.proxy.port = None
+            self.relay.process.kill()
+        self.counts[what] += 1
+        self.time_write()
+        kept = {room: self.check_file(room, moment) for room in SIZES}
+        if what != "relay":
+            await self.keeper.process.wait()
+        if what == "keeper":
+            unsure = [room for room in SIZES if not self.is_sure(room)]
+            await self.start_keeper()
+            self.check_aside(unsure)
+        else:
+            await self.relay.process.wait()
+            await asyncio.gather(*self.editing)
+            await self.begin_again(what, f"round {round}", kept)
+
+    def time_write(self):
+        """Writes a file as large as the largest room's, as the keeper does."""
+        begun, beside = time.monotonic(), self.folder.parent / "beside"
+        with open(beside, "w") as out:
+            out.write("x" * max(SIZES.values()))
+            out.flush()
+            os.fsync(out.fileno())
+        os.replace(beside, self.folder.parent / "written")
+        self.write = max(self.write, time.monotonic() - begun)
+
+    def check_alive(self):
+        for task in self.editing + [self.looking]:
+            if task.done():
+                task.result()
+                raise AssertionError("an editor or the reader ended")
+
+    def check_file(self, room, moment):
+        """The document of a room's file, right after a kill."""
+        editor, document = self.editors[room], whole(self.file(room).read_text())
+        age = editor.age(document["n"], moment)
+        self.oldest = max(self.oldest, age)
+        may_miss = self.slow * (OLDEST + 2 * self.write)
+        assert document["n"] >= editor.answered_before(moment - may_miss), f"{room}: {age * 1000:.0f} ms old"
+        assert document["n"] <= editor.sent
+        return document
+
+    def is_sure(self, room):
+        """The keeper knows that the room's file is of this run of the relay."""
+        return pathlib.Path(self.folder, f"{room}.epoch").read_text() == f"{self.epoch}\n"
+
+    def check_aside(self, unsure):
+        """Nothing was set aside but in rooms whose document a keeper had put back and was killed before it knew."""
+        for room in SIZES:
+            for path in self.aside(room):
+                assert room in unsure, path
+                whole(path.read_text())
+                path.unlink()
+
+    async def begin_again(self, what, by, kept):
+        """The relay, and perhaps its keeper. Some rooms are claimed by a client that does not wait for the keeper."""
+        await self.start_relay()
+        rude = [room for room in SIZES if self.random.random() < 0.3]
+        claiming = asyncio.gather(*[self.claim(room, by) for room in rude])
+        if what == "both" and self.random.random() < 0.5:
+            await asyncio.sleep(0)
+            await self.start_keeper()
+            claimed = await claiming
+        else:
+            claimed = await claiming
+            if what == "both":
+                await self.start_keeper()
+        claims = dict(zip(rude, claimed))
+        for room in SIZES:
+            await self.check_room(room, kept[room], by if claims.get(room) else None)
+        for editor in self.editors.values():
+            self.edits += len(editor.answered)
+            editor.answered.clear()
+        self.start_editors()
+
+    async def check_room(self, room, kept, by):
+        """`by`: who was first in the room, if it was not the keeper."""
+        editor = self.editors[room]
+        found = await self.until(lambda: self.shown(room), lambda document: document is not None)
+        if by is None:
+            assert found["by"] == kept["by"] and kept["n"] <= found["n"] <= editor.sent, (found["by"], found["n"], kept["n"])
+            assert not self.aside(room), self.aside(room)
+            self.counts["put back"] += 1
+            return
+        assert found["by"] == by, (found["by"], by)
+        await self.until(lambda: self.read(room), lambda document: document["by"] == by)
+        [path] = self.aside(room)
+        old = whole(path.read_text())
+        assert old["by"] == kept["by"] and kept["n"] <= old["n"] <= editor.sent, (old["by"], old["n"], kept["n"])
+        path.unlink()
+        editor.sent = 0
+        self.counts["set aside"] += 1
+
+    async def shown(self, room):
+        _, [[document]] = await self.relay.shows(room, [""])
+        return document and whole(json.dumps(document))
+
+    async def read(self, room):
+        return whole(self.file(room).read_text())
+
+    def aside(self, room="*"):
+        return list(self.folder.glob(f"{room}.*.aside.json"))
+
+    async def until(self, look, holds):
+        for _ in range(3000):
+            seen = await look()
+            if holds(seen):
+                return seen
+            await asyncio.sleep(0.01)
+        raise AssertionError(str(seen)[:200])
+
+    async def end(self):
+        for task in self.editing + [self.looking]:
+            task.cancel()
+        await self.keeper.end()
+        await self.relay.end()
+        await self.proxy.end()
+        self.manager.close()
+
+
+async def main(kills, slow):
+    seed = int(os.environ.get("SEED", random.randrange(2**32)))
+    with tempfile.TemporaryDirectory() as folder:
+        play = Play(folder, seed, slow)
+        try:
+            await asyncio.wait_for(play.begin(), 60)
+            for round in range(kills):
+                await asyncio.wait_for(play.kill(round), 60)
+        except BaseException:
+            print(f"tests/keeper: SEED={seed} {dict(play.counts)}", file=sys.stderr)
+            raise
+        finally:
+            await play.end()
+    counts = play.counts
+    print(
+        f"{kills} kills (relay {counts['relay']}, keeper {counts['keeper']}, both {counts['both']}) under {play.edits} edits: "
+        f"the oldest file was {play.oldest * 1000:.0f} ms behind; {counts['put back']} rooms put back, {counts['set aside']} set aside; "
+        f"{play.looks} looks at the files, none torn"
+    )
+
+
+words = argparse.ArgumentParser(description=__doc__)
+words.add_argument("kills", nargs="?", type=int, default=10, metavar="KILLS")
+words.add_argument("--slow", type=float, default=1, metavar="FACTOR", help="a file may be so many times older, on a slow machine")
+asked = words.parse_args()
+asyncio.run(main(asked.kills, asked.slow))
