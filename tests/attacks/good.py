@@ -1,0 +1,115 @@
+"""The good client: in a room of its own it edits and watches, one request each 20 ms, and tells how long the longest `done` took.
+
+It is a process of its own, so that what the attackers compute is not counted. `python3 good.py PORT` writes `ready`, goes on until
+its standard input ends, and then writes what it saw, as JSON: how many edits were answered, the worst wait in seconds (one that was
+not over counts as long as it lasted), whether that one was not over, and what went wrong, or null."""
+
+import json
+import os
+import select
+import subprocess
+import sys
+import time
+
+sys.dont_write_bytecode = True
+import wire
+from deadline import Deadline, OutOfTime
+
+PERIOD = 0.02
+# How long it sleeps before it looks whether it is to end.
+LOOK = 0.05
+PATIENCE = 10
+
+
+class Beside:
+    """The handle of such a process."""
+
+    def __init__(self, port):
+        words = [sys.executable, os.path.abspath(__file__), str(port)]
+        self.process = subprocess.Popen(words, stdin=subprocess.PIPE, stdout=subprocess.PIPE, text=True)
+        assert self.process.stdout.readline() == "ready\n", "the good client found no place"
+
+    def __enter__(self):
+        return self
+
+    def __exit__(self, *_):
+        self.process.kill()
+        self.process.communicate()
+
+    def end(self):
+        """What it saw."""
+        said, _ = self.process.communicate(timeout=PATIENCE)
+        return json.loads(said)
+
+
+class Wrong(Exception):
+    """The relay said something that it should not."""
+
+
+class Good:
+    def __init__(self, port):
+        self.client = wire.Client(port, "good", Deadline(PATIENCE))
+        self.edits, self.worst, self.is_cut = 0, 0, False
+        reply = self.client.ask(wire.request("watch", view=[""]))
+        snapshot = self.client.message()
+        if (reply["kind"], snapshot["kind"]) != ("watching", "snapshot"):
+            raise Wrong(f"a watch is answered {reply}, {snapshot}")
+
+    def play(self):
+        """Edits until it is to end."""
+        while not is_over(0):
+            begun = time.monotonic()
+            if not self.edit(begun):
+                return
+            is_over(max(0, begun + PERIOD - time.monotonic()))
+
+    def edit(self, begun):
+        """One edit, until it is answered and shown. False if it was to end before."""
+        number = self.edits + 1
+        patch = [{"op": "add", "path": "", "value": number}]
+        done = False
+        try:
+            self.client.deadline = Deadline(PATIENCE)
+            self.client.send(wire.request("edit", number, patch=patch))
+            done = self.wait({"id": number, "kind": "done", "rev": number}, [])
+        finally:
+            wait = time.monotonic() - begun
+            if wait > self.worst:
+                self.worst, self.is_cut = wait, not done
+        self.edits += done
+        told = {"kind": "patch", "patch": [{"op": "replace", "path": "/0", "value": [number]}], "rev": number}
+        return done and self.wait(told, [{"kind": "snapshot", "rev": number, "view": [[number]]}])
+
+    def wait(self, wanted, others):
+        """Until the next message, which is one of these. False if it was to end before."""
+        while not is_over(0):
+            self.client.deadline = Deadline(LOOK)
+            try:
+                message = self.client.message()
+            except OutOfTime:
+                continue
+            if message not in [wanted, *others]:
+                raise Wrong(f"{message}, and not {wanted}")
+            return True
+        return False
+
+
+def is_over(seconds):
+    """Whether standard input ends within that time."""
+    return bool(select.select([sys.stdin], [], [], seconds)[0])
+
+
+def main(port):
+    good, fault = Good(int(port)), None
+    print("ready", flush=True)
+    try:
+        good.play()
+    except (wire.Ended, Wrong) as wrong:
+        fault = str(wrong)
+    except OutOfTime:
+        fault = "its edit is not read"
+    print(json.dumps({"edits": good.edits, "worst": good.worst, "is_cut": good.is_cut, "fault": fault}))
+
+
+if __name__ == "__main__":
+    main(*sys.argv[1:])
