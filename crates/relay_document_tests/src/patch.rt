@@ -80,7 +80,7 @@ fn tells(rt: &(impl Abort + AllocGlobal), rows: &[(&str, &str, &str)]) {
 }
 
 #[test]
-fn tells_its_changes(rt: HostRuntime) {
+fn tells_additions_and_replacements(rt: HostRuntime) {
     tells(
         &rt,
         &[
@@ -110,6 +110,15 @@ fn tells_its_changes(rt: HostRuntime) {
                 r#"[{"op":"replace","path":"/0","value":1}]"#,
                 "set /0 1; [1]",
             ),
+        ],
+    );
+}
+
+#[test]
+fn tells_removals(rt: HostRuntime) {
+    tells(
+        &rt,
+        &[
             (
                 r#"{"a":0}"#,
                 r#"[{"op":"remove","path":"/a"}]"#,
@@ -120,6 +129,15 @@ fn tells_its_changes(rt: HostRuntime) {
                 r#"[{"op":"remove","path":"/0"}]"#,
                 "drop item /0; []",
             ),
+        ],
+    );
+}
+
+#[test]
+fn tells_moves_and_copies(rt: HostRuntime) {
+    tells(
+        &rt,
+        &[
             (
                 r#"{"a":[1],"b":{}}"#,
                 r#"[{"op":"move","from":"/a/0","path":"/b/-"}]"#,
@@ -145,7 +163,15 @@ fn tells_its_changes(rt: HostRuntime) {
                 r#"[{"op":"copy","from":"/a","path":"/a/b"}]"#,
                 r#"copy /a to /a/b {}; {"a":{"b":{}}}"#,
             ),
-            // Nothing changes.
+        ],
+    );
+}
+
+#[test]
+fn tells_nothing_if_nothing_changes(rt: HostRuntime) {
+    tells(
+        &rt,
+        &[
             (
                 "[0,1]",
                 r#"[{"op":"test","path":"","value":[0,1]}]"#,
@@ -162,13 +188,20 @@ fn tells_its_changes(rt: HostRuntime) {
                 " [0,1]",
             ),
             ("[0,1]", r#"[{"op":"move","from":"","path":""}]"#, " [0,1]"),
-            // Five changes, and a test.
-            (
-                r#"{"a":[1,2],"b":{"c":3}}"#,
-                r#"[{"op":"remove","path":"/b/c"},{"op":"add","path":"/a/0","value":9},{"op":"move","from":"/a/1","path":"/b/d"},{"op":"copy","from":"/a","path":"/b/e"},{"op":"replace","path":"/a/0","value":5},{"op":"test","path":"/b/d","value":1}]"#,
-                r#"drop member /b/c;add item /a/0 9;move item /a/1 to /b/d 1;copy /a to /b/e [9,2];set /a/0 5; {"a":[5,2],"b":{"d":1,"e":[9,2]}}"#,
-            ),
         ],
+    );
+}
+
+/// Five changes, and a test, which makes none.
+#[test]
+fn tells_several_changes_in_order(rt: HostRuntime) {
+    tells(
+        &rt,
+        &[(
+            r#"{"a":[1,2],"b":{"c":3}}"#,
+            r#"[{"op":"remove","path":"/b/c"},{"op":"add","path":"/a/0","value":9},{"op":"move","from":"/a/1","path":"/b/d"},{"op":"copy","from":"/a","path":"/b/e"},{"op":"replace","path":"/a/0","value":5},{"op":"test","path":"/b/d","value":1}]"#,
+            r#"drop member /b/c;add item /a/0 9;move item /a/1 to /b/d 1;copy /a to /b/e [9,2];set /a/0 5; {"a":[5,2],"b":{"d":1,"e":[9,2]}}"#,
+        )],
     );
 }
 

@@ -42,19 +42,24 @@ fn touches(
     }
 }
 
-#[test]
-fn judges_moves_at_both_ends(rt: HostRuntime) {
-    let moved = Change::Move {
+// A move of an item of a list to a member of an object.
+fn moved_out(rt: &(impl Abort + AllocGlobal)) -> Change {
+    Change::Move {
         from: Place {
-            path: pointer_of(&rt, "/list/1"),
+            path: pointer_of(rt, "/list/1"),
             item: true,
         },
         to: Place {
-            path: pointer_of(&rt, "/a/x"),
+            path: pointer_of(rt, "/a/x"),
             item: false,
         },
-        value: tree_of(&rt, "1"),
-    };
+        value: tree_of(rt, "1"),
+    }
+}
+
+#[test]
+fn judges_moves_at_both_ends(rt: HostRuntime) {
+    let moved = moved_out(&rt);
     touches(
         &rt,
         &moved,
