@@ -14,7 +14,8 @@ pub const MAX_LINE: usize = 1_056_768;
 /// The size of one read, in bytes.
 const MAX_READ: usize = 4_096;
 
-const MAX_INTERRUPTIONS: u32 = 1_000;
+/// The maximum number of attempts at a read or a write that is interrupted.
+pub const MAX_INTERRUPTIONS: u32 = 1_000;
 
 const LINE_END: u8 = b'\n';
 

@@ -4,9 +4,8 @@ ghost use Rattle.std.specs.Io.KnownBytes.{Keeps, Appends};
 ghost use Rattle.relay_lines.specs.Lines.{AppendsPart};
 
 use crate::fault::ScriptFault;
+use crate::input::MAX_INTERRUPTIONS;
 use std::io::{ErrorKind, Write};
-
-const MAX_INTERRUPTIONS: u32 = 1_000;
 
 /// Writes once, at least one byte. An interrupted write is retried, with at most 1,000 attempts in all.
 pub fn write_some<W: Write>(writer: &mut W, bytes: &[u8]) -> Result<usize, ScriptFault>
