@@ -159,3 +159,14 @@ module _ {S T : Type 0} (answers : Answering S) (others : Answering T) (view : S
       (lines, written, cut, view to, Runs-seen run, wrote, within, count, front, inl none)
   AnswersSome-seen fault from input old new (lines, written, cut, to, run, wrote, within, count, front, inr (output, (line, answer, later, n, answered, part, more))) =
       (lines, written, cut, view to, Runs-seen run, wrote, within, count, front, inr (output, (line, answer, view later, n, same _ _ _ _ _ answered, part, more)))
+
+  -- a run that succeeded, or that stopped at a fault, from the first state of the other machine
+  pub done_seen : {A E : Type 0} (r : Result A E) (from : S) {first : T} → view from ≡ first → (input old new : Option (List ℕ))
+      → OnOk r (AnswersAll answers from input old new) → OnOk r (AnswersAll others first input old new)
+  done_seen r from begins input old new done =
+      on_success r (λ all. subst (λ s. AnswersAll others s input old new) begins (AnswersAll-seen from input old new all)) done
+
+  pub stopped_seen : {A : Type 0} (r : Result A ScriptFault) (from : S) {first : T} → view from ≡ first → (input old new : Option (List ℕ))
+      → IfErr r (λ fault. AnswersSome answers fault from input old new) → IfErr r (λ fault. AnswersSome others fault first input old new)
+  stopped_seen r from begins input old new stopped =
+      if_fault r (λ fault some. subst (λ s. AnswersSome others fault s input old new) begins (AnswersSome-seen fault from input old new some)) stopped

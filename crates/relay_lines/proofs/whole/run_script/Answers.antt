@@ -1,14 +1,14 @@
 -- A run of `Script` is a run of its stages.
-use Rattle.std.proofs.Common.{◌≢◌, List, [], Option, ℕ, refl, ap, subst, ◌∙◌}
+use Rattle.std.proofs.Common.{◌≢◌, List, [], Option, ℕ, refl, ap, ◌∙◌}
 use Rattle.std.proofs.lemmas.Result.{err_from_is_err_and}
 use Rattle.relay_hub.specs.declared.fault.HubNewFault.{HubNewFault}
 use Rattle.relay_hub.specs.declared.fault.HubNewFault.TheVariants as made
 use Rattle.relay_lines.specs.Faults.{not_made}
 use Rattle.relay_lines.specs.Representation.{stage_of}
-use Rattle.relay_lines.specs.Respond.{Answering, AnswersAll, AnswersSome}
+use Rattle.relay_lines.specs.Respond.{Answering, AnswersSome}
 use Rattle.relay_lines.specs.Script.{stage, HubAnswers}
 use Rattle.relay_lines.specs.declared.fault.ScriptFault.TheVariants.{BadLimit}
-use Rattle.relay_lines.proofs.RunLemmas.{on_success, if_fault, AnswersAll-seen, AnswersSome-none, AnswersSome-seen}
+use Rattle.relay_lines.proofs.RunLemmas.{if_fault, AnswersSome-none, done_seen, stopped_seen}
 use Rattle.relay_lines.proofs.whole.run_script.Goals as goal
 
 -- if the hub could not be created, nothing was written
@@ -23,19 +23,11 @@ returns-in_err-hub-clause-stopped g c =
 
 pub returns-clause-done : goal.returns-clause-done
 returns-clause-done g c =
-    let input = g.R.Read.remaining c.args.reader.now in
-    let old = g.W.Write.contents c.args.writer.now in
-    let new = g.W.Write.contents c.run_lines.new.writer in
-    on_success c.run_lines.result
-    (λ all. subst (λ s. AnswersAll HubAnswers s input old new) (c.new.ensures ∙ ap (λ h. stage h []) c.in_ok-hub.ensures.empty) (AnswersAll-seen _ HubAnswers stage_of (λ _ _ _ _ _ h. h) c.new.result input old new all))
-    c.run_lines.ensures.done
+    let begins = c.new.ensures ∙ ap (λ h. stage h []) c.in_ok-hub.ensures.empty in
+    done_seen _ HubAnswers stage_of (λ _ _ _ _ _ h. h) c.run_lines.result c.new.result begins _ _ _ c.run_lines.ensures.done
 
 pub returns-clause-stopped : goal.returns-clause-stopped
 returns-clause-stopped g c =
-    let input = g.R.Read.remaining c.args.reader.now in
-    let old = g.W.Write.contents c.args.writer.now in
-    let new = g.W.Write.contents c.run_lines.new.writer in
-    if_fault c.run_lines.result
-    (λ fault some _. subst (λ s. AnswersSome HubAnswers fault s input old new) (c.new.ensures ∙ ap (λ h. stage h []) c.in_ok-hub.ensures.empty)
-    (AnswersSome-seen _ HubAnswers stage_of (λ _ _ _ _ _ h. h) fault c.new.result input old new some))
-    c.run_lines.ensures.stopped
+    let begins = c.new.ensures ∙ ap (λ h. stage h []) c.in_ok-hub.ensures.empty in
+    let some = stopped_seen _ HubAnswers stage_of (λ _ _ _ _ _ h. h) c.run_lines.result c.new.result begins _ _ _ c.run_lines.ensures.stopped in
+    if_fault c.run_lines.result (λ fault stopped _. stopped) some
