@@ -1,12 +1,10 @@
 //! A follower that keeps a text if it runs out of memory, and applies it again later.
-ghost use Rattle.std.specs.Prelude.{◌≡◌, IfOk, None, string_bytes};
+ghost use Rattle.std.specs.Prelude.{◌≡◌, None};
 ghost use Rattle.relay_lines.specs.Script.{new_follower, Hears, HearsAgain};
-ghost use Rattle.relay_lines.specs.Words.{held_text};
 
-use crate::words;
 use relay_follow::{Follower, HearFault};
 use relay_hub::Text;
-use std::alloc::{AllocError, Global};
+use std::alloc::Global;
 
 /// A follower, and the text that it could not apply yet.
 #[derive(Drop)]
@@ -48,13 +46,5 @@ impl RetryingFollower {
     {
         let text = self.unheard.take()?;
         self.hear(alloc, text)
-    }
-
-    /// The line that shows what the follower holds.
-    pub fn held(&self, alloc: Global, name: &str) -> Result<String, AllocError>
-        ensures { IfOk result (λ answer. string_bytes answer ≡ held_text name.now self.now.follower) }
-    {
-        let held = words::view(alloc, "held", &self.follower)?;
-        format!(in alloc; "{name} {held}")
     }
 }

@@ -8,7 +8,7 @@ use crate::line::{Asks, Line, line_of};
 use crate::respond::Respond;
 use crate::script_client::ScriptClient;
 use crate::transport::Transport;
-use crate::words;
+use crate::words::{Words, unknown_form};
 use indexmap::IndexMap;
 use std::alloc::{AllocError, Global};
 
@@ -32,96 +32,69 @@ impl<T: Transport + Drop> Script<T> {
             clients: IndexMap::new(alloc),
         }
     }
+
+    /// Carries out the command for a name.
+    fn answer_name(&mut self, words: &Words<'_>, asks: Asks<'_>) -> Result<String, AllocError>
+        ensures { IfOk result (λ answer. ActsNamed T.comes T.tells words.now.name.now (act_of asks.entry)
+            (client_of (clients_of self.old.clients) words.now.name.now) (stage_of self.old) (stage_of self.new) (string_bytes answer)) }
+    {
+        match self.clients.get_mut(words.name) {
+            Some(client) => client.attend(words, &mut self.transport, asks),
+            None => self.begin(words, asks),
+        }
+    }
+
+    /// Carries out the command for a name that was never opened. Any command but `open` is answered `unknown`.
+    fn begin(&mut self, words: &Words<'_>, asks: Asks<'_>) -> Result<String, AllocError>
+        ensures { IfOk result (λ answer. ActsNew T.comes words.now.name.now (act_of asks.entry) (stage_of self.old) (stage_of self.new)
+            (string_bytes answer)) }
+    {
+        match asks {
+            Asks::Open(room) => open_first(words, &mut self.transport, &mut self.clients, room),
+            _ => words.unknown(),
+        }
+    }
 }
 
 impl<T: Transport + Drop> Respond for Script<T> {
     ghost answers = { λ old number line new answer. Answers T.comes T.tells (stage_of old) number line (stage_of new) answer };
 
     fn respond(&mut self, alloc: Global, number: u32, line: &[u8]) -> Result<String, AllocError> {
-        answer(alloc, &mut self.transport, &mut self.clients, number, line)
-    }
-}
-
-/// Carries out a line, and returns its answer.
-fn answer<T: Transport>(
-    alloc: Global,
-    transport: &mut T,
-    clients: &mut IndexMap<String, ScriptClient>,
-    number: u32,
-    line: &[u8],
-) -> Result<String, AllocError>
-    ensures { IfOk result (λ answer. Answers T.comes T.tells (stage transport.old (clients_of clients.old)) number line.now
-        (stage transport.new (clients_of clients.new)) (string_bytes answer)) }
-{
-    match line_of(line) {
-        Line::Blank => Ok(String::new(alloc)),
-        Line::Unknown => words::unknown_form(alloc, number),
-        Line::Named { name, asks } => answer_name(alloc, transport, clients, name, asks),
-    }
-}
-
-/// Carries out the command for a name.
-fn answer_name<T: Transport>(
-    alloc: Global,
-    transport: &mut T,
-    clients: &mut IndexMap<String, ScriptClient>,
-    name: &str,
-    asks: Asks<'_>,
-) -> Result<String, AllocError>
-    ensures { IfOk result (λ answer. ActsNamed T.comes T.tells name.now (act_of asks.entry) (client_of (clients_of clients.old) name.now)
-        (stage transport.old (clients_of clients.old)) (stage transport.new (clients_of clients.new)) (string_bytes answer)) }
-{
-    match clients.get_mut(name) {
-        Some(client) => client.attend(alloc, transport, name, asks),
-        None => begin(alloc, transport, clients, name, asks),
-    }
-}
-
-/// Carries out the command for a name that was never opened. Any command but `open` is answered `unknown`.
-fn begin<T: Transport>(
-    alloc: Global,
-    transport: &mut T,
-    clients: &mut IndexMap<String, ScriptClient>,
-    name: &str,
-    asks: Asks<'_>,
-) -> Result<String, AllocError>
-    ensures { IfOk result (λ answer. ActsNew T.comes name.now (act_of asks.entry)
-        (stage transport.old (clients_of clients.old)) (stage transport.new (clients_of clients.new)) (string_bytes answer)) }
-{
-    match asks {
-        Asks::Open(room) => open_first(alloc, transport, clients, name, room),
-        _ => words::unknown(alloc, name),
+        match line_of(line) {
+            Line::Blank => Ok(String::new(alloc)),
+            Line::Unknown => unknown_form(alloc, number),
+            Line::Named { name, asks } => self.answer_name(&Words { alloc, name }, asks),
+        }
     }
 }
 
 /// Opens the first session of a name.
 fn open_first<T: Transport>(
-    alloc: Global,
+    words: &Words<'_>,
     transport: &mut T,
     clients: &mut IndexMap<String, ScriptClient>,
-    name: &str,
     room: &str,
 ) -> Result<String, AllocError>
-    ensures { IfOk result (λ answer. ActsNew T.comes name.now (opens room.now)
+    ensures { IfOk result (λ answer. ActsNew T.comes words.now.name.now (opens room.now)
         (stage transport.old (clients_of clients.old)) (stage transport.new (clients_of clients.new)) (string_bytes answer)) }
 {
-    let outcome = transport.open_session(alloc, room)?;
+    let outcome = transport.open_session(words.alloc, room)?;
     if let Some(session) = outcome.session_after(None) {
-        add(alloc, clients, name, session)?;
+        add(clients, words, session)?;
     }
-    words::outcome(alloc, name, &outcome)
+    words.outcome(&outcome)
 }
 
 /// Adds a name whose first session was just opened.
 fn add(
-    alloc: Global,
     clients: &mut IndexMap<String, ScriptClient>,
-    name: &str,
+    words: &Words<'_>,
     session: u64,
 ) -> Result<(), AllocError>
-    ensures { OnOk result (OnlyName name.now (client (Some session) new_follower) (clients_of clients.old) (clients_of clients.new)) }
+    ensures { OnOk result (OnlyName words.now.name.now (client (Some session) new_follower)
+        (clients_of clients.old) (clients_of clients.new)) }
 {
-    let known = String::from_str(alloc, name)?;
+    let known = String::from_str(words.alloc, words.name)?;
     drop(clients.insert(known, ScriptClient::new(session))?);
     Ok(())
 }

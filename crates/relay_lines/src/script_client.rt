@@ -8,10 +8,10 @@ use crate::line::Asks;
 use crate::outcome::Outcome;
 use crate::retrying_follower::RetryingFollower;
 use crate::transport::Transport;
-use crate::words;
+use crate::words::Words;
 use relay_follow::HearFault;
 use relay_hub::Answer;
-use std::alloc::{AllocError, Global};
+use std::alloc::AllocError;
 
 #[derive(Drop)]
 pub struct ScriptClient {
@@ -34,16 +34,16 @@ impl ScriptClient {
     /// Carries out a line's command. A kept text is applied again first.
     pub fn attend<T: Transport>(
         &mut self,
-        alloc: Global,
+        words: &Words<'_>,
         transport: &mut T,
-        name: &str,
         asks: Asks<'_>,
     ) -> Result<String, AllocError>
-        ensures { IfOk result (λ answer. Attends T.comes T.tells name.now (act_of asks.entry) self.old transport.old self.new transport.new (string_bytes answer)) }
+        ensures { IfOk result (λ answer. Attends T.comes T.tells words.now.name.now (act_of asks.entry)
+            self.old transport.old self.new transport.new (string_bytes answer)) }
     {
-        match self.follower.hear_again(alloc) {
-            None => self.act(alloc, transport, name, asks),
-            Some(fault) => self.go_on(alloc, transport, name, asks, fault),
+        match self.follower.hear_again(words.alloc) {
+            None => self.act(words, transport, asks),
+            Some(fault) => self.go_on(words, transport, asks, fault),
         }
     }
 
@@ -51,51 +51,51 @@ impl ScriptClient {
     /// is skipped.
     fn go_on<T: Transport>(
         &mut self,
-        alloc: Global,
+        words: &Words<'_>,
         transport: &mut T,
-        name: &str,
         asks: Asks<'_>,
         fault: HearFault,
     ) -> Result<String, AllocError>
         requires { fault ≢ NoMemory → self.old.follower.unheard ≡ None }
-        ensures { IfOk result (λ answer. Goes T.comes T.tells name.now (act_of asks.entry) (Some fault) self.old transport.old self.new transport.new (string_bytes answer)) }
+        ensures { IfOk result (λ answer. Goes T.comes T.tells words.now.name.now (act_of asks.entry) (Some fault)
+            self.old transport.old self.new transport.new (string_bytes answer)) }
     {
         match fault {
-            HearFault::NoMemory => words::off(alloc, name, fault),
+            HearFault::NoMemory => words.off(fault),
             _ => {
-                let before = words::off(alloc, name, fault)?;
-                let answer = self.act(alloc, transport, name, asks)?;
-                format!(in alloc; "{before}{answer}")
+                let before = words.off(fault)?;
+                let answer = self.act(words, transport, asks)?;
+                format!(in words.alloc; "{before}{answer}")
             }
         }
     }
 
     fn act<T: Transport>(
         &mut self,
-        alloc: Global,
+        words: &Words<'_>,
         transport: &mut T,
-        name: &str,
         asks: Asks<'_>,
     ) -> Result<String, AllocError>
         requires { self.old.follower.unheard ≡ None }
-        ensures { IfOk result (λ answer. Acts T.comes T.tells name.now (act_of asks.entry) self.old transport.old self.new transport.new (string_bytes answer)) }
+        ensures { IfOk result (λ answer. Acts T.comes T.tells words.now.name.now (act_of asks.entry)
+            self.old transport.old self.new transport.new (string_bytes answer)) }
     {
         match (asks, self.session) {
-            (Asks::Open(room), _) => self.open(alloc, transport, name, room),
-            (Asks::Held, _) => self.follower.held(alloc, name),
-            (_, None) => words::unknown(alloc, name),
+            (Asks::Open(room), _) => self.open(words, transport, room),
+            (Asks::Held, _) => words.held(&self.follower.follower),
+            (_, None) => words.unknown(),
             (Asks::Say(text), Some(session)) => {
-                let outcome = transport.say(alloc, session, text)?;
-                words::outcome(alloc, name, &outcome)
+                let outcome = transport.say(words.alloc, session, text)?;
+                words.outcome(&outcome)
             }
             (Asks::Draw, Some(session)) => {
-                let outcome = transport.draw_one(alloc, session)?;
-                self.drawn(alloc, name, outcome)
+                let outcome = transport.draw_one(words.alloc, session)?;
+                self.drawn(words, outcome)
             }
-            (Asks::Close, Some(session)) => self.close(alloc, transport, name, session),
+            (Asks::Close, Some(session)) => self.close(words, transport, session),
             (Asks::Truth, Some(session)) => {
-                let shown = transport.truth_of(alloc, session);
-                words::shown(alloc, name, shown)
+                let shown = transport.truth_of(words.alloc, session);
+                words.shown(shown)
             }
         }
     }
@@ -103,47 +103,47 @@ impl ScriptClient {
     /// Opens a session, if the name has none.
     fn open<T: Transport>(
         &mut self,
-        alloc: Global,
+        words: &Words<'_>,
         transport: &mut T,
-        name: &str,
         room: &str,
     ) -> Result<String, AllocError>
-        ensures { IfOk result (λ answer. Opens T.comes name.now room.now self.old.session self.old transport.old self.new transport.new (string_bytes answer)) }
+        ensures { IfOk result (λ answer. Opens T.comes words.now.name.now room.now self.old.session
+            self.old transport.old self.new transport.new (string_bytes answer)) }
     {
         if self.session.is_some() {
-            return words::taken(alloc, name);
+            return words.taken();
         }
-        let outcome = transport.open_session(alloc, room)?;
+        let outcome = transport.open_session(words.alloc, room)?;
         self.session = outcome.session_after(None);
-        words::outcome(alloc, name, &outcome)
+        words.outcome(&outcome)
     }
 
     /// Answers with the outcome of a draw, and applies a drawn text to the follower.
-    fn drawn(&mut self, alloc: Global, name: &str, outcome: Outcome) -> Result<String, AllocError>
+    fn drawn(&mut self, words: &Words<'_>, outcome: Outcome) -> Result<String, AllocError>
         requires { self.old.follower.unheard ≡ None }
-        ensures { IfOk result (λ answer. DrawsAs name.now outcome self.old self.new (string_bytes answer)) }
+        ensures { IfOk result (λ answer. DrawsAs words.now.name.now outcome self.old self.new (string_bytes answer)) }
     {
-        let answer = words::outcome(alloc, name, &outcome)?;
+        let answer = words.outcome(&outcome)?;
         let Outcome::Answered(Answer::Drawn(Some(text))) = outcome else {
             return Ok(answer);
         };
-        let fault = self.follower.hear(alloc, text);
-        let after = words::after_hearing(alloc, name, fault)?;
-        format!(in alloc; "{answer}{after}")
+        let fault = self.follower.hear(words.alloc, text);
+        let after = words.after_hearing(fault)?;
+        format!(in words.alloc; "{answer}{after}")
     }
 
     /// Closes `session`, which is the name's session.
     fn close<T: Transport>(
         &mut self,
-        alloc: Global,
+        words: &Words<'_>,
         transport: &mut T,
-        name: &str,
         session: u64,
     ) -> Result<String, AllocError>
-        ensures { IfOk result (λ answer. Closes T.comes name.now session self.old transport.old self.new transport.new (string_bytes answer)) }
+        ensures { IfOk result (λ answer. Closes T.comes words.now.name.now session
+            self.old transport.old self.new transport.new (string_bytes answer)) }
     {
-        let outcome = transport.close_session(alloc, session)?;
+        let outcome = transport.close_session(words.alloc, session)?;
         self.session = outcome.session_after(Some(session));
-        words::outcome(alloc, name, &outcome)
+        words.outcome(&outcome)
     }
 }

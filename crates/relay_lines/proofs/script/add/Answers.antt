@@ -4,4 +4,4 @@ use Rattle.relay_lines.proofs.script.add.Goals as goal
 
 pub returns : goal.returns
 returns c =
-    OnlyName-inserted c.args.clients.now c.insert.new.self c.in_ok-known.known c.args.name.now _ _ c.in_ok-known.ensures.ok c.new.ensures c.in_ok-insert.ensures.updates
+    OnlyName-inserted c.args.clients.now c.insert.new.self c.in_ok-known.known c.args.words.now.name.now _ _ c.in_ok-known.ensures.ok c.new.ensures c.in_ok-insert.ensures.updates

@@ -6,22 +6,22 @@ use Rattle.relay_lines.specs.Line.{act_of}
 use Rattle.relay_lines.specs.Script.{stage}
 use Rattle.relay_lines.proofs.Clients.{client_of-clients_of, OnlyName-updates}
 use Rattle.relay_lines.proofs.ScriptLemmas.{ActsNamed-new, ActsNamed-known}
-use Rattle.relay_lines.proofs.script.answer_name.Goals as goal
+use Rattle.relay_lines.proofs.script.Script.answer_name.Goals as goal
 
 pub returns-in-None : goal.returns-in-None
 returns-in-None g c =
-    let old = c.args.clients.now in
-    let name = c.args.name.now in
+    let old = c.args.self.now.clients in
+    let name = c.args.words.now.name.now in
     let none = client_of-clients_of old name ∙ sym c.in-None.ensures.value in
     IfOk-weaker c.begin.result _ _
     (λ answer acts. ActsNamed-new g.T.Transport.comes g.T.Transport.tells name (act_of c.args.asks) _ _ _ _ _ none
-    (ap (λ m. stage c.args.transport.now (clients_of m)) c.get_mut.follows.holds-at-none) acts)
+    (ap (λ m. stage c.args.self.now.transport (clients_of m)) c.get_mut.follows.holds-at-none) acts)
     c.begin.ensures
 
 pub returns-in-Some : goal.returns-in-Some
 returns-in-Some g c =
-    let old = c.args.clients.now in
-    let name = c.args.name.now in
+    let old = c.args.self.now.clients in
+    let name = c.args.words.now.name.now in
     let q = c.attend.new.self in
     let some = client_of-clients_of old name ∙ sym c.in-Some.ensures.value in
     let only = OnlyName-updates old (c.get_mut.follows.lender q) name q ((c.get_mut.follows.holds q).3 (search rules)) in
