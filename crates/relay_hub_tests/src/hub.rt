@@ -1,5 +1,5 @@
 //! Tests of a hub's calls with their answers, and of its limits. What sessions send and receive is data in `tests/scripts`.
-use crate::hub::Call::{Close, Draw, MayHear, Open, Say, Truth, Waiting};
+use crate::hub::Call::{Close, Draw, MayHear, Open, Say, Shed, Truth, Waiting};
 use crate::shared::{at_revision, gives, owned, words};
 use relay_history::MAX_REVISIONS;
 use relay_hub::{Hub, HubFault, HubNewFault};
@@ -17,7 +17,7 @@ pub(crate) const EDIT: &str =
 pub(crate) const REFUSED: &str =
     r#"{"do":"edit","id":3,"patch":[{"op":"replace","path":"/x","value":2},{"op":"remove","path":"/y"}]}"#;
 
-/// One call of a hub. The number is a session.
+/// One call of a hub. A number is a session.
 #[derive(Clone, Copy, Debug)]
 pub(crate) enum Call {
     Open(&'static str),
@@ -27,6 +27,8 @@ pub(crate) enum Call {
     Waiting(u64),
     MayHear(u64),
     Truth(u64),
+    /// Gives memory back.
+    Shed,
 }
 
 /// The result of a draw, as text: the text itself, if there was one.
@@ -47,6 +49,12 @@ fn seen(rt: &(impl Abort + AllocGlobal), held: Result<Option<(u64, Tree)>, HubFa
     }
 }
 
+/// Gives memory back, which always succeeds.
+fn give_memory_back(rt: &(impl Abort + AllocGlobal), hub: &mut Hub) -> String {
+    hub.shed();
+    owned(rt, "done")
+}
+
 /// The hub's answer to a call, as text.
 fn answer(rt: &(impl Abort + AllocGlobal), hub: &mut Hub, call: Call) -> String {
     match call {
@@ -57,6 +65,7 @@ fn answer(rt: &(impl Abort + AllocGlobal), hub: &mut Hub, call: Call) -> String 
         Waiting(session) => words(rt, hub.waiting(session)),
         MayHear(session) => words(rt, hub.may_hear(session)),
         Truth(session) => seen(rt, hub.truth(rt.alloc(), session)),
+        Shed => give_memory_back(rt, hub),
     }
 }
 

@@ -1,5 +1,5 @@
 //! Tests of what waits, and of what a room keeps, within a weight.
-use crate::hub::Call::{Draw, Open, Say, Waiting};
+use crate::hub::Call::{Draw, Open, Say, Shed, Waiting};
 use crate::hub::{Call, tells};
 use relay_hub::{Hub, HubConfig};
 use relay_tree::Budget;
@@ -16,15 +16,15 @@ const ROOT: &str = r#"{"do":"edit","id":2,"patch":[{"op":"add","path":"","value"
 
 const ANSWERED: &str = "Ok(Answered { short: 0 })";
 
-/// A hub with bounds on what a room keeps and on what waits.
-fn hub(rt: &(impl Abort + AllocGlobal), history_weight: Budget, waiting_weight: Budget) -> Hub {
-    let config = HubConfig {
-        history_weight,
-        waiting_weight,
-        ..HubConfig::new(1, 1, 64, 32)
-    };
-    Hub::with_config(rt.alloc(), config).expect(rt, "a hub")
-}
+/// Resumes from revision 1.
+const RESUME_1: &str = r#"{"do":"resume","epoch":1,"id":1,"rev":1,"view":[""]}"#;
+
+/// Resumes from revision 2.
+const RESUME_2: &str = r#"{"do":"resume","epoch":1,"id":1,"rev":2,"view":[""]}"#;
+
+const BY_PATCH: &str = r#"{"how":"patch","id":1,"kind":"resumed"}"#;
+
+const BY_SNAPSHOT: &str = r#"{"how":"snapshot","id":1,"kind":"resumed"}"#;
 
 /// Session 1 watches the whole document, an object, and has drawn all that waits; session 2 watches nothing.
 const WATCHING: &[(Call, &str)] = &[
@@ -40,14 +40,31 @@ const WATCHING: &[(Call, &str)] = &[
     (Draw(1), r#"{"kind":"snapshot","rev":1,"view":[[{}]]}"#),
 ];
 
+/// Asserts the answers of a hub to the calls of [`WATCHING`], then to these. `history_weight` bounds what a room keeps, and
+/// `waiting_weight` what waits for a session.
+fn tells_within(
+    rt: &(impl Abort + AllocGlobal),
+    history_weight: Budget,
+    waiting_weight: Budget,
+    rows: &[(Call, &str)],
+) {
+    let config = HubConfig {
+        history_weight,
+        waiting_weight,
+        ..HubConfig::new(1, 1, 64, 32)
+    };
+    let mut hub = Hub::with_config(rt.alloc(), config).expect(rt, "a hub");
+    tells(rt, &mut hub, WATCHING);
+    tells(rt, &mut hub, rows);
+}
+
 /// Two patches wait if the bound allows both. A third folds them into a snapshot, which weighs nothing.
 #[test]
 fn patches_wait_within_a_weight(rt: HostRuntime) {
-    let mut hub = hub(&rt, Budget::Unbounded, Budget::Left(70));
-    tells(&rt, &mut hub, WATCHING);
-    tells(
+    tells_within(
         &rt,
-        &mut hub,
+        Budget::Unbounded,
+        Budget::Left(70),
         &[
             (Say(2, EDIT), ANSWERED),
             (Say(2, EDIT), ANSWERED),
@@ -65,11 +82,10 @@ fn patches_wait_within_a_weight(rt: HostRuntime) {
 /// A patch that was drawn weighs nothing, so the next one fits.
 #[test]
 fn what_is_drawn_weighs_nothing(rt: HostRuntime) {
-    let mut hub = hub(&rt, Budget::Unbounded, Budget::Left(69));
-    tells(&rt, &mut hub, WATCHING);
-    tells(
+    tells_within(
         &rt,
-        &mut hub,
+        Budget::Unbounded,
+        Budget::Left(69),
         &[
             (Say(2, EDIT), ANSWERED),
             (
@@ -87,11 +103,10 @@ fn what_is_drawn_weighs_nothing(rt: HostRuntime) {
 /// A patch that alone is heavier than the bound is not made.
 #[test]
 fn a_heavy_patch_is_a_snapshot(rt: HostRuntime) {
-    let mut hub = hub(&rt, Budget::Unbounded, Budget::Left(34));
-    tells(&rt, &mut hub, WATCHING);
-    tells(
+    tells_within(
         &rt,
-        &mut hub,
+        Budget::Unbounded,
+        Budget::Left(34),
         &[
             (Say(2, EDIT), ANSWERED),
             (Draw(1), r#"{"kind":"snapshot","rev":2,"view":[[{"x":1}]]}"#),
@@ -102,11 +117,10 @@ fn a_heavy_patch_is_a_snapshot(rt: HostRuntime) {
 /// A room with a bound of 34 keeps two revisions of 17. A client that resumes from an earlier revision receives a snapshot.
 #[test]
 fn a_room_remembers_within_a_weight(rt: HostRuntime) {
-    let mut hub = hub(&rt, Budget::Left(34), Budget::Unbounded);
-    tells(&rt, &mut hub, WATCHING);
-    tells(
+    tells_within(
         &rt,
-        &mut hub,
+        Budget::Left(34),
+        Budget::Unbounded,
         &[
             (Say(2, EDIT), ANSWERED),
             (Say(2, EDIT), ANSWERED),
@@ -116,16 +130,10 @@ fn a_room_remembers_within_a_weight(rt: HostRuntime) {
                 Draw(3),
                 r#"{"epoch":1,"kind":"welcome","rev":4,"session":3}"#,
             ),
-            (
-                Say(3, r#"{"do":"resume","epoch":1,"id":1,"rev":2,"view":[""]}"#),
-                ANSWERED,
-            ),
-            (Draw(3), r#"{"how":"patch","id":1,"kind":"resumed"}"#),
-            (
-                Say(3, r#"{"do":"resume","epoch":1,"id":1,"rev":1,"view":[""]}"#),
-                ANSWERED,
-            ),
-            (Draw(3), r#"{"how":"snapshot","id":1,"kind":"resumed"}"#),
+            (Say(3, RESUME_2), ANSWERED),
+            (Draw(3), BY_PATCH),
+            (Say(3, RESUME_1), ANSWERED),
+            (Draw(3), BY_SNAPSHOT),
         ],
     );
 }
@@ -133,31 +141,21 @@ fn a_room_remembers_within_a_weight(rt: HostRuntime) {
 /// A hub that gives memory back keeps documents and replies. Waiting patches fold, and a resume is answered by a snapshot.
 #[test]
 fn gives_memory_back(rt: HostRuntime) {
-    let mut hub = hub(&rt, Budget::Left(1_000), Budget::Left(1_000));
-    tells(&rt, &mut hub, WATCHING);
-    tells(
+    tells_within(
         &rt,
-        &mut hub,
+        Budget::Left(1_000),
+        Budget::Left(1_000),
         &[
             (Say(2, EDIT), ANSWERED),
             (Say(2, EDIT), ANSWERED),
             (Waiting(1), "Some(2)"),
             (Waiting(2), "Some(4)"),
-        ],
-    );
-    hub.shed();
-    tells(
-        &rt,
-        &mut hub,
-        &[
+            (Shed, "done"),
             (Waiting(1), "Some(1)"),
             (Waiting(2), "Some(4)"),
             (Draw(1), r#"{"kind":"snapshot","rev":3,"view":[[{"x":1}]]}"#),
-            (
-                Say(1, r#"{"do":"resume","epoch":1,"id":1,"rev":2,"view":[""]}"#),
-                ANSWERED,
-            ),
-            (Draw(1), r#"{"how":"snapshot","id":1,"kind":"resumed"}"#),
+            (Say(1, RESUME_2), ANSWERED),
+            (Draw(1), BY_SNAPSHOT),
         ],
     );
 }
