@@ -37,9 +37,8 @@ fn writes(rt: &(impl Abort + AllocGlobal), rows: &[(Reply, &str)]) {
     }
 }
 
-/// Only a refusal that has a revision writes one.
 #[test]
-fn writes_each_reply(rt: HostRuntime) {
+fn writes_each_reply_except_refusals(rt: HostRuntime) {
     writes(
         &rt,
         &[
@@ -55,6 +54,25 @@ fn writes_each_reply(rt: HostRuntime) {
                 Reply::Done { id: 2, rev: 1 },
                 r#"{"id":2,"kind":"done","rev":1}"#,
             ),
+            (Reply::Watching { id: 1 }, r#"{"id":1,"kind":"watching"}"#),
+            (
+                Reply::Resumed {
+                    id: 4,
+                    how: ResumeOutcome::Nothing,
+                },
+                r#"{"how":"nothing","id":4,"kind":"resumed"}"#,
+            ),
+            (Reply::Unwatched { id: 5 }, r#"{"id":5,"kind":"unwatched"}"#),
+        ],
+    );
+}
+
+/// Only a refusal that has a revision writes one.
+#[test]
+fn writes_refusals(rt: HostRuntime) {
+    writes(
+        &rt,
+        &[
             (
                 Reply::Refused {
                     id: Some(7),
@@ -82,15 +100,6 @@ fn writes_each_reply(rt: HostRuntime) {
                 },
                 r#"{"at":null,"fault":"stale","id":9,"kind":"refused","rev":2}"#,
             ),
-            (Reply::Watching { id: 1 }, r#"{"id":1,"kind":"watching"}"#),
-            (
-                Reply::Resumed {
-                    id: 4,
-                    how: ResumeOutcome::Nothing,
-                },
-                r#"{"how":"nothing","id":4,"kind":"resumed"}"#,
-            ),
-            (Reply::Unwatched { id: 5 }, r#"{"id":5,"kind":"unwatched"}"#),
         ],
     );
 }
