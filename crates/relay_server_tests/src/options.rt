@@ -62,7 +62,7 @@ fn serve(port: u16, turns: u64, log: bool) -> Job {
 }
 
 #[test]
-fn reads_each_job(rt: HostRuntime) {
+fn reads_script_jobs(rt: HostRuntime) {
     asks_for(
         &rt,
         &[
@@ -93,11 +93,29 @@ fn reads_each_job(rt: HostRuntime) {
                     ..Settings::DEFAULT
                 }),
             ),
+        ],
+    );
+}
+
+#[test]
+fn reads_follow_and_loop_jobs(rt: HostRuntime) {
+    asks_for(
+        &rt,
+        &[
             ("relay follow", Job::Follow),
             ("relay loop", Job::Loop(Settings::DEFAULT)),
             ("relay loop --outbox 2", Job::Loop(settings(64, 2, 1))),
             ("relay loop --rooms 2", Job::Loop(settings_for(2, 256))),
             ("relay loop --sessions 3", Job::Loop(settings_for(64, 3))),
+        ],
+    );
+}
+
+#[test]
+fn reads_serve_jobs(rt: HostRuntime) {
+    asks_for(
+        &rt,
+        &[
             ("relay serve --port 0 --turns 1", serve(0, 1, false)),
             ("relay serve --port 7", serve(7, 1_000_000_000_000, false)),
             (
