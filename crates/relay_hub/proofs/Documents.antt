@@ -19,7 +19,7 @@ use Rattle.relay_hub.specs.Log.{present_of}
 use Rattle.relay_hub.specs.declared.config.HubConfig.{HubConfig}
 use Rattle.relay_hub.specs.Stands.{RoomStands}
 use Rattle.relay_hub.specs.Step.{GoesOn}
-use Rattle.relay_hub.proofs.Places.{append_cases, slice_get-last}
+use Rattle.relay_hub.proofs.Lists.{append_cases, slice_get-last}
 
 slice_get-older : {X : Type 0} (xs : List X) (d : X) (r : ℕ) → r < length xs → slice_get (xs ++ d ∷ []) r ≡ slice_get xs r
 slice_get-older [] d r h = absurd (omega arith)
@@ -125,6 +125,15 @@ newest_reached old new changes is same =
     let limit = ap (λ (p : Past). p.limit) same in
     let least = is.limited.0 in
     record { back = omega (arith, count, limit, least); made = omega arith }
+
+-- and the changes since that revision are those that were added
+pub newest_changes : (old new : Past) (changes : List Change) → IsHistory new → new ≡ with_revision changes old → changes ≡ changes_since (new.newest - 1) new
+newest_changes old new changes is same =
+    let newest = ap (λ (p : Past). p.newest) same in
+    let before : new.newest - 1 ≡ old.newest = omega (arith, newest) in
+    let reaches : Reaches new old.newest = rw before at (newest_reached old new changes is same) in
+    let since = changes_since-with_revision old.newest changes old (omega arith) (subst (λ p. Reaches p old.newest) same reaches) in
+    rw before (sym (ap (λ p. changes_since old.newest p) same ∙ (since ∙ ap (λ cs. cs ++ changes) (changes_since-newest old))))
 
 -- a room that drops what its history may not hold still has its documents
 pub trimmed_stands : (b : HubConfig) (ds : List Document) (room : Room) (budget : Budget) → (b.history_weight ≡ Unbounded → budget ≡ Unbounded) → RoomStands b ds room

@@ -20,7 +20,8 @@ use Rattle.relay_hub.specs.declared.event.Answer.TheVariants.{Opened, Closed}
 use Rattle.relay_hub.specs.declared.event.Event.TheVariants.{Open, Close}
 use Rattle.relay_hub.specs.declared.fault.OpenFault.TheVariants.{RoomName, RoomsFull, SessionsFull, Exhausted}
 use Rattle.relay_hub.proofs.Frames.{set_rooms, set_names, set_known, set_others, set_home, session_stands}
-use Rattle.relay_hub.proofs.Places.{by_finding, append_cases, slice_set_cases, slice_get-set, slice_get-set_other, slice_get-earlier, slice_get-last}
+use Rattle.relay_hub.proofs.Cases.{by_finding}
+use Rattle.relay_hub.proofs.Lists.{append_cases, slice_set_cases, slice_get-set, slice_get-set_other, slice_get-earlier, slice_get-last}
 use Rattle.relay_hub.proofs.Rooms.{by_name, named_earlier, named_last, named_apart, named_other, named_written, name_found, one_document, Vacant, vacant}
 
 -- Openings.
@@ -114,19 +115,25 @@ module _ (b : HubConfig) (E : Log) (old new : State) (name : List ℕ) (n : ℕ)
       let same : old.made.history ≡ b.history = ap (λ (made : HubConfig). made.history) stands.made in
       rw same (begun_stands b stands.is.history.0 stands.is.history.1)
 
+  -- each room is the new one, or was there
+  room_stands : {A B : Type 0} → place_named name old.rooms ≡ None → (p : ℕ) (known : List ℕ) (g : RoomSessions)
+      → (A × (◌≡◌ {A = List ℕ × RoomSessions} (known, g) (name, founded))) ⊎ (B × (slice_get old.rooms p ≡ Some (known, g))) → RoomStands b (documents E known) g.room
+  room_stands absent p known g (inl k) =
+      let named : known ≡ name = ap (λ (r : List ℕ × RoomSessions). r.0) k.1 in
+      let is : g ≡ founded = ap (λ (r : List ℕ × RoomSessions). r.1) k.1 in
+      rw (named, is, stands.others name absent) founded_stands
+  room_stands absent p known g (inr k) = stands.rooms p known g k.1
+
+  first_line : LineStands b.waiting (newcomer old.made 0 n)
+  first_line = newcomer_line b.waiting old.made 0 n epoch_counts (omega arith) count waiting_is
+
   found_stands : place_named name old.rooms ≡ None → Founds None (name, founded) old.rooms step.place new.rooms → StandsFor b (entry (Open name) (Opened n) ∷ E) new
   found_stands absent enters = record {
     made = step.made ∙ stands.made;
     is = stands.is;
     next = omega (arith, step.next, step.number, stands.next);
     count = omega (arith, step.count, stands.count);
-    rooms = λ p known g at. elim (cases p known g at) [
-      | inl k ↦
-          let named : known ≡ name = ap (λ (r : List ℕ × RoomSessions). r.0) k.1 in
-          let is : g ≡ founded = ap (λ (r : List ℕ × RoomSessions). r.1) k.1 in
-          rw (named, is, stands.others name absent) founded_stands
-      | inr k ↦ stands.rooms p known g k.1
-    ];
+    rooms = λ p known g at. room_stands absent p known g (cases p known g at);
     names = λ p known g at. elim (cases p known g at) [
       | inl k ↦ rw (enters.1, ap (λ (r : List ℕ × RoomSessions). r.0) k.1, k.0) (named_last old.rooms name founded absent)
       | inr k ↦ rw enters.1 (named_earlier old.rooms known (name, founded) p (stands.names p known g k.1))
@@ -141,7 +148,7 @@ module _ (b : HubConfig) (E : Log) (old new : State) (name : List ℕ) (n : ℕ)
         stands.others other before;
     sessions = λ t. elim (eqb_tells n t) [
       | inl is ↦ rw (step.home t, is.0, enters.0, enters.1, slice_get-last old.rooms (name, founded), is.0)
-          (refl, newcomer_line b.waiting old.made 0 n epoch_counts (omega arith) count waiting_is, (refl, refl, refl))
+          (refl, first_line, (refl, refl, refl))
       | inr apart ↦ let o = others_home t apart.1 in rw (o.0, o.1, o.2, enters.1) (later t (place_of old t) (stands.sessions t))
     ];
   }
@@ -168,13 +175,7 @@ module _ (b : HubConfig) (E : Log) (old new : State) (name : List ℕ) (n : ℕ)
     is = stands.is;
     next = omega (arith, step.next, step.number, stands.next);
     count = omega (arith, step.count, stands.count);
-    rooms = λ p known g at. elim (cases p known g at) [
-      | inl k ↦
-          let named : known ≡ name = ap (λ (r : List ℕ × RoomSessions). r.0) k.1 in
-          let is : g ≡ founded = ap (λ (r : List ℕ × RoomSessions). r.1) k.1 in
-          rw (named, is, stands.others name absent) founded_stands
-      | inr k ↦ stands.rooms p known g k.1
-    ];
+    rooms = λ p known g at. room_stands absent p known g (cases p known g at);
     names = λ p known g at. elim (cases p known g at) [
       | inl k ↦ rw (enters.1, ap (λ (r : List ℕ × RoomSessions). r.0) k.1, k.0) (named_written old.rooms i name founded absent v.within)
       | inr k ↦ let found = stands.names p known g k.1 in rw enters.1 (other_named known p found (λ same. k.0 (let both : Some p ≡ Some i = sym found ∙ (ap (λ n. place_named n old.rooms) same ∙ taken) in cc)) ∙ found)
@@ -190,7 +191,7 @@ module _ (b : HubConfig) (E : Log) (old new : State) (name : List ℕ) (n : ℕ)
         (λ apart. stands.others other (sym (named_other old.rooms i v.name name other v.room_sessions founded v.there differ apart) ∙ (ap (place_named other) (sym enters.1) ∙ none))));
     sessions = λ t. elim (eqb_tells n t) [
       | inl is ↦ rw (step.home t, is.0, enters.0, enters.1, slice_get-set old.rooms i (v.name, v.room_sessions) (name, founded) v.there, is.0)
-          (refl, newcomer_line b.waiting old.made 0 n epoch_counts (omega arith) count waiting_is, (refl, refl, refl))
+          (refl, first_line, (refl, refl, refl))
       | inr apart ↦ let o = others_home t apart.1 in rw (o.0, o.1, o.2, enters.1) (elsewhere t (place_of old t) (stands.sessions t))
     ];
   }

@@ -22,7 +22,7 @@ use Rattle.relay_hub.specs.Session.{led_line, told_line, with_patch_within, snap
 use Rattle.relay_hub.specs.declared.config.HubConfig.{HubConfig}
 use Rattle.relay_hub.specs.Stands.{HoldsRevision, IsAtNamed, EachLeads, HoldsPresent, Follows, RoomStands}
 use Rattle.relay_hub.proofs.Documents.{slice_get-present}
-use Rattle.relay_hub.proofs.Places.{slice_get-earlier}
+use Rattle.relay_hub.proofs.Lists.{slice_get-earlier}
 use Rattle.relay_hub.proofs.Waiting.{by_waiting, by_weight, by_due}
 
 -- Messages one after the other.

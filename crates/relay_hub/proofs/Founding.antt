@@ -1,11 +1,30 @@
 -- A new room in the map that the code keeps: behind the others, or in the place of one.
 use Rattle.std.proofs.Common.{◌≡◌, ◌∙◌, ◌<◌, ◌-◌, ap, sym, arith, ℕ, zero, suc, Option, Some, None, slice_get, List, [], ◌∷◌, ◌++◌, length, length-append, slice_set}
-use Rattle.std.specs.Prelude.{swap_remove, IfSome}
+use Rattle.std.specs.Prelude.{swap_remove, IfSome, string_bytes}
+use Rattle.std.specs.String.{string_eq}
 use Rattle.std.specs.declared.string.String.{String}
 use Rattle.std.proofs.lemmas.List.{length-set, map-append, map-set, set-append_left}
 use Rattle.std.proofs.Math.Seq.{get_or-append_seam, take-append_seam}
+use Rattle.indexmap.proofs.CallerLemmas.{insert_entry-new}
+use Rattle.indexmap.specs.IndexMap.{IndexMap, insert_entry}
+use Rattle.relay_room.specs.Room.{State as Room}
 use Rattle.relay_hub.specs.Representation.{named, rooms_of}
-use Rattle.relay_hub.specs.State.{RoomSessions}
+use Rattle.relay_hub.specs.Session.{Session}
+use Rattle.relay_hub.specs.State.{RoomSessions, room_sessions, place_named}
+use Rattle.relay_hub.proofs.Opening.{absent}
+
+-- the room that an entry is, by what made its key, its room and its session
+pub entry_is : {A : Type 0} (key : String A) (name : List ℕ) (g : RoomSessions) (room begun : Room) (x first : Session) → string_bytes key ≡ name → room ≡ begun → x ≡ first
+    → g ≡ room_sessions room (x ∷ []) → named (key, g) ≡ (name, room_sessions begun (first ∷ []))
+entry_is key name g room begun x first key_is room_is first_is made =
+    let is = made ∙ (λ i. room_sessions (room_is i) (first_is i ∷ [])) in
+    λ i. (key_is i, is i)
+
+-- an entry under a new name goes behind the others
+pub entered_last : {A S : Type 0} (m : IndexMap (String A) RoomSessions S) (key : String A) (name : List ℕ) (g : RoomSessions) (entries : List (String A × RoomSessions))
+    → string_bytes key ≡ name → place_named name (rooms_of m.entries) ≡ None → entries ≡ insert_entry string_eq m.entries key g → entries ≡ m.entries ++ (key, g) ∷ []
+entered_last m key name g entries key_is none is =
+    is ∙ insert_entry-new string_eq m key g (absent key m.entries (ap (λ n. place_named n (rooms_of m.entries)) key_is ∙ none))
 
 pub put_last : {A : Type 0} (es new : List (String A × RoomSessions)) (entry : String A × RoomSessions) (room : List ℕ × RoomSessions) → new ≡ es ++ entry ∷ [] → named entry ≡ room
     → rooms_of new ≡ rooms_of es ++ room ∷ []

@@ -9,7 +9,8 @@ use Rattle.relay_hub.specs.Stands.{RoomStands, LineStands, WatchStands, SessionS
 use Rattle.relay_hub.specs.State.{RoomSessions, State, RoomOf, Home, place_of, place_named, session_in}
 use Rattle.relay_hub.specs.Step.{ChangesOnly, with_room}
 use Rattle.relay_hub.specs.declared.config.HubConfig.{HubConfig}
-use Rattle.relay_hub.proofs.Places.{by_number, slice_set_cases, slice_get-set, slice_get-set_other}
+use Rattle.relay_hub.proofs.Cases.{by_number}
+use Rattle.relay_hub.proofs.Lists.{slice_set_cases, slice_get-set, slice_get-set_other}
 use Rattle.relay_hub.proofs.Rooms.{named_set}
 
 -- no session is opened or closed by the entry

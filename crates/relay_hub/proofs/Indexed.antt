@@ -1,5 +1,5 @@
 -- The index of the views that a room's sessions watch, as the sessions change.
-use Rattle.std.proofs.Common.{◌≡◌, ℕ, ◌==◌, Bool, true, false, cond, List, [], ◌∷◌, ◌++◌, Option, Some, None, refl, sym, ◌∙◌, ap, nat_cmp, arith, option_and_then, position, if◌then◌else◌}
+use Rattle.std.proofs.Common.{◌≡◌, ℕ, ◌==◌, Bool, true, false, cond, List, [], ◌∷◌, ◌++◌, Option, Some, None, refl, sym, ◌∙◌, ap, nat_cmp, arith, option_and_then, if◌then◌else◌}
 use Rattle.std.specs.Cmp.{nat_cmp_total, nat_eq_equiv, unsigned_ties}
 use Rattle.std.specs.FinMap as map
 use Rattle.std.specs.FinMap.{get-empty, get-insert, get-remove}
@@ -9,18 +9,18 @@ use Rattle.relay_room.specs.Room.{State as Room}
 use Rattle.relay_translate.specs.Watches.{Watches}
 use Rattle.relay_tree.specs.Document.{Document}
 use Rattle.relay_view.specs.View.{View}
-use Rattle.relay_hub.specs.Call.{ChangesBy, IsAbove}
+use Rattle.relay_hub.specs.Call.{IsAbove}
 use Rattle.relay_hub.specs.Session.{Session}
-use Rattle.relay_hub.specs.State.{IsRising, numbers, is_number, session_in}
+use Rattle.relay_hub.specs.State.{IsRising, session_in}
 use Rattle.relay_hub.specs.Step.{OnlyAt, ToldAs, AllTold}
 use Rattle.relay_hub.specs.Watched.{IsIndexed}
-use Rattle.relay_hub.proofs.Places.{by_number}
-use Rattle.relay_hub.proofs.Sessions.{push_last, session_there}
+use Rattle.relay_hub.proofs.Cases.{by_number}
+use Rattle.relay_hub.proofs.Sessions.{push_last}
 use Rattle.relay_hub.proofs.Told.{IsTold, each_told}
 use Rattle.relay_hub.proofs.Rising.{same_rises, numbers_told, joined_rises, one_rises}
 
 -- the view of a session, if it is there and watches
-abbrev shown : Option Session → Option View
+abbrev pub shown : Option Session → Option View
 shown o = option_and_then (λ x. x.view) o
 
 -- One session differs.
@@ -41,7 +41,7 @@ same_number : (s t : ℕ) → eq_by_cmp nat_cmp t s ≡ (s == t)
 same_number s t = sym (unsigned_ties t s) ∙ nat_eq_equiv.symm t s
 
 -- it watches from now on
-put_indexed : (w : Watches) (xs ys : List Session) (s : ℕ) (y : Session) (v : View) → OnlyAt s (Some y) xs ys → IsRising ys → y.view ≡ Some v → IsIndexed w xs → IsIndexed (map.insert w s v) ys
+pub put_indexed : (w : Watches) (xs ys : List Session) (s : ℕ) (y : Session) (v : View) → OnlyAt s (Some y) xs ys → IsRising ys → y.view ≡ Some v → IsIndexed w xs → IsIndexed (map.insert w s v) ys
 put_indexed w xs ys s y v only rising view h =
     only_indexed w (map.insert w s v) xs ys s (Some y) only rising
     (λ t. get-insert nat_cmp_total w s v t ∙ (ap (λ b. cond b (Some v) (map.get w t)) (same_number s t) ∙ ap (λ o. cond (s == t) o (map.get w t)) (sym view))) h
@@ -57,28 +57,6 @@ pub same_indexed : (w : Watches) (xs ys : List Session) (s : ℕ) (o : Option Se
 same_indexed w xs ys s o only rising view h =
     only_indexed w w xs ys s o only rising
     (λ t. by_number (λ t b. map.get w t ≡ (if b then shown o else map.get w t)) s t (h.agrees s ∙ sym view) (λ other. refl)) h
-
--- the same of a session that is there, and that a function changes
-
-module _ (xs ys : List Session) (s i : ℕ) (at : position (is_number s) xs ≡ Some i) (f : Session → Session) (changes : ChangesBy s f xs ys)
-    (same : numbers ys ≡ numbers xs) (w : Watches) (h : IsIndexed w xs) where
-  rising : IsRising ys
-  rising = same_rises xs ys same h.rising
-
-  pub changed_same : ((x : Session) → (f x).view ≡ x.view) → IsIndexed w ys
-  changed_same keeps =
-      let x = session_there xs s i at in
-      same_indexed w xs ys s (Some (f x.0)) (changes x.0 x.1) rising (keeps x.0 ∙ ap shown (sym x.1)) h
-
-  pub changed_put : (v : View) → ((x : Session) → (f x).view ≡ Some v) → IsIndexed (map.insert w s v) ys
-  changed_put v has =
-      let x = session_there xs s i at in
-      put_indexed w xs ys s (f x.0) v (changes x.0 x.1) rising (has x.0) h
-
-  pub changed_out : ((x : Session) → (f x).view ≡ None) → IsIndexed (map.remove w s) ys
-  changed_out none =
-      let x = session_there xs s i at in
-      out_indexed w xs ys s (Some (f x.0)) (changes x.0 x.1) rising (none x.0) h
 
 -- A session is added that watches nothing.
 

@@ -1,10 +1,12 @@
-pub mod Places
+pub mod Cases
+pub mod Lists
 pub mod Sessions
 pub mod Serving
 pub mod Queries
 pub mod Told
 pub mod Rising
 pub mod Indexed
+pub mod Callers
 pub mod Among
 pub mod Untouched
 pub mod Due
@@ -15,8 +17,8 @@ pub mod Follow
 pub mod Counts
 pub mod Rooms
 pub mod Frames
-pub mod Served
 pub mod Edits
+pub mod Served
 pub mod Draws
 pub mod Doors
 pub mod Stands

@@ -26,7 +26,8 @@ use Rattle.relay_hub.specs.declared.event.Answer.TheVariants.{Opened, NotOpened,
 use Rattle.relay_hub.specs.declared.event.Event.{Event}
 use Rattle.relay_hub.specs.declared.event.Event.TheVariants.{Open, Receive, Draw, Close}
 use Rattle.relay_hub.specs.declared.event.Heard.TheVariants.{Answered, Busy}
-use Rattle.relay_hub.proofs.Places.{by_number, by_finding, slice_set_cases, append_cases, slice_get-set, slice_get-set_other, slice_get-earlier, slice_get-last}
+use Rattle.relay_hub.proofs.Cases.{by_number, by_finding}
+use Rattle.relay_hub.proofs.Lists.{slice_set_cases, append_cases, slice_get-set, slice_get-set_other, slice_get-earlier, slice_get-last}
 use Rattle.relay_hub.proofs.Rooms.{Vacant, vacant}
 use Rattle.relay_hub.proofs.Told.{each_told, none_told, some_told, once_told}
 
@@ -266,6 +267,29 @@ home_cases old new n place t p home at =
       | inr other ↦ let there : place_of old t ≡ Some p = rw other.0 at found in inr (other.1, there)
     ]
 
+-- the home of the new session, if the opening made its room
+newcomer_home : (old new : State) (name : List ℕ) (n t p : ℕ) → n ≡ t → place_of new t ≡ Some p → slice_get new.rooms p ≡ Some (founded old name n) → Home new t
+newcomer_home old new name n t p same at there =
+    let test : (n == t) ≡ true = grind (arith, nat_tests, same) in
+    record {
+      room = record { place = p; name = name; room_sessions = (founded old name n).1; there = there };
+      session = newcomer old.made 0 n;
+      at = at;
+      is = rw test refl;
+    }
+
+-- that of a session that was open, in a room that is unchanged
+unchanged_home : (old new : State) (t : ℕ) (was : Home old t) → place_of new t ≡ Some was.room.place
+    → slice_get new.rooms was.room.place ≡ Some (was.room.name, was.room.room_sessions) → Home new t
+unchanged_home old new t was at there =
+    let r = was.room in
+    record {
+      room = record { place = r.place; name = r.name; room_sessions = r.room_sessions; there = there };
+      session = was.session;
+      at = at;
+      is = was.is;
+    }
+
 founds_homes : (old new : State) (name : List ℕ) (n place : ℕ) (o : Option ℕ) → vacant_place old.made.rooms old.rooms ≡ o → IsHub old → n ≡ old.next
     → ((t : ℕ) → place_of new t ≡ (if n == t then Some place else place_of old t)) → Founds o (founded old name n) old.rooms place new.rooms
     → (t p : ℕ) → place_of new t ≡ Some p → Home new t
@@ -275,44 +299,24 @@ founds_homes old new name n place (Some i) is_vacant h number home step t p at =
     elim (home_cases old new n place t p home at) [
       | inl mine ↦
           let here : p ≡ i = mine.1 ∙ step.0 in
-          let test : (n == t) ≡ true = grind (arith, nat_tests, mine.0) in
-          record {
-            room = record { place = p; name = name; room_sessions = room.1; there = rw (here, step.1) (slice_get-set old.rooms i (v.name, v.room_sessions) room v.there) };
-            session = newcomer old.made 0 n;
-            at = at;
-            is = rw test refl;
-          }
+          newcomer_home old new name n t p mine.0 at (rw (here, step.1) (slice_get-set old.rooms i (v.name, v.room_sessions) room v.there))
       | inr other ↦
           let was = h.homes t p other.1 in
           let r = was.room in
-          record {
-            room = record { place = r.place; name = r.name; room_sessions = r.room_sessions; there = rw (step.1, slice_get-set_other old.rooms i r.place room (not_vacant old i t v was)) r.there };
-            session = was.session;
-            at = opens_stays old new n place t r.place h number home was.at;
-            is = was.is;
-          }
+          unchanged_home old new t was (opens_stays old new n place t r.place h number home was.at)
+          (rw (step.1, slice_get-set_other old.rooms i r.place room (not_vacant old i t v was)) r.there)
     ]
 founds_homes old new name n place None is_vacant h number home step t p at =
     let room = founded old name n in
     elim (home_cases old new n place t p home at) [
       | inl mine ↦
           let here : p ≡ length old.rooms = mine.1 ∙ step.0 in
-          let test : (n == t) ≡ true = grind (arith, nat_tests, mine.0) in
-          record {
-            room = record { place = p; name = name; room_sessions = room.1; there = rw (here, step.1) (slice_get-last old.rooms room) };
-            session = newcomer old.made 0 n;
-            at = at;
-            is = rw test refl;
-          }
+          newcomer_home old new name n t p mine.0 at (rw (here, step.1) (slice_get-last old.rooms room))
       | inr other ↦
           let was = h.homes t p other.1 in
           let r = was.room in
-          record {
-            room = record { place = r.place; name = r.name; room_sessions = r.room_sessions; there = rw step.1 (slice_get-earlier old.rooms room (r.name, r.room_sessions) r.place r.there) };
-            session = was.session;
-            at = opens_stays old new n place t r.place h number home was.at;
-            is = was.is;
-          }
+          unchanged_home old new t was (opens_stays old new n place t r.place h number home was.at)
+          (rw step.1 (slice_get-earlier old.rooms room (r.name, r.room_sessions) r.place r.there))
     ]
 
 enters_homes : (old new : State) (name : List ℕ) (n place : ℕ) (o : Option ℕ) → IsHub old → n ≡ old.next

@@ -1,5 +1,5 @@
 -- What the maps in the code mean for the hub that contracts see.
-use Rattle.std.proofs.Common.{◌≡◌, ℕ, ◌+◌, true, arith, List, [], ◌∷◌, Option, Some, None, refl, sym, ◌∙◌, ap, subst, map, length, zero, suc, slice_get, slice_set, nat_lt, option_map, string_bytes, nat_eq, ◌==◌, if◌then◌else◌}
+use Rattle.std.proofs.Common.{◌≡◌, ℕ, ◌+◌, true, arith, List, [], ◌∷◌, Option, Some, None, IsSome, refl, sym, ◌∙◌, ap, subst, map, length, zero, suc, slice_get, slice_set, nat_lt, option_map, string_bytes, nat_eq, ◌==◌, if◌then◌else◌}
 use Rattle.std.specs.Map.{lookup, values_of}
 use Rattle.std.specs.declared.string.String.{String}
 use Rattle.std.proofs.lemmas.Bool.Decides.{nat_tests}
@@ -18,7 +18,7 @@ use Rattle.relay_hub.specs.declared.event.Event.{Event}
 use Rattle.relay_hub.specs.declared.event.Event.TheVariants.{Receive, Draw, Close}
 use Rattle.relay_hub.specs.declared.hub.Hub.TheInside.{Inside}
 use Rattle.relay_hub.proofs.Members.{step_is_hub}
-use Rattle.relay_hub.proofs.Places.{slice_set_same}
+use Rattle.relay_hub.proofs.Lists.{slice_set_same}
 use Rattle.relay_hub.proofs.Rooms.{some_named}
 
 -- the room at a place
@@ -89,6 +89,9 @@ module _ (h : Inside) (s i : ℕ) (is : IsHub (hub_of h)) (at : place_of (hub_of
 
     pub session_there : (x : Session) × (session_in g.sessions s ≡ Some x)
     session_there = entry_session here.name g here.was
+
+    pub is_there : IsSome (session_in g.sessions s)
+    is_there = let x = session_there in rw x.1 refl
 
     pub session_is : session_of (hub_of h) s ≡ session_in g.sessions s
     session_is = rw (at, here.was) refl

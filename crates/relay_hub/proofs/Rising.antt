@@ -10,11 +10,10 @@ use Rattle.std.proofs.lemmas.List.Kept.{AllPairs-from_increasing, IsStrictlyIncr
 use Rattle.relay_patch.specs.declared.change.Change.{Change}
 use Rattle.relay_room.specs.Room.{State as Room}
 use Rattle.relay_tree.specs.Document.{Document}
-use Rattle.relay_hub.specs.Call.{ChangesBy}
 use Rattle.relay_hub.specs.Session.{Session}
 use Rattle.relay_hub.specs.State.{EachOnce, IsRising, numbers, is_number, session_in}
 use Rattle.relay_hub.specs.Step.{AllTold}
-use Rattle.relay_hub.proofs.Sessions.{none_there, set_changes}
+use Rattle.relay_hub.proofs.Sessions.{none_there}
 use Rattle.relay_hub.proofs.Told.{told_number}
 
 -- What rises.
@@ -49,11 +48,6 @@ pub numbers_set : (xs : List Session) (i : ℕ) (y d : Session) → y.number ≡
 numbers_set [] i y d e = refl
 numbers_set (x ∷ xs) zero y d e = ap (λ n. n ∷ numbers xs) e
 numbers_set (x ∷ xs) (suc i) y d e = ap (λ ns. x.number ∷ ns) (numbers_set xs i y d e)
-
--- a write at the place of a session changes that session alone, and no number
-pub set_keeps : (xs : List Session) (s i : ℕ) (f : Session → Session) → ((x : Session) → (f x).number ≡ x.number) → position (is_number s) xs ≡ Some i → (d : Session)
-    → ChangesBy s f xs (slice_set xs i (f (get_or xs i d))) × (numbers (slice_set xs i (f (get_or xs i d))) ≡ numbers xs)
-set_keeps xs s i f keeps at d = (set_changes xs s i f keeps at d, numbers_set xs i (f (get_or xs i d)) d (keeps (get_or xs i d)))
 
 pub numbers_told : (d : Document) (changes : List Change) (room : Room) (xs ys : List Session) (n : ℕ) → AllTold d changes room xs ys n → numbers ys ≡ numbers xs
 numbers_told d changes room [] [] n h = refl

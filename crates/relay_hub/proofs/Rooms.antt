@@ -15,7 +15,7 @@ use Rattle.relay_hub.specs.declared.event.Answer.TheVariants.{Heard}
 use Rattle.relay_hub.specs.declared.event.Event.{Event}
 use Rattle.relay_hub.specs.declared.event.Event.TheVariants.{Receive}
 use Rattle.relay_hub.specs.declared.event.Heard.TheVariants.{Answered}
-use Rattle.relay_hub.proofs.Places.{position_set, position_within, position_apart, position_earlier, position_last, position_written, slice_get-earlier}
+use Rattle.relay_hub.proofs.Lists.{position_set, position_within, position_apart, position_earlier, position_last, position_written, slice_get-earlier}
 
 -- Names.
 

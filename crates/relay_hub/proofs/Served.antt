@@ -1,40 +1,50 @@
--- Requests that are answered and leave the documents unchanged.
-use Rattle.std.proofs.Common.{◌≡◌, ◌≢◌, ℕ, ◌<◌, ◌≤◌, ◌==◌, inl, inr, Bool, true, false, List, ◌∷◌, length, get_or, Option, Some, None, Result, Ok, refl, arith, slice_get, nat_lt, nat_le}
+-- Requests, and what they leave of the hub: an accepted edit adds a document to its room and notifies the watchers; any other request is
+-- answered, and leaves the documents unchanged.
+use Rattle.std.proofs.Common.{◌≡◌, ◌≢◌, ℕ, ◌<◌, ◌≤◌, ◌==◌, inl, inr, Bool, true, false, List, [], ◌∷◌, ◌++◌, length, get_or, Option, Some, None, Result, Ok, Err, refl, ◌∙◌, ap, arith, slice_get, nat_lt, nat_le, if◌then◌else◌}
+use Rattle.std.specs.Result.{result_ok}
 use Rattle.std.proofs.lemmas.Bool.{cases_lt}
 use Rattle.std.proofs.lemmas.Bool.Decides.{nat_tests}
 use Rattle.std.proofs.lemmas.Option.{slice_get-get_or, slice_get_past}
 use Rattle.relay_history.specs.History.{Reaches, oldest}
 use Rattle.relay_outbox.specs.Outbox.{with_reply, cleared}
+use Rattle.relay_patch.specs.Change.{all_changes}
+use Rattle.relay_patch.specs.declared.op.Op.{Op}
 use Rattle.relay_proto.specs.Client.{nothing, holds}
 use Rattle.relay_proto.specs.Request.{request_of_text}
 use Rattle.relay_proto.specs.Written.{IsCount, HasCounts}
 use Rattle.relay_proto.specs.declared.refusal.Refusal.{Refusal}
 use Rattle.relay_proto.specs.declared.reply.ResumeOutcome.TheVariants as how
 use Rattle.relay_proto.specs.declared.reply.Reply.{Reply}
-use Rattle.relay_proto.specs.declared.reply.Reply.TheVariants.{Watching, Resumed, Unwatched}
+use Rattle.relay_proto.specs.declared.reply.Reply.TheVariants.{Done, Watching, Resumed, Unwatched}
 use Rattle.relay_proto.specs.declared.request.Request.{Request}
-use Rattle.relay_proto.specs.declared.request.Request.TheVariants.{Watch, Resume, Unwatch}
+use Rattle.relay_proto.specs.declared.request.Request.TheVariants.{Edit, Watch, Resume, Unwatch}
 use Rattle.relay_room.specs.CatchUp.{caught_up_within, LeadsOn, Fits}
+use Rattle.relay_room.specs.Edit.{edited}
 use Rattle.relay_room.specs.Room.{State as Room, revision}
 use Rattle.relay_room.specs.declared.catch_up.CatchUp.{CatchUp}
 use Rattle.relay_room.specs.declared.catch_up.CatchUp.TheVariants.{Nothing, Patch, Snapshot}
+use Rattle.relay_room.specs.declared.fault.EditFault.{EditFault}
 use Rattle.relay_room.proofs.Missed.{caught_up_present}
 use Rattle.relay_tree.specs.Document.{Document, null}
 use Rattle.relay_tree.specs.declared.budget.Budget.{Budget}
 use Rattle.relay_view.specs.View.{View, view}
-use Rattle.relay_hub.specs.Log.{Log, Watching as Watched, begun, entry, home, documents, requested, asked, watching}
-use Rattle.relay_hub.specs.Refusal.{refused, future_refusal}
+use Rattle.relay_hub.specs.Log.{Log, Watching as Watched, begun, entry, home, documents, requested, asked, asked_at_home, watching}
+use Rattle.relay_hub.specs.Refusal.{refused, edit_refusal, future_refusal}
 use Rattle.relay_hub.specs.Session.{Session, session_with, replied, watches, unwatches, resumes}
-use Rattle.relay_hub.specs.Stands.{RoomStands, LineStands, WatchStands, StandsFor}
-use Rattle.relay_hub.specs.State.{RoomSessions, State, Home}
-use Rattle.relay_hub.specs.Step.{ChangesOnly, ResumeServed, with_room}
+use Rattle.relay_hub.specs.Stands.{RoomStands, LineStands, WatchStands, SessionStands, StandsFor}
+use Rattle.relay_hub.specs.State.{RoomSessions, State, Home, session_in}
+use Rattle.relay_hub.specs.Step.{ChangesOnly, EditServed, ResumeServed, with_room}
 use Rattle.relay_hub.specs.declared.config.HubConfig.{HubConfig}
 use Rattle.relay_hub.specs.declared.event.Answer.TheVariants.{Heard}
 use Rattle.relay_hub.specs.declared.event.Event.TheVariants.{Receive}
 use Rattle.relay_hub.specs.declared.event.Heard.TheVariants.{Answered}
+use Rattle.relay_hub.proofs.Cases.{by_number}
+use Rattle.relay_hub.proofs.Documents.{goes_on_stands, trimmed_stands}
+use Rattle.relay_hub.proofs.Edits.{same_edit, told_session}
 use Rattle.relay_hub.proofs.Follow.{Follows-snapshot, level_follows, resumed_follows}
-use Rattle.relay_hub.proofs.Frames.{session_changes, here}
-use Rattle.relay_hub.proofs.Rooms.{none_added, others_stay}
+use Rattle.relay_hub.proofs.Frames.{room_changes, session_changes, session_stands, here}
+use Rattle.relay_hub.proofs.Rooms.{one_added, none_added, others_stay}
+use Rattle.relay_hub.proofs.Told.{each_told}
 use Rattle.relay_hub.proofs.Waiting.{line_replied, line_folded, line_cleared, line_patched}
 
 -- a reply changes nothing that a watcher holds
@@ -154,3 +164,44 @@ module _ (b : HubConfig) (E : Log) (old : State) (s : ℕ) (mine : Home old s) (
       served (Ok (Resume id e rev v)) (resumes (revision g.room) id v (caught_up_within x.budget g.room rev v) x) read refl step.2
       (line_resumed b.waiting (revision g.room) id v (caught_up_within x.budget g.room rev v) x i room.is.history.last step.1 at_home.1)
       (rw (p, found) (watch_resumed b ds g.room rev id v (get_or ds rev null) (caught_up_within x.budget g.room rev v) x room found past refl step.0))
+
+  -- An edit.
+
+  module _ (id : ℕ) (base : Option ℕ) (patch : List Op) (read : request_of_text text ≡ Ok (Edit id base patch)) (i : IsCount id) where
+    -- an edit changes no session's watching
+    same_watching : home E s ≡ Some mine.room.name → (t : ℕ) → watching b.epoch (entry (Receive s text) (Heard (Answered short)) ∷ E) t ≡ watching b.epoch E t
+    same_watching s_home t =
+        by_number (λ t c. (if c then asked_at t else watching b.epoch E t) ≡ watching b.epoch E t) s t
+        (rw (s_home, read) refl)
+        (λ apart. refl)
+      where
+        asked_at : ℕ → Option Watched
+        asked_at t = asked_at_home b.epoch (documents E) (watching b.epoch E t) (home E t) text
+
+    edit_stands : (d : Document) → edited g.room base patch ≡ Ok d → EditServed b.history_weight s x id patch (Ok d) short g h → StandsFor b (entry (Receive s text) (Heard (Answered short)) ∷ E) next
+    edit_stands d makes step =
+        let e = entry (Receive s text) (Heard (Answered short)) in
+        let newer : documents (e ∷ E) mine.room.name ≡ ds ++ d ∷ [] = one_added E s short text mine.room.name d at_home.0 (rw read (same_edit b ds g.room base patch was ∙ ap result_ok makes)) in
+        let told = step.0 in
+        let room : RoomStands b (ds ++ d ∷ []) told = goes_on_stands b ds g.room told patch d was step.1 in
+        let answer = Done id (revision told) in
+        let changes = all_changes g.room.document patch in
+        room_changes b E e old mine.room h stands (others_stay E s short text mine.room.name at_home.0)
+        (record { opened = refl; count = refl; rooms = λ name. refl; home = λ t. refl })
+        (rw (newer, step.5) (trimmed_stands b (ds ++ d ∷ []) told b.history_weight (λ all. all) room))
+        (λ t apart. same_watching at_home.0 t)
+        (λ t t_at.
+        let answered : SessionStands b.waiting (documents E) mine.room.name g.room (session_in step.2 t) (home E t) (watching b.epoch E t) =
+        rw (step.3.found t) (by_number (λ t c. SessionStands b.waiting (documents E) mine.room.name g.room (if c then Some (replied answer x) else session_in g.sessions t) (home E t) (watching b.epoch E t)) s t
+        (at_home.0, line_replied b.waiting x answer (i, room.is.history.last) at_home.1, watch_replied ds g.room x answer (watching b.epoch E s) at_home.2)
+        (λ apart. session_stands b E old t mine.room stands t_at)) in
+        rw (same_watching at_home.0 t, step.5)
+        (told_session b b.waiting ds d g.room told changes was room (documents E) (documents (e ∷ E)) mine.room.name (session_in step.2 t) (session_in h.sessions t) (home E t) (watching b.epoch E t)
+        refl newer (each_told g.room.document changes told step.2 h.sessions short step.4 t) answered))
+
+    pub served_edit : (o : Result Document EditFault) → edited g.room base patch ≡ o → ((fault : EditFault) (r : Reply) → o ≡ Err fault → edit_refusal id fault ≡ Some r → HasCounts r) → EditServed b.history_weight s x id patch o short g h
+        → StandsFor b (entry (Receive s text) (Heard (Answered short)) ∷ E) next
+    served_edit (Ok d) makes counts step = edit_stands d makes step
+    served_edit (Err fault) makes counts step =
+        served_reply (Ok (Edit id base patch)) step.1 read
+        (same_edit b ds g.room base patch was ∙ ap result_ok makes) refl step.3 (counts fault step.1 refl step.2)

@@ -27,12 +27,7 @@ answered made s i short text asked old new at space read serves =
     let there = session_there old.sessions s i at in
     rw (there.1, read) (space there.0 there.1, serves there.0 there.1)
 
--- a session that resumes keeps its number
-pub resumes-number : (rev id : ℕ) (pointers : View) (how : CatchUp) (x : Session) → (resumes rev id pointers how x).number ≡ x.number
-resumes-number rev id pointers Nothing x = refl
-resumes-number rev id pointers _ x = refl
-
--- and it watches the view that it names
+-- a session that resumes watches the view that it names
 pub resumes-view : (rev id : ℕ) (pointers : View) (how : CatchUp) (x : Session) → (resumes rev id pointers how x).view ≡ Some pointers
 resumes-view rev id pointers Nothing x = refl
 resumes-view rev id pointers _ x = refl

@@ -7,11 +7,11 @@ use Rattle.std.proofs.lemmas.Bool.Decides.{eqb_tells, leb_tells, nat_tests}
 use Rattle.std.proofs.lemmas.List.Folds.{find-set, find_past, find_at, find-append}
 use Rattle.std.proofs.lemmas.Option.{slice_get_past, slice_get-get_or}
 use Rattle.relay_outbox.specs.declared.outbox.TheConstants.{MAX_REPLIES}
-use Rattle.relay_hub.specs.Call.{ChangesBy, HasRoom, IsFull}
+use Rattle.relay_hub.specs.Call.{HasRoom, IsFull}
 use Rattle.relay_hub.specs.Session.{Session}
 use Rattle.relay_hub.specs.State.{session_in, is_number, EachOnce}
 use Rattle.relay_hub.specs.Step.{OnlyAt}
-use Rattle.relay_hub.proofs.Places.{by_number, tested, untested}
+use Rattle.relay_hub.proofs.Cases.{by_number, tested, untested}
 
 -- The place of a session.
 
@@ -29,7 +29,7 @@ place_within xs s i h =
     let within : n < length xs = grind (arith, nat_tests, t.0) in
     (omega (arith, t.1, within), t.1)
 
-found : (xs : List Session) (s i : ℕ) → position (is_number s) xs ≡ Some i → session_in xs s ≡ slice_get xs i
+pub found : (xs : List Session) (s i : ℕ) → position (is_number s) xs ≡ Some i → session_in xs s ≡ slice_get xs i
 found xs s i h = rw (place_within xs s i h).1 (find_at (is_number s) xs)
 
 -- the session is the one at the place
@@ -105,14 +105,13 @@ session_in-set xs s i y h e t =
     ]
 
 -- a write at the place of a session changes that session alone
-pub set_changes : (xs : List Session) (s i : ℕ) (f : Session → Session) → ((x : Session) → (f x).number ≡ x.number) →
-    position (is_number s) xs ≡ Some i → (d : Session) → ChangesBy s f xs (slice_set xs i (f (get_or xs i d)))
-set_changes xs s i f keeps h d x e =
-    let y = get_or xs i d in
-    let number : (f y).number ≡ s = keeps y ∙ number_at xs s i d h in
+pub set_only : (xs : List Session) (s i : ℕ) (x y : Session) → position (is_number s) xs ≡ Some i → session_in xs s ≡ Some x → y.number ≡ x.number
+    → OnlyAt s (Some y) xs (slice_set xs i y)
+set_only xs s i x y at there keeps =
+    let same : y.number ≡ (get_or xs i x).number = keeps ∙ ap (λ (z : Session). z.number) (sym (same_session xs s i at x x there)) in
     record {
-      found = subst (λ z. IsOnly s (Some (f z)) xs (slice_set xs i (f y))) (same_session xs s i h d x e) (session_in-set xs s i (f y) h number);
-      once = once_set xs i (f y) d (keeps y);
+      found = session_in-set xs s i y at (same ∙ number_at xs s i x at);
+      once = once_set xs i y x same;
     }
 
 -- A session is removed.
@@ -164,17 +163,16 @@ filter_removes xs s = record { found = session_in-others xs s; once = once_other
 
 -- The outbox of a session.
 
--- if a reply fits in the outbox of a session, it fits in that of the session at its place
-pub room_at : (xs : List Session) (s i : ℕ) → position (is_number s) xs ≡ Some i → HasRoom xs s → (d : Session) → length (get_or xs i d).outbox.replies < MAX_REPLIES
-room_at xs s i h space d = space (get_or xs i d) (found_at xs s i h d)
-
--- an outbox is full, or a reply fits
-pub full_or_room : (xs : List Session) (s i : ℕ) → position (is_number s) xs ≡ Some i → (y : Session) → y ≡ get_or xs i y → length y.outbox.replies ≤ MAX_REPLIES →
+-- the outbox of a session is full, or a reply fits
+pub full_or_room : (xs : List Session) (s : ℕ) (y : Session) → session_in xs s ≡ Some y → length y.outbox.replies ≤ MAX_REPLIES →
     MatchBool (nat_le MAX_REPLIES (length y.outbox.replies)) (IsFull xs s) (HasRoom xs s)
-full_or_room xs s i h y at within =
+full_or_room xs s y there within =
     let n = length y.outbox.replies in
     let same : (x : Session) → session_in xs s ≡ Some x → length x.outbox.replies ≡ n =
-    λ x e. ap (λ (z : Session). length z.outbox.replies) (sym (at ∙ same_session xs s i h y x e)) in
+    λ x e.
+    let both : Some x ≡ Some y = sym e ∙ there in
+    let one : x ≡ y = cc in
+    ap (λ (z : Session). length z.outbox.replies) one in
     elim (leb_tells MAX_REPLIES n) [
       | inl e ↦ rw e.0 (λ x k. let is : length x.outbox.replies ≡ n = same x k in omega (arith, e.1, within))
       | inr e ↦ rw e.0 (λ x k. let is : length x.outbox.replies ≡ n = same x k in omega (arith, e.1))

@@ -1,7 +1,6 @@
 -- A hub that gives back what it can stays a hub, and stands for the same log.
-use Rattle.std.proofs.Common.{◌≡◌, ℕ, zero, suc, ◌+◌, ◌≤◌, ◌==◌, inl, inr, Bool, true, false, cond, not, List, [], ◌∷◌, length, map, Option, Some, None, refl, sym, ◌∙◌, ap, slice_get, slice_set, option_map, option_and_then, bytes_eq, nat_lt, arith, if◌then◌else◌}
+use Rattle.std.proofs.Common.{◌≡◌, ℕ, ◌+◌, ◌==◌, Bool, true, false, cond, not, List, [], ◌∷◌, map, Option, Some, None, refl, sym, ◌∙◌, ap, slice_get, option_map, option_and_then, bytes_eq, if◌then◌else◌}
 use Rattle.std.specs.List.{position_or_len}
-use Rattle.std.proofs.lemmas.Bool.Decides.{eqb_tells, leb_tells, nat_tests}
 use Rattle.std.proofs.lemmas.List.{length-map}
 use Rattle.std.proofs.lemmas.Option.{slice_get-map}
 use Rattle.relay_outbox.specs.Outbox.{Line}
@@ -21,7 +20,6 @@ use Rattle.relay_hub.specs.Watched.{IsIndexed}
 use Rattle.relay_hub.specs.declared.config.HubConfig.{HubConfig}
 use Rattle.relay_hub.proofs.Documents.{trimmed_stands}
 use Rattle.relay_hub.proofs.Follow.{EachLeads-left, Follows-snapshot}
-use Rattle.relay_hub.proofs.Places.{slice_get-set, slice_get-set_other}
 use Rattle.relay_hub.proofs.Rising.{same_rises}
 
 -- Sessions.
@@ -173,50 +171,3 @@ module _ (b : HubConfig) (E : Log) (hub : State) (h : StandsFor b E hub) where
     others = λ name none. h.others name (sym (shed_names name budget hub.rooms) ∙ none);
     sessions = λ t. home_stands t (place_of hub t) (h.sessions t);
   }
-
-same_slots : {X : Type 0} (xs ys : List X) → ((p : ℕ) → slice_get xs p ≡ slice_get ys p) → xs ≡ ys
-same_slots [] [] h = refl
-same_slots [] (y ∷ ys) h = absurd (cc (h 0))
-same_slots (x ∷ xs) [] h = absurd (cc (h 0))
-same_slots (x ∷ xs) (y ∷ ys) h = let e = h 0 in let first : x ≡ y = cc in (λ i. first i ∷ same_slots xs ys (λ p. h (suc p)) i)
-
--- Written one by one.
-
--- the first i of a list are mapped, and the others are not yet
-abbrev pub MappedTo : {X : Type 0} (f : X → X) (i : ℕ) (old new : List X) → Type 0
-MappedTo f i old new = (p : ℕ) → slice_get new p ≡ (if nat_lt p i then option_map f (slice_get old p) else slice_get old p)
-
-pub none_mapped : {X : Type 0} (f : X → X) (xs : List X) → MappedTo f 0 xs xs
-none_mapped f xs p = let none : nat_lt p 0 ≡ false = grind (arith, nat_tests) in rw none refl
-
--- one more
-pub one_mapped : {X : Type 0} (f : X → X) (i : ℕ) (old mid : List X) (x : X) → MappedTo f i old mid → slice_get mid i ≡ Some x → MappedTo f (i + 1) old (slice_set mid i (f x))
-one_mapped f i old mid x h at p =
-    elim (eqb_tells p i) [
-      | inl same ↦
-          let less : nat_lt p (i + 1) ≡ true = grind (arith, nat_tests, same.1) in
-          let not_yet : nat_lt i i ≡ false = grind (arith, nat_tests) in
-          let was : slice_get old i ≡ Some x = (rw not_yet at (sym (h i))) ∙ at in
-          rw (less, same.1, slice_get-set mid i x (f x) at, was) refl
-      | inr other ↦
-          let same : nat_lt p (i + 1) ≡ nat_lt p i = grind (arith, nat_tests, other.1) in
-          rw (slice_get-set_other mid i p (f x) other.1, same) (h p)
-    ]
-
--- all of them
-pub all_mapped : {X : Type 0} (f : X → X) (i : ℕ) (old new : List X) → i ≡ length old → MappedTo f i old new → new ≡ map f old
-all_mapped {X = X} f i old new all h = same_slots new (map f old) (λ p. h p ∙ step p ∙ sym (slice_get-map f old p))
-  where
-    past : (xs : List X) (p : ℕ) → length xs ≤ p → slice_get xs p ≡ None
-    past [] p h = refl
-    past (x ∷ xs) zero h = absurd (omega (arith, h))
-    past (x ∷ xs) (suc p) h = past xs p (omega (arith, h))
-
-    step : (p : ℕ) → (if nat_lt p i then option_map f (slice_get old p) else slice_get old p) ≡ option_map f (slice_get old p)
-    step p = elim (leb_tells i p) [
-      | inl late ↦
-          let no : nat_lt p i ≡ false = grind (arith, nat_tests, late.1) in
-          let none : slice_get old p ≡ None = past old p (omega (arith, late.1, all)) in
-          rw (no, none) refl
-      | inr soon ↦ let yes : nat_lt p i ≡ true = grind (arith, nat_tests, soon.1) in rw yes refl
-    ]

@@ -23,10 +23,9 @@ use Rattle.relay_hub.specs.declared.event.Heard.TheVariants.{Answered, Busy}
 use Rattle.relay_hub.proofs.Counts.{edit_refusal_counts}
 use Rattle.relay_hub.proofs.Doors.{open_stands, close_stands}
 use Rattle.relay_hub.proofs.Draws.{draw_stands}
-use Rattle.relay_hub.proofs.Edits.{served_edit}
 use Rattle.relay_hub.proofs.Frames.{Quiet, unaffected, session_stands}
-use Rattle.relay_hub.proofs.Places.{slice_set_same}
-use Rattle.relay_hub.proofs.Served.{served_reply, served_watch, served_unwatch, served_resume}
+use Rattle.relay_hub.proofs.Lists.{slice_set_same}
+use Rattle.relay_hub.proofs.Served.{served_reply, served_watch, served_unwatch, served_resume, served_edit}
 
 -- What happens in the room of a session.
 

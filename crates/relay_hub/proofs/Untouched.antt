@@ -28,7 +28,7 @@ use Rattle.relay_hub.specs.Session.{with_line, told_line}
 use Rattle.relay_hub.specs.Step.{ToldView, ToldAs, Told, AllTold}
 use Rattle.relay_hub.proofs.Waiting.{by_due}
 use Rattle.relay_hub.specs.Watched.{IsIndexed, ToldIf, ToldAmong}
-use Rattle.relay_hub.proofs.Places.{by_number}
+use Rattle.relay_hub.proofs.Cases.{by_number}
 use Rattle.relay_hub.proofs.Rising.{once_rising}
 
 -- an outbox that is notified of nothing is unchanged, whether a snapshot is due or not

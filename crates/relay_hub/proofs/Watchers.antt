@@ -25,7 +25,7 @@ use Rattle.relay_hub.specs.declared.event.Event.TheVariants.{Receive}
 use Rattle.relay_hub.specs.declared.event.Heard.TheVariants.{Answered}
 use Rattle.relay_hub.proofs.Follow.{client_after-append}
 use Rattle.relay_hub.proofs.Frames.{here}
-use Rattle.relay_hub.proofs.Places.{slice_get-set, slice_get-set_other}
+use Rattle.relay_hub.proofs.Lists.{slice_get-set, slice_get-set_other}
 
 -- a session that has a room has it at a place
 at_place : (hub : State) (s : ℕ) (home : List ℕ × RoomSessions) → home_of hub s ≡ Some home → (place : ℕ) × (place_of hub s ≡ Some place) × (slice_get hub.rooms place ≡ Some home)

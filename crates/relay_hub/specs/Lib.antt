@@ -5,6 +5,7 @@ pub mod EncodedPatch
 pub mod Session
 pub mod Load
 pub mod Update
+pub mod Caller
 pub mod Log
 pub mod Refusal
 pub mod Step

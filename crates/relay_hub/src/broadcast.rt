@@ -12,7 +12,7 @@ ghost use Rattle.relay_hub.specs.CachedUpdate.{IsKept};
 ghost use Rattle.relay_hub.specs.Watched.{IsIndexed, ToldAmong};
 
 use crate::cached_update::{CachedUpdate, update_for};
-use crate::requests::position_of;
+use crate::caller::position_of;
 use crate::session::Session;
 use crate::update::Update;
 use relay_room::Room;

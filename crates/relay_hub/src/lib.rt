@@ -6,6 +6,7 @@
 
 mod broadcast;
 mod cached_update;
+mod caller;
 mod config;
 mod encoded_patch;
 mod entering;

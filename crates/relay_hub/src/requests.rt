@@ -1,20 +1,19 @@
 //! The work of the hub's calls, on a room, its open sessions and the index of the views that they watch.
-ghost use Rattle.std.specs.Prelude.{◌≡◌, ◌<◌, ◌≤◌, ◌-◌, ◌==◌, ℕ, List, Some, None, Ok, Err, IfOk, OnOk, OnErr, IsErrOf, IsSome, IsSomeAnd, length, option_map, nat_le, position, filter, not};
+ghost use Rattle.std.specs.Prelude.{◌≡◌, ◌<◌, ◌==◌, Some, None, Ok, IfOk, OnOk, OnErr, IsErrOf, IsSome, IsSomeAnd, option_map, nat_le};
 ghost use Rattle.std.specs.Bool.{MatchBool};
-ghost use Rattle.std.specs.List.Sorted.{IsPartitionPoint};
-ghost use Rattle.relay_outbox.specs.declared.outbox.TheConstants.{MAX_REPLIES};
+ghost use Rattle.std.specs.FinMap as map;
 ghost use Rattle.relay_room.specs.Edit.{edited};
 ghost use Rattle.relay_room.specs.Room.{revision};
 ghost use Rattle.relay_hub.specs.Call.{receiving, drawing, ReceivesIf, DrawsIf, ChangesBy, HasRoom, IsFull};
-ghost use Rattle.relay_room.specs.declared.catch_up.CatchUp.{CatchUp};
-ghost use Rattle.relay_hub.specs.Update.{update_of};
+ghost use Rattle.relay_hub.specs.Caller.{IsCaller};
 ghost use Rattle.relay_hub.specs.Refusal.{cause_word, edit_refusal};
-ghost use Rattle.relay_hub.specs.Session.{Session, replied, watches as watching, unwatches, resumes, waiting};
-ghost use Rattle.relay_hub.specs.State.{IsRising, room_sessions, is_number, numbers, session_in};
+ghost use Rattle.relay_hub.specs.Session.{Session, watches as watching, unwatches, waiting};
+ghost use Rattle.relay_hub.specs.State.{IsRising, room_sessions, numbers, session_in};
 ghost use Rattle.relay_hub.specs.Step.{EditServed, ResumeServed, Serves, OnlyAt};
 ghost use Rattle.relay_hub.specs.Watched.{IsIndexed};
 
 use crate::broadcast::broadcast_and_trim;
+use crate::caller::{Caller, session_at, session_mut};
 use crate::config::HubConfig;
 use crate::event::Heard;
 use crate::fault::HubFault;
@@ -28,49 +27,6 @@ use relay_translate::WatchIndex;
 use relay_tree::Budget;
 use relay_view::View;
 use std::alloc::{AllocError, Global};
-
-/// The place of the session with that number, which is there.
-pub fn place_in(sessions: &[Session], number: u64) -> usize
-    requires there { IsSome (session_in sessions.now number) }
-    requires rising { IsRising sessions.now }
-    ensures { position (is_number number) sessions.now ≡ Some result }
-{
-    let Some(place) = position_of(sessions, number) else {
-        unreachable!()
-    };
-    place
-}
-
-/// The session with that number, which is there.
-pub fn session_at(sessions: &[Session], number: u64) -> &Session
-    requires there { IsSome (session_in sessions.now number) }
-    requires rising { IsRising sessions.now }
-    ensures { session_in sessions.now number ≡ Some result.now }
-{
-    &sessions[place_in(sessions, number)]
-}
-
-/// The place of the session with that number, if there is one. A binary search, since the numbers rise.
-pub fn position_of(sessions: &[Session], number: u64) -> Option<usize>
-    requires { IsRising sessions.now }
-    ensures { result ≡ position (is_number number) sessions.now }
-{
-    let place = place_from(sessions, number);
-    let session = sessions.get(place)?;
-    if session.number() == number {
-        Some(place)
-    } else {
-        None
-    }
-}
-
-/// The number of sessions with lower numbers, which is the place of a session with that number.
-fn place_from(sessions: &[Session], number: u64) -> usize
-    requires { IsRising sessions.now }
-    ensures { IsPartitionPoint (λ x. x.number < number) (λ x. number ≤ x.number) sessions.now result }
-{
-    sessions.partition_point(|session| session.number() < number)
-}
 
 /// Serves a text from a session that is there. Adds exactly one reply to its outbox, unless 32 replies wait already.
 pub fn receive(
@@ -88,14 +44,14 @@ pub fn receive(
     ensures indexed { IsIndexed watches.new sessions.new }
     ensures no_memory { IsErrOf result HubFault.NoMemory → HasRoom sessions.old number }
 {
-    let place = place_in(sessions, number);
-    if is_full(sessions, number, place) {
+    let caller = Caller::find(sessions, number);
+    if is_full(sessions, caller) {
         return Ok(Heard::Busy);
     }
     let served = match Request::read(alloc, text) {
-        Ok(request) => perform(alloc, made, room, watches, sessions, number, place, request),
+        Ok(request) => perform(alloc, made, room, watches, sessions, caller, request),
         Err(RequestFault::Refused(refusal)) => {
-            reply_at(sessions, number, place, refusal.reply());
+            session_mut(sessions, caller).reply(refusal.reply());
             Ok(0)
         }
         Err(RequestFault::NoMemory) => Err(AllocError),
@@ -106,6 +62,14 @@ pub fn receive(
     }
 }
 
+/// Whether 32 replies wait for the caller.
+fn is_full(sessions: &[Session], caller: Caller) -> bool
+    requires { IsCaller sessions.now caller }
+    ensures { MatchBool result (IsFull sessions.now caller.number) (HasRoom sessions.now caller.number) }
+{
+    session_at(sessions, caller).is_full()
+}
+
 /// Does what a request asks. Returns how many outboxes folded because memory ran out.
 fn perform(
     alloc: Global,
@@ -113,54 +77,64 @@ fn perform(
     room: &mut Room,
     watches: &mut WatchIndex,
     sessions: &mut [Session],
-    number: u64,
-    place: usize,
+    caller: Caller,
     request: Request,
 ) -> Result<u64, AllocError>
-    requires place { position (is_number number) sessions.old ≡ Some place }
-    requires space { HasRoom sessions.old number }
+    requires caller { IsCaller sessions.old caller }
+    requires space { HasRoom sessions.old caller.number }
     requires indexed { IsIndexed watches.old sessions.old }
-    ensures ok { IfOk result (λ short. (x : Session) → session_in sessions.old number ≡ Some x →
-        Serves made number x (Ok request) short (room_sessions room.old sessions.old) (room_sessions room.new sessions.new)) }
+    ensures ok { IfOk result (λ short. (x : Session) → session_in sessions.old caller.number ≡ Some x →
+        Serves made caller.number x (Ok request) short (room_sessions room.old sessions.old) (room_sessions room.new sessions.new)) }
     ensures err { OnErr result (room_sessions room.new sessions.new ≡ room_sessions room.old sessions.old) }
     ensures indexed { IsIndexed watches.new sessions.new }
 {
     match request {
         Request::Edit { id, base, patch } => {
             let budget = made.history_weight;
-            edit(
-                alloc, budget, room, watches, sessions, number, place, id, base, &patch,
-            )
+            let request = EditRequest { id, base, patch };
+            edit(alloc, budget, room, watches, sessions, caller, &request)
         }
         Request::Watch { id, view } => {
-            watch(alloc, watches, sessions, number, place, id, view)?;
+            watch(alloc, watches, sessions, caller, id, view)?;
             Ok(0)
         }
         Request::Unwatch { id } => {
-            unwatch(watches, sessions, number, place, id);
+            unwatch(watches, sessions, caller, id);
             Ok(0)
         }
         Request::Resume {
             id,
-            epoch: named,
+            epoch,
             rev,
             view,
         } => {
-            resume(
-                alloc,
-                room,
-                watches,
-                sessions,
-                number,
-                place,
+            let request = ResumeRequest {
                 id,
-                named == made.epoch,
+                epoch,
                 rev,
                 view,
-            )?;
+            };
+            resume(alloc, made, room, watches, sessions, caller, request)?;
             Ok(0)
         }
     }
+}
+
+/// An edit, as [`Request::Edit`] has it.
+#[derive(Drop)]
+struct EditRequest {
+    id: u64,
+    base: Option<u64>,
+    patch: Patch,
+}
+
+/// A resume, as [`Request::Resume`] has it.
+#[derive(Drop)]
+struct ResumeRequest {
+    id: u64,
+    epoch: u64,
+    rev: u64,
+    view: View,
 }
 
 /// Makes the room's next document, replies to the sender, and notifies the watchers that the edit touches, the sender among them. Then the
@@ -171,30 +145,32 @@ fn edit(
     room: &mut Room,
     watches: &WatchIndex,
     sessions: &mut [Session],
-    number: u64,
-    place: usize,
-    id: u64,
-    base: Option<u64>,
-    patch: &Patch,
+    caller: Caller,
+    request: &EditRequest,
 ) -> Result<u64, AllocError>
-    requires place { position (is_number number) sessions.old ≡ Some place }
-    requires space { HasRoom sessions.old number }
+    requires caller { IsCaller sessions.old caller }
+    requires space { HasRoom sessions.old caller.number }
     requires indexed { IsIndexed watches.now sessions.old }
-    ensures ok { IfOk result (λ short. (x : Session) → session_in sessions.old number ≡ Some x →
-        EditServed budget number x id patch.now (edited room.old base patch.now) short (room_sessions room.old sessions.old) (room_sessions room.new sessions.new)) }
+    ensures ok { IfOk result (λ short. (x : Session) → session_in sessions.old caller.number ≡ Some x →
+        EditServed budget caller.number x request.now.id request.now.patch (edited room.old request.now.base request.now.patch) short
+        (room_sessions room.old sessions.old) (room_sessions room.new sessions.new)) }
     ensures err { OnErr result (room_sessions room.new sessions.new ≡ room_sessions room.old sessions.old) }
     ensures indexed { IsIndexed watches.now sessions.new }
 {
-    match room.edit(alloc, base, patch) {
+    match room.edit(alloc, request.base, &request.patch) {
         Ok(rev) => {
-            reply_at(sessions, number, place, Reply::Done { id, rev });
+            let done = Reply::Done {
+                id: request.id,
+                rev,
+            };
+            session_mut(sessions, caller).reply(done);
             Ok(broadcast_and_trim(alloc, budget, room, watches, sessions))
         }
         Err(fault) => {
-            let Some(reply) = edit_refusal(id, fault) else {
+            let Some(reply) = edit_refusal(request.id, fault) else {
                 return Err(AllocError);
             };
-            reply_at(sessions, number, place, reply);
+            session_mut(sessions, caller).reply(reply);
             Ok(0)
         }
     }
@@ -240,68 +216,64 @@ fn watch(
     alloc: Global,
     watches: &mut WatchIndex,
     sessions: &mut [Session],
-    number: u64,
-    place: usize,
+    caller: Caller,
     id: u64,
     view: View,
 ) -> Result<(), AllocError>
-    requires place { position (is_number number) sessions.old ≡ Some place }
-    requires space { HasRoom sessions.old number }
+    requires caller { IsCaller sessions.old caller }
+    requires space { HasRoom sessions.old caller.number }
     requires indexed { IsIndexed watches.old sessions.old }
-    ensures ok { OnOk result (ChangesBy number (watching id view) sessions.old sessions.new) }
+    ensures ok { OnOk result (ChangesBy caller.number (watching id view) sessions.old sessions.new) }
     ensures err { OnErr result (sessions.new ≡ sessions.old) }
     ensures indexed { IsIndexed watches.new sessions.new }
 {
-    let view = SharedView::new(alloc, view)?;
-    watches.put(alloc, number, view.get())?;
-    watch_at(sessions, number, place, id, view);
+    let view = put_view(alloc, watches, caller.number, view)?;
+    session_mut(sessions, caller).watch(id, view);
     Ok(())
 }
 
 /// Watches nothing from now on.
-fn unwatch(watches: &mut WatchIndex, sessions: &mut [Session], number: u64, place: usize, id: u64)
-    requires place { position (is_number number) sessions.old ≡ Some place }
-    requires space { HasRoom sessions.old number }
+fn unwatch(watches: &mut WatchIndex, sessions: &mut [Session], caller: Caller, id: u64)
+    requires caller { IsCaller sessions.old caller }
+    requires space { HasRoom sessions.old caller.number }
     requires indexed { IsIndexed watches.old sessions.old }
-    ensures unwatches { ChangesBy number (unwatches id) sessions.old sessions.new }
+    ensures unwatches { ChangesBy caller.number (unwatches id) sessions.old sessions.new }
     ensures indexed { IsIndexed watches.new sessions.new }
 {
-    watches.take_out(number);
-    unwatch_at(sessions, number, place, id);
+    watches.take_out(caller.number);
+    session_mut(sessions, caller).unwatch(id);
 }
 
-/// Resumes a view from revision `rev`, of this epoch (`present`) or of another one.
+/// Resumes a view from the revision that the request names. A resume from another epoch gets a snapshot.
 fn resume(
     alloc: Global,
+    made: HubConfig,
     room: &Room,
     watches: &mut WatchIndex,
     sessions: &mut [Session],
-    number: u64,
-    place: usize,
-    id: u64,
-    present: bool,
-    rev: u64,
-    view: View,
+    caller: Caller,
+    request: ResumeRequest,
 ) -> Result<(), AllocError>
-    requires place { position (is_number number) sessions.old ≡ Some place }
-    requires space { HasRoom sessions.old number }
+    requires caller { IsCaller sessions.old caller }
+    requires space { HasRoom sessions.old caller.number }
     requires indexed { IsIndexed watches.old sessions.old }
-    ensures ok { OnOk result ((x : Session) → session_in sessions.old number ≡ Some x →
-        ResumeServed present (nat_le rev (revision room.now)) id rev view number x (room_sessions room.now sessions.old) (room_sessions room.now sessions.new)) }
+    ensures ok { OnOk result ((x : Session) → session_in sessions.old caller.number ≡ Some x →
+        ResumeServed (request.epoch == made.epoch) (nat_le request.rev (revision room.now)) request.id request.rev request.view caller.number x
+        (room_sessions room.now sessions.old) (room_sessions room.now sessions.new)) }
     ensures err { OnErr result (sessions.new ≡ sessions.old) }
     ensures indexed { IsIndexed watches.new sessions.new }
 {
-    let how = if present {
-        let budget = budget_at(sessions, number, place);
-        match room.catch_up_within(alloc, rev, &view, budget) {
+    let how = if request.epoch == made.epoch {
+        let budget = session_at(sessions, caller).budget();
+        match room.catch_up_within(alloc, request.rev, &request.view, budget) {
             Ok(how) => how,
             Err(CatchFault::Future) => {
                 let refusal = Refusal {
                     fault: Word::Future,
-                    id: Some(id),
+                    id: Some(request.id),
                     at: None,
                 };
-                reply_at(sessions, number, place, refusal.reply());
+                session_mut(sessions, caller).reply(refusal.reply());
                 return Ok(());
             }
             Err(CatchFault::NoMemory) => return Err(AllocError),
@@ -310,10 +282,25 @@ fn resume(
         CatchUp::Snapshot
     };
     let update = Update::of(alloc, room.revision(), how)?;
-    let view = SharedView::new(alloc, view)?;
-    watches.put(alloc, number, view.get())?;
-    resume_at(sessions, number, place, id, view, update);
+    let view = put_view(alloc, watches, caller.number, request.view)?;
+    session_mut(sessions, caller).resume(request.id, view, update);
     Ok(())
+}
+
+/// Puts the view of a session into the index. Returns the view for the session to hold.
+fn put_view(
+    alloc: Global,
+    watches: &mut WatchIndex,
+    number: u64,
+    view: View,
+) -> Result<SharedView, AllocError>
+    ensures view { IfOk result (λ shared. shared ≡ view) }
+    ensures ok { OnOk result (watches.new ≡ map.insert watches.old number view) }
+    ensures err { OnErr result (watches.new ≡ watches.old) }
+{
+    let shared = SharedView::new(alloc, view)?;
+    watches.put(alloc, number, shared.get())?;
+    Ok(shared)
 }
 
 /// Removes and returns the text at the front of the outbox of a session that is there.
@@ -329,8 +316,8 @@ pub fn draw(
     ensures numbers { numbers sessions.new ≡ numbers sessions.old }
     ensures no_memory { IsErrOf result HubFault.NoMemory → IsSomeAnd (option_map waiting (session_in sessions.old number)) (λ n. 0 < n) }
 {
-    let place = place_in(sessions, number);
-    match sessions[place].draw(alloc, room) {
+    let caller = Caller::find(sessions, number);
+    match session_mut(sessions, caller).draw(alloc, room) {
         Ok(text) => Ok(text),
         Err(_) => Err(HubFault::NoMemory),
     }
@@ -344,65 +331,4 @@ pub fn remove(sessions: &mut Vec<Session>, watches: &mut WatchIndex, number: u64
 {
     watches.take_out(number);
     sessions.retain(|session| session.number() != number);
-}
-
-// One session of the list, by its number and its place.
-
-/// Whether 32 replies wait.
-fn is_full(sessions: &[Session], number: u64, place: usize) -> bool
-    requires { position (is_number number) sessions.now ≡ Some place }
-    ensures { MatchBool result (IsFull sessions.now number) (HasRoom sessions.now number) }
-{
-    sessions[place].is_full()
-}
-
-/// The most that its waiting patches may weigh together.
-fn budget_at(sessions: &[Session], number: u64, place: usize) -> Budget
-    requires { position (is_number number) sessions.now ≡ Some place }
-    ensures { (x : Session) → session_in sessions.now number ≡ Some x → result ≡ x.budget }
-{
-    sessions[place].budget()
-}
-
-fn reply_at(sessions: &mut [Session], number: u64, place: usize, reply: Reply)
-    requires place { position (is_number number) sessions.old ≡ Some place }
-    requires space { HasRoom sessions.old number }
-    ensures changes { ChangesBy number (replied reply) sessions.old sessions.new }
-    ensures numbers { numbers sessions.new ≡ numbers sessions.old }
-{
-    sessions[place].reply(reply);
-}
-
-fn watch_at(sessions: &mut [Session], number: u64, place: usize, id: u64, view: SharedView)
-    requires place { position (is_number number) sessions.old ≡ Some place }
-    requires space { HasRoom sessions.old number }
-    ensures changes { ChangesBy number (watching id view) sessions.old sessions.new }
-    ensures numbers { numbers sessions.new ≡ numbers sessions.old }
-{
-    sessions[place].watch(id, view);
-}
-
-fn unwatch_at(sessions: &mut [Session], number: u64, place: usize, id: u64)
-    requires place { position (is_number number) sessions.old ≡ Some place }
-    requires space { HasRoom sessions.old number }
-    ensures changes { ChangesBy number (unwatches id) sessions.old sessions.new }
-    ensures numbers { numbers sessions.new ≡ numbers sessions.old }
-{
-    sessions[place].unwatch(id);
-}
-
-fn resume_at(
-    sessions: &mut [Session],
-    number: u64,
-    place: usize,
-    id: u64,
-    view: SharedView,
-    update: Update,
-)
-    requires place { position (is_number number) sessions.old ≡ Some place }
-    requires space { HasRoom sessions.old number }
-    ensures changes { (rev : ℕ) (how : CatchUp) → update ≡ update_of rev how → ChangesBy number (resumes rev id view how) sessions.old sessions.new }
-    ensures numbers { numbers sessions.new ≡ numbers sessions.old }
-{
-    sessions[place].resume(id, view, update);
 }

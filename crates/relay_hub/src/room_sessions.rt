@@ -1,4 +1,5 @@
 //! A room with its open sessions, and an index of the views that they watch, by which an edit finds the sessions that it touches.
+use crate::caller::{Caller, session_at};
 use crate::config::HubConfig;
 use crate::event::Heard;
 use crate::fault::HubFault;
@@ -77,7 +78,8 @@ impl RoomSessions {
         requires { IsSome (session_in self.now.sessions number) }
         ensures { session_in self.now.sessions number ≡ Some result.now }
     {
-        requests::session_at(self.sessions.as_slice(), number)
+        let sessions = self.sessions.as_slice();
+        session_at(sessions, Caller::find(sessions, number))
     }
 
     /// Adds a session, which watches nothing, behind the others. Its number is above theirs. Out of memory changes nothing.

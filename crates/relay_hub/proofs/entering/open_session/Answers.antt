@@ -3,7 +3,7 @@ use Rattle.std.specs.Prelude.{OnErr, slice_set}
 use Rattle.relay_hub.specs.Representation.{rooms_of}
 use Rattle.relay_hub.specs.State.{RoomSessions}
 use Rattle.relay_hub.proofs.Representation.{never_unnamed, written}
-use Rattle.relay_hub.proofs.Places.{slice_set_same}
+use Rattle.relay_hub.proofs.Lists.{slice_set_same}
 use Rattle.relay_hub.proofs.entering.open_session.Goals as goal
 
 on_err : {A E P : Type 0} (r : Result A E) → P → OnErr r P

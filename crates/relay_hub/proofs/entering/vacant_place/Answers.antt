@@ -4,7 +4,7 @@ use Rattle.std.proofs.lemmas.List.{length-map}
 use Rattle.std.proofs.lemmas.Option.{slice_get_within}
 use Rattle.relay_hub.specs.Representation.{named, rooms_of}
 use Rattle.relay_hub.specs.State.{RoomSessions, is_untouched}
-use Rattle.relay_hub.proofs.Places.{position_first, position_none}
+use Rattle.relay_hub.proofs.Lists.{position_first, position_none}
 use Rattle.relay_hub.proofs.Representation.{room_at}
 use Rattle.relay_hub.proofs.entering.vacant_place.Goals as goal
 

@@ -1,31 +1,82 @@
-use Rattle.std.proofs.Common.{refl, ◌-◌}
+use Rattle.std.proofs.Common.{refl, ap, rules, slice_set}
 use Rattle.relay_patch.specs.Change.{all_changes}
-use Rattle.relay_history.specs.History.{Reaches, changes_since}
 use Rattle.relay_proto.specs.declared.reply.Reply.TheVariants.{Done}
-use Rattle.relay_room.specs.Room.{State as Room, revision}
-use Rattle.relay_hub.specs.Session.{replied}
-use Rattle.relay_hub.proofs.Documents.{newest_reached}
-use Rattle.relay_hub.proofs.Indexed.{changed_same, told_indexed}
+use Rattle.relay_room.specs.Room.{State as Room}
+use Rattle.relay_hub.specs.Session.{Session, replied}
+use Rattle.relay_hub.specs.Step.{GoesOn}
+use Rattle.relay_hub.proofs.Callers.{written_by, written_same}
+use Rattle.relay_hub.proofs.Documents.{newest_changes}
+use Rattle.relay_hub.proofs.Indexed.{told_indexed}
 use Rattle.relay_hub.proofs.requests.edit.Goals as goal
+
+pub reply-requires : goal.reply-requires
+reply-requires c = c.requires.space c.session_mut.result.now c.session_mut.ensures.found
+
+pub reply-requires-in-Err : goal.reply-requires-in-Err
+reply-requires-in-Err c = c.requires.space c.session_mut-in-Err.result.now c.session_mut-in-Err.ensures.found
 
 pub broadcast_and_trim-requires-clause-indexed : goal.broadcast_and_trim-requires-clause-indexed
 broadcast_and_trim-requires-clause-indexed c =
-    changed_same c.args.sessions.now c.reply_at.new.sessions c.args.number c.args.place c.requires.place (replied (Done c.args.id c.in-Ok.rev)) c.reply_at.ensures.changes c.reply_at.ensures.numbers
-    c.args.watches.now c.requires.indexed (λ x. refl)
+    let x = c.session_mut.result.now in
+    let there = c.session_mut.ensures.found in
+    let number = ap (λ (y : Session). y.number) c.reply.ensures in
+    let view = ap (λ (y : Session). y.view) c.reply.ensures in
+    written_same c.args.sessions.now c.args.caller c.requires.caller x there c.reply.new.self number c.args.watches.now c.requires.indexed view
 
 pub returns-in-Ok-clause-indexed : goal.returns-in-Ok-clause-indexed
 returns-in-Ok-clause-indexed c =
-    let room : Room = c.edit.new.self in
-    let before = revision room - 1 in
-    let reaches : Reaches room.history before =
-    newest_reached c.args.room.now.history room.history (all_changes c.args.room.now.document c.args.patch.now) c.in-Ok.ensures.kept.history c.in-Ok.ensures.history in
-    let led = c.in-Ok.ensures.kept.led before reaches in
-    told_indexed led.0 (changes_since before room.history) room c.reply_at.new.sessions c.broadcast_and_trim.new.sessions c.broadcast_and_trim.result
-    (c.broadcast_and_trim.ensures.told led.0 (changes_since before room.history) refl led.1) c.args.watches.now
-    (changed_same c.args.sessions.now c.reply_at.new.sessions c.args.number c.args.place c.requires.place (replied (Done c.args.id c.in-Ok.rev)) c.reply_at.ensures.changes c.reply_at.ensures.numbers
-    c.args.watches.now c.requires.indexed (λ x. refl))
+    let old = c.args.room.now in
+    let told : Room = c.edit.new.self in
+    let changes = all_changes old.document c.args.request.now.patch in
+    let since = newest_changes old.history told.history changes c.in-Ok.ensures.kept.history c.in-Ok.ensures.history in
+    let all_told = c.broadcast_and_trim.ensures.told old.document changes since c.in-Ok.ensures.led in
+    let xs = c.args.sessions.now in
+    let ys = slice_set xs c.args.caller.place c.reply.new.self in
+    let x = c.session_mut.result.now in
+    let there = c.session_mut.ensures.found in
+    let number = ap (λ (y : Session). y.number) c.reply.ensures in
+    let view = ap (λ (y : Session). y.view) c.reply.ensures in
+    let replied = written_same xs c.args.caller c.requires.caller x there c.reply.new.self number c.args.watches.now c.requires.indexed view in
+    told_indexed old.document changes told ys c.broadcast_and_trim.new.sessions c.broadcast_and_trim.result all_told c.args.watches.now replied
 
 pub returns-in-Some-clause-indexed : goal.returns-in-Some-clause-indexed
 returns-in-Some-clause-indexed c =
-    changed_same c.args.sessions.now c.reply_at-in-Err.new.sessions c.args.number c.args.place c.requires.place (replied c.in-Some.reply) c.reply_at-in-Err.ensures.changes c.reply_at-in-Err.ensures.numbers
-    c.args.watches.now c.requires.indexed (λ x. refl)
+    let x = c.session_mut-in-Err.result.now in
+    let there = c.session_mut-in-Err.ensures.found in
+    let number = ap (λ (y : Session). y.number) c.reply-in-Err.ensures in
+    let view = ap (λ (y : Session). y.view) c.reply-in-Err.ensures in
+    written_same c.args.sessions.now c.args.caller c.requires.caller x there c.reply-in-Err.new.self number c.args.watches.now c.requires.indexed view
+
+pub returns-in-Ok-clause-ok : goal.returns-in-Ok-clause-ok
+returns-in-Ok-clause-ok c = λ x e.
+    let old = c.args.room.now in
+    let told : Room = c.edit.new.self in
+    let patch = c.args.request.now.patch in
+    let changes = all_changes old.document patch in
+    let since = newest_changes old.history told.history changes c.in-Ok.ensures.kept.history c.in-Ok.ensures.history in
+    let all_told = c.broadcast_and_trim.ensures.told old.document changes since c.in-Ok.ensures.led in
+    let goes_on : GoesOn old patch told.document told = record {
+      document = refl;
+      history = c.in-Ok.ensures.history;
+      leads = c.in-Ok.ensures.led;
+      is = c.in-Ok.ensures.kept;
+    } in
+    let xs = c.args.sessions.now in
+    let was = c.session_mut.result.now in
+    let there = c.session_mut.ensures.found in
+    let number = ap (λ (y : Session). y.number) c.reply.ensures in
+    let done = replied (Done c.args.request.now.id c.in-Ok.rev) in
+    let only = written_by xs c.args.caller c.requires.caller was there c.reply.new.self number done c.reply.ensures x e in
+    let ys = slice_set xs c.args.caller.place c.reply.new.self in
+    rw c.in-Ok.ensures.document
+    (told, goes_on, ys, rw c.in-Ok.ensures.revision.1 at only, all_told, c.broadcast_and_trim.ensures.trimmed)
+
+pub returns-in-Some-clause-ok : goal.returns-in-Some-clause-ok
+returns-in-Some-clause-ok c = λ x e.
+    let xs = c.args.sessions.now in
+    let was = c.session_mut-in-Err.result.now in
+    let there = c.session_mut-in-Err.ensures.found in
+    let number = ap (λ (y : Session). y.number) c.reply-in-Err.ensures in
+    let refused = replied c.in-Some.reply in
+    let only = written_by xs c.args.caller c.requires.caller was there c.reply-in-Err.new.self number refused c.reply-in-Err.ensures x e in
+    search (rules, only)

@@ -1,10 +1,24 @@
 use Rattle.std.proofs.Common.{refl}
 use Rattle.relay_hub.specs.Session.{watches}
-use Rattle.relay_hub.proofs.Indexed.{changed_put}
+use Rattle.relay_hub.proofs.Callers.{written_by, written_put}
 use Rattle.relay_hub.proofs.requests.watch.Goals as goal
+
+pub watch-requires : goal.watch-requires
+watch-requires c = c.requires.space c.session_mut.result.now c.session_mut.ensures.found
+
+pub returns-clause-ok : goal.returns-clause-ok
+returns-clause-ok c =
+    let x = c.session_mut.result.now in
+    let there = c.session_mut.ensures.found in
+    let now = watches c.args.id c.args.view in
+    rw (c.watch.ensures, c.in_ok-view.ensures.view)
+    (written_by c.args.sessions.now c.args.caller c.requires.caller x there (now x) refl now refl)
 
 pub returns-clause-indexed : goal.returns-clause-indexed
 returns-clause-indexed c =
-    let v = c.in_ok-view.view in
-    rw (c.in_ok-put.ensures.ok, c.get.ensures) (changed_put c.args.sessions.now c.watch_at.new.sessions c.args.number c.args.place c.requires.place (watches c.args.id v) c.watch_at.ensures.changes c.watch_at.ensures.numbers
-    c.args.watches.now c.requires.indexed v (λ x. refl))
+    let x = c.session_mut.result.now in
+    let there = c.session_mut.ensures.found in
+    let view = c.args.view in
+    let now = watches c.args.id view in
+    rw (c.in_ok-view.ensures.ok, c.watch.ensures, c.in_ok-view.ensures.view)
+    (written_put c.args.sessions.now c.args.caller c.requires.caller x there (now x) refl c.args.watches.now c.requires.indexed view refl)

@@ -5,7 +5,7 @@ use Rattle.relay_hub.specs.Representation.{named, rooms_of}
 use Rattle.relay_hub.specs.Shed.{shed_named}
 use Rattle.relay_hub.specs.State.{RoomSessions}
 use Rattle.relay_hub.proofs.Representation.{written}
-use Rattle.relay_hub.proofs.Shedding.{MappedTo, one_mapped, all_mapped}
+use Rattle.relay_hub.proofs.Lists.{MappedTo, one_mapped, all_mapped}
 use Rattle.relay_hub.proofs.shed.shed_rooms.Goals as goal
 
 pub loop-place-preserved : goal.loop-place-preserved

@@ -1,7 +1,7 @@
 use Rattle.std.proofs.Common.{◌≡◌, length}
 use Rattle.relay_hub.specs.Representation.{rooms_of}
 use Rattle.relay_hub.specs.Shed.{shed_named}
-use Rattle.relay_hub.proofs.Shedding.{MappedTo}
+use Rattle.relay_hub.proofs.Lists.{MappedTo}
 use Rattle.relay_hub.proofs.shed.shed_rooms.Given as goal
 
 abbrev pub invariant-loop-place : goal.invariant-loop-place

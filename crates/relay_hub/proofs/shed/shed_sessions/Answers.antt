@@ -1,6 +1,6 @@
 use Rattle.std.proofs.Common.{arith}
 use Rattle.relay_hub.specs.Shed.{shed_session}
-use Rattle.relay_hub.proofs.Shedding.{all_mapped}
+use Rattle.relay_hub.proofs.Lists.{all_mapped}
 use Rattle.relay_hub.proofs.shed.shed_sessions.Goals as goal
 
 pub returns : goal.returns

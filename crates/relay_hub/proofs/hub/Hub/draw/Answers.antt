@@ -1,9 +1,9 @@
-use Rattle.std.proofs.Common.{refl, sym}
+use Rattle.std.proofs.Common.{sym}
 use Rattle.relay_hub.specs.Call.{StepIf, drawing}
 use Rattle.relay_hub.specs.Representation.{hub_of}
 use Rattle.relay_hub.specs.State.{RoomSessions}
 use Rattle.relay_hub.specs.declared.event.Event.TheVariants.{Draw}
-use Rattle.relay_hub.proofs.Representation.{never_missing, session_there, session_is, hub_with, draws, stays_hub}
+use Rattle.relay_hub.proofs.Representation.{never_missing, is_there, session_is, hub_with, draws, stays_hub}
 use Rattle.relay_hub.proofs.Stands.{call_stands}
 use Rattle.relay_hub.proofs.hub.Hub.draw.Goals as goal
 
@@ -20,8 +20,7 @@ unreachable-requires c = never_missing c.self.inside c.args.session c.in-Some.pl
 
 pub draw-requires : goal.draw-requires
 draw-requires c =
-    let there = session_there c.self.inside c.args.session c.in-Some.place.now c.self.invariant (sym c.in-Some.ensures.value) c.in-Some-get_index_mut.room_sessions.now (sym c.in-Some-get_index_mut.ensures.value) in
-    rw there.1 refl
+    is_there c.self.inside c.args.session c.in-Some.place.now c.self.invariant (sym c.in-Some.ensures.value) c.in-Some-get_index_mut.room_sessions.now (sym c.in-Some-get_index_mut.ensures.value)
 
 pub invariant_of-self : goal.invariant_of-self
 invariant_of-self c = stays_hub (hub_of c.self.inside) (hub_with c.self.inside c.in-Some.place.now (left c)) (Draw c.args.session) (drawing c.draw.result) c.self.invariant (step c)

@@ -1,6 +1,6 @@
 use Rattle.std.proofs.Common.{sym, ◌∙◌, ap}
 use Rattle.relay_hub.proofs.Rising.{found_there, found_nowhere, found_past}
-use Rattle.relay_hub.proofs.requests.position_of.Goals as goal
+use Rattle.relay_hub.proofs.caller.position_of.Goals as goal
 
 pub returns-in_err-session : goal.returns-in_err-session
 returns-in_err-session c =

@@ -1,25 +1,12 @@
--- Finding by number and by place, in lists in which an element was changed or added.
-use Rattle.std.proofs.Common.{◌≡◌, ◌≢◌, ℕ, zero, suc, ◌+◌, ◌<◌, ◌==◌, ◌⊎◌, inl, inr, Bool, true, false, List, [], ◌∷◌, ◌++◌, length, get_or, not, length-append, Option, Some, None, refl, sym, ◌∙◌, ap, subst, arith, slice_get, slice_set, position, nat_lt, if◌then◌else◌}
+-- Lists in which elements were written, appended or mapped, and the first place that passes a test.
+use Rattle.std.proofs.Common.{◌≡◌, ◌≢◌, ℕ, zero, suc, ◌+◌, ◌<◌, ◌==◌, ◌⊎◌, inl, inr, Bool, true, false, List, [], ◌∷◌, ◌++◌, length, get_or, not, map, length-append, Some, None, refl, sym, ◌∙◌, ap, arith, slice_get, slice_set, option_map, position, nat_lt, if◌then◌else◌}
 use Rattle.std.specs.List.{position_or_len}
-use Rattle.std.proofs.lemmas.Bool.Decides.{nat_tests}
+use Rattle.std.proofs.lemmas.Bool.Decides.{nat_tests, eqb_tells, leb_tells}
 use Rattle.std.proofs.lemmas.List.{length-set}
 use Rattle.std.proofs.lemmas.List.Folds.{position_or_len-set, position_or_len_push}
 use Rattle.std.proofs.lemmas.List.Sums.{prefix_len-le-length}
-use Rattle.std.proofs.lemmas.Option.{get_or_from_slice_get, slice_get_within}
-use Rattle.std.proofs.lemmas.Bool.Decides.{eqb_tells}
-
--- cases on whether two numbers are the same
-pub by_number : (P : ℕ → Bool → Type 0) (s t : ℕ) → P s true → (s ≢ t → P t false) → P t (s == t)
-by_number P s t same other =
-    elim (eqb_tells s t) [
-      | inl h ↦ rw h.0 (subst (λ u. P u true) h.1 same)
-      | inr h ↦ rw h.0 (other h.1)
-    ]
-
--- cases on whether there is a value
-pub by_finding : {X : Type 0} (P : Type 0) (o : Option X) → (o ≡ None → P) → ((x : X) → o ≡ Some x → P) → P
-by_finding P None none some = none refl
-by_finding P (Some x) none some = some x refl
+use Rattle.std.proofs.lemmas.Option.{get_or_from_slice_get, slice_get_within, slice_get_past, slice_get-map}
+use Rattle.relay_hub.proofs.Cases.{tested, untested}
 
 -- after a write, what is found is the new element, or another place's
 pub slice_set_cases : {X : Type 0} (xs : List X) (i p : ℕ) (v x : X) → slice_get (slice_set xs i v) p ≡ Some x
@@ -70,15 +57,6 @@ slice_get-last [] d = refl
 slice_get-last (y ∷ ys) d = slice_get-last ys d
 
 -- The first place that passes a test.
-
--- what follows if a place is found or not
-pub tested : (b : Bool) (n i : ℕ) → (if b then Some n else None) ≡ Some i → (b ≡ true) × (i ≡ n)
-tested true n i h = (refl, cc)
-tested false n i h = absurd (cc h)
-
-pub untested : (b : Bool) (n : ℕ) → (if b then Some n else None) ≡ None → b ≡ false
-untested true n h = absurd (cc h)
-untested false n h = refl
 
 pub position_within : {X : Type 0} (test : X → Bool) (xs : List X) (i : ℕ) → position test xs ≡ Some i → i < length xs
 position_within test xs i h =
@@ -165,3 +143,45 @@ position_none {X = X} test xs fails =
         let no : test y ≡ false = fails 0 y refl in
         let rest = go ys (λ p z is. fails (suc p) z is) in
         rw no (omega (arith, rest))
+
+same_slots : {X : Type 0} (xs ys : List X) → ((p : ℕ) → slice_get xs p ≡ slice_get ys p) → xs ≡ ys
+same_slots [] [] h = refl
+same_slots [] (y ∷ ys) h = absurd (cc (h 0))
+same_slots (x ∷ xs) [] h = absurd (cc (h 0))
+same_slots (x ∷ xs) (y ∷ ys) h = let e = h 0 in let first : x ≡ y = cc in (λ i. first i ∷ same_slots xs ys (λ p. h (suc p)) i)
+
+-- Mapped one by one.
+
+-- the first i of a list are mapped, and the others are not yet
+abbrev pub MappedTo : {X : Type 0} (f : X → X) (i : ℕ) (old new : List X) → Type 0
+MappedTo f i old new = (p : ℕ) → slice_get new p ≡ (if nat_lt p i then option_map f (slice_get old p) else slice_get old p)
+
+pub none_mapped : {X : Type 0} (f : X → X) (xs : List X) → MappedTo f 0 xs xs
+none_mapped f xs p = let none : nat_lt p 0 ≡ false = grind (arith, nat_tests) in rw none refl
+
+-- one more
+pub one_mapped : {X : Type 0} (f : X → X) (i : ℕ) (old mid : List X) (x : X) → MappedTo f i old mid → slice_get mid i ≡ Some x → MappedTo f (i + 1) old (slice_set mid i (f x))
+one_mapped f i old mid x h at p =
+    elim (eqb_tells p i) [
+      | inl same ↦
+          let less : nat_lt p (i + 1) ≡ true = grind (arith, nat_tests, same.1) in
+          let not_yet : nat_lt i i ≡ false = grind (arith, nat_tests) in
+          let was : slice_get old i ≡ Some x = (rw not_yet at (sym (h i))) ∙ at in
+          rw (less, same.1, slice_get-set mid i x (f x) at, was) refl
+      | inr other ↦
+          let same : nat_lt p (i + 1) ≡ nat_lt p i = grind (arith, nat_tests, other.1) in
+          rw (slice_get-set_other mid i p (f x) other.1, same) (h p)
+    ]
+
+-- all of them
+pub all_mapped : {X : Type 0} (f : X → X) (i : ℕ) (old new : List X) → i ≡ length old → MappedTo f i old new → new ≡ map f old
+all_mapped f i old new all h = same_slots new (map f old) (λ p. h p ∙ step p ∙ sym (slice_get-map f old p))
+  where
+    step : (p : ℕ) → (if nat_lt p i then option_map f (slice_get old p) else slice_get old p) ≡ option_map f (slice_get old p)
+    step p = elim (leb_tells i p) [
+      | inl late ↦
+          let no : nat_lt p i ≡ false = grind (arith, nat_tests, late.1) in
+          let none : slice_get old p ≡ None = slice_get_past old p (omega (arith, late.1, all)) in
+          rw (no, none) refl
+      | inr soon ↦ let yes : nat_lt p i ≡ true = grind (arith, nat_tests, soon.1) in rw yes refl
+    ]
