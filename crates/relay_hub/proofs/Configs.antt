@@ -16,7 +16,7 @@ pub bad_history : (made : HubConfig) → (made.history < 1) ⊎ (MAX_REVISIONS <
 bad_history made (inl h) = inr (inr (inl h))
 bad_history made (inr h) = inr (inr (inr (inl h)))
 
-pub bad_waiting : (made : HubConfig) → (made.waiting < 1) ⊎ (MAX_PATCHES < made.waiting) → BadLimits made
+pub bad_waiting : (made : HubConfig) → (made.max_waiting_patches < 1) ⊎ (MAX_PATCHES < made.max_waiting_patches) → BadLimits made
 bad_waiting made (inl h) = inr (inr (inr (inr (inl h))))
 bad_waiting made (inr h) = inr (inr (inr (inr (inr (inl h)))))
 
@@ -33,8 +33,8 @@ none_bad made is (inl h) = absurd (omega (arith, h, is.counts.0))
 none_bad made is (inr (inl h)) = absurd (omega (arith, h, is.counts.1))
 none_bad made is (inr (inr (inl h))) = absurd (omega (arith, h, is.history.0))
 none_bad made is (inr (inr (inr (inl h)))) = absurd (omega (arith, h, is.history.1))
-none_bad made is (inr (inr (inr (inr (inl h))))) = absurd (omega (arith, h, is.waiting.0))
-none_bad made is (inr (inr (inr (inr (inr (inl h)))))) = absurd (omega (arith, h, is.waiting.1))
+none_bad made is (inr (inr (inr (inr (inl h))))) = absurd (omega (arith, h, is.max_waiting_patches.0))
+none_bad made is (inr (inr (inr (inr (inr (inl h)))))) = absurd (omega (arith, h, is.max_waiting_patches.1))
 none_bad made is (inr (inr (inr (inr (inr (inr (inl h))))))) = absurd (omega (arith, h, is.rooms.0))
 none_bad made is (inr (inr (inr (inr (inr (inr (inr (inl h)))))))) = absurd (omega (arith, h, is.rooms.1))
 none_bad made is (inr (inr (inr (inr (inr (inr (inr (inr (inl h))))))))) = absurd (omega (arith, h, is.sessions.0))

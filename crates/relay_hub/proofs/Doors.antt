@@ -40,8 +40,8 @@ number_left hub name h =
     last false false false true h = absurd (cc h)
     last false false false false h = refl
 
-newcomer_line : (most : ℕ) (made : HubConfig) (rev n : ℕ) → IsCount made.epoch → IsCount rev → IsCount n → made.waiting ≡ most → LineStands most (newcomer made rev n)
-newcomer_line most made rev n e r i same = record { limit = same; replies = ((e, r, i), tt); patches = tt }
+newcomer_line : (most : ℕ) (made : HubConfig) (rev n : ℕ) → IsCount made.epoch → IsCount rev → IsCount n → made.max_waiting_patches ≡ most → LineStands most (newcomer made rev n)
+newcomer_line most made rev n e r i same = record { max_waiting_patches = same; replies = ((e, r, i), tt); patches = tt }
 
 begun_led : (history rev : ℕ) (d : Document) → slice_get (null ∷ []) rev ≡ Some d → Leads d (changes_since rev (begun null 0 history).history) null
 begun_led history zero d at = cc
@@ -65,8 +65,8 @@ module _ (b : HubConfig) (E : Log) (old new : State) (name : List ℕ) (n : ℕ)
   epoch_counts : IsCount old.made.epoch
   epoch_counts = rw stands.made stands.is.counts.0
 
-  waiting_is : old.made.waiting ≡ b.waiting
-  waiting_is = ap (λ (made : HubConfig). made.waiting) stands.made
+  waiting_is : old.made.max_waiting_patches ≡ b.max_waiting_patches
+  waiting_is = ap (λ (made : HubConfig). made.max_waiting_patches) stands.made
 
   -- a session that was open before
   others_home : (t : ℕ) → n ≢ t → (home (entry (Open name) (Opened n) ∷ E) t ≡ home E t) × (watching b.epoch (entry (Open name) (Opened n) ∷ E) t ≡ watching b.epoch E t) × (place_of new t ≡ place_of old t)
@@ -83,8 +83,8 @@ module _ (b : HubConfig) (E : Log) (old new : State) (name : List ℕ) (n : ℕ)
       let same : known ≡ name = name_found old.rooms name known g i named at in
       let room = stands.rooms i known g at in
       let mine : (n == n) ≡ true = grind (arith, nat_tests) in
-      let welcome : LineStands b.waiting (newcomer old.made (revision g.room) n) =
-      newcomer_line b.waiting old.made (revision g.room) n epoch_counts room.is.history.last count waiting_is in
+      let welcome : LineStands b.max_waiting_patches (newcomer old.made (revision g.room) n) =
+      newcomer_line b.max_waiting_patches old.made (revision g.room) n epoch_counts room.is.history.last count waiting_is in
       record {
         made = step.made ∙ stands.made;
         is = stands.is;
@@ -124,8 +124,8 @@ module _ (b : HubConfig) (E : Log) (old new : State) (name : List ℕ) (n : ℕ)
       rw (named, is, stands.others name absent) founded_stands
   room_stands absent p known g (inr k) = stands.rooms p known g k.1
 
-  first_line : LineStands b.waiting (newcomer old.made 0 n)
-  first_line = newcomer_line b.waiting old.made 0 n epoch_counts (omega arith) count waiting_is
+  first_line : LineStands b.max_waiting_patches (newcomer old.made 0 n)
+  first_line = newcomer_line b.max_waiting_patches old.made 0 n epoch_counts (omega arith) count waiting_is
 
   found_stands : place_named name old.rooms ≡ None → Founds None (name, founded) old.rooms step.place new.rooms → StandsFor b (entry (Open name) (Opened n) ∷ E) new
   found_stands absent enters = record {
@@ -158,13 +158,13 @@ module _ (b : HubConfig) (E : Log) (old new : State) (name : List ℕ) (n : ℕ)
       cases p known g at = append_cases old.rooms p (name, founded) (known, g) (ap (λ rooms. slice_get rooms p) (sym enters.1) ∙ at)
 
       -- a session of an earlier room stays there
-      later_room_sessions : (t p : ℕ) (r : Option (List ℕ × RoomSessions)) → slice_get old.rooms p ≡ r → RoomSessionsStand b.waiting (documents E) t r (home E t) (watching b.epoch E t)
-          → RoomSessionsStand b.waiting (documents E) t (slice_get (old.rooms ++ (name, founded) ∷ []) p) (home E t) (watching b.epoch E t)
+      later_room_sessions : (t p : ℕ) (r : Option (List ℕ × RoomSessions)) → slice_get old.rooms p ≡ r → RoomSessionsStand b.max_waiting_patches (documents E) t r (home E t) (watching b.epoch E t)
+          → RoomSessionsStand b.max_waiting_patches (documents E) t (slice_get (old.rooms ++ (name, founded) ∷ []) p) (home E t) (watching b.epoch E t)
       later_room_sessions t p (Some r) at h = rw (slice_get-earlier old.rooms (name, founded) r p at) h
       later_room_sessions t p None at h = absurd h
 
-      later : (t : ℕ) (o : Option ℕ) → HomeStands b.waiting (documents E) old.rooms t o (home E t) (watching b.epoch E t)
-          → HomeStands b.waiting (documents E) (old.rooms ++ (name, founded) ∷ []) t o (home E t) (watching b.epoch E t)
+      later : (t : ℕ) (o : Option ℕ) → HomeStands b.max_waiting_patches (documents E) old.rooms t o (home E t) (watching b.epoch E t)
+          → HomeStands b.max_waiting_patches (documents E) (old.rooms ++ (name, founded) ∷ []) t o (home E t) (watching b.epoch E t)
       later t (Some p) h = later_room_sessions t p (slice_get old.rooms p) refl h
       later t None h = h
 
@@ -208,8 +208,8 @@ module _ (b : HubConfig) (E : Log) (old new : State) (name : List ℕ) (n : ℕ)
       other_named known p found differ = named_other old.rooms i v.name name known v.room_sessions founded v.there differ (λ same. absurd (cc (absent, ap (λ n. place_named n old.rooms) (sym same) ∙ found)))
 
       -- who is at home is so in another room
-      elsewhere : (t : ℕ) (o : Option ℕ) → HomeStands b.waiting (documents E) old.rooms t o (home E t) (watching b.epoch E t)
-          → HomeStands b.waiting (documents E) (slice_set old.rooms i (name, founded)) t o (home E t) (watching b.epoch E t)
+      elsewhere : (t : ℕ) (o : Option ℕ) → HomeStands b.max_waiting_patches (documents E) old.rooms t o (home E t) (watching b.epoch E t)
+          → HomeStands b.max_waiting_patches (documents E) (slice_set old.rooms i (name, founded)) t o (home E t) (watching b.epoch E t)
       elsewhere t (Some p) h =
           elim (eqb_tells p i) [
             | inl same ↦ absurd (rw (same.1, v.there, v.empty) at h)

@@ -92,5 +92,5 @@ draw_stands b E old s mine h text stands step =
     (λ other. refl)
     s (drawn x) mine.at at_home.0 step.1
     (λ t apart. let other : (s == t) ≡ false = grind (arith, nat_tests, apart) in rw other refl)
-    (line_drawn b.waiting x at_home.1)
-    (rw (same, step.0) (watch_drawn (documents E r.name) r.room_sessions.room x x.view o.replies o.patches o.due o.limit (watching b.epoch E s) reads at_home.2))
+    (line_drawn b.max_waiting_patches x at_home.1)
+    (rw (same, step.0) (watch_drawn (documents E r.name) r.room_sessions.room x x.view o.replies o.patches o.due o.max_waiting_patches (watching b.epoch E s) reads at_home.2))

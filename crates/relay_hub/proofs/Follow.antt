@@ -153,11 +153,11 @@ module _ (most : HubConfig) (ds : List Document) (d : Document) (w : Watching) (
       (λ none. waits none)
       (folded_follows o follows)
     where
-      waits : o.due ≡ false → Follows (ds ++ d ∷ []) w (later next w.view (line o.replies (o.patches ++ (revision next, ops) ∷ []) o.due o.limit))
+      waits : o.due ≡ false → Follows (ds ++ d ∷ []) w (later next w.view (line o.replies (o.patches ++ (revision next, ops) ∷ []) o.due o.max_waiting_patches))
       waits none =
           let before = map patch_message o.patches in
           let plain : Follows ds w before = rw (later_plain room o none) at follows in
-          let sent = line o.replies (o.patches ++ (revision next, ops) ∷ []) o.due o.limit in
+          let sent = line o.replies (o.patches ++ (revision next, ops) ∷ []) o.due o.max_waiting_patches in
           let lists : later next w.view sent ≡ before ++ Patch (revision next) ops ∷ [] = later_plain next sent none ∙ map-append patch_message o.patches ((revision next, ops) ∷ []) in
           subst (λ ms. Follows (ds ++ d ∷ []) w ms) (sym lists) (Follows-patch before ops plain leads)
 

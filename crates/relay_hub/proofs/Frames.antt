@@ -22,12 +22,12 @@ pub record Quiet (E : Log) (e : Entry) : Type 0 where
 
 -- a session of a room
 pub session_stands : (b : HubConfig) (E : Log) (hub : State) (t : ℕ) (r : RoomOf hub) → StandsFor b E hub → place_of hub t ≡ Some r.place
-    → SessionStands b.waiting (documents E) r.name r.room_sessions.room (session_in r.room_sessions.sessions t) (home E t) (watching b.epoch E t)
+    → SessionStands b.max_waiting_patches (documents E) r.name r.room_sessions.room (session_in r.room_sessions.sessions t) (home E t) (watching b.epoch E t)
 session_stands b E hub t r h at = rw (at, r.there) at (h.sessions t)
 
 -- a session that is open
 pub here : (b : HubConfig) (E : Log) (hub : State) (s : ℕ) (mine : Home hub s) → StandsFor b E hub
-    → (home E s ≡ Some mine.room.name) × LineStands b.waiting mine.session × WatchStands (documents E mine.room.name) mine.room.room_sessions.room mine.session (watching b.epoch E s)
+    → (home E s ≡ Some mine.room.name) × LineStands b.max_waiting_patches mine.session × WatchStands (documents E mine.room.name) mine.room.room_sessions.room mine.session (watching b.epoch E s)
 here b E hub s mine h = let found = session_stands b E hub s mine.room h mine.at in rw mine.is at found
 
 -- two rooms have different names
@@ -68,7 +68,7 @@ unaffected b E e hub h quiet same watches = record {
   known = λ name place there. quiet.rooms name ∙ h.known name place there;
   others = λ name none. same name ∙ h.others name none;
   sessions = λ t. rw (quiet.home t, watches t)
-      (home_stays b.waiting (documents E) (documents (e ∷ E)) hub.rooms t (place_of hub t) (home E t) (watching b.epoch E t) same (h.sessions t));
+      (home_stays b.max_waiting_patches (documents E) (documents (e ∷ E)) hub.rooms t (place_of hub t) (home E t) (watching b.epoch E t) same (h.sessions t));
 }
 
 -- an entry after which the room at a place differs, and no documents of other names do
@@ -103,18 +103,18 @@ module _ (b : HubConfig) (E : Log) (e : Entry) (old : State) (r : RoomOf old) (h
 
   -- a session in another room is unchanged, and one in this room is notified
   pub set_home : (t : ℕ) (there : Option (List ℕ)) (w : Option Watching) → there ≡ home E t → (place_of old t ≢ Some r.place → w ≡ watching b.epoch E t)
-      → (place_of old t ≡ Some r.place → SessionStands b.waiting (documents (e ∷ E)) r.name h.room (session_in h.sessions t) there w)
-      → HomeStands b.waiting (documents (e ∷ E)) (slice_set old.rooms r.place (r.name, h)) t (place_of old t) there w
+      → (place_of old t ≡ Some r.place → SessionStands b.max_waiting_patches (documents (e ∷ E)) r.name h.room (session_in h.sessions t) there w)
+      → HomeStands b.max_waiting_patches (documents (e ∷ E)) (slice_set old.rooms r.place (r.name, h)) t (place_of old t) there w
   set_home t there w known watches here = go (place_of old t) refl
     where
-      away : (p : ℕ) → place_of old t ≡ Some p → p ≢ r.place → w ≡ watching b.epoch E t → RoomSessionsStand b.waiting (documents (e ∷ E)) t (slice_get old.rooms p) there w
+      away : (p : ℕ) → place_of old t ≡ Some p → p ≢ r.place → w ≡ watching b.epoch E t → RoomSessionsStand b.max_waiting_patches (documents (e ∷ E)) t (slice_get old.rooms p) there w
       away p home_at apart watched =
           rw (known, watched)
-          (room_sessions_stay b.waiting (documents E) (documents (e ∷ E)) t (slice_get old.rooms p) (home E t) (watching b.epoch E t)
+          (room_sessions_stay b.max_waiting_patches (documents E) (documents (e ∷ E)) t (slice_get old.rooms p) (home E t) (watching b.epoch E t)
           (λ other k is. elsewhere other (names_apart b E old r.place p r.name other r.room_sessions k stands r.there is apart))
           (rw home_at at (stands.sessions t)))
 
-      go : (o : Option ℕ) → place_of old t ≡ o → HomeStands b.waiting (documents (e ∷ E)) (slice_set old.rooms r.place (r.name, h)) t o there w
+      go : (o : Option ℕ) → place_of old t ≡ o → HomeStands b.max_waiting_patches (documents (e ∷ E)) (slice_set old.rooms r.place (r.name, h)) t o there w
       go None home_at = known ∙ (rw home_at at (stands.sessions t))
       go (Some p) home_at =
           elim (eqb_tells p r.place) [
@@ -126,7 +126,7 @@ module _ (b : HubConfig) (E : Log) (e : Entry) (old : State) (r : RoomOf old) (h
   -- if no session is opened or closed
   pub room_changes : Quiet E e → RoomStands b (documents (e ∷ E) r.name) h.room
       → ((t : ℕ) → place_of old t ≢ Some r.place → watching b.epoch (e ∷ E) t ≡ watching b.epoch E t)
-      → ((t : ℕ) → place_of old t ≡ Some r.place → SessionStands b.waiting (documents (e ∷ E)) r.name h.room (session_in h.sessions t) (home (e ∷ E) t) (watching b.epoch (e ∷ E) t))
+      → ((t : ℕ) → place_of old t ≡ Some r.place → SessionStands b.max_waiting_patches (documents (e ∷ E)) r.name h.room (session_in h.sessions t) (home (e ∷ E) t) (watching b.epoch (e ∷ E) t))
       → StandsFor b (e ∷ E) (with_room r.place r.name h old)
   room_changes quiet room watches here = record {
     made = stands.made;
@@ -143,13 +143,13 @@ module _ (b : HubConfig) (E : Log) (e : Entry) (old : State) (r : RoomOf old) (h
   -- if only one session differs, and no documents do
   pub session_changes : Quiet E e → ((other : List ℕ) → documents (e ∷ E) other ≡ documents E other) → (s : ℕ) (y : Session) → place_of old s ≡ Some r.place → home E s ≡ Some r.name
       → ChangesOnly s (Some y) r.room_sessions h → ((t : ℕ) → s ≢ t → watching b.epoch (e ∷ E) t ≡ watching b.epoch E t)
-      → LineStands b.waiting y → WatchStands (documents E r.name) r.room_sessions.room y (watching b.epoch (e ∷ E) s) → StandsFor b (e ∷ E) (with_room r.place r.name h old)
+      → LineStands b.max_waiting_patches y → WatchStands (documents E r.name) r.room_sessions.room y (watching b.epoch (e ∷ E) s) → StandsFor b (e ∷ E) (with_room r.place r.name h old)
   session_changes quiet same s y s_at s_home changes others line watch =
       room_changes quiet
       (rw (same r.name, changes.0) (stands.rooms r.place r.name r.room_sessions r.there))
       (λ t apart. others t (λ is. apart (subst (λ u. place_of old u ≡ Some r.place) is s_at)))
       (λ t t_at. rw (changes.0, changes.1.found t, quiet.home t)
-      (session_stays b.waiting (documents E) (documents (e ∷ E)) r.name r.room_sessions.room (if s == t then Some y else session_in r.room_sessions.sessions t) (home E t) (watching b.epoch (e ∷ E) t) (same r.name)
-      (by_number (λ t c. SessionStands b.waiting (documents E) r.name r.room_sessions.room (if c then Some y else session_in r.room_sessions.sessions t) (home E t) (watching b.epoch (e ∷ E) t)) s t
+      (session_stays b.max_waiting_patches (documents E) (documents (e ∷ E)) r.name r.room_sessions.room (if s == t then Some y else session_in r.room_sessions.sessions t) (home E t) (watching b.epoch (e ∷ E) t) (same r.name)
+      (by_number (λ t c. SessionStands b.max_waiting_patches (documents E) r.name r.room_sessions.room (if c then Some y else session_in r.room_sessions.sessions t) (home E t) (watching b.epoch (e ∷ E) t)) s t
       (s_home, line, watch)
       (λ apart. rw (others t apart) (session_stands b E old t r stands t_at)))))

@@ -15,7 +15,7 @@ after_other : (o : Line Reply (ℕ × List Op)) → ((p : ℕ × List Op) → fr
 after_other o other = go o.replies o.patches o.due other
   where
     go : (replies : List Reply) (patches : List (ℕ × List Op)) (due : Bool) → ((p : ℕ × List Op) → first_of replies patches due ≢ patch p)
-        → patches_weight (rest_of replies patches due o.limit).patches ≡ patches_weight patches
+        → patches_weight (rest_of replies patches due o.max_waiting_patches).patches ≡ patches_weight patches
     go (a ∷ replies) patches due other = refl
     go [] (q ∷ patches) due other = absurd (other q refl)
     go [] [] due other = refl
@@ -34,7 +34,7 @@ pub after_patch : (o : Line Reply (ℕ × List Op)) (p : ℕ × List Op) → fro
 after_patch o p h = go o.replies o.patches o.due h
   where
     go : (replies : List Reply) (patches : List (ℕ × List Op)) (due : Bool) → first_of replies patches due ≡ patch p
-        → ops_weight p.1 + patches_weight (rest_of replies patches due o.limit).patches ≡ patches_weight patches
+        → ops_weight p.1 + patches_weight (rest_of replies patches due o.max_waiting_patches).patches ≡ patches_weight patches
     go (a ∷ replies) patches due h = absurd cc
     go [] (q ∷ patches) due h = let same : q ≡ p = cc in ap (λ (x : ℕ × List Op). ops_weight x.1 + patches_weight patches) (sym same)
     go [] [] true h = absurd cc

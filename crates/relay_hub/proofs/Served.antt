@@ -107,11 +107,11 @@ module _ (b : HubConfig) (E : Log) (old : State) (s : ℕ) (mine : Home old s) (
   was : RoomStands b ds g.room
   was = stands.rooms mine.room.place mine.room.name g mine.room.there
 
-  at_home : (home E s ≡ Some mine.room.name) × LineStands b.waiting x × WatchStands ds g.room x (watching b.epoch E s)
+  at_home : (home E s ≡ Some mine.room.name) × LineStands b.max_waiting_patches x × WatchStands ds g.room x (watching b.epoch E s)
   at_home = here b E old s mine stands
 
   -- a request that adds no document, and that changes the session alone
-  pub served : (r : Result Request Refusal) (y : Session) → request_of_text text ≡ r → requested ds r ≡ None → ChangesOnly s (Some y) g h → LineStands b.waiting y
+  pub served : (r : Result Request Refusal) (y : Session) → request_of_text text ≡ r → requested ds r ≡ None → ChangesOnly s (Some y) g h → LineStands b.max_waiting_patches y
       → WatchStands ds g.room y (asked b.epoch ds (watching b.epoch E s) r)
       → StandsFor b (entry (Receive s text) (Heard (Answered short)) ∷ E) next
   served r y read none changes line watch =
@@ -129,28 +129,28 @@ module _ (b : HubConfig) (E : Log) (old : State) (s : ℕ) (mine : Home old s) (
       → asked b.epoch ds (watching b.epoch E s) r ≡ watching b.epoch E s → ChangesOnly s (Some (replied why x)) g h → HasCounts why
       → StandsFor b (entry (Receive s text) (Heard (Answered short)) ∷ E) next
   served_reply r why read none same changes counts =
-      served r (replied why x) read none changes (line_replied b.waiting x why counts at_home.1)
+      served r (replied why x) read none changes (line_replied b.max_waiting_patches x why counts at_home.1)
       (rw same (watch_replied ds g.room x why (watching b.epoch E s) at_home.2))
 
   pub served_watch : (id : ℕ) (v : View) → request_of_text text ≡ Ok (Watch id v) → ChangesOnly s (Some (watches id v x)) g h → IsCount id
       → StandsFor b (entry (Receive s text) (Heard (Answered short)) ∷ E) next
   served_watch id v read changes i =
       served (Ok (Watch id v)) (watches id v x) read refl changes
-      (line_folded b.waiting (replied (Watching id) x) (Some v) (line_replied b.waiting x (Watching id) i at_home.1))
+      (line_folded b.max_waiting_patches (replied (Watching id) x) (Some v) (line_replied b.max_waiting_patches x (Watching id) i at_home.1))
       (watch_begun b ds g.room v was id x)
 
   pub served_unwatch : (id : ℕ) → request_of_text text ≡ Ok (Unwatch id) → ChangesOnly s (Some (unwatches id x)) g h → IsCount id
       → StandsFor b (entry (Receive s text) (Heard (Answered short)) ∷ E) next
   served_unwatch id read changes i =
       served (Ok (Unwatch id)) (unwatches id x) read refl changes
-      (line_cleared b.waiting (replied (Unwatched id) x) None (line_replied b.waiting x (Unwatched id) i at_home.1))
+      (line_cleared b.max_waiting_patches (replied (Unwatched id) x) None (line_replied b.max_waiting_patches x (Unwatched id) i at_home.1))
       (refl, refl, refl)
 
   pub served_resume : (id e rev : ℕ) (v : View) (present past : Bool) → request_of_text text ≡ Ok (Resume id e rev v) → (e == b.epoch) ≡ present → nat_le rev (revision g.room) ≡ past
       → ResumeServed present past id rev v s x g h → IsCount id → StandsFor b (entry (Receive s text) (Heard (Answered short)) ∷ E) next
   served_resume id e rev v false past read p q step i =
       served (Ok (Resume id e rev v)) (resumes (revision g.room) id v Snapshot x) read refl step
-      (line_folded b.waiting (replied (Resumed id how.Snapshot) x) (Some v) (line_replied b.waiting x (Resumed id how.Snapshot) i at_home.1))
+      (line_folded b.max_waiting_patches (replied (Resumed id how.Snapshot) x) (Some v) (line_replied b.max_waiting_patches x (Resumed id how.Snapshot) i at_home.1))
       (rw p (refl, Follows-snapshot b ds (begun v nothing) g.room was tt))
   served_resume id e rev v true false read p q step i =
       let room = was in
@@ -162,7 +162,7 @@ module _ (b : HubConfig) (E : Log) (old : State) (s : ℕ) (mine : Home old s) (
       let within : rev < length ds = omega (arith, past, room.made) in
       let found = slice_get-get_or ds rev null within in
       served (Ok (Resume id e rev v)) (resumes (revision g.room) id v (caught_up_within x.budget g.room rev v) x) read refl step.2
-      (line_resumed b.waiting (revision g.room) id v (caught_up_within x.budget g.room rev v) x i room.is.history.last step.1 at_home.1)
+      (line_resumed b.max_waiting_patches (revision g.room) id v (caught_up_within x.budget g.room rev v) x i room.is.history.last step.1 at_home.1)
       (rw (p, found) (watch_resumed b ds g.room rev id v (get_or ds rev null) (caught_up_within x.budget g.room rev v) x room found past refl step.0))
 
   -- An edit.
@@ -191,12 +191,12 @@ module _ (b : HubConfig) (E : Log) (old : State) (s : ℕ) (mine : Home old s) (
         (rw (newer, step.5) (trimmed_stands b (ds ++ d ∷ []) told b.history_weight (λ all. all) room))
         (λ t apart. same_watching at_home.0 t)
         (λ t t_at.
-        let answered : SessionStands b.waiting (documents E) mine.room.name g.room (session_in step.2 t) (home E t) (watching b.epoch E t) =
-        rw (step.3.found t) (by_number (λ t c. SessionStands b.waiting (documents E) mine.room.name g.room (if c then Some (replied answer x) else session_in g.sessions t) (home E t) (watching b.epoch E t)) s t
-        (at_home.0, line_replied b.waiting x answer (i, room.is.history.last) at_home.1, watch_replied ds g.room x answer (watching b.epoch E s) at_home.2)
+        let answered : SessionStands b.max_waiting_patches (documents E) mine.room.name g.room (session_in step.2 t) (home E t) (watching b.epoch E t) =
+        rw (step.3.found t) (by_number (λ t c. SessionStands b.max_waiting_patches (documents E) mine.room.name g.room (if c then Some (replied answer x) else session_in g.sessions t) (home E t) (watching b.epoch E t)) s t
+        (at_home.0, line_replied b.max_waiting_patches x answer (i, room.is.history.last) at_home.1, watch_replied ds g.room x answer (watching b.epoch E s) at_home.2)
         (λ apart. session_stands b E old t mine.room stands t_at)) in
         rw (same_watching at_home.0 t, step.5)
-        (told_session b b.waiting ds d g.room told changes was room (documents E) (documents (e ∷ E)) mine.room.name (session_in step.2 t) (session_in h.sessions t) (home E t) (watching b.epoch E t)
+        (told_session b b.max_waiting_patches ds d g.room told changes was room (documents E) (documents (e ∷ E)) mine.room.name (session_in step.2 t) (session_in h.sessions t) (home E t) (watching b.epoch E t)
         refl newer (each_told g.room.document changes told step.2 h.sessions short step.4 t) answered))
 
     pub served_edit : (o : Result Document EditFault) → edited g.room base patch ≡ o → ((fault : EditFault) (r : Reply) → o ≡ Err fault → edit_refusal id fault ≡ Some r → HasCounts r) → EditServed b.history_weight s x id patch o short g h

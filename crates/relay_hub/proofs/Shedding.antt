@@ -113,7 +113,7 @@ fold_stands most x h = go x.outbox.patches refl
   where
     go : (ps : List (ℕ × List Op)) → x.outbox.patches ≡ ps → LineStands most (with_line (fold_patches ps x.outbox) x)
     go [] is = h
-    go (p ∷ ps) is = record { limit = h.limit; replies = h.replies; patches = tt }
+    go (p ∷ ps) is = record { max_waiting_patches = h.max_waiting_patches; replies = h.replies; patches = tt }
 
 fold_follows : (b : HubConfig) (ds : List Document) (room : Room) (w : Watching) (line : Line Reply (ℕ × List Op)) → RoomStands b ds room
     → Follows ds w (later room w.view line) → Follows ds w (later room w.view (fold_patches line.patches line))
@@ -133,8 +133,8 @@ watch_stands b ds room budget x None stands h = let i = idle x.outbox.patches h.
     idle (p ∷ ps) e = absurd (cc e)
 
 session_stands : (b : HubConfig) (docs : List ℕ → List Document) (name : List ℕ) (room : Room) (budget : Budget) (o : Option Session) (there : Option (List ℕ)) (w : Option Watching)
-    → RoomStands b (docs name) room → SessionStands b.waiting docs name room o there w → SessionStands b.waiting docs name (trimmed budget room) (option_map shed_session o) there w
-session_stands b docs name room budget (Some x) there w stands h = (h.0, fold_stands b.waiting x h.1, watch_stands b (docs name) room budget x w stands h.2)
+    → RoomStands b (docs name) room → SessionStands b.max_waiting_patches docs name room o there w → SessionStands b.max_waiting_patches docs name (trimmed budget room) (option_map shed_session o) there w
+session_stands b docs name room budget (Some x) there w stands h = (h.0, fold_stands b.max_waiting_patches x h.1, watch_stands b (docs name) room budget x w stands h.2)
 session_stands b docs name room budget None there w stands h = h
 
 module _ (b : HubConfig) (E : Log) (hub : State) (h : StandsFor b E hub) where
@@ -144,14 +144,14 @@ module _ (b : HubConfig) (E : Log) (hub : State) (h : StandsFor b E hub) where
   free : b.history_weight ≡ Unbounded → budget ≡ Unbounded
   free is = let same : hub.made.history_weight ≡ Unbounded = ap (λ (made : HubConfig). made.history_weight) h.made ∙ is in ap shed_budget same
 
-  room_stands : (t : ℕ) (o : Option (List ℕ × RoomSessions)) (place : ℕ) → slice_get hub.rooms place ≡ o → RoomSessionsStand b.waiting (documents E) t o (home E t) (watching b.epoch E t)
-      → RoomSessionsStand b.waiting (documents E) t (option_map (shed_named budget) o) (home E t) (watching b.epoch E t)
+  room_stands : (t : ℕ) (o : Option (List ℕ × RoomSessions)) (place : ℕ) → slice_get hub.rooms place ≡ o → RoomSessionsStand b.max_waiting_patches (documents E) t o (home E t) (watching b.epoch E t)
+      → RoomSessionsStand b.max_waiting_patches (documents E) t (option_map (shed_named budget) o) (home E t) (watching b.epoch E t)
   room_stands t (Some r) place at k =
       rw (shed_found r.1.sessions t) (session_stands b (documents E) r.0 r.1.room budget (session_in r.1.sessions t) (home E t) (watching b.epoch E t) (h.rooms place r.0 r.1 at) k)
   room_stands t None place at k = k
 
-  home_stands : (t : ℕ) (o : Option ℕ) → HomeStands b.waiting (documents E) hub.rooms t o (home E t) (watching b.epoch E t)
-      → HomeStands b.waiting (documents E) (map (shed_named budget) hub.rooms) t o (home E t) (watching b.epoch E t)
+  home_stands : (t : ℕ) (o : Option ℕ) → HomeStands b.max_waiting_patches (documents E) hub.rooms t o (home E t) (watching b.epoch E t)
+      → HomeStands b.max_waiting_patches (documents E) (map (shed_named budget) hub.rooms) t o (home E t) (watching b.epoch E t)
   home_stands t (Some place) k = rw (slice_get-map (shed_named budget) hub.rooms place) (room_stands t (slice_get hub.rooms place) place refl k)
   home_stands t None k = k
 

@@ -18,10 +18,10 @@ use Rattle.relay_hub.specs.Stands.{LineStands, PatchFits}
 
 -- an outbox to which a patch is added is unchanged, has the patch last, or folds
 pub by_waiting : (P : Line Reply (ℕ × List Op) → Type 0) (rev : ℕ) (ops : List Op) (o : Line Reply (ℕ × List Op)) → (o.due ≡ true → P o)
-    → (o.due ≡ false → P (line o.replies (o.patches ++ (rev, ops) ∷ []) o.due o.limit)) → P (folded o) → P (with_patch (rev, ops) o)
-by_waiting P rev ops o stays waits folds = go o.due (nat_lt (length o.patches) o.limit) refl
+    → (o.due ≡ false → P (line o.replies (o.patches ++ (rev, ops) ∷ []) o.due o.max_waiting_patches)) → P (folded o) → P (with_patch (rev, ops) o)
+by_waiting P rev ops o stays waits folds = go o.due (nat_lt (length o.patches) o.max_waiting_patches) refl
   where
-    go : (due fits : Bool) → o.due ≡ due → P (if due then o else (if fits then line o.replies (o.patches ++ (rev, ops) ∷ []) o.due o.limit else folded o))
+    go : (due fits : Bool) → o.due ≡ due → P (if due then o else (if fits then line o.replies (o.patches ++ (rev, ops) ∷ []) o.due o.max_waiting_patches else folded o))
     go true fits e = stays e
     go false true e = waits e
     go false false e = folds
@@ -44,16 +44,16 @@ by_due P budget rev told o stays led = go o.due refl
     go false e = led e
 
 pub line_replied : (most : ℕ) (x : Session) (r : Reply) → HasCounts r → LineStands most x → LineStands most (replied r x)
-line_replied most x r counts h = record { limit = h.limit; replies = all_more HasCounts x.outbox.replies r h.replies counts; patches = h.patches }
+line_replied most x r counts h = record { max_waiting_patches = h.max_waiting_patches; replies = all_more HasCounts x.outbox.replies r h.replies counts; patches = h.patches }
 
 pub line_folded : (most : ℕ) (x : Session) (v : Option View) → LineStands most x → LineStands most (session_with v (folded x.outbox) x)
-line_folded most x v h = record { limit = h.limit; replies = h.replies; patches = tt }
+line_folded most x v h = record { max_waiting_patches = h.max_waiting_patches; replies = h.replies; patches = tt }
 
 pub line_cleared : (most : ℕ) (x : Session) (v : Option View) → LineStands most x → LineStands most (session_with v (cleared x.outbox) x)
-line_cleared most x v h = record { limit = h.limit; replies = h.replies; patches = tt }
+line_cleared most x v h = record { max_waiting_patches = h.max_waiting_patches; replies = h.replies; patches = tt }
 
 line_viewed : (most : ℕ) (x : Session) (v : Option View) → LineStands most x → LineStands most (session_with v x.outbox x)
-line_viewed most x v h = record { limit = h.limit; replies = h.replies; patches = h.patches }
+line_viewed most x v h = record { max_waiting_patches = h.max_waiting_patches; replies = h.replies; patches = h.patches }
 
 pub line_patched : (most rev : ℕ) (ops : List Op) (x : Session) (v : Option View) → PatchFits (rev, ops) → LineStands most x
     → LineStands most (session_with v (with_patch_within x.budget (rev, ops) x.outbox) x)
@@ -61,7 +61,7 @@ line_patched most rev ops x v fits h =
     by_weight (λ o. LineStands most (session_with v o x)) x.budget (rev, ops) x.outbox
     (by_waiting (λ o. LineStands most (session_with v o x)) rev ops x.outbox
     (λ due. line_viewed most x v h)
-    (λ due. record { limit = h.limit; replies = h.replies; patches = all_more PatchFits x.outbox.patches (rev, ops) h.patches fits })
+    (λ due. record { max_waiting_patches = h.max_waiting_patches; replies = h.replies; patches = all_more PatchFits x.outbox.patches (rev, ops) h.patches fits })
     (line_folded most x v h))
     (line_folded most x v h)
 
@@ -78,7 +78,7 @@ pub line_drawn : (most : ℕ) (x : Session) → LineStands most x → LineStands
 line_drawn most x h = go x.outbox.replies x.outbox.patches x.outbox.due h.replies h.patches
   where
     go : (replies : List Reply) (patches : List (ℕ × List Op)) (due : Bool) → AllByRecursion HasCounts replies → AllByRecursion PatchFits patches
-        → LineStands most (with_line (rest_of replies patches due x.outbox.limit) x)
-    go (r ∷ replies) patches due rs ps = record { limit = h.limit; replies = rs.1; patches = ps }
-    go [] (p ∷ patches) due rs ps = record { limit = h.limit; replies = tt; patches = ps.1 }
-    go [] [] due rs ps = record { limit = h.limit; replies = tt; patches = tt }
+        → LineStands most (with_line (rest_of replies patches due x.outbox.max_waiting_patches) x)
+    go (r ∷ replies) patches due rs ps = record { max_waiting_patches = h.max_waiting_patches; replies = rs.1; patches = ps }
+    go [] (p ∷ patches) due rs ps = record { max_waiting_patches = h.max_waiting_patches; replies = tt; patches = ps.1 }
+    go [] [] due rs ps = record { max_waiting_patches = h.max_waiting_patches; replies = tt; patches = tt }

@@ -24,14 +24,14 @@ budget_code = code_by (Option ℕ) (coded_option coded_ℕ) bound_of bounded_by 
 abbrev pub config_code : Coded HubConfig
 config_code = code_by (ℕ × (ℕ × (ℕ × (ℕ × (ℕ × (ℕ × (Budget × Budget)))))))
     (coded× coded_ℕ (coded× coded_ℕ (coded× coded_ℕ (coded× coded_ℕ (coded× coded_ℕ (coded× coded_ℕ (coded× budget_code budget_code)))))))
-    (λ c. (c.epoch, (c.first, (c.rooms, (c.sessions, (c.history, (c.waiting, (c.history_weight, c.waiting_weight))))))))
+    (λ c. (c.epoch, (c.first, (c.rooms, (c.sessions, (c.history, (c.max_waiting_patches, (c.history_weight, c.waiting_weight))))))))
     (λ p. record {
       epoch = p.0;
       first = p.1.0;
       rooms = p.1.1.0;
       sessions = p.1.1.1.0;
       history = p.1.1.1.1.0;
-      waiting = p.1.1.1.1.1.0;
+      max_waiting_patches = p.1.1.1.1.1.0;
       history_weight = p.1.1.1.1.1.1.0;
       waiting_weight = p.1.1.1.1.1.1.1;
     })

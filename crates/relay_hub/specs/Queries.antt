@@ -23,7 +23,7 @@ use Rattle.relay_hub.specs.State.{RoomSessions, State, home_of, session_in, sess
 abbrev pub BadLimits : HubConfig → Type 0
 BadLimits made =
     (MAX_COUNT < made.epoch) ⊎ (MAX_COUNT < made.first)
-    ⊎ (made.history < 1) ⊎ (MAX_REVISIONS < made.history) ⊎ (made.waiting < 1) ⊎ (MAX_PATCHES < made.waiting)
+    ⊎ (made.history < 1) ⊎ (MAX_REVISIONS < made.history) ⊎ (made.max_waiting_patches < 1) ⊎ (MAX_PATCHES < made.max_waiting_patches)
     ⊎ (made.rooms < 1) ⊎ (MAX_ROOMS < made.rooms) ⊎ (made.sessions < 1) ⊎ (MAX_SESSIONS < made.sessions)
 
 -- the session is open, and a further reply may wait for it

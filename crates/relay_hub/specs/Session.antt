@@ -49,7 +49,7 @@ abbrev pub newcomer : HubConfig → ℕ → ℕ → Session
 newcomer made rev number = record {
   number = number;
   view = None;
-  outbox = with_reply (Welcome made.epoch rev number) (empty made.waiting);
+  outbox = with_reply (Welcome made.epoch rev number) (empty made.max_waiting_patches);
   budget = made.waiting_weight;
 }
 

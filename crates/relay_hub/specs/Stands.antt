@@ -71,8 +71,8 @@ abbrev pub PatchFits : ℕ × List Op → Type 0
 PatchFits p = IsCount p.0 × AllByRecursion IsSent p.1
 
 -- the replies and patches that wait for a session round-trip through their texts
-pub record LineStands (waiting : ℕ) (x : Session) : Type 0 where
-  pub limit : x.outbox.limit ≡ waiting
+pub record LineStands (most : ℕ) (x : Session) : Type 0 where
+  pub max_waiting_patches : x.outbox.max_waiting_patches ≡ most
   pub replies : AllByRecursion HasCounts x.outbox.replies
   pub patches : AllByRecursion PatchFits x.outbox.patches
 
@@ -82,17 +82,17 @@ WatchStands documents room x (Some w) = (x.view ≡ Some w.view) × Follows docu
 WatchStands documents room x None = (x.view ≡ None) × (x.outbox.patches ≡ []) × (x.outbox.due ≡ false)
 
 abbrev pub SessionStands : ℕ → (List ℕ → List Document) → List ℕ → Room → Option Session → Option (List ℕ) → Option Watching → Type 0
-SessionStands waiting documents name room (Some x) there w = (there ≡ Some name) × LineStands waiting x × WatchStands (documents name) room x w
-SessionStands waiting documents name room None there w = ⊥
+SessionStands most documents name room (Some x) there w = (there ≡ Some name) × LineStands most x × WatchStands (documents name) room x w
+SessionStands most documents name room None there w = ⊥
 
 abbrev pub RoomSessionsStand : ℕ → (List ℕ → List Document) → ℕ → Option (List ℕ × RoomSessions) → Option (List ℕ) → Option Watching → Type 0
-RoomSessionsStand waiting documents s (Some home) there w = SessionStands waiting documents home.0 home.1.room (session_in home.1.sessions s) there w
-RoomSessionsStand waiting documents s None there w = ⊥
+RoomSessionsStand most documents s (Some home) there w = SessionStands most documents home.0 home.1.room (session_in home.1.sessions s) there w
+RoomSessionsStand most documents s None there w = ⊥
 
 -- what holds of session s, whose room is at that place
 abbrev pub HomeStands : ℕ → (List ℕ → List Document) → List (List ℕ × RoomSessions) → ℕ → Option ℕ → Option (List ℕ) → Option Watching → Type 0
-HomeStands waiting documents rooms s (Some place) there w = RoomSessionsStand waiting documents s (slice_get rooms place) there w
-HomeStands waiting documents rooms s None there w = there ≡ None
+HomeStands most documents rooms s (Some place) there w = RoomSessionsStand most documents s (slice_get rooms place) there w
+HomeStands most documents rooms s None there w = there ≡ None
 
 pub record StandsFor (b : HubConfig) (E : Log) (hub : State) : Type 0 where
   pub made : hub.made ≡ b
@@ -108,7 +108,7 @@ pub record StandsFor (b : HubConfig) (E : Log) (hub : State) : Type 0 where
   -- no edit was accepted in a room that does not exist
   pub others : (name : List ℕ) → place_named name hub.rooms ≡ None → documents E name ≡ null ∷ []
   -- the sessions that are open, with their views
-  pub sessions : (s : ℕ) → HomeStands b.waiting (documents E) hub.rooms s (place_of hub s) (home E s) (watching b.epoch E s)
+  pub sessions : (s : ℕ) → HomeStands b.max_waiting_patches (documents E) hub.rooms s (place_of hub s) (home E s) (watching b.epoch E s)
 
 -- What follows for the clients of a hub that stands for a log.
 

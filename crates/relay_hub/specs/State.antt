@@ -25,13 +25,13 @@ room_sessions room sessions = record { room = room; sessions = sessions }
 -- the configuration of a hub in which nothing is bounded by weight: its epoch, the number of its first session, the most revisions whose
 -- changes a room keeps, and the most patches that wait for a session
 abbrev pub config : ℕ → ℕ → ℕ → ℕ → HubConfig
-config epoch first history waiting = record {
+config epoch first history max_waiting_patches = record {
   epoch = epoch;
   first = first;
   rooms = DEFAULT_ROOMS;
   sessions = DEFAULT_SESSIONS;
   history = history;
-  waiting = waiting;
+  max_waiting_patches = max_waiting_patches;
   history_weight = Unbounded;
   waiting_weight = Unbounded;
 }
@@ -42,7 +42,7 @@ pub record IsConfig (made : HubConfig) : Type 0 where
   pub sessions : (1 ≤ made.sessions) × (made.sessions ≤ MAX_SESSIONS)
   pub counts : (made.epoch ≤ MAX_COUNT) × (made.first ≤ MAX_COUNT)
   pub history : (1 ≤ made.history) × (made.history ≤ MAX_REVISIONS)
-  pub waiting : (1 ≤ made.waiting) × (made.waiting ≤ MAX_PATCHES)
+  pub max_waiting_patches : (1 ≤ made.max_waiting_patches) × (made.max_waiting_patches ≤ MAX_PATCHES)
 
 -- the configuration, the number of the next session, the rooms by name, in the order in which they were first opened, and for each open
 -- session the place of its room
@@ -58,7 +58,7 @@ made_with c = record { made = c; next = c.first; rooms = []; homes = [] }
 
 -- the same of a hub in which nothing is bounded by weight
 abbrev pub new_hub : ℕ → ℕ → ℕ → ℕ → State
-new_hub epoch first history waiting = made_with (config epoch first history waiting)
+new_hub epoch first history max_waiting_patches = made_with (config epoch first history max_waiting_patches)
 
 -- whether this is the session with that number
 abbrev pub is_number : ℕ → Session → Bool

@@ -37,7 +37,7 @@ pub struct HubConfig {
     /// The most revisions whose changes a room keeps, 1 to 1,024.
     pub history: u64,
     /// The most patches that wait for a session, 1 to 256.
-    pub waiting: u64,
+    pub max_waiting_patches: u64,
     /// The most that the changes a room keeps may weigh together.
     pub history_weight: Budget,
     /// The most that the patches waiting for a session may weigh together.
@@ -46,8 +46,8 @@ pub struct HubConfig {
 
 impl HubConfig {
     /// A configuration with these numbers, 64 rooms, 256 sessions, and no bound on weight.
-    pub fn new(epoch: u64, first: u64, history: u64, waiting: u64) -> HubConfig
-        ensures { result ≡ config epoch first history waiting }
+    pub fn new(epoch: u64, first: u64, history: u64, max_waiting_patches: u64) -> HubConfig
+        ensures { result ≡ config epoch first history max_waiting_patches }
     {
         HubConfig {
             epoch,
@@ -55,7 +55,7 @@ impl HubConfig {
             rooms: DEFAULT_ROOMS,
             sessions: DEFAULT_SESSIONS,
             history,
-            waiting,
+            max_waiting_patches,
             history_weight: Budget::Unbounded,
             waiting_weight: Budget::Unbounded,
         }
@@ -73,7 +73,7 @@ impl HubConfig {
         if !is_in_range(self.history, MAX_REVISIONS) {
             return Err(HubNewFault::BadLimit);
         }
-        if !is_in_range(self.waiting, MAX_PATCHES) {
+        if !is_in_range(self.max_waiting_patches, MAX_PATCHES) {
             return Err(HubNewFault::BadLimit);
         }
         if !is_in_range(self.rooms, MAX_ROOMS) {

@@ -61,20 +61,23 @@ impl Model for Hub {
 
 impl Hub {
     /// Makes a hub without rooms or sessions, with no bound on weight. Sessions are numbered from `first` on. Each room keeps the changes
-    /// of at most `history` revisions (1 to 1,024), and at most `waiting` patches wait for a session (1 to 256). `BadLimit`: one of them is
+    /// of at most `history` revisions (1 to 1,024), and at most `max_waiting_patches` patches wait for a session (1 to 256). `BadLimit`: one of them is
     /// out of its range, or `epoch` or `first` is not a count.
     pub fn new(
         alloc: Global,
         epoch: u64,
         first: u64,
         history: u64,
-        waiting: u64,
+        max_waiting_patches: u64,
     ) -> Result<Hub, HubNewFault>
-        ensures empty { IfOk result (λ hub. hub ≡ new_hub epoch first history waiting) }
-        ensures stands { IfOk result (λ hub. StandsFor (config epoch first history waiting) [] hub) }
-        ensures bad_limit { IsErrOf result BadLimit ↔ BadLimits (config epoch first history waiting) }
+        ensures empty { IfOk result (λ hub. hub ≡ new_hub epoch first history max_waiting_patches) }
+        ensures stands { IfOk result (λ hub. StandsFor (config epoch first history max_waiting_patches) [] hub) }
+        ensures bad_limit { IsErrOf result BadLimit ↔ BadLimits (config epoch first history max_waiting_patches) }
     {
-        Hub::with_config(alloc, HubConfig::new(epoch, first, history, waiting))
+        Hub::with_config(
+            alloc,
+            HubConfig::new(epoch, first, history, max_waiting_patches),
+        )
     }
 
     /// Makes a hub without rooms or sessions. `BadLimit`: a number of the configuration is out of its range, or `epoch` or `first` is not a

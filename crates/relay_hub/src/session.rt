@@ -50,11 +50,11 @@ impl Session {
 
     /// Makes a session in a room at revision `rev`. It watches nothing, and a `Welcome` waits in its outbox.
     pub fn new(alloc: Global, made: HubConfig, rev: u64, number: u64) -> Result<Session, AllocError>
-        requires some { 1 ≤ made.waiting }
-        requires not_too_many { made.waiting ≤ MAX_PATCHES }
+        requires some { 1 ≤ made.max_waiting_patches }
+        requires not_too_many { made.max_waiting_patches ≤ MAX_PATCHES }
         ensures { IfOk result (λ x. x ≡ newcomer made rev number) }
     {
-        let mut outbox = match Outbox::new(alloc, made.waiting) {
+        let mut outbox = match Outbox::new(alloc, made.max_waiting_patches) {
             Ok(outbox) => outbox,
             Err(OutboxFault::NoMemory) => return Err(AllocError),
             Err(OutboxFault::BadLimit) => unreachable!(),

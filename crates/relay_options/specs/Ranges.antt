@@ -3,14 +3,14 @@ use Rattle.std.specs.Prelude.{◌≤◌, ⊤}
 use Rattle.relay_options.specs.declared.job.Job.{Job}
 use Rattle.relay_options.specs.declared.job.Job.TheVariants.{Script, Loop, Follow, Serve}
 use Rattle.relay_options.specs.declared.settings.Settings.{Settings}
-use Rattle.relay_options.specs.declared.settings.TheConstants.{MAX_HISTORY, MAX_OUTBOX, MAX_ROOMS, MAX_SESSIONS, MAX_EPOCH, MAX_TURNS, MAX_PORT}
+use Rattle.relay_options.specs.declared.settings.TheConstants.{MAX_HISTORY, MAX_WAITING_PATCHES, MAX_ROOMS, MAX_SESSIONS, MAX_EPOCH, MAX_TURNS, MAX_PORT}
 
 -- settings that are in range for a hub
 pub record AreSettings (settings : Settings) : Type 0 where
   pub some_history : 1 ≤ settings.history
   pub history : settings.history ≤ MAX_HISTORY
-  pub some_outbox : 1 ≤ settings.outbox
-  pub outbox : settings.outbox ≤ MAX_OUTBOX
+  pub some_waiting_patches : 1 ≤ settings.max_waiting_patches
+  pub max_waiting_patches : settings.max_waiting_patches ≤ MAX_WAITING_PATCHES
   pub some_rooms : 1 ≤ settings.rooms
   pub rooms : settings.rooms ≤ MAX_ROOMS
   pub some_sessions : 1 ≤ settings.sessions

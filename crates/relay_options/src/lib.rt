@@ -9,5 +9,6 @@ mod settings;
 pub use job::{Job, Stop};
 pub use reading::job_of;
 pub use settings::{
-    MAX_EPOCH, MAX_HISTORY, MAX_OUTBOX, MAX_PORT, MAX_ROOMS, MAX_SESSIONS, MAX_TURNS, Settings,
+    MAX_EPOCH, MAX_HISTORY, MAX_PORT, MAX_ROOMS, MAX_SESSIONS, MAX_TURNS, MAX_WAITING_PATCHES,
+    Settings,
 };

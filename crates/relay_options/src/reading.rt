@@ -4,7 +4,7 @@ ghost use Rattle.relay_options.specs.Ranges.{AreSettings, IsPossible};
 
 use crate::job::{Job, Stop};
 use crate::settings::{
-    MAX_EPOCH, MAX_HISTORY, MAX_OUTBOX, MAX_PORT, MAX_ROOMS, MAX_SESSIONS, MAX_TURNS,
+    MAX_EPOCH, MAX_HISTORY, MAX_PORT, MAX_ROOMS, MAX_SESSIONS, MAX_TURNS, MAX_WAITING_PATCHES,
     MAX_WEIGHT_LIMIT, Settings,
 };
 use clap::builder::ValueParser;
@@ -134,9 +134,13 @@ fn with_settings<'a>(alloc: Global, command: Command<'a>) -> Result<Command<'a>,
     let history = number(alloc, "history", ValueParser::unsigned(1, MAX_HISTORY))
         .help("How many revisions each room holds, 1 to 1024")
         .default_value(HISTORY);
-    let outbox = number(alloc, "outbox", ValueParser::unsigned(1, MAX_OUTBOX))
-        .help("How many patches wait for a session at most, 1 to 256")
-        .default_value(OUTBOX);
+    let max_waiting_patches = number(
+        alloc,
+        "outbox",
+        ValueParser::unsigned(1, MAX_WAITING_PATCHES),
+    )
+    .help("How many patches wait for a session at most, 1 to 256")
+    .default_value(OUTBOX);
     let rooms = number(alloc, "rooms", ValueParser::unsigned(1, MAX_ROOMS))
         .help("How many rooms there are at most, 1 to 65536; an idle room takes about 25 KiB")
         .default_value(ROOMS);
@@ -150,7 +154,7 @@ fn with_settings<'a>(alloc: Global, command: Command<'a>) -> Result<Command<'a>,
         .default_value(EPOCH);
     command
         .arg(history)?
-        .arg(outbox)?
+        .arg(max_waiting_patches)?
         .arg(rooms)?
         .arg(sessions)?
         .arg(epoch)
@@ -213,7 +217,7 @@ fn settings_of(alloc: Global, given: &ArgMatches<'_>) -> Result<Settings, Stop>
 {
     Ok(Settings {
         history: number_of(alloc, given, "history", 1, MAX_HISTORY)?,
-        outbox: number_of(alloc, given, "outbox", 1, MAX_OUTBOX)?,
+        max_waiting_patches: number_of(alloc, given, "outbox", 1, MAX_WAITING_PATCHES)?,
         rooms: number_of(alloc, given, "rooms", 1, MAX_ROOMS)?,
         sessions: number_of(alloc, given, "sessions", 1, MAX_SESSIONS)?,
         epoch: number_of(alloc, given, "epoch", 0, MAX_EPOCH)?,

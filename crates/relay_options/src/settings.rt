@@ -4,7 +4,7 @@
 pub const MAX_HISTORY: u64 = 1_024;
 
 /// The largest `--outbox`, in patches.
-pub const MAX_OUTBOX: u64 = 256;
+pub const MAX_WAITING_PATCHES: u64 = 256;
 
 /// The largest `--rooms`.
 pub const MAX_ROOMS: u64 = 65_536;
@@ -30,7 +30,7 @@ pub struct Settings {
     /// `--history`: the number of revisions that each room holds, 1 to 1,024.
     pub history: u64,
     /// `--outbox`: the number of patches that may wait for a session, 1 to 256.
-    pub outbox: u64,
+    pub max_waiting_patches: u64,
     /// `--rooms`: the number of rooms that there may be, 1 to 65,536.
     pub rooms: u64,
     /// `--sessions`: the number of sessions that may be open at once, 1 to 65,536.
@@ -47,7 +47,7 @@ impl Settings {
     /// The defaults of a script.
     pub const DEFAULT: Settings = Settings {
         history: 64,
-        outbox: 32,
+        max_waiting_patches: 32,
         rooms: 64,
         sessions: 256,
         epoch: 1,

@@ -43,17 +43,17 @@ impl<R: Drop, P: Drop> Outbox<R, P> {
     ghost use Rattle.relay_outbox.specs.Outbox.{IsOutbox, empty, with_reply, with_patch, folded, cleared, front_of, without_front};
     ghost use Rattle.relay_outbox.specs.Front.{shown};
 
-    /// Creates an empty outbox in which at most `limit` patches may wait. Allocates all the memory that its rings need. Returns
-    /// `BadLimit` if `limit` is not 1 to [`MAX_PATCHES`], and `NoMemory` if memory runs out.
-    pub fn new(alloc: Global, limit: u64) -> Result<Outbox<R, P>, OutboxFault>
-        ensures ok { IfOk result (λ outbox. outbox ≡ empty limit) }
-        ensures bad_limit { IsErrOf result OutboxFault.BadLimit ↔ ((limit < 1) ⊎ (MAX_PATCHES < limit)) }
+    /// Creates an empty outbox in which at most `max_waiting_patches` patches may wait. Allocates all the memory that its rings need. Returns
+    /// `BadLimit` if `max_waiting_patches` is not 1 to [`MAX_PATCHES`], and `NoMemory` if memory runs out.
+    pub fn new(alloc: Global, max_waiting_patches: u64) -> Result<Outbox<R, P>, OutboxFault>
+        ensures ok { IfOk result (λ outbox. outbox ≡ empty max_waiting_patches) }
+        ensures bad_limit { IsErrOf result OutboxFault.BadLimit ↔ ((max_waiting_patches < 1) ⊎ (MAX_PATCHES < max_waiting_patches)) }
     {
-        if limit < 1 || limit > MAX_PATCHES {
+        if max_waiting_patches < 1 || max_waiting_patches > MAX_PATCHES {
             return Err(OutboxFault::BadLimit);
         }
         let replies = HeapCircularBuffer::with_capacity(alloc, MAX_REPLIES as usize)?;
-        let patches = HeapCircularBuffer::with_capacity(alloc, limit as usize)?;
+        let patches = HeapCircularBuffer::with_capacity(alloc, max_waiting_patches as usize)?;
         Ok(Outbox {
             replies,
             patches,
@@ -72,7 +72,7 @@ impl<R: Drop, P: Drop> Outbox<R, P> {
         self.replies.try_push_back(reply).map_err(Busy)
     }
 
-    /// Adds a patch after the others. If a snapshot is due, nothing changes, since the snapshot will include the patch. If `limit`
+    /// Adds a patch after the others. If a snapshot is due, nothing changes, since the snapshot will include the patch. If `max_waiting_patches`
     /// patches wait already, the outbox folds, which drops this patch too. Allocates nothing.
     pub fn patch(&mut self, patch: P)
         ensures { self.new ≡ with_patch patch self.old }

@@ -12,7 +12,7 @@ config_of settings = record {
   rooms = settings.rooms;
   sessions = settings.sessions;
   history = settings.history;
-  waiting = settings.outbox;
+  max_waiting_patches = settings.max_waiting_patches;
   history_weight = bounded_by settings.history_weight;
   waiting_weight = bounded_by settings.waiting_weight;
 }

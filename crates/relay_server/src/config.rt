@@ -18,7 +18,7 @@ pub(crate) fn config_of(settings: Settings) -> HubConfig
         rooms: settings.rooms,
         sessions: settings.sessions,
         history: settings.history,
-        waiting: settings.outbox,
+        max_waiting_patches: settings.max_waiting_patches,
         history_weight: budget_of(settings.history_weight),
         waiting_weight: budget_of(settings.waiting_weight),
     }

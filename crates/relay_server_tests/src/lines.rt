@@ -1,6 +1,6 @@
 //! Tests of the limits on lines, and of a script's limits.
 use crate::story::{gives, played};
-use relay_options::{MAX_HISTORY, MAX_OUTBOX, MAX_ROOMS, MAX_SESSIONS};
+use relay_options::{MAX_HISTORY, MAX_ROOMS, MAX_SESSIONS, MAX_WAITING_PATCHES};
 use relay_server::{MAX_LINE, MAX_LINES, connection_limit};
 use std::alloc::AllocGlobal;
 use std::process::Abort;
@@ -21,7 +21,7 @@ fn the_limits_are_those_of_the_protocol(rt: HostRuntime) {
         "connections beside 4,096 sessions"
     );
     assert_eq!(rt; MAX_HISTORY, 1_024, "revisions of a history");
-    assert_eq!(rt; MAX_OUTBOX, 256, "patches that wait");
+    assert_eq!(rt; MAX_WAITING_PATCHES, 256, "patches that wait");
     assert_eq!(rt; MAX_ROOMS, 65_536, "rooms");
     assert_eq!(rt; MAX_SESSIONS, 65_536, "sessions");
 }
@@ -70,7 +70,7 @@ fn counts_empty_lines(rt: HostRuntime) {
 /// A history has 1 to 1,024 revisions, and an outbox 1 to 256 patches.
 #[test]
 fn reads_nothing_where_a_limit_is_out_of_range(rt: HostRuntime) {
-    for (history, outbox, wanted) in [
+    for (history, max_waiting_patches, wanted) in [
         (0, 32, "fault: a limit out of range"),
         (1_025, 32, "fault: a limit out of range"),
         (64, 0, "fault: a limit out of range"),
@@ -78,7 +78,7 @@ fn reads_nothing_where_a_limit_is_out_of_range(rt: HostRuntime) {
         (1, 1, "a opened 1\n"),
         (1_024, 256, "a opened 1\n"),
     ] {
-        let written = played(&rt, history, outbox, b"a open r\n");
+        let written = played(&rt, history, max_waiting_patches, b"a open r\n");
         gives(&rt, written, wanted, "an opening");
     }
 }

@@ -25,10 +25,10 @@ fn asks_for(rt: &(impl Abort + AllocGlobal), rows: &[(&str, Job)]) {
     }
 }
 
-fn settings(history: u64, outbox: u64, epoch: u64) -> Settings {
+fn settings(history: u64, max_waiting_patches: u64, epoch: u64) -> Settings {
     Settings {
         history,
-        outbox,
+        max_waiting_patches,
         epoch,
         ..Settings::DEFAULT
     }

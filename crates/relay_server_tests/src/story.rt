@@ -27,14 +27,19 @@ pub fn with_end(
 }
 
 /// The output of a script, followed by the fault that ended it, if there was one.
-pub fn played(rt: &(impl Abort + AllocGlobal), history: u64, outbox: u64, script: &[u8]) -> String {
+pub fn played(
+    rt: &(impl Abort + AllocGlobal),
+    history: u64,
+    max_waiting_patches: u64,
+    script: &[u8],
+) -> String {
     let mut input = script;
     let mut output = Vec::new(rt.alloc());
     let ended = run_script(
         rt.alloc(),
         &mut input,
         &mut output,
-        HubConfig::new(1, 1, history, outbox),
+        HubConfig::new(1, 1, history, max_waiting_patches),
     );
     with_end(rt, output.as_slice(), ended)
 }

@@ -74,7 +74,7 @@ impl<S: Read + Write + OpenStream + Drop, R: Readiness<S>> Server<S, R> {
             events: Vec::new(alloc),
             accept_ready: true,
             failed: false,
-            texts: (config.waiting / 2).max(1).min(MAX_TEXTS),
+            texts: (config.max_waiting_patches / 2).max(1).min(MAX_TEXTS),
             last: 0,
             write_pending: false,
             rounds: 0,

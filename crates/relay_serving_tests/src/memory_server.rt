@@ -105,13 +105,13 @@ pub(crate) struct MemoryServer<'a> {
 }
 
 impl<'a> MemoryServer<'a> {
-    /// A server without connections. Its hub lets `outbox` patches wait for each session.
+    /// A server without connections. Its hub lets `max_waiting_patches` patches wait for each session.
     pub fn new(
         rt: &(impl Abort + AllocGlobal),
         script: &'a RefCell<ReadinessScript>,
-        outbox: u64,
+        max_waiting_patches: u64,
     ) -> MemoryServer<'a> {
-        let hub = Hub::new(rt.alloc(), 1, 1, 64, outbox).expect(rt, "a hub");
+        let hub = Hub::new(rt.alloc(), 1, 1, 64, max_waiting_patches).expect(rt, "a hub");
         MemoryServer {
             listener: MemoryListener {
                 waiting: RefCell::new(Vec::new(rt.alloc())),

@@ -39,11 +39,15 @@ const JOINS: &[Row] = &[
     (1, Round, "2, 0r0w, 1r0w"),
 ];
 
-/// Plays rows to a new server that lets `outbox` patches wait for each session.
-fn play(rt: &(impl Abort + AllocGlobal), outbox: u64, rows: &[&[Row]]) {
+/// Plays rows to a new server that lets `max_waiting_patches` patches wait for each session.
+fn play(rt: &(impl Abort + AllocGlobal), max_waiting_patches: u64, rows: &[&[Row]]) {
     let script = ReadinessScript::new(rt.alloc());
     let (one, two) = (Wire::new(rt.alloc()), Wire::new(rt.alloc()));
-    let mut pair = Pair::at(MemoryServer::new(rt, &script, outbox), &one, &two);
+    let mut pair = Pair::at(
+        MemoryServer::new(rt, &script, max_waiting_patches),
+        &one,
+        &two,
+    );
     for some in rows {
         play_rows(rt, &mut pair, some);
     }
