@@ -1,45 +1,68 @@
 -- Lemmas about `Follows`.
 use Rattle.std.proofs.Common.{◌≡◌, ℕ, true, false, List, [], ◌∷◌, ◌++◌, Option, Some, None, is_some, refl, sym, subst, subst₂}
 use Rattle.relay_hub.specs.Call.{StepIf, not_opened}
-use Rattle.relay_hub.specs.State.{State}
+use Rattle.relay_hub.specs.State.{State as Hub}
 use Rattle.relay_hub.specs.Step.{Step}
 use Rattle.relay_hub.specs.declared.event.Answer.{Answer}
 use Rattle.relay_hub.specs.declared.event.Answer.TheVariants.{NotOpened}
 use Rattle.relay_hub.specs.declared.event.Event.{Event}
-use Rattle.relay_hub.specs.declared.event.Event.TheVariants.{Open}
+use Rattle.relay_hub.specs.declared.event.Event.TheVariants.{Open, Receive, Draw, Close}
 use Rattle.relay_hub.specs.declared.fault.OpenFault.{OpenFault}
 use Rattle.relay_hub.specs.declared.fault.OpenFault.TheVariants as fault
-use Rattle.relay_link.specs.Follows.{Point, at, IsOwn, session_after, Follows, stays, makes}
+use Rattle.relay_link.specs.Asks.{asked_by}
+use Rattle.relay_link.specs.Stage.{session_of}
+use Rattle.relay_link.specs.declared.state.State.{State}
+use Rattle.relay_link.specs.Follows.{Point, at, IsOwn, no_room, session_after, Follows, stays, makes}
 
--- no event was made
-pub follows_same : (old new : State) (session mine : Option ℕ) (before after : List Event) → new ≡ old → mine ≡ session → after ≡ before
-    → Follows (at old session before) (at new mine after)
-follows_same old new session mine before after h k m =
-    subst (λ x. Follows (at old session before) (at new x after)) (sym k) (subst₂ (λ x y. Follows (at old session before) (at x session y)) (sym h) (sym m) stays)
+module _ {rooms : List ℕ → Type 0} where
+  -- no event was made
+  pub follows_same : (old new : Hub) (session mine : Option ℕ) (before after : List Event) → new ≡ old → mine ≡ session → after ≡ before
+      → Follows rooms (at old session before) (at new mine after)
+  follows_same old new session mine before after h k m =
+      subst (λ x. Follows rooms (at old session before) (at new x after)) (sym k) (subst₂ (λ x y. Follows rooms (at old session before) (at x session y)) (sym h) (sym m) stays)
 
--- one event was made
-pub follows_one : (old new : State) (session : Option ℕ) (before after : List Event) (event : Event) (answer : Answer)
-    → after ≡ before ++ event ∷ [] → IsOwn session event → Step old event answer new
-    → Follows (at old session before) (at new (session_after session event answer) after)
-follows_one old new session before after event answer m own step =
-    subst (λ x. Follows (at old session before) (at new (session_after session event answer) x)) (sym m) (makes event answer stays own step)
+  -- one event was made
+  pub follows_one : (old new : Hub) (session : Option ℕ) (before after : List Event) (event : Event) (answer : Answer)
+      → after ≡ before ++ event ∷ [] → IsOwn rooms session event → Step old event answer new
+      → Follows rooms (at old session before) (at new (session_after session event answer) after)
+  follows_one old new session before after event answer m own step =
+      subst (λ x. Follows rooms (at old session before) (at new (session_after session event answer) x)) (sym m) (makes event answer stays own step)
 
--- one run after another
-pub follows_then : {p q r : Point} → Follows p q → Follows q r → Follows p r
-follows_then f stays = f
-follows_then f (makes event answer g own step) = makes event answer (follows_then f g) own step
+  -- one run after another
+  pub follows_then : {p q r : Point} → Follows rooms p q → Follows rooms q r → Follows rooms p r
+  follows_then f stays = f
+  follows_then f (makes event answer g own step) = makes event answer (follows_then f g) own step
+
+-- other rooms may be opened as well
+pub follows_wider : {rooms wider : List ℕ → Type 0} {p q : Point} → ((room : List ℕ) → rooms room → wider room) → Follows rooms p q → Follows wider p q
+follows_wider more stays = stays
+follows_wider {rooms = rooms} {wider = wider} more (makes {q = q} event answer before own step) = makes event answer (follows_wider more before) (wider_own q.session event own) step
+  where
+    wider_own : (session : Option ℕ) (event : Event) → IsOwn rooms session event → IsOwn wider session event
+    wider_own session (Open room) own = (own.0, more room own.1)
+    wider_own session (Receive s text) own = own
+    wider_own session (Draw s) own = own
+    wider_own session (Close s) own = own
+
+pub follows_none : {rooms : List ℕ → Type 0} {p q : Point} → Follows no_room p q → Follows rooms p q
+follows_none = follows_wider (λ room none. absurd none)
+
+-- the same of an equal state
+pub follows_from : {S : Type 0} {hub : Hub} {made : List Event} {q : Point} (old state : State S) → state ≡ old → Follows (asked_by state) (at hub (session_of state) made) q
+    → Follows (asked_by old) (at hub (session_of old) made) q
+follows_from {hub = hub} {made = made} {q = q} old state same follows = subst (λ s. Follows (asked_by s) (at hub (session_of s) made) q) same follows
 
 -- a call without an answer changed nothing
-pub unanswered : (old new : State) (event : Event) (answer : Option Answer) → false ≡ is_some answer → StepIf old event answer new → new ≡ old
+pub unanswered : (old new : Hub) (event : Event) (answer : Option Answer) → false ≡ is_some answer → StepIf old event answer new → new ≡ old
 unanswered old new event None e s = s
 unanswered old new event (Some answer) e s = cc
 
 -- an opening that was refused with an answer is one event, and opens no session
-pub follows_refused : (old new : State) (before after : List Event) (room : List ℕ) (fault : OpenFault)
+pub follows_refused : {rooms : List ℕ → Type 0} (old new : Hub) (before after : List Event) (room : List ℕ) (fault : OpenFault)
     → after ≡ before ++ Open room ∷ [] → true ≡ is_some (not_opened fault) → StepIf old (Open room) (not_opened fault) new
-    → Follows (at old None before) (at new None after)
-follows_refused old new before after room fault.RoomName m e s = follows_one old new None before after (Open room) (NotOpened fault.RoomName) m refl s
-follows_refused old new before after room fault.RoomsFull m e s = follows_one old new None before after (Open room) (NotOpened fault.RoomsFull) m refl s
-follows_refused old new before after room fault.SessionsFull m e s = follows_one old new None before after (Open room) (NotOpened fault.SessionsFull) m refl s
-follows_refused old new before after room fault.Exhausted m e s = follows_one old new None before after (Open room) (NotOpened fault.Exhausted) m refl s
-follows_refused old new before after room fault.NoMemory m e s = cc
+    → rooms room → Follows rooms (at old None before) (at new None after)
+follows_refused old new before after room fault.RoomName m e s asked = follows_one old new None before after (Open room) (NotOpened fault.RoomName) m (refl, asked) s
+follows_refused old new before after room fault.RoomsFull m e s asked = follows_one old new None before after (Open room) (NotOpened fault.RoomsFull) m (refl, asked) s
+follows_refused old new before after room fault.SessionsFull m e s asked = follows_one old new None before after (Open room) (NotOpened fault.SessionsFull) m (refl, asked) s
+follows_refused old new before after room fault.Exhausted m e s asked = follows_one old new None before after (Open room) (NotOpened fault.Exhausted) m (refl, asked) s
+follows_refused old new before after room fault.NoMemory m e s asked = cc

@@ -1,3 +1,4 @@
 pub mod Closed
 pub mod Following
+pub mod Heads
 pub mod SocketErrors

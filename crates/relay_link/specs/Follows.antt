@@ -1,5 +1,5 @@
 -- The changes of the hub by a link: its events, one step after another.
-use Rattle.std.specs.Prelude.{◌≡◌, ℕ, List, [], ◌∷◌, ◌++◌, Option, Some, None}
+use Rattle.std.specs.Prelude.{◌≡◌, ⊤, ℕ, List, [], ◌∷◌, ◌++◌, Option, Some, None}
 use Rattle.relay_hub.specs.State.{State}
 use Rattle.relay_hub.specs.Step.{Step}
 use Rattle.relay_hub.specs.declared.event.Answer.{Answer}
@@ -16,12 +16,22 @@ pub record Point : Type 0 where
 abbrev pub at : State → Option ℕ → List Event → Point
 at hub session made = record { hub = hub; session = session; made = made }
 
--- A link without a session may open one. Any other event names the link's own session.
-abbrev pub IsOwn : Option ℕ → Event → Type 0
-IsOwn session (Open room) = session ≡ None
-IsOwn session (Receive s text) = session ≡ Some s
-IsOwn session (Draw s) = session ≡ Some s
-IsOwn session (Close s) = session ≡ Some s
+-- rooms, by name: any, none, and one
+abbrev pub any_room : List ℕ → Type 0
+any_room room = ⊤
+
+abbrev pub no_room : List ℕ → Type 0
+no_room room = ⊥
+
+abbrev pub is_room : List ℕ → List ℕ → Type 0
+is_room name room = room ≡ name
+
+-- A link without a session may open one in some rooms. Any other event names the link's own session.
+abbrev pub IsOwn : (List ℕ → Type 0) → Option ℕ → Event → Type 0
+IsOwn rooms session (Open room) = (session ≡ None) × rooms room
+IsOwn rooms session (Receive s text) = session ≡ Some s
+IsOwn rooms session (Draw s) = session ≡ Some s
+IsOwn rooms session (Close s) = session ≡ Some s
 
 -- the link's session after an event with its answer: the one that was opened, until it is closed
 abbrev pub session_after : Option ℕ → Event → Answer → Option ℕ
@@ -30,11 +40,11 @@ session_after session (Close s) answer = None
 session_after session event answer = session
 
 -- The second point is reached from the first by the events that were appended. Each is the link's own, and is a step of the hub
--- with some answer, which is never out of memory.
-pub data Follows : Point → Point → Type 0 where
-  stays : {p : Point} → Follows p p
-  makes : {p q : Point} {hub : State} (event : Event) (answer : Answer) → Follows p q → IsOwn q.session event → Step q.hub event answer hub
-      → Follows p (at hub (session_after q.session event answer) (q.made ++ event ∷ []))
+-- with some answer, which is never out of memory. No other room is opened than one of these.
+pub data Follows (rooms : List ℕ → Type 0) : Point → Point → Type 0 where
+  stays : {p : Point} → Follows rooms p p
+  makes : {p q : Point} {hub : State} (event : Event) (answer : Answer) → Follows rooms p q → IsOwn rooms q.session event → Step q.hub event answer hub
+      → Follows rooms p (at hub (session_after q.session event answer) (q.made ++ event ∷ []))
 
 -- the one event that closes a session, if there is one
 abbrev pub closing_of : Option ℕ → List Event

@@ -4,6 +4,7 @@ use Rattle.std.specs.List.{Contains}
 use Rattle.relay_hub.specs.State.{State as Hub}
 use Rattle.relay_hub.specs.declared.event.Event.TheVariants.{Close}
 use Rattle.relay_link.specs.Adds.{receives, draws}
+use Rattle.relay_link.specs.Asks.{asked_by}
 use Rattle.relay_link.specs.Follows.{Follows, at}
 use Rattle.relay_link.specs.Stage.{stage_of, session_of, leaves, is_over}
 use Rattle.relay_link.specs.declared.link.TheConstants.{MAX_DRAWS}
@@ -14,8 +15,9 @@ use Rattle.relay_link.specs.declared.turn.Turn.{Turn}
 
 -- A turn from the hub and the link before it to those after it, with at most `texts` receives, and at most `most` draws.
 pub record Turns {S : Type 0} (texts most : ℕ) (hub : Hub) (old : State S) (next : Hub) (new : State S) (turn : Turn) : Type 0 where
-  -- the hub changed by exactly the events of the turn, which are the link's own
-  pub follows : Follows (at hub (session_of old) []) (at next (session_of new) turn.made.items)
+  -- the hub changed by exactly the events of the turn, which are the link's own; a session is opened only in the room that the bytes of
+  -- the head ask for
+  pub follows : Follows (asked_by old) (at hub (session_of old) []) (at next (session_of new) turn.made.items)
   pub few : length turn.made.items ≤ MAX_EVENTS
   pub heard : receives turn.made.items ≤ texts
   pub drew : draws turn.made.items ≤ min most MAX_DRAWS

@@ -10,6 +10,8 @@ pub(crate) const MAX_EVENTS: usize = 34;
 #[derive(Drop)]
 pub(crate) struct EventLog {
     events: Vec<Event>,
+    /// The bytes of the texts that were drawn.
+    drawn: u64,
 }
 
 impl Model for EventLog {
@@ -26,6 +28,7 @@ impl Model for EventLog {
 
 impl EventLog {
     ghost use Rattle.std.specs.Prelude.{◌≡◌, ◌<◌, [], ◌∷◌, ◌++◌, length, IfOk};
+    ghost use Rattle.relay_hub.specs.declared.event.Event.TheVariants.{Draw};
 
     /// An empty log, with capacity for the events of a turn.
     pub(crate) fn new(alloc: Global) -> Result<EventLog, AllocError>
@@ -33,6 +36,7 @@ impl EventLog {
     {
         Ok(EventLog {
             events: Vec::with_capacity(alloc, MAX_EVENTS)?,
+            drawn: 0,
         })
     }
 
@@ -42,6 +46,22 @@ impl EventLog {
         ensures { self.new ≡ self.old ++ event ∷ [] }
     {
         self.events.push_reserved(event);
+    }
+
+    /// Appends a draw, and counts the text that was drawn. Allocates nothing.
+    pub(crate) fn note_draw(&mut self, session: u64, text: Option<&String>)
+        requires { length self.old < MAX_EVENTS }
+        ensures { self.new ≡ self.old ++ Draw session ∷ [] }
+    {
+        if let Some(text) = text {
+            self.drawn = self.drawn.saturating_add(text.len() as u64);
+        }
+        self.note(Event::Draw { session });
+    }
+
+    /// The bytes of the texts that were drawn.
+    pub(crate) fn drawn(&self) -> u64 {
+        self.drawn
     }
 
     pub(crate) fn into_events(self) -> Vec<Event>

@@ -1,7 +1,7 @@
 //! The hub calls that a link makes, each recorded as an event.
-ghost use Rattle.std.specs.Prelude.{◌≡◌, ◌<◌, [], ◌∷◌, ◌++◌, length, is_some, Some, None};
+ghost use Rattle.std.specs.Prelude.{◌≡◌, ◌<◌, [], ◌∷◌, ◌++◌, length, is_some, Some, None, string_bytes};
 ghost use Rattle.relay_hub.specs.Call.{not_opened};
-ghost use Rattle.relay_link.specs.Follows.{Follows, at, closing_of};
+ghost use Rattle.relay_link.specs.Follows.{Follows, no_room, is_room, at, closing_of};
 ghost use Rattle.relay_hub.specs.declared.event.Event.TheVariants.{Close};
 ghost use Rattle.relay_link.specs.Adds.{Adds};
 ghost use Rattle.relay_link.specs.declared.event_log.TheConstants.{MAX_EVENTS};
@@ -13,7 +13,7 @@ use std::alloc::{AllocError, Global};
 /// Opens the link's session in a room. `None` if the hub refuses it or is out of memory; only the refusal is recorded as an event.
 pub(crate) fn open(alloc: Global, hub: &mut Hub, room: String, made: &mut EventLog) -> Option<u64>
     requires { length made.old < MAX_EVENTS }
-    ensures follows { Follows (at hub.old None made.old) (at hub.new result made.new) }
+    ensures follows { Follows (is_room (string_bytes room)) (at hub.old None made.old) (at hub.new result made.new) }
     ensures adds { Adds 1 0 0 made.old made.new }
 {
     let room = Text::of(room);
@@ -52,7 +52,7 @@ pub(crate) fn receive(
     made: &mut EventLog,
 ) -> Result<(), AllocError>
     requires { length made.old < MAX_EVENTS }
-    ensures follows { Follows (at hub.old (Some session) made.old) (at hub.new (Some session) made.new) }
+    ensures follows { Follows no_room (at hub.old (Some session) made.old) (at hub.new (Some session) made.new) }
     ensures adds { Adds 1 1 0 made.old made.new }
 {
     let text = Text::of(text);
@@ -73,7 +73,7 @@ pub(crate) fn draw(
     made: &mut EventLog,
 ) -> Result<Option<String>, AllocError>
     requires { length made.old < MAX_EVENTS }
-    ensures follows { Follows (at hub.old (Some session) made.old) (at hub.new (Some session) made.new) }
+    ensures follows { Follows no_room (at hub.old (Some session) made.old) (at hub.new (Some session) made.new) }
     ensures adds { Adds 1 0 1 made.old made.new }
 {
     let text = match hub.draw(alloc, session) {
@@ -81,14 +81,14 @@ pub(crate) fn draw(
         Err(HubFault::NoSession) => None,
         Err(HubFault::NoMemory) => return Err(AllocError),
     };
-    made.note(Event::Draw { session });
+    made.note_draw(session, text.as_ref());
     Ok(text)
 }
 
 /// Closes the link's session. Allocates nothing.
 pub(crate) fn close(hub: &mut Hub, session: u64, made: &mut EventLog)
     requires { length made.old < MAX_EVENTS }
-    ensures follows { Follows (at hub.old (Some session) made.old) (at hub.new None made.new) }
+    ensures follows { Follows no_room (at hub.old (Some session) made.old) (at hub.new None made.new) }
     ensures adds { Adds 1 0 0 made.old made.new }
     ensures made { made.new ≡ made.old ++ Close session ∷ [] }
 {
@@ -101,7 +101,7 @@ pub(crate) fn close(hub: &mut Hub, session: u64, made: &mut EventLog)
 #[tactic(auto, using(crate::proofs::Following::follows_same))]
 pub(crate) fn end(hub: &mut Hub, session: Option<u64>, made: &mut EventLog)
     requires { length made.old < MAX_EVENTS }
-    ensures follows { Follows (at hub.old session made.old) (at hub.new None made.new) }
+    ensures follows { Follows no_room (at hub.old session made.old) (at hub.new None made.new) }
     ensures made { made.new ≡ made.old ++ closing_of session }
 {
     if let Some(session) = session {

@@ -1,7 +1,8 @@
 //! The handshake of a link: its request head, then the reply.
-ghost use Rattle.std.specs.Prelude.{◌≡◌, ◌+◌, ◌≤◌, length, is_some, Some, None};
+ghost use Rattle.std.specs.Prelude.{◌≡◌, ◌+◌, ◌≤◌, length, is_some, Some, None, string_bytes};
 ghost use Rattle.relay_link.specs.Adds.{Adds};
-ghost use Rattle.relay_link.specs.Follows.{Follows, at};
+ghost use Rattle.relay_link.specs.Asks.{Asks};
+ghost use Rattle.relay_link.specs.Follows.{Follows, no_room, is_room, at};
 ghost use Rattle.relay_link.specs.Stage.{entered, leaves, stage_of, session_of};
 ghost use Rattle.relay_link.specs.declared.event_log.TheConstants.{MAX_EVENTS};
 ghost use Rattle.relay_link.specs.declared.stage.Stage.TheVariants.{Head};
@@ -21,7 +22,7 @@ use std::alloc::Global;
 use std::io::{Read, Write};
 
 /// Reads once, and checks the bytes received so far as a handshake.
-#[tactic(auto, using(crate::proofs::Following::follows_same))]
+#[tactic(auto, using(crate::proofs::Following::follows_same, crate::proofs::Following::follows_none))]
 pub(crate) fn listen<S: Read + Write + Drop>(
     alloc: Global,
     mut stream: CorkedWriter<S>,
@@ -30,7 +31,7 @@ pub(crate) fn listen<S: Read + Write + Drop>(
     made: &mut EventLog,
 ) -> Transition<S>
     requires { length made.old + 2 ≤ MAX_EVENTS }
-    ensures follows { Follows (at hub.old None made.old) (at hub.new (session_of result.state) made.new) }
+    ensures follows { Follows (Asks bytes.items) (at hub.old None made.old) (at hub.new (session_of result.state) made.new) }
     ensures adds { Adds 2 0 0 made.old made.new }
     ensures cause { is_some result.cause ≡ leaves Head (stage_of result.state) }
 {
@@ -60,7 +61,7 @@ pub(crate) fn listen<S: Read + Write + Drop>(
 }
 
 /// Opens a session, and begins to write the reply. If the hub opens none, the handshake is refused with 503.
-#[tactic(auto, using(crate::proofs::Following::follows_same, crate::proofs::Following::follows_then))]
+#[tactic(auto, using(crate::proofs::Following::follows_same, crate::proofs::Following::follows_then, crate::proofs::Following::follows_none))]
 fn admit<S: Read + Write + Drop>(
     alloc: Global,
     stream: CorkedWriter<S>,
@@ -70,7 +71,7 @@ fn admit<S: Read + Write + Drop>(
     made: &mut EventLog,
 ) -> Transition<S>
     requires { length made.old + 2 ≤ MAX_EVENTS }
-    ensures follows { Follows (at hub.old None made.old) (at hub.new (session_of result.state) made.new) }
+    ensures follows { Follows (is_room (string_bytes room)) (at hub.old None made.old) (at hub.new (session_of result.state) made.new) }
     ensures adds { Adds 2 0 0 made.old made.new }
     ensures cause { is_some result.cause ≡ leaves Head (stage_of result.state) }
 {
@@ -100,7 +101,7 @@ fn answer<S: Read + Write + Drop>(
     made: &mut EventLog,
 ) -> Transition<S>
     requires { length made.old + 1 ≤ MAX_EVENTS }
-    ensures follows { Follows (at hub.old (entered verdict) made.old) (at hub.new (session_of result.state) made.new) }
+    ensures follows { Follows no_room (at hub.old (entered verdict) made.old) (at hub.new (session_of result.state) made.new) }
     ensures adds { Adds 1 0 0 made.old made.new }
     ensures cause { is_some result.cause ≡ leaves Head (stage_of result.state) }
 {
@@ -118,7 +119,7 @@ pub(crate) fn reply<S: Read + Write + Drop>(
     made: &mut EventLog,
 ) -> Transition<S>
     requires { length made.old + 1 ≤ MAX_EVENTS }
-    ensures follows { Follows (at hub.old (entered reply.verdict) made.old) (at hub.new (session_of result.state) made.new) }
+    ensures follows { Follows no_room (at hub.old (entered reply.verdict) made.old) (at hub.new (session_of result.state) made.new) }
     ensures adds { Adds 1 0 0 made.old made.new }
     ensures cause { is_some result.cause ≡ leaves Head (stage_of result.state) }
 {

@@ -1,7 +1,8 @@
 //! A link: one socket, driven by turns.
 ghost use Rattle.std.specs.Prelude.{◌≡◌, ◌+◌, ◌≤◌, [], None, is_some, IfOk, OnOk, OnErr, length};
 ghost use Rattle.relay_link.specs.Adds.{Adds, texts_of};
-ghost use Rattle.relay_link.specs.Follows.{Follows, at, closing_of};
+ghost use Rattle.relay_link.specs.Asks.{asked_by};
+ghost use Rattle.relay_link.specs.Follows.{Follows, no_room, at, closing_of};
 ghost use Rattle.relay_link.specs.Stage.{stage_of, session_of, has_corked_output, is_idle, leaves, ended, IsForward};
 ghost use Rattle.relay_link.specs.Turns.{Turns};
 ghost use Rattle.relay_link.specs.declared.event_log.TheConstants.{MAX_EVENTS};
@@ -150,7 +151,7 @@ impl<S: Read + Write + Drop> Link<S> {
     /// send a close frame with 1001. A link that is already Gone is unchanged, and has no cause. `AllocError` comes before
     /// anything is written or changed.
     pub fn end(&mut self, alloc: Global, hub: &mut Hub) -> Result<Turn, AllocError>
-        ensures follows { IfOk result (λ turn. Follows (at hub.old (session_of self.old) []) (at hub.new (session_of self.new) turn.made.items)) }
+        ensures follows { IfOk result (λ turn. Follows no_room (at hub.old (session_of self.old) []) (at hub.new (session_of self.new) turn.made.items)) }
         ensures closes { IfOk result (λ turn. turn.made.items ≡ closing_of (session_of self.old)) }
         ensures gone { OnOk result (stage_of self.new ≡ Gone) }
         ensures forward { IsForward (stage_of self.old) (stage_of self.new) }
@@ -173,6 +174,7 @@ impl<S: Read + Write + Drop> Link<S> {
             }
         };
         Ok(Turn {
+            drawn: made.drawn(),
             made: made.into_events(),
             stage: Stage::Gone,
             cause,
@@ -198,6 +200,7 @@ impl<S: Read + Write + Drop> Link<S> {
         let next = advance(alloc, state, phase, draws, hub, &mut made);
         self.state = next.state;
         Ok(Turn {
+            drawn: made.drawn(),
             made: made.into_events(),
             stage: self.stage(),
             cause: next.cause,
@@ -216,7 +219,7 @@ fn advance<S: Read + Write + Drop>(
     made: &mut EventLog,
 ) -> Transition<S>
     requires { length made.old + draws + 2 ≤ MAX_EVENTS }
-    ensures follows { Follows (at hub.old (session_of state) made.old) (at hub.new (session_of result.state) made.new) }
+    ensures follows { Follows (asked_by state) (at hub.old (session_of state) made.old) (at hub.new (session_of result.state) made.new) }
     ensures adds { Adds (draws + 2) (texts_of phase) draws made.old made.new }
     ensures cause { is_some result.cause ≡ leaves (stage_of state) (stage_of result.state) }
     ensures forward { IsForward (stage_of state) (stage_of result.state) }

@@ -1,7 +1,7 @@
 //! The turn of an open link: it sends pending output, reads a message, then draws and sends messages.
 ghost use Rattle.std.specs.Prelude.{◌≡◌, ◌+◌, ◌≤◌, length, is_some, Some, None};
 ghost use Rattle.relay_link.specs.Adds.{Adds, texts_of};
-ghost use Rattle.relay_link.specs.Follows.{Follows, at};
+ghost use Rattle.relay_link.specs.Follows.{Follows, no_room, at};
 ghost use Rattle.relay_link.specs.Stage.{leaves, stage_of, session_of, IsForward};
 ghost use Rattle.relay_link.specs.declared.event_log.TheConstants.{MAX_EVENTS};
 ghost use Rattle.relay_link.specs.declared.stage.Stage.TheVariants.{Open};
@@ -48,7 +48,7 @@ pub(crate) fn turn<S: Read + Write + Drop>(
     made: &mut EventLog,
 ) -> Transition<S>
     requires { length made.old + draws + 2 ≤ MAX_EVENTS }
-    ensures follows { Follows (at hub.old (Some session) made.old) (at hub.new (session_of result.state) made.new) }
+    ensures follows { Follows no_room (at hub.old (Some session) made.old) (at hub.new (session_of result.state) made.new) }
     ensures adds { Adds (draws + 2) (texts_of phase) draws made.old made.new }
     ensures cause { is_some result.cause ≡ leaves Open (stage_of result.state) }
     ensures forward { IsForward Open (stage_of result.state) }
@@ -70,7 +70,7 @@ fn settle<S: Read + Write + Drop>(
     made: &mut EventLog,
 ) -> Transition<S>
     requires { length made.old + 1 ≤ MAX_EVENTS }
-    ensures follows { Follows (at hub.old (Some session) made.old) (at hub.new (session_of result.state) made.new) }
+    ensures follows { Follows no_room (at hub.old (Some session) made.old) (at hub.new (session_of result.state) made.new) }
     ensures adds { Adds 1 0 0 made.old made.new }
     ensures cause { is_some result.cause ≡ leaves Open (stage_of result.state) }
     ensures forward { IsForward Open (stage_of result.state) }
@@ -100,7 +100,7 @@ fn talk<S: Read + Write + Drop>(
     made: &mut EventLog,
 ) -> Result<(), Parting>
     requires { length made.old + draws + 1 ≤ MAX_EVENTS }
-    ensures follows { Follows (at hub.old (Some session) made.old) (at hub.new (Some session) made.new) }
+    ensures follows { Follows no_room (at hub.old (Some session) made.old) (at hub.new (Some session) made.new) }
     ensures adds { Adds (draws + 1) (texts_of phase) draws made.old made.new }
 {
     if !flush(socket)? {
@@ -130,7 +130,7 @@ fn exchange<S: Read + Write + Drop>(
     made: &mut EventLog,
 ) -> Result<(), Parting>
     requires { length made.old + draws + 1 ≤ MAX_EVENTS }
-    ensures follows { Follows (at hub.old (Some session) made.old) (at hub.new (Some session) made.new) }
+    ensures follows { Follows no_room (at hub.old (Some session) made.old) (at hub.new (Some session) made.new) }
     ensures adds { Adds (draws + 1) (texts_of phase) draws made.old made.new }
 {
     if phase != TurnPhase::Write && hub.may_hear(session) {
@@ -150,7 +150,7 @@ fn receive_message<S: Read + Write + Drop>(
     made: &mut EventLog,
 ) -> Result<(), Parting>
     requires { length made.old + 1 ≤ MAX_EVENTS }
-    ensures follows { Follows (at hub.old (Some session) made.old) (at hub.new (Some session) made.new) }
+    ensures follows { Follows no_room (at hub.old (Some session) made.old) (at hub.new (Some session) made.new) }
     ensures adds { Adds 1 1 0 made.old made.new }
 {
     let Some(message) = read(socket)? else {
@@ -187,7 +187,7 @@ fn gather<S: Read + Write + Drop>(
     made: &mut EventLog,
 ) -> Result<(), Cause>
     requires { length made.old + draws ≤ MAX_EVENTS }
-    ensures follows { Follows (at hub.old (Some session) made.old) (at hub.new (Some session) made.new) }
+    ensures follows { Follows no_room (at hub.old (Some session) made.old) (at hub.new (Some session) made.new) }
     ensures adds { Adds draws 0 draws made.old made.new }
 {
     for _ in 0..draws {

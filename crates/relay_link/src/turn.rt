@@ -16,6 +16,8 @@ pub struct Turn {
     pub stage: Stage,
     /// The cause, if the turn ended the handshake without opening the link, ended an open link, or ended its closing.
     pub cause: Option<Cause>,
+    /// How many bytes the texts have that the turn drew.
+    pub drawn: u64,
 }
 
 impl Turn {
@@ -26,6 +28,17 @@ impl Turn {
         self.made
             .iter()
             .any(|event| matches!(event, Event::Receive { .. }))
+    }
+
+    /// How many bytes the texts have that the turn passed to the hub. Allocates nothing.
+    pub fn received(&self) -> u64 {
+        let mut bytes = 0u64;
+        for event in self.made.iter() {
+            if let Event::Receive { text, .. } = event {
+                bytes = bytes.saturating_add(text.as_str().len() as u64);
+            }
+        }
+        bytes
     }
 
     /// Whether the turn made a draw, with or without a text. Allocates nothing.

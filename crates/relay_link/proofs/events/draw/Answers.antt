@@ -13,8 +13,8 @@ returns-in-Err-NoMemory-clause-follows c =
 
 pub returns-clause-follows : goal.returns-clause-follows
 returns-clause-follows c = elim c.match-draw.branch [
-  | in-Ok w ↦ follows_one _ _ _ _ _ _ (Drawn (option_map string_bytes w.in-Ok.text)) c.note.ensures refl w.in-Ok.ensures.step
+  | in-Ok w ↦ follows_one _ _ _ _ _ _ (Drawn (option_map string_bytes w.in-Ok.text)) c.note_draw.ensures refl w.in-Ok.ensures.step
   | in-Err-NoSession w ↦
       let step = rw w.in-Err-NoSession.field-0-is at w.in-Err-NoSession.ensures.step in
-      follows_one _ _ _ _ _ _ NoSession c.note.ensures refl step
+      follows_one _ _ _ _ _ _ NoSession c.note_draw.ensures refl step
 ]

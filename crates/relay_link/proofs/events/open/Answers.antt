@@ -1,5 +1,5 @@
 -- An opening that has an answer is the one event, and opens a session unless it was refused.
-use Rattle.std.proofs.Common.{refl}
+use Rattle.std.proofs.Common.{refl, ◌∙◌}
 use Rattle.relay_hub.specs.declared.event.Answer.TheVariants.{Opened}
 use Rattle.relay_hub.specs.declared.event.Event.TheVariants.{Open}
 use Rattle.relay_link.proofs.Following.{follows_same, follows_one, follows_refused, unanswered}
@@ -12,7 +12,7 @@ returns-then-not-is_answer-clause-follows c =
 
 pub returns-clause-follows : goal.returns-clause-follows
 returns-clause-follows c = elim c.match-open.branch [
-  | in-Ok w ↦ rw w.opened-is (follows_one _ _ _ _ _ (Open c.as_str.result.now) (Opened w.in-Ok.session) (rw c.as_str.ensures c.note.ensures) refl w.in-Ok.ensures.step)
+  | in-Ok w ↦ rw w.opened-is (follows_one _ _ _ _ _ (Open c.as_str.result.now) (Opened w.in-Ok.session) (rw c.as_str.ensures c.note.ensures) (refl, c.as_str.ensures ∙ c.of-room.ensures) w.in-Ok.ensures.step)
   | in-Err+else-not-is_answer w ↦
-      rw w.opened-is (follows_refused _ _ _ _ c.as_str.result.now w.in-Err.fault (rw c.as_str.ensures c.note.ensures) w.if-not-is_answer.ensures w.in-Err.ensures.step)
+      rw w.opened-is (follows_refused _ _ _ _ c.as_str.result.now w.in-Err.fault (rw c.as_str.ensures c.note.ensures) w.if-not-is_answer.ensures w.in-Err.ensures.step (c.as_str.ensures ∙ c.of-room.ensures))
 ]

@@ -1,11 +1,11 @@
 -- Each pass so far added at most one event, a draw.
 use Rattle.std.proofs.Common.{Some}
 use Rattle.relay_link.specs.Adds.{Adds}
-use Rattle.relay_link.specs.Follows.{Follows, at}
+use Rattle.relay_link.specs.Follows.{Follows, no_room, at}
 use Rattle.relay_link.proofs.opened.gather.Given as goal
 
 abbrev pub invariant-loop : goal.invariant-loop
 invariant-loop g l = record {
-  follows : Follows (at l.initial.hub (Some l.session) l.initial.made) (at l.hub (Some l.session) l.made);
+  follows : Follows no_room (at l.initial.hub (Some l.session) l.initial.made) (at l.hub (Some l.session) l.made);
   adds : Adds l.counter 0 l.counter l.initial.made l.made;
 }

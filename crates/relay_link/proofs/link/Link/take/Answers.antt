@@ -2,11 +2,12 @@
 use Rattle.std.proofs.Common.{◌≡◌, ◌∙◌, Some, ap, rules}
 use Rattle.relay_link.specs.Stage.{session_of}
 use Rattle.relay_link.proofs.Closed.{closed}
+use Rattle.relay_link.proofs.Following.{follows_from}
 use Rattle.relay_link.proofs.link.Link.take.Goals as goal
 
 pub returns-clause-turns : goal.returns-clause-turns
 returns-clause-turns g c = record {
-  follows = search rules;
+  follows = follows_from _ _ (c.replace-state.ensures.value ∙ c.self.view_is) (search rules);
   few = search rules;
   heard = search rules;
   drew = search rules;
