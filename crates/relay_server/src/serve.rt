@@ -6,6 +6,7 @@ ghost use Rattle.relay_server.specs.Config.{config_of};
 ghost use Rattle.relay_server.specs.Jobs.{Listens, ServeEnds};
 ghost use Rattle.relay_lines.specs.Lines.{AppendsPart};
 ghost use Rattle.relay_server.specs.Printed.{served_text};
+ghost use Rattle.relay_serving.specs.Rounds.{RoundsOf};
 ghost use Rattle.relay_lines.specs.declared.fault.ScriptFault.TheVariants.{BadLimit, NoMemory, Output};
 ghost use Rattle.relay_loopback.specs.declared.fault.ServeFault.TheVariants.{Ended, Listen};
 
@@ -93,12 +94,12 @@ fn serve_hub<N: Net, W: Write, J: ConnectionLog>(
     let Ok(polling) = Polling::new(alloc, net, &listener) else {
         return Err(ServeFault::Wait);
     };
-    let mut serving = Server::new(alloc, hub, polling);
+    let mut server = Server::new(alloc, hub, polling);
     host(
         alloc,
         writer,
         log,
-        &mut serving,
+        &mut server,
         &listener,
         address.port(),
         served.turns,
@@ -106,28 +107,26 @@ fn serve_hub<N: Net, W: Write, J: ConnectionLog>(
 }
 
 /// Prints the port, runs the rounds, ends every connection, and prints the number of rounds.
-#[tactic(auto, using(crate::proofs::ServeLemmas::part_none, crate::proofs::ServeLemmas::then_all))]
+#[tactic(auto, using(crate::proofs::ServeLemmas::part_none, crate::proofs::ServeLemmas::then_all, relay_serving::proofs::Advancing::no_rounds))]
 fn host<L: OpenListener, P: Readiness<L::Stream>, W: Write, J: ConnectionLog>(
     alloc: Global,
     writer: &mut W,
     log: &mut J,
-    serving: &mut Server<L::Stream, P>,
+    server: &mut Server<L::Stream, P>,
     listener: &L,
     port: u16,
     turns: u64,
 ) -> Result<(), ServeFault>
 where
     L::Stream: Read + Write + OpenStream + Drop,
+    ensures rounds { RoundsOf server.old server.new }
     ensures done { OnOk result (Appends (W.contents writer.old) (W.contents writer.new) (served_text port turns)) }
     ensures stopped { OnErr result (AppendsPart (W.contents writer.old) (W.contents writer.new) (served_text port turns)) }
     ensures uncut { IfErr result (λ fault. fault ≡ Ended NoMemory → Listens port (W.contents writer.old) (W.contents writer.new)) }
     ensures fault { IfErr result (λ fault. (fault ≡ Ended Output) ⊎ (fault ≡ Ended NoMemory)) }
 {
     print(writer, format!(in alloc; "listening {port}\n")?.as_str())?;
-    for _ in 0..turns {
-        serving.round(alloc, listener, log);
-    }
-    serving.end(alloc, log);
+    server.run(alloc, listener, turns, log);
     print(writer, format!(in alloc; "turns {turns}\n")?.as_str())
 }
 

@@ -12,6 +12,9 @@ connections_of s = slab_len s.connections
 abbrev pub limit_of : {S R : Type 0} → Server S R → ℕ
 limit_of s = s.most
 
+abbrev pub hub_of : {S R : Type 0} → Server S R → State
+hub_of s = s.hub
+
 -- so many for a number of sessions: a quarter more, and at least 64 more
 abbrev pub connection_limit : ℕ → ℕ
 connection_limit sessions = min (2 ^ 64 - 1) (sessions + max (sessions / 4) 64)

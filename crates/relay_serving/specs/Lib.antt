@@ -1,1 +1,3 @@
 pub mod Connections
+pub mod Advances
+pub mod Rounds

@@ -1,14 +1,24 @@
 //! A connection of a server: a link, and whether a turn of it would do anything.
-ghost use Rattle.std.specs.Prelude.{◌≡◌, ◌↔◌, ◌&&◌, ◌||◌, IsTrue, is_none, not};
+ghost use Rattle.std.specs.Prelude.{◌≡◌, ◌↔◌, ◌&&◌, ◌||◌, None, IfOk, IsTrue, is_none, not};
 ghost use Rattle.relay_link.specs.Stage.{stage_of, session_of, is_idle};
 ghost use Rattle.relay_link.specs.declared.stage.Stage.TheVariants.{Closing};
 ghost use Rattle.relay_serving.specs.Connections.{has_room};
 
+use crate::readiness::StreamReady;
 use crate::ready::{Known, Watched};
 use relay_hub::Hub;
 use relay_link::{Link, Stage};
 use std::alloc::{AllocError, Global};
 use std::io::{Read, Write};
+
+/// The output of a link.
+#[derive(Clone, Copy, Debug, PartialEq, Eq)]
+pub(crate) enum Output {
+    /// What was framed in a read turn, and corked.
+    Corked,
+    /// That, or messages that wait for the session.
+    Waiting,
+}
 
 /// A link, and what the server knows about it.
 #[derive(Drop)]
@@ -30,7 +40,9 @@ impl<S: Read + Write + Drop> Connection<S> {
         stream: S,
         place: u64,
         since: u64,
-    ) -> Result<Connection<S>, AllocError> {
+    ) -> Result<Connection<S>, AllocError>
+        ensures { IfOk result (λ connection. session_of connection.link ≡ None) }
+    {
         let (stream, known) = Watched::new(alloc, stream)?;
         Ok(Connection {
             link: Link::new(alloc, stream)?,
@@ -42,9 +54,20 @@ impl<S: Read + Write + Drop> Connection<S> {
     }
 
     /// Records what became ready.
-    pub(crate) fn wake(&mut self, readable: bool, writable: bool) {
-        self.known.add(readable, writable);
+    pub(crate) fn wake(&mut self, ready: StreamReady)
+        ensures { self.new.link ≡ self.old.link }
+    {
+        self.known.add(ready);
         self.read_pending = true;
+    }
+
+    /// Gives the link a read turn if it is closing, so that a wait without events counts toward its limit of turns.
+    pub(crate) fn mark_closing(&mut self)
+        ensures { self.new.link ≡ self.old.link }
+    {
+        if self.is_closing() {
+            self.read_pending = true;
+        }
     }
 
     /// Whether a read turn might do something: something became ready, or the link is not idle, and the hub has space for a reply.
@@ -60,21 +83,15 @@ impl<S: Read + Write + Drop> Connection<S> {
         }
     }
 
-    /// Whether the link has corked output that could be sent.
-    pub(crate) fn may_uncork(&self) -> bool {
-        self.known.is_writable() && self.link.has_corked_output()
-    }
-
-    /// Whether the link has waiting messages or corked output that could be sent.
-    pub(crate) fn may_write(&self, hub: &Hub) -> bool {
-        if !self.known.is_writable() {
-            return false;
-        }
-        match self.link.session() {
-            Some(session) => self.link.has_corked_output()
-                || matches!(hub.waiting(session), Some(1..)),
-            None => false,
-        }
+    /// Whether the link has such output that could be sent.
+    pub(crate) fn has_output(&self, hub: &Hub, output: Output) -> bool {
+        self.known.is_writable()
+            && match (output, self.link.session()) {
+                (Output::Corked, _) => self.link.has_corked_output(),
+                (Output::Waiting, Some(session)) => self.link.has_corked_output()
+                    || matches!(hub.waiting(session), Some(1..)),
+                (Output::Waiting, None) => false,
+            }
     }
 
     /// Whether the link waits for the other side's close.

@@ -3,10 +3,11 @@
 
 mod connection;
 mod connection_log;
+mod read_share;
 mod readiness;
 mod ready;
 mod server;
 
 pub use connection_log::{ConnectionLog, LogEntry, LogLines, NoLog};
-pub use readiness::{Polling, Readiness, ReadyEvent};
+pub use readiness::{Polling, Readiness, ReadyEvent, StreamReady};
 pub use server::{Server, connection_limit};

@@ -9,17 +9,31 @@ use std::net::Net;
 use std::os::fd::AsRawFd;
 use std::time::Duration;
 
+/// What a stream is ready for.
+#[derive(Clone, Copy, Debug, PartialEq, Eq)]
+pub struct StreamReady {
+    pub readable: bool,
+    pub writable: bool,
+    /// Whether the stream failed, or the other side closed it: its end may follow its last bytes without another event.
+    pub is_over: bool,
+}
+
+impl StreamReady {
+    /// Ready for everything, as far as is known.
+    pub const ALL: StreamReady = StreamReady {
+        readable: true,
+        writable: true,
+        is_over: true,
+    };
+}
+
 /// An event that says what became ready.
 #[derive(Clone, Copy, Debug, PartialEq, Eq)]
 pub enum ReadyEvent {
     /// A connection waits to be accepted.
     Incoming,
-    /// The stream with this key may be read or written. A stream that failed or was closed may be both.
-    Stream {
-        key: usize,
-        readable: bool,
-        writable: bool,
-    },
+    /// The stream with this key may be read or written. A stream that failed or was closed is both.
+    Stream { key: usize, ready: StreamReady },
 }
 
 /// Reports which streams of a server are ready, and whether a connection waits to be accepted.
@@ -95,9 +109,10 @@ fn event_of(event: &Event) -> ReadyEvent {
         return ReadyEvent::Incoming;
     }
     let is_over = event.is_error() || event.is_read_closed() || event.is_write_closed();
-    ReadyEvent::Stream {
-        key,
+    let ready = StreamReady {
         readable: event.is_readable() || is_over,
         writable: event.is_writable() || is_over,
-    }
+        is_over,
+    };
+    ReadyEvent::Stream { key, ready }
 }

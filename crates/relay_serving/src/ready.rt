@@ -1,25 +1,20 @@
 //! A stream, together with its readiness as the system last reported it.
+use crate::readiness::StreamReady;
 use std::alloc::{AllocError, Global};
 use std::cell::Cell;
 use std::io;
 use std::io::{Error, ErrorKind, Read, Write};
 use std::rc::Rc;
 
-/// What a stream is known to be ready for.
-#[derive(Clone, Copy, Debug, PartialEq, Eq)]
-struct Ready {
-    readable: bool,
-    writable: bool,
-}
-
 /// The known readiness of a stream, shared by the stream and the rounds that receive its events.
 #[derive(Drop)]
 pub(crate) struct Known {
-    ready: Rc<Cell<Ready>>,
+    ready: Rc<Cell<StreamReady>>,
 }
 
 /// A stream that returns `WouldBlock` without a system call while it is known not to be ready. It is readable until a read returns
-/// `WouldBlock`, and writable until a write does; a later event makes it ready again.
+/// `WouldBlock` or fewer bytes than it was asked for, since then nothing is left (epoll(7)), and writable until a write returns
+/// `WouldBlock`. A later event makes it ready again.
 #[derive(Drop)]
 pub(crate) struct Watched<S> {
     stream: S,
@@ -28,11 +23,12 @@ pub(crate) struct Watched<S> {
 
 impl Known {
     /// Adds what the stream is ready for now. It stays ready for what it was ready for before.
-    pub(crate) fn add(&self, readable: bool, writable: bool) {
-        let ready = self.ready.get();
-        self.ready.set(Ready {
-            readable: ready.readable || readable,
-            writable: ready.writable || writable,
+    pub(crate) fn add(&self, now: StreamReady) {
+        let before = self.ready.get();
+        self.ready.set(StreamReady {
+            readable: before.readable || now.readable,
+            writable: before.writable || now.writable,
+            is_over: before.is_over || now.is_over,
         });
     }
 
@@ -44,20 +40,24 @@ impl Known {
         self.ready.get().writable
     }
 
-    fn end_reads(&self) {
-        let ready = self.ready.get();
-        self.ready.set(Ready {
-            readable: false,
-            writable: ready.writable,
-        });
+    /// Notes what a read of at most `most` bytes returned.
+    fn end_reads(&self, read: &io::Result<usize>, most: usize) {
+        let mut ready = self.ready.get();
+        ready.readable = match read {
+            Ok(len) => *len == most || ready.is_over,
+            Err(error) => error.kind() != ErrorKind::WouldBlock,
+        };
+        self.ready.set(ready);
     }
 
-    fn end_writes(&self) {
-        let ready = self.ready.get();
-        self.ready.set(Ready {
-            readable: ready.readable,
-            writable: false,
-        });
+    /// Notes what a write returned.
+    fn end_writes(&self, written: &io::Result<usize>) {
+        let mut ready = self.ready.get();
+        ready.writable = match written {
+            Ok(_) => true,
+            Err(error) => error.kind() != ErrorKind::WouldBlock,
+        };
+        self.ready.set(ready);
     }
 }
 
@@ -69,9 +69,10 @@ impl<S> Watched<S> {
     {
         let ready = Rc::new(
             alloc,
-            Cell::new(Ready {
+            Cell::new(StreamReady {
                 readable: true,
                 writable: true,
+                is_over: false,
             }),
         )?;
         let known = Known {
@@ -87,9 +88,7 @@ impl<S: Read> Read for Watched<S> {
             return Err(nothing_now());
         }
         let read = self.stream.read(buf);
-        if is_nothing_now(&read) {
-            self.known.end_reads();
-        }
+        self.known.end_reads(&read, buf.len());
         read
     }
 }
@@ -100,9 +99,7 @@ impl<S: Write> Write for Watched<S> {
             return Err(nothing_now());
         }
         let written = self.stream.write(buf);
-        if is_nothing_now(&written) {
-            self.known.end_writes();
-        }
+        self.known.end_writes(&written);
         written
     }
 
@@ -113,11 +110,4 @@ impl<S: Write> Write for Watched<S> {
 
 fn nothing_now() -> Error {
     Error::from(ErrorKind::WouldBlock)
-}
-
-fn is_nothing_now(moved: &io::Result<usize>) -> bool {
-    match moved {
-        Ok(_) => false,
-        Err(error) => error.kind() == ErrorKind::WouldBlock,
-    }
 }

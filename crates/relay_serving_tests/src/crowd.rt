@@ -1,6 +1,7 @@
 //! Tests with many connections of one server.
 use crate::memory_server::{MemoryServer, ReadinessScript};
 use crate::pair::{HANDSHAKE, lent};
+use relay_hub::HubConfig;
 use relay_server::connection_limit;
 use relay_wire::Wire;
 use std::alloc::AllocGlobal;
@@ -85,7 +86,11 @@ fn tells_who_made_room(rt: &impl Abort, crowd: &Crowd<'_>) {
 fn evicts_silent_connections(rt: HostRuntime) {
     let script = ReadinessScript::new(rt.alloc());
     let (open, silent) = (Wire::new(rt.alloc()), Wire::new(rt.alloc()));
-    let mut crowd = Crowd::at(MemoryServer::new(&rt, &script, 32), &open, &silent);
+    let mut crowd = Crowd::at(
+        MemoryServer::new(&rt, &script, HubConfig::new(1, 1, 64, 32)),
+        &open,
+        &silent,
+    );
     fill(&rt, &mut crowd);
     tells_who_made_room(&rt, &crowd);
 }
@@ -95,7 +100,11 @@ fn evicts_silent_connections(rt: HostRuntime) {
 fn accepts_8_connections_a_round(rt: HostRuntime) {
     let script = ReadinessScript::new(rt.alloc());
     let (open, silent) = (Wire::new(rt.alloc()), Wire::new(rt.alloc()));
-    let mut crowd = Crowd::at(MemoryServer::new(&rt, &script, 32), &open, &silent);
+    let mut crowd = Crowd::at(
+        MemoryServer::new(&rt, &script, HubConfig::new(1, 1, 64, 32)),
+        &open,
+        &silent,
+    );
     crowd.connect(&rt, 12);
     for held in [8, 12, 12] {
         crowd.server.round(&rt);

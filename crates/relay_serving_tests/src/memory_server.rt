@@ -1,5 +1,5 @@
 //! A server over in-memory streams, whose readiness the test controls.
-use relay_hub::Hub;
+use relay_hub::{Hub, HubConfig};
 use relay_server::{LogLines, Readiness, ReadyEvent, Server};
 use relay_wire::{End, Wire};
 use std::alloc::{AllocGlobal, Global};
@@ -105,13 +105,13 @@ pub(crate) struct MemoryServer<'a> {
 }
 
 impl<'a> MemoryServer<'a> {
-    /// A server without connections. Its hub lets `max_waiting_patches` patches wait for each session.
+    /// A server of a new hub, without connections.
     pub fn new(
         rt: &(impl Abort + AllocGlobal),
         script: &'a RefCell<ReadinessScript>,
-        max_waiting_patches: u64,
+        config: HubConfig,
     ) -> MemoryServer<'a> {
-        let hub = Hub::new(rt.alloc(), 1, 1, 64, max_waiting_patches).expect(rt, "a hub");
+        let hub = Hub::with_config(rt.alloc(), config).expect(rt, "a hub");
         MemoryServer {
             listener: MemoryListener {
                 waiting: RefCell::new(Vec::new(rt.alloc())),

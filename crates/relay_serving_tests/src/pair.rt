@@ -1,6 +1,6 @@
 //! The fixture that plays rows to a server with two streams.
 use crate::memory_server::MemoryServer;
-use relay_server::ReadyEvent;
+use relay_server::{ReadyEvent, StreamReady};
 use relay_wire::{InjectedFault, Wire};
 use std::alloc::AllocGlobal;
 use std::cell::{RefCell, RefMut};
@@ -110,11 +110,12 @@ pub(crate) fn lent<'w>(rt: &impl Abort, wire: &'w RefCell<Wire>) -> RefMut<'w, W
 }
 
 fn ready(key: usize, readable: bool) -> ReadyEvent {
-    ReadyEvent::Stream {
-        key,
+    let ready = StreamReady {
         readable,
         writable: !readable,
-    }
+        is_over: false,
+    };
+    ReadyEvent::Stream { key, ready }
 }
 
 /// Performs an act on its wire.

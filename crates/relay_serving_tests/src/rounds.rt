@@ -4,6 +4,8 @@ use crate::pair::Act::{
     Capacity, Comes, Empty, Fails, Full, Incoming, Readable, Round, Says, WaitFails, Writable,
 };
 use crate::pair::{HANDSHAKE, Pair, Row};
+use relay_hub::HubConfig;
+use relay_tree::Budget;
 use relay_wire::Wire;
 use std::alloc::AllocGlobal;
 use std::process::Abort;
@@ -21,14 +23,14 @@ const ENTERS: &[Row] = &[
     (1, Incoming(0), ""),
     (1, Comes(0, HANDSHAKE), ""),
     (1, Round, "1, 1r2w 101 welcome, 0r0w"),
-    (1, Round, "1, 1r0w, 0r0w"),
+    (1, Round, "1, 0r0w, 0r0w"),
 ];
 
 /// The first client watches the whole document.
 const WATCHES: &[Row] = &[
     (1, Says(0, WATCH), ""),
     (1, Readable(0), ""),
-    (1, Round, "1 sleeps, 2r1w watching snapshot, 0r0w"),
+    (1, Round, "1 sleeps, 1r1w watching snapshot, 0r0w"),
 ];
 
 /// A second client connects and receives its welcome.
@@ -36,18 +38,23 @@ const JOINS: &[Row] = &[
     (1, Incoming(1), ""),
     (1, Comes(1, HANDSHAKE), ""),
     (1, Round, "2 sleeps, 0r0w, 1r2w 101 welcome"),
-    (1, Round, "2, 0r0w, 1r0w"),
+    (1, Round, "2, 0r0w, 0r0w"),
 ];
 
 /// Plays rows to a new server that lets `max_waiting_patches` patches wait for each session.
 fn play(rt: &(impl Abort + AllocGlobal), max_waiting_patches: u64, rows: &[&[Row]]) {
+    play_with(rt, config(max_waiting_patches), rows);
+}
+
+fn config(max_waiting_patches: u64) -> HubConfig {
+    HubConfig::new(1, 1, 64, max_waiting_patches)
+}
+
+/// Plays rows to a new server of a hub with this configuration.
+fn play_with(rt: &(impl Abort + AllocGlobal), config: HubConfig, rows: &[&[Row]]) {
     let script = ReadinessScript::new(rt.alloc());
     let (one, two) = (Wire::new(rt.alloc()), Wire::new(rt.alloc()));
-    let mut pair = Pair::at(
-        MemoryServer::new(rt, &script, max_waiting_patches),
-        &one,
-        &two,
-    );
+    let mut pair = Pair::at(MemoryServer::new(rt, &script, config), &one, &two);
     for some in rows {
         play_rows(rt, &mut pair, some);
     }
@@ -90,12 +97,22 @@ fn reads_before_it_writes(rt: HostRuntime) {
         (
             1,
             Round,
-            "2 sleeps, 0r1w patch patch patch, 2r1w done done done",
+            "2 sleeps, 0r1w patch patch patch, 1r1w done done done",
         ),
     ];
     let sleeps: &[Row] = &[(1, Round, "2 sleeps, 0r0w, 0r0w")];
     play(&rt, 32, &[ENTERS, WATCHES, JOINS, edits, edits, sleeps]);
 }
+
+/// Of three edits each round reads one.
+const ONE_BY_ONE: &[Row] = &[
+    (3, Says(1, EDIT), ""),
+    (1, Readable(1), ""),
+    (1, Round, "2 sleeps, 0r1w patch, 1r1w done"),
+    (2, Round, "2, 0r1w patch, 0r1w done"),
+    (1, Round, "2, 0r0w, 0r0w"),
+    (1, Round, "2 sleeps, 0r0w, 0r0w"),
+];
 
 /// If two patches may wait, a round reads one text, and no outbox folds.
 #[test]
@@ -104,17 +121,19 @@ fn reads_no_more_than_outboxes_hold(rt: HostRuntime) {
         (1, Says(0, WATCH), ""),
         (1, Readable(0), ""),
         (1, Round, "1 sleeps, 1r1w watching snapshot, 0r0w"),
-        (1, Round, "1, 1r0w, 0r0w"),
+        (1, Round, "1, 0r0w, 0r0w"),
     ];
-    let edits: &[Row] = &[
-        (3, Says(1, EDIT), ""),
-        (1, Readable(1), ""),
-        (1, Round, "2 sleeps, 0r1w patch, 1r1w done"),
-        (2, Round, "2, 0r1w patch, 0r1w done"),
-        (1, Round, "2, 0r0w, 1r0w"),
-        (1, Round, "2 sleeps, 0r0w, 0r0w"),
-    ];
-    play(&rt, 2, &[ENTERS, watches, JOINS, edits]);
+    play(&rt, 2, &[ENTERS, watches, JOINS, ONE_BY_ONE]);
+}
+
+/// If waiting patches may weigh 100, a round reads no other text after one of 50 bytes.
+#[test]
+fn reads_no_more_than_outboxes_may_weigh(rt: HostRuntime) {
+    let config = HubConfig {
+        waiting_weight: Budget::Left(100),
+        ..config(32)
+    };
+    play_with(&rt, config, &[ENTERS, WATCHES, JOINS, ONE_BY_ONE]);
 }
 
 /// The reply to a text is sent before later bytes of the same segment end the link.
@@ -144,11 +163,11 @@ fn waits_for_a_stream_that_is_full(rt: HostRuntime) {
         (1, Full(0), ""),
         (1, Says(1, EDIT), ""),
         (1, Readable(1), ""),
-        (1, Round, "2 sleeps, 0r1w, 2r1w done"),
+        (1, Round, "2 sleeps, 0r1w, 1r1w done"),
         (2, Round, "2 sleeps, 0r0w, 0r0w"),
         (1, Says(1, EDIT), ""),
         (1, Readable(1), ""),
-        (1, Round, "2 sleeps, 0r0w, 2r1w done"),
+        (1, Round, "2 sleeps, 0r0w, 1r1w done"),
         (1, Empty(0), ""),
         (2, Round, "2 sleeps, 0r0w, 0r0w"),
         (1, Writable(0), ""),
@@ -187,7 +206,7 @@ fn a_stream_that_fails_ends_its_own_link_alone(rt: HostRuntime) {
         (1, Fails(0), ""),
         (1, Says(1, EDIT), ""),
         (1, Readable(1), ""),
-        (1, Round, "1 sleeps, 0r1w, 2r1w done"),
+        (1, Round, "1 sleeps, 0r1w, 1r1w done"),
     ];
     play(&rt, 32, &[ENTERS, WATCHES, JOINS, told]);
     let followed: &[Row] = &[
@@ -223,8 +242,8 @@ fn receives_events_beyond_capacity(rt: HostRuntime) {
         (1, Readable(0), ""),
         (1, Readable(1), ""),
         (1, Capacity(1), ""),
-        (1, Round, "2 sleeps, 2r1w done patch, 0r0w"),
-        (1, Round, "2 sleeps, 0r1w patch, 2r1w done"),
+        (1, Round, "2 sleeps, 1r1w done patch, 0r0w"),
+        (1, Round, "2 sleeps, 0r1w patch, 1r1w done"),
         (1, Round, "2 sleeps, 0r0w, 0r0w"),
     ];
     play(&rt, 32, &[ENTERS, WATCHES, JOINS, later]);
@@ -248,7 +267,7 @@ fn waits_for_the_answer_to_a_close(rt: HostRuntime) {
         (1, Comes(1, BINARY), ""),
         (1, Readable(1), ""),
         (1, Round, "2 sleeps, 0r0w, 1r1w unsupported"),
-        (1, Round, "2, 0r0w, 1r0w"),
+        (1, Round, "2, 0r0w, 0r0w"),
         (7, Round, "2 sleeps, 0r0w, 0r0w"),
         (1, Readable(0), ""),
         (1, Round, "2 sleeps, 1r0w, 0r0w"),
@@ -260,7 +279,7 @@ fn waits_for_the_answer_to_a_close(rt: HostRuntime) {
         (1, Comes(1, BINARY), ""),
         (1, Readable(1), ""),
         (1, Round, "2 sleeps, 0r0w, 1r1w unsupported"),
-        (1, Round, "2, 0r0w, 1r0w"),
+        (1, Round, "2, 0r0w, 0r0w"),
         (1, Comes(1, CLOSE), ""),
         (1, Readable(1), ""),
         (1, Round, "2 sleeps, 0r0w, 1r0w"),
@@ -278,7 +297,7 @@ const NOWHERE: &[u8] =
 fn logs_its_connections(rt: HostRuntime) {
     let script = ReadinessScript::new(rt.alloc());
     let (one, two) = (Wire::new(rt.alloc()), Wire::new(rt.alloc()));
-    let mut pair = Pair::at(MemoryServer::new(&rt, &script, 32), &one, &two);
+    let mut pair = Pair::at(MemoryServer::new(&rt, &script, config(32)), &one, &two);
     play_rows(&rt, &mut pair, ENTERS);
     play_rows(&rt, &mut pair, ENDS);
     let wanted =

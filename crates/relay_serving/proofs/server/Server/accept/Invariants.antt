@@ -1,7 +1,6 @@
--- At most the maximum number of connections is held.
-use Rattle.std.proofs.Common.{◌≤◌}
-use Rattle.relay_serving.specs.Connections.{connections_of}
+-- The hub advances, and no connection is added beyond the limit.
+use Rattle.relay_serving.specs.Advances.{KeepsWithin}
 use Rattle.relay_serving.proofs.server.Server.accept.Given as goal
 
 abbrev pub invariant-loop : goal.invariant-loop
-invariant-loop g l = connections_of l.initial.self ≤ l.most → connections_of l.self ≤ l.most
+invariant-loop g l = KeepsWithin l.initial.self l.self

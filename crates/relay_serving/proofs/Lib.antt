@@ -1,0 +1,4 @@
+pub mod Advancing
+pub mod Held
+pub mod Owners
+pub mod Rules

@@ -1,0 +1,215 @@
+-- Each open session stays that of exactly one connection.
+use Rattle.std.proofs.Common.{◌≡◌, ◌≢◌, ◌⊎◌, ℕ, ◌==◌, ◌≤◌, Bool, true, false, List, [], Option, Some, None, is_some, refl, sym, ◌∙◌, ap, subst, inl, inr, arith, slice_get, nat_eq, IsSome, if◌then◌else◌}
+use Rattle.std.proofs.lemmas.Bool.Decides.{eqb_tells}
+use Rattle.std.specs.Map.{lookup}
+use Rattle.relay_hub.specs.Session.{Session}
+use Rattle.relay_hub.specs.State.{State, RoomSessions, Home, IsHub, place_of, session_in}
+use Rattle.relay_hub.specs.Step.{Step, AtHome, AtPlace, InRoom, ClosesIn, ClosesInRoom, ClosesAt, Opens}
+use Rattle.relay_hub.specs.declared.event.Answer.{Answer}
+use Rattle.relay_hub.specs.declared.event.Answer.TheVariants.{Opened, NotOpened, Heard, Drawn, Closed, NoSession}
+use Rattle.relay_hub.specs.declared.event.Event.{Event}
+use Rattle.relay_hub.specs.declared.event.Event.TheVariants.{Open, Receive, Draw, Close}
+use Rattle.relay_hub.proofs.Members.{step_is_hub}
+use Rattle.relay_hub.proofs.Cases.{by_number}
+use Rattle.relay_hub.proofs.Shedding.{shed_is_hub}
+use Rattle.relay_link.specs.Follows.{Point, any_room, Follows, stays as none, makes, at, IsOwn, session_after}
+use Rattle.relay_serving.specs.Advances.{Sessions, Advances, stays, turns, sheds}
+use Rattle.relay_serving.specs.Rounds.{OneEach, Connected}
+
+-- the same sessions, but for one key's
+abbrev with_session : ℕ → Option ℕ → Sessions → Sessions
+with_session key mine sessions other = if key == other then mine else sessions other
+
+-- nothing that `OneEach` speaks of changed
+pub one_each_same : {hub next : State} {old new : Sessions} → ((t : ℕ) → place_of next t ≡ place_of hub t) → ((key : ℕ) → new key ≡ old key) → OneEach hub old → OneEach next new
+one_each_same homes same each = record {
+  opened = λ key s is. rw (homes s) (each.opened key s (sym (same key) ∙ is));
+  once = λ key other s is also. each.once key other s (sym (same key) ∙ is) (sym (same other) ∙ also);
+  all = λ s is. let found = each.all s (rw (homes s) at is) in (found.0, same found.0 ∙ found.1);
+}
+
+-- Where an event leaves the sessions.
+
+in_room_homes : (place : ℕ) (o : Option (List ℕ × RoomSessions)) (old new : State) (answer : Answer) (Does : RoomSessions → RoomSessions → Type 0)
+    → InRoom place o old answer Does new → (t : ℕ) → place_of new t ≡ place_of old t
+in_room_homes place (Some home) old new answer Does step t = ap (λ hub. place_of hub t) step.2
+in_room_homes place None old new answer Does step t = ap (λ hub. place_of hub t) step.1
+
+at_place_homes : (o : Option ℕ) (old new : State) (answer : Answer) (Does : RoomSessions → RoomSessions → Type 0) → AtPlace o old answer Does new → (t : ℕ) → place_of new t ≡ place_of old t
+at_place_homes (Some place) old new answer Does step t = in_room_homes place (slice_get old.rooms place) old new answer Does step t
+at_place_homes None old new answer Does step t = ap (λ hub. place_of hub t) step.1
+
+-- session s was closed, and no other
+abbrev IsClosed : ℕ → State → State → Type 0
+IsClosed s old new = (t : ℕ) → place_of new t ≡ (if s == t then None else place_of old t)
+
+closed_in : (s place : ℕ) (name : List ℕ) (g : RoomSessions) (o : Option Session) (old new : State) (answer : Answer) → IsSome o → ClosesIn s place name g o old answer new → IsClosed s old new
+closed_in s place name g (Some x) old new Closed is step = step.home
+closed_in s place name g (Some x) old new answer is step = absurd step
+closed_in s place name g None old new answer is step = absurd (cc is)
+
+closed_home : (s : ℕ) (old new : State) (answer : Answer) (home : Home old s) → ClosesAt s (Some home.room.place) old answer new → IsClosed s old new
+closed_home s old new answer home step =
+    closed_in s home.room.place home.room.name home.room.room_sessions (session_in home.room.room_sessions.sessions s) old new answer (rw home.is refl) (rw home.room.there at step)
+
+closed : (s : ℕ) (o : Option ℕ) (old new : State) (answer : Answer) → IsHub old → place_of old s ≡ o → IsSome o → ClosesAt s o old answer new → IsClosed s old new
+closed s (Some place) old new answer is at some step =
+    let home = is.homes s place at in
+    let same : Some place ≡ Some home.room.place = sym at ∙ home.at in
+    closed_home s old new answer home (subst (λ o. ClosesAt s o old answer new) same step)
+closed s None old new answer is at some step = absurd (cc some)
+
+-- One link's event.
+
+module _ (key : ℕ) (sessions : Sessions) where
+  mine_there : (mine : Option ℕ) → with_session key mine sessions key ≡ mine
+  mine_there mine = by_number (λ k b. (if b then mine else sessions k) ≡ mine) key key refl (λ apart. absurd (apart refl))
+
+  away : (mine : Option ℕ) (k : ℕ) → key ≢ k → with_session key mine sessions k ≡ sessions k
+  away mine k apart = elim (eqb_tells key k) [
+    | inl same ↦ absurd (apart same.1)
+    | inr other ↦ rw other.0 refl
+  ]
+
+  -- a session is the key's own, or another key's
+  whose : (mine : Option ℕ) (k s : ℕ) → with_session key mine sessions k ≡ Some s → ((key ≡ k) × (mine ≡ Some s)) ⊎ ((key ≢ k) × (sessions k ≡ Some s))
+  whose mine k s is = elim (eqb_tells key k) [
+    | inl same ↦ inl (same.1, rw same.0 at is)
+    | inr other ↦ inr (other.1, rw other.0 at is)
+  ]
+
+  -- a link without a session opened session n, which was not open before
+  opens : (n place : ℕ) (old new : State) → place_of old n ≡ None → ((t : ℕ) → place_of new t ≡ (if n == t then Some place else place_of old t))
+      → OneEach old (with_session key None sessions) → OneEach new (with_session key (Some n) sessions)
+  opens n place old new fresh home each = record { opened = opened; once = once; all = all }
+    where
+      was_open : (k s : ℕ) → key ≢ k → sessions k ≡ Some s → IsSome (place_of old s)
+      was_open k s apart is = each.opened k s (away None k apart ∙ is)
+
+      -- session n is no other connection's
+      never : (k s : ℕ) → key ≢ k → sessions k ≡ Some s → Some n ≡ Some s → ⊥
+      never k s apart is same =
+          let number : n ≡ s = cc same in
+          let some : IsSome (place_of old n) = subst (λ t. IsSome (place_of old t)) (sym number) (was_open k s apart is) in
+          cc (some, fresh)
+
+      opened : (k s : ℕ) → with_session key (Some n) sessions k ≡ Some s → IsSome (place_of new s)
+      opened k s is = elim (whose (Some n) k s is) [
+        | inl mine ↦
+            let number : n ≡ s = cc mine.1 in
+            rw (home s) (by_number (λ t b. n ≡ t → IsSome (if b then Some place else place_of old t)) n s (λ same. refl) (λ apart same. absurd (apart same)) number)
+        | inr other ↦ rw (home s) (by_number (λ t b. IsSome (place_of old t) → IsSome (if b then Some place else place_of old t)) n s (λ was. refl) (λ apart was. was) (was_open k s other.0 other.1))
+      ]
+
+      once : (k o s : ℕ) → with_session key (Some n) sessions k ≡ Some s → with_session key (Some n) sessions o ≡ Some s → k ≡ o
+      once k o s is also = elim (whose (Some n) k s is) [
+        | inl mine ↦ elim (whose (Some n) o s also) [
+          | inl both ↦ sym mine.0 ∙ both.0
+          | inr other ↦ absurd (never o s other.0 other.1 mine.1)
+        ]
+        | inr other ↦ elim (whose (Some n) o s also) [
+          | inl mine ↦ absurd (never k s other.0 other.1 mine.1)
+          | inr both ↦ each.once k o s (away None k other.0 ∙ other.1) (away None o both.0 ∙ both.1)
+        ]
+      ]
+
+      all : (s : ℕ) → IsSome (place_of new s) → (k : ℕ) × (with_session key (Some n) sessions k ≡ Some s)
+      all s some = elim (eqb_tells n s) [
+        | inl same ↦ (key, mine_there (Some n) ∙ ap Some same.1)
+        | inr other ↦
+            let found = each.all s (rw (home s, other.0) at some) in
+            elim (whose None found.0 s found.1) [
+              | inl mine ↦ absurd (cc mine.1)
+              | inr another ↦ (found.0, away (Some n) found.0 another.0 ∙ another.1)
+            ]
+      ]
+
+  -- a link closed its session c
+  closes : (c : ℕ) (old new : State) → IsClosed c old new → OneEach old (with_session key (Some c) sessions) → OneEach new (with_session key None sessions)
+  closes c old new home each = record { opened = opened; once = once; all = all }
+    where
+      other_key : (k s : ℕ) → with_session key None sessions k ≡ Some s → (key ≢ k) × (sessions k ≡ Some s)
+      other_key k s is = elim (whose None k s is) [
+        | inl mine ↦ absurd (cc mine.1)
+        | inr other ↦ other
+      ]
+
+      was : (k s : ℕ) → key ≢ k → sessions k ≡ Some s → with_session key (Some c) sessions k ≡ Some s
+      was k s apart is = away (Some c) k apart ∙ is
+
+      opened : (k s : ℕ) → with_session key None sessions k ≡ Some s → IsSome (place_of new s)
+      opened k s is =
+          let other = other_key k s is in
+          elim (eqb_tells c s) [
+            | inl same ↦ absurd (other.0 (each.once key k s (mine_there (Some c) ∙ ap Some same.1) (was k s other.0 other.1)))
+            | inr apart ↦ rw (home s, apart.0) (each.opened k s (was k s other.0 other.1))
+          ]
+
+      once : (k o s : ℕ) → with_session key None sessions k ≡ Some s → with_session key None sessions o ≡ Some s → k ≡ o
+      once k o s is also =
+          let one = other_key k s is in
+          let two = other_key o s also in
+          each.once k o s (was k s one.0 one.1) (was o s two.0 two.1)
+
+      all : (s : ℕ) → IsSome (place_of new s) → (k : ℕ) × (with_session key None sessions k ≡ Some s)
+      all s some = elim (eqb_tells c s) [
+        | inl same ↦ let none : IsSome {T = ℕ} None = rw (home s, same.0) at some in absurd (cc none)
+        | inr apart ↦
+            let found = each.all s (rw (home s, apart.0) at some) in
+            elim (whose (Some c) found.0 s found.1) [
+              | inl mine ↦ absurd (apart.1 (cc mine.1))
+              | inr other ↦ (found.0, away None found.0 other.0 ∙ other.1)
+            ]
+      ]
+
+  one_event : (mine : Option ℕ) (event : Event) (answer : Answer) (old new : State) → IsHub old → IsOwn any_room mine event → Step old event answer new
+      → OneEach old (with_session key mine sessions) → OneEach new (with_session key (session_after mine event answer) sessions)
+  one_event mine (Open name) (Opened n) old new is own step each =
+      let o = step.1 in
+      opens n o.place old new (ap (λ t. place_of old t) o.number ∙ is.below old.next (omega arith)) o.home (subst (λ session. OneEach old (with_session key session sessions)) own.0 each)
+  one_event mine (Open name) (NotOpened fault) old new is own step each = one_each_same (λ t. ap (λ hub. place_of hub t) step.1) (λ k. refl) each
+  one_event mine (Receive s text) answer old new is own step each = one_each_same (at_place_homes (place_of old s) old new answer _ step) (λ k. refl) each
+  one_event mine (Draw s) answer old new is own step each = one_each_same (at_place_homes (place_of old s) old new answer _ step) (λ k. refl) each
+  one_event mine (Close s) answer old new is own step each =
+      let some = each.opened key s (mine_there mine ∙ own) in
+      closes s old new (closed s (place_of old s) old new answer is refl some step) (subst (λ session. OneEach old (with_session key session sessions)) own each)
+  one_event mine (Open name) answer old new is own step each = absurd step
+
+  -- several events of a link
+  one_link : {p q : Point} → Follows any_room p q → IsHub p.hub → OneEach p.hub (with_session key p.session sessions) → IsHub q.hub × OneEach q.hub (with_session key q.session sessions)
+  one_link none is each = (is, each)
+  one_link (makes {q = q} {hub = hub} event answer before own step) is each =
+      let was = one_link before is each in
+      (step_is_hub q.hub hub event answer was.0 step, one_event q.session event answer q.hub hub was.0 own step was.1)
+
+-- a link's session changes, and no other
+set_back : (key : ℕ) (held new : Sessions) → ((other : ℕ) → other ≢ key → new other ≡ held other) → (k : ℕ) → new k ≡ with_session key (new key) held k
+set_back key held new others k = elim (eqb_tells key k) [
+  | inl same ↦ rw same.0 (sym (ap new same.1))
+  | inr apart ↦ rw apart.0 (others k (λ same. apart.1 (sym same)))
+]
+
+advance_each : {hub next : State} {old new : Sessions} → Advances hub old next new → IsHub hub → OneEach hub old → IsHub next × OneEach next new
+advance_each (stays same) is each = (is, one_each_same (λ t. refl) same each)
+advance_each (turns {held = held} {new = new} before key made follows others) is each =
+    let was = advance_each before is each in
+    let mine = one_each_same (λ t. refl) (λ k. sym (set_back key held held (λ other apart. refl) k)) was.1 in
+    let done = one_link key held follows was.0 mine in
+    (done.0, one_each_same (λ t. refl) (set_back key held new others) done.1)
+advance_each (sheds {mid = mid} before) is each =
+    let was = advance_each before is each in
+    (shed_is_hub mid was.0, one_each_same (λ t. refl) (λ k. refl) was.1)
+
+pub connected_after : {hub next : State} {old new : Sessions} → Advances hub old next new → Connected hub old → Connected next new
+connected_after advances was = advance_each advances was.0 was.1
+
+-- a hub without open sessions, and no connection with one
+pub none_connected : (hub : State) (sessions : Sessions) → IsHub hub → hub.homes ≡ [] → ((key : ℕ) → sessions key ≡ None) → Connected hub sessions
+none_connected hub sessions is empty bare = (
+  is,
+  record {
+    opened = λ key s is. absurd (let none = bare key in cc (is, none));
+    once = λ key other s is also. absurd (let none = bare key in cc (is, none));
+    all = λ s some. absurd (cc (subst (λ homes. IsSome (lookup (nat_eq s) homes)) empty some));
+  },
+)
