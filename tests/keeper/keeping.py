@@ -63,7 +63,7 @@ class Play:
         return [await self.read(file) for file in sorted(self.folder.glob(f"{room}.*.aside.json"))]
 
     async def until(self, look, holds):
-        for _ in range(500):
+        for _ in range(1500):
             seen = await look()
             if holds(seen):
                 return
@@ -203,7 +203,7 @@ async def main():
             play = Play(folder)
             await play.begin()
             try:
-                await asyncio.wait_for(story(play), 60)
+                await asyncio.wait_for(story(play), 180)
             finally:
                 await play.end()
 

@@ -382,7 +382,7 @@ async def main(folder=None):
     try:
         wide = await asyncio.wait_for(board(browser, relay, late, folder), 120)
         for use in (form(browser, late, folder), lobby(browser, relay.port, folder), tutorial(browser, relay.port), react(browser, relay)):
-            await asyncio.wait_for(use, 40)
+            await asyncio.wait_for(use, 120)
         await relay.end()
         await wide.until(f"{STATE} !== 'connected'", True)
         print("a lost connection is told")

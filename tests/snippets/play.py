@@ -14,7 +14,7 @@ from server import Relay
 
 BLOCK = re.compile(r"^```(\w+)\n(.*?)^```$", re.MULTILINE | re.DOTALL)
 BEGUN = {"cards": ["milk", "bread"], "title": "Shopping", "count": 0}
-PATIENCE = 20
+PATIENCE = 60
 
 
 class Wrong(Exception):
