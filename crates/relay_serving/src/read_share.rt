@@ -14,7 +14,8 @@ pub(crate) struct ReadShare {
 
 impl ReadShare {
     /// Half as many texts as patches may wait for a session, at least 1 and at most 16, and as many bytes as half of what these
-    /// patches may weigh. So the order of a round alone never folds the outbox of a watcher that keeps up.
+    /// patches may weigh. So the number of a round's texts never folds the outbox of a watcher that keeps up. The weight of their
+    /// changes may, since a short text can make a heavy change.
     pub(crate) fn of(config: HubConfig) -> ReadShare {
         ReadShare {
             texts: (config.max_waiting_patches / 2).max(1).min(MAX_TEXTS),

@@ -66,8 +66,8 @@ pub struct Server<S: Write + Drop, R> {
 }
 
 impl<S: Read + Write + OpenStream + Drop, R: Readiness<S>> Server<S, R> {
-    /// A server of a hub, with no connection. A round reads no more than half of what may wait for a session of the hub
-    /// ([`ReadShare::of`]), so that a watcher that keeps up never overflows its outbox.
+    /// A server of a hub, with no connection. A round reads half as many texts as patches may wait for a session of the hub, and half
+    /// as many bytes as these may weigh ([`ReadShare::of`]).
     #[tactic(auto, using(crate::proofs::Owners::none_connected))]
     pub fn new(alloc: Global, hub: Hub, readiness: R) -> Server<S, R>
         ensures empty { connections_of result ≡ 0 }
