@@ -3,7 +3,7 @@ use relay_patch::{
     ApplyFault, Bounds, Cause, Change, Op, Patch, PatchFault, PatchLimits, Place, apply,
 };
 use relay_pointer::Pointer;
-use relay_tree::{Tree, begin_text, end_text};
+use relay_tree::{Budget, Tree, begin_text, end_text};
 use std::alloc::AllocGlobal;
 use std::process::Abort;
 
@@ -217,6 +217,7 @@ fn refuses(rt: &(impl Abort + AllocGlobal), rows: &[(&str, u64, Cause)]) {
     let narrow = Bounds {
         depth: 2,
         weight: 32,
+        changes: Budget::Left(51),
     };
     for (patch, at, cause) in rows {
         let fault = ApplyFault {
@@ -227,7 +228,8 @@ fn refuses(rt: &(impl Abort + AllocGlobal), rows: &[(&str, u64, Cause)]) {
     }
 }
 
-/// Bounds that the caller chooses: the depth is checked before the weight.
+/// Bounds that the caller chooses: an operation's own checks come first, then the weight of the changes so far, and the depth of the
+/// document before its weight. The replacement of `/0` by a number weighs 17: 9 for its path and 8 for its value.
 #[test]
 fn refuses_what_passes_its_bounds(rt: HostRuntime) {
     refuses(
@@ -246,6 +248,21 @@ fn refuses_what_passes_its_bounds(rt: HostRuntime) {
             (
                 r#"[{"op":"add","path":"/-","value":2},{"op":"add","path":"/-","value":"x"}]"#,
                 1,
+                Cause::TooHeavy,
+            ),
+            (
+                r#"[{"op":"replace","path":"/0","value":1},{"op":"replace","path":"/0","value":1},{"op":"replace","path":"/0","value":1},{"op":"test","path":"/0","value":2}]"#,
+                3,
+                Cause::TestFailed,
+            ),
+            (
+                r#"[{"op":"replace","path":"/0","value":1},{"op":"replace","path":"/0","value":1},{"op":"replace","path":"/0","value":1},{"op":"replace","path":"/7","value":1}]"#,
+                3,
+                Cause::Missing,
+            ),
+            (
+                r#"[{"op":"replace","path":"/0","value":1},{"op":"replace","path":"/0","value":1},{"op":"replace","path":"/0","value":1},{"op":"add","path":"/0","value":[1,2,3]}]"#,
+                3,
                 Cause::TooHeavy,
             ),
         ],

@@ -1,7 +1,8 @@
 -- The effect of a text on a follower: a client that is never lost, since it refuses every text that would leave it lost.
 use Rattle.std.specs.Prelude.{◌≡◌, ℕ, List, Option, Some, None, option_map, Result, Ok, Err, nat_lt, if◌then◌else◌}
 use Rattle.relay_tree.specs.Document.{Document}
-use Rattle.relay_patch.specs.Patch.{after, free}
+use Rattle.relay_patch.specs.Patch.{free}
+use Rattle.relay_patch.specs.After.{after}
 use Rattle.relay_patch.specs.declared.fault.ApplyFault.{ApplyFault}
 use Rattle.relay_patch.specs.declared.op.Op.{Op}
 use Rattle.relay_proto.specs.declared.message.Message.{Message}

@@ -5,7 +5,8 @@ use Rattle.std.specs.FinMap as map
 use Rattle.std.proofs.lemmas.Bool.Decides.{nat_tests}
 use Rattle.relay_history.specs.History.{Reaches, oldest, changes_since}
 use Rattle.relay_patch.specs.Change.{Leads}
-use Rattle.relay_patch.specs.Patch.{after, free}
+use Rattle.relay_patch.specs.Patch.{free}
+use Rattle.relay_patch.specs.After.{after}
 use Rattle.relay_patch.specs.declared.change.Change.{Change}
 use Rattle.relay_patch.specs.declared.op.Op.{Op}
 use Rattle.relay_room.specs.CatchUp.{caught_up, patch_or_nothing}

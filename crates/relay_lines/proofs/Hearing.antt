@@ -3,7 +3,8 @@ use Rattle.std.proofs.Common.{◌≡◌, ◌≢◌, ℕ, List, Bool, true, Optio
 use Rattle.std.specs.Result.{result_err}
 use Rattle.std.specs.Str.{IsUtf8}
 use Rattle.relay_tree.specs.Document.{Document}
-use Rattle.relay_patch.specs.Patch.{after, free}
+use Rattle.relay_patch.specs.Patch.{free}
+use Rattle.relay_patch.specs.After.{after}
 use Rattle.relay_patch.specs.declared.fault.ApplyFault.{ApplyFault}
 use Rattle.relay_proto.specs.declared.message.Message.{Message}
 use Rattle.relay_proto.specs.declared.message.Message.TheVariants.{Patch}

@@ -12,7 +12,8 @@ use Rattle.relay_pointer.specs.Path.{Path, at, same_path}
 use Rattle.relay_patch.specs.declared.change.Change.TheVariants as change
 use Rattle.relay_patch.specs.Walk.{PastEnd, TooDeep, TooHeavy, then_do, step, walk}
 use Rattle.relay_patch.specs.Place.{Place, parent, last, place_of}
-use Rattle.relay_patch.specs.Patch.{Bounds, Op, Move, Copy, at_path, insert_child, insert_element, drop_child, effect, exceeds, within, after_from}
+use Rattle.relay_patch.specs.Patch.{Bounds, Op, Move, Copy, at_path, insert_child, insert_element, drop_child, effect, exceeds, within}
+use Rattle.relay_patch.specs.After.{spent_after, performed, after_from}
 use Rattle.relay_patch.specs.Change.{Change, Makes, Leads, in_list, in_object, placed, inserted, inserted_at, moved_changes, copied_changes, changes_of, all_changes}
 use Rattle.relay_patch.specs.Sizes.{ChangeFits}
 use Rattle.relay_patch.proofs.Refusals.{then_ok, then_itself, ok_or_some, not_refused}
@@ -23,7 +24,8 @@ use Rattle.relay_patch.proofs.Depths.{walk_depth}
 use Rattle.relay_patch.proofs.Exchanges.{walk-replaced}
 use Rattle.relay_patch.proofs.Acts.{droppable}
 use Rattle.relay_patch.proofs.Carried.{placed_act}
-use Rattle.relay_patch.proofs.Made.{effect_leads, within_same, went_on}
+use Rattle.relay_patch.proofs.Passed.{went_on, within_same, performed_is}
+use Rattle.relay_patch.proofs.Made.{effect_leads}
 use Rattle.relay_tree.proofs.Outcomes.{is_ok_then, some_ok}
 use Rattle.relay_tree.proofs.Elements.{item_at-insert_same}
 
@@ -126,12 +128,11 @@ within_flat bounds d e small h =
     let flat : min (depth d) (2 ^ 64 - 1) ≤ bounds.depth = grind (arith, nat_tests) in
     omega (arith, flat, small, ap depth (within_same bounds d e h))
 
-pub after_fits : (ops : List Op) (n : ℕ) (bounds : Bounds) (d d' : Document) → bounds.depth < 2 ^ 64 - 1 → depth d ≤ bounds.depth → after_from n bounds d ops ≡ Ok d' → AllByRecursion (ChangeFits bounds.depth bounds.depth) (all_changes d ops)
-after_fits [] n bounds d d' small flat h = tt
-after_fits (op ∷ ops) n bounds d d' small flat h =
-    let s = went_on n (then_do (effect d op) (within bounds)) (λ e. after_from (suc n) bounds e ops) d' h in
-    let w = then_ok (effect d op) (within bounds) s.0 s.1 in
-    let same : w.0 ≡ s.0 = within_same bounds w.0 s.0 w.2 in
-    let first : effect d op ≡ Ok s.0 = w.1 ∙ ap Ok same in
-    let later = within_flat bounds w.0 s.0 small w.2 in
-    rw first (All-append bounds.depth (changes_of d op) (all_changes s.0 ops) (leads_fit (changes_of d op) bounds.depth d s.0 (one_change d op) (effect_leads op d s.0 first) flat later) (after_fits ops (suc n) bounds s.0 d' small later s.2))
+pub after_fits : (ops : List Op) (n spent : ℕ) (bounds : Bounds) (d d' : Document) → bounds.depth < 2 ^ 64 - 1 → depth d ≤ bounds.depth → after_from n spent bounds d ops ≡ Ok d' → AllByRecursion (ChangeFits bounds.depth bounds.depth) (all_changes d ops)
+after_fits [] n spent bounds d d' small flat h = tt
+after_fits (op ∷ ops) n spent bounds d d' small flat h =
+    let now = spent_after spent d op in
+    let s = went_on n (performed bounds spent d op) (λ e. after_from (suc n) now bounds e ops) d' h in
+    let p = performed_is bounds spent d s.0 op s.1 in
+    let later = within_flat bounds s.0 s.0 small p.1 in
+    rw p.0 (All-append bounds.depth (changes_of d op) (all_changes s.0 ops) (leads_fit (changes_of d op) bounds.depth d s.0 (one_change d op) (effect_leads op d s.0 p.0) flat later) (after_fits ops (suc n) now bounds s.0 d' small later s.2))

@@ -1,49 +1,67 @@
 -- One more operation of a patch.
 use Rattle.std.proofs.Common.{◌≡◌, ℕ, zero, suc, ◌+◌, ◌<◌, List, [], ◌∷◌, ◌++◌, length, get_or, take, drop, Result, Ok, Err, IsOk, refl, sym, ap, subst, ◌∙◌, add-one, arith}
 use Rattle.std.proofs.Math.Seq.{drop-cons}
-use Rattle.std.proofs.lemmas.List.{append_assoc}
+use Rattle.std.proofs.lemmas.List.{append_assoc, append-nil}
 use Rattle.relay_tree.specs.Document.{Document}
-use Rattle.relay_patch.specs.Walk.{Cause, then_do}
-use Rattle.relay_patch.specs.Patch.{Op, Bounds, effect, within, after_from, after}
+use Rattle.relay_patch.specs.Walk.{Cause}
+use Rattle.relay_patch.specs.Patch.{Op, Bounds, effect}
 use Rattle.relay_patch.specs.Change.{Change, Leads, changes_of, all_changes}
-use Rattle.relay_patch.proofs.Refusals.{then_ok}
+use Rattle.relay_patch.specs.Weight.{changes_weight}
+use Rattle.relay_patch.specs.After.{performed, spent_after, after_from, after}
 use Rattle.relay_patch.proofs.Carried.{makes_made}
-use Rattle.relay_patch.proofs.Made.{within_same, went_on, effect_leads}
+use Rattle.relay_patch.proofs.Passed.{went_on, performed_is}
+use Rattle.relay_patch.proofs.Made.{effect_leads}
+use Rattle.relay_patch.proofs.Spent.{changes_weight-append}
 
 next_op : (ops : List Op) (k : ℕ) (op : Op) → k < length ops → op ≡ get_or ops k op → drop k ops ≡ op ∷ drop (suc k) ops
 next_op ops k op inside is = drop-cons ops k op inside ∙ ap (λ o. o ∷ drop (suc k) ops) (sym is)
 
 -- The operations to come.
 
-pub after_more : (ops : List Op) (k : ℕ) (op : Op) (bounds : Bounds) (d e : Document) → k < length ops → op ≡ get_or ops k op → then_do (effect d op) (within bounds) ≡ Ok e → after_from k bounds d (drop k ops) ≡ after_from (k + 1) bounds e (drop (k + 1) ops)
-after_more ops k op bounds d e inside is passes = rw (next_op ops k op inside is, passes, add-one) refl
+pub after_more : (ops : List Op) (k : ℕ) (op : Op) (bounds : Bounds) (d e : Document) (cs ds : List Change) → k < length ops → op ≡ get_or ops k op
+    → performed bounds (changes_weight cs) d op ≡ Ok e → ds ≡ cs ++ changes_of d op
+    → after_from k (changes_weight cs) bounds d (drop k ops) ≡ after_from (k + 1) (changes_weight ds) bounds e (drop (k + 1) ops)
+after_more ops k op bounds d e cs ds inside is passes made =
+    let spent : changes_weight ds ≡ spent_after (changes_weight cs) d op = ap changes_weight made ∙ changes_weight-append cs (changes_of d op) in
+    rw (next_op ops k op inside is, passes, add-one, spent) refl
 
 -- The operations done.
 
-step_is : (bounds : Bounds) (d e : Document) (op : Op) → then_do (effect d op) (within bounds) ≡ Ok e → effect d op ≡ Ok e
-step_is bounds d e op h =
-    let s = then_ok (effect d op) (within bounds) e h in
-    s.1 ∙ ap Ok (within_same bounds s.0 e s.2)
+all_changes-first : (op : Op) (ops : List Op) (d e : Document) → effect d op ≡ Ok e → all_changes d (op ∷ ops) ≡ changes_of d op ++ all_changes e ops
+all_changes-first op ops d e h = rw h refl
 
-done_more : (ops : List Op) (k n : ℕ) (op : Op) (bounds : Bounds) (d e f : Document) → k < length ops → op ≡ get_or ops k op → after_from n bounds d (take k ops) ≡ Ok e → then_do (effect e op) (within bounds) ≡ Ok f → after_from n bounds d (take (suc k) ops) ≡ Ok f
-done_more [] k n op bounds d e f inside is done passes = absurd (omega arith)
-done_more (o ∷ ops) zero n op bounds d e f inside is done passes =
-    let same : d ≡ e = cc in
-    let first : then_do (effect d o) (within bounds) ≡ Ok f = rw (same, ← is) passes in
-    rw first refl
-done_more (o ∷ ops) (suc k) n op bounds d e f inside is done passes =
-    let s = went_on n (then_do (effect d o) (within bounds)) (λ x. after_from (suc n) bounds x (take k ops)) e done in
-    rw s.1 (done_more ops k (suc n) op bounds s.0 e f (omega arith) is s.2 passes)
+module _ (bounds : Bounds) (op : Op) (e f : Document) where
+  done_more : (ops : List Op) (k n spent : ℕ) (d : Document) → k < length ops → op ≡ get_or ops k op
+      → after_from n spent bounds d (take k ops) ≡ Ok e → performed bounds (spent + changes_weight (all_changes d (take k ops))) e op ≡ Ok f
+      → (after_from n spent bounds d (take (suc k) ops) ≡ Ok f) × (all_changes d (take (suc k) ops) ≡ all_changes d (take k ops) ++ changes_of e op)
+  done_more [] k n spent d inside is done passes = absurd (omega arith)
+  done_more (o ∷ ops) zero n spent d inside is done passes =
+      let same : d ≡ e = cc in
+      let none : spent + 0 ≡ spent = omega arith in
+      let passes : performed bounds spent e op ≡ Ok f = subst (λ n. performed bounds n e op ≡ Ok f) none passes in
+      let first : performed bounds spent d o ≡ Ok f = rw (same, ← is) passes in
+      let made : changes_of d o ≡ changes_of e op = rw (same, ← is) refl in
+      (rw first refl, rw (performed_is bounds spent d f o first).0 (append-nil (changes_of d o) ∙ made))
+  done_more (o ∷ ops) (suc k) n spent d inside is done passes =
+      let now = spent_after spent d o in
+      let s = went_on n (performed bounds spent d o) (λ x. after_from (suc n) now bounds x (take k ops)) e done in
+      let first = (performed_is bounds spent d s.0 o s.1).0 in
+      let made : all_changes d (o ∷ take k ops) ≡ changes_of d o ++ all_changes s.0 (take k ops) = all_changes-first o (take k ops) d s.0 first in
+      let sum : spent + changes_weight (all_changes d (o ∷ take k ops)) ≡ now + changes_weight (all_changes s.0 (take k ops)) =
+      omega (arith, ap changes_weight made, changes_weight-append (changes_of d o) (all_changes s.0 (take k ops))) in
+      let later = done_more ops k (suc n) now s.0 (omega (arith, inside)) is s.2 (rw sum at passes) in
+      let more : all_changes d (o ∷ take (suc k) ops) ≡ all_changes d (o ∷ take k ops) ++ changes_of e op =
+      all_changes-first o (take (suc k) ops) d s.0 first ∙ ap (λ cs. changes_of d o ++ cs) later.1
+      ∙ sym (append_assoc (changes_of d o) (all_changes s.0 (take k ops)) (changes_of e op)) ∙ ap (λ cs. cs ++ changes_of e op) (sym made) in
+      (rw s.1 later.0, more)
 
-pub after_done : (ops : List Op) (k : ℕ) (op : Op) (bounds : Bounds) (d e f : Document) → k < length ops → op ≡ get_or ops k op → after d (take k ops) bounds ≡ Ok e → then_do (effect e op) (within bounds) ≡ Ok f → after d (take (k + 1) ops) bounds ≡ Ok f
-after_done ops k op bounds d e f inside is done passes = rw add-one (done_more ops k 0 op bounds d e f inside is done passes)
-
--- Their changes.
-
-pub changes_more : (ops : List Op) (k : ℕ) (op : Op) (bounds : Bounds) (d e : Document) (cs ds all : List Change) → k < length ops → op ≡ get_or ops k op → then_do (effect d op) (within bounds) ≡ Ok e → ds ≡ cs ++ changes_of d op → cs ++ all_changes d (drop k ops) ≡ all → ds ++ all_changes e (drop (k + 1) ops) ≡ all
-changes_more ops k op bounds d e cs ds all inside is passes made so_far =
-    let whole = rw (next_op ops k op inside is, step_is bounds d e op passes) at so_far in
-    rw (made, add-one) (append_assoc cs (changes_of d op) (all_changes e (drop (suc k) ops)) ∙ whole)
+  pub done_next : (ops : List Op) (k : ℕ) (d : Document) (cs : List Change) → k < length ops → op ≡ get_or ops k op
+      → after d (take k ops) bounds ≡ Ok e → cs ≡ all_changes d (take k ops) → performed bounds (changes_weight cs) e op ≡ Ok f
+      → (after d (take (k + 1) ops) bounds ≡ Ok f) × (cs ++ changes_of e op ≡ all_changes d (take (k + 1) ops))
+  done_next ops k d cs inside is done made passes =
+      let sum : changes_weight cs ≡ 0 + changes_weight (all_changes d (take k ops)) = omega (arith, ap changes_weight made) in
+      let next = done_more ops k 0 0 d inside is done (subst (λ n. performed bounds n e op ≡ Ok f) sum passes) in
+      rw add-one (next.0, ap (λ all. all ++ changes_of e op) made ∙ sym next.1)
 
 -- One operation's change leads to one document.
 

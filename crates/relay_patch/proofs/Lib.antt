@@ -7,6 +7,7 @@ pub mod Exchanges
 pub mod Sites
 pub mod Depths
 pub mod Moved
+pub mod Passed
 pub mod Made
 pub mod Spots
 pub mod Drops
@@ -19,6 +20,7 @@ pub mod Compared
 pub mod Recorded
 pub mod Contained
 pub mod Carried
+pub mod Spent
 pub mod Folds
 pub mod Fits
 pub mod Measures

@@ -2,16 +2,18 @@
 use Rattle.std.proofs.Common.{◌≡◌, ℕ, suc, List, [], ◌∷◌, ◌++◌, Bool, true, false, Option, Some, None, Result, Ok, Err, refl, sym, ap, subst, ◌∙◌, bytes_eq, if◌then◌else◌, is_some}
 use Rattle.std.specs.Result.{result_ok}
 use Rattle.relay_patch.specs.declared.change.Change.TheVariants as change
-use Rattle.relay_tree.specs.Document.{Document, list, object, Items, Members, depth, weight}
+use Rattle.relay_tree.specs.Document.{Document, list, object, Items, Members}
 use Rattle.relay_tree.specs.Part.{items_length, member_at, set_member}
 use Rattle.relay_tree.specs.Same.{same}
 use Rattle.relay_pointer.specs.Index.{Token, index_of}
 use Rattle.relay_pointer.specs.Path.{Path, at, is_proper_prefix, same_path}
-use Rattle.relay_patch.specs.Walk.{Cause, Missing, IntoItself, TestFailed, TooDeep, TooHeavy, then_do, step, walk, dash}
+use Rattle.relay_patch.specs.Walk.{Cause, Missing, IntoItself, TestFailed, then_do, step, walk, dash}
 use Rattle.relay_patch.specs.Place.{Place, parent, last, canonical, place_within, place_of}
-use Rattle.relay_patch.specs.Patch.{Bounds, ApplyFault, exceeds, within, refused_at, go_on, after_from, Act, below, at_path, place_in, insert_child, insert_element, drop_child, drop_element, set_child, added, effect, Op, Add, Remove, Replace, Move, Copy, Test}
-use Rattle.relay_patch.specs.Change.{Change, Makes, Moves, Leads, in_list, in_object, placed, dropped, inserted, inserted_at, added_change, removed_change, changes_of, all_changes, IsLed}
+use Rattle.relay_patch.specs.Patch.{Bounds, Act, below, at_path, place_in, insert_child, insert_element, drop_child, drop_element, set_child, added, effect, Op, Add, Remove, Replace, Move, Copy, Test}
+use Rattle.relay_patch.specs.Change.{Change, Makes, Moves, Leads, in_list, in_object, placed, dropped, inserted, inserted_at, added_change, removed_change, changes_of, all_changes}
+use Rattle.relay_patch.specs.After.{performed, spent_after, after_from, IsLed}
 use Rattle.relay_patch.proofs.Refusals.{then_ok, then_itself, ok_or_found, not_refused}
+use Rattle.relay_patch.proofs.Passed.{went_on, performed_is}
 use Rattle.relay_pointer.proofs.Indexes.{index_of-index_text}
 use Rattle.relay_patch.proofs.Walks.{at-walk, at_reached, walk-append}
 use Rattle.relay_patch.proofs.Parts.{no_dash, place_in_at_index}
@@ -170,25 +172,13 @@ pub Leads-append : (a b : List Change) (d e f : Document) → Leads d a e → Le
 Leads-append [] b d e f h k = subst (λ x. Leads x b f) (sym h) k
 Leads-append (c ∷ a) b d e f h k = (h.0, h.1, Leads-append a b h.0 e f h.2 k)
 
-pub within_same : (bounds : Bounds) (d e : Document) → within bounds d ≡ Ok e → d ≡ e
-within_same bounds d e h =
-    let a = not_refused (exceeds bounds.depth (depth d)) TooDeep (if exceeds bounds.weight (weight d) then Err TooHeavy else Ok d) e h in
-    let b = not_refused (exceeds bounds.weight (weight d)) TooHeavy (Ok d) e a.1 in
-    let s = b.1 in
-    cc
-
-pub went_on : (n : ℕ) (r : Result Document Cause) (f : Document → Result Document ApplyFault) (d' : Document) → go_on (refused_at n r) f ≡ Ok d' → (e : Document) × (r ≡ Ok e) × (f e ≡ Ok d')
-went_on n (Ok e) f d' h = (e, refl, h)
-went_on n (Err c) f d' h = cc
-
-pub after_leads : (ops : List Op) (n : ℕ) (bounds : Bounds) (d d' : Document) → after_from n bounds d ops ≡ Ok d' → Leads d (all_changes d ops) d'
-after_leads [] n bounds d d' h = cc
-after_leads (op ∷ ops) n bounds d d' h =
-    let s = went_on n (then_do (effect d op) (within bounds)) (λ e. after_from (suc n) bounds e ops) d' h in
-    let w = then_ok (effect d op) (within bounds) s.0 s.1 in
-    let same_document : w.0 ≡ s.0 = within_same bounds w.0 s.0 w.2 in
-    let first : effect d op ≡ Ok s.0 = w.1 ∙ ap Ok same_document in
-    rw first (Leads-append (changes_of d op) (all_changes s.0 ops) d s.0 d' (effect_leads op d s.0 first) (after_leads ops (suc n) bounds s.0 d' s.2))
+pub after_leads : (ops : List Op) (n spent : ℕ) (bounds : Bounds) (d d' : Document) → after_from n spent bounds d ops ≡ Ok d' → Leads d (all_changes d ops) d'
+after_leads [] n spent bounds d d' h = cc
+after_leads (op ∷ ops) n spent bounds d d' h =
+    let now = spent_after spent d op in
+    let s = went_on n (performed bounds spent d op) (λ e. after_from (suc n) now bounds e ops) d' h in
+    let first = (performed_is bounds spent d s.0 op s.1).0 in
+    rw first (Leads-append (changes_of d op) (all_changes s.0 ops) d s.0 d' (effect_leads op d s.0 first) (after_leads ops (suc n) now bounds s.0 d' s.2))
 
 pub is_led : IsLed
-is_led d d' ops bounds h = after_leads ops 0 bounds d d' h
+is_led d d' ops bounds h = after_leads ops 0 0 bounds d d' h

@@ -5,8 +5,9 @@ use Rattle.relay_tree.specs.Part.{object_member, text_in}
 use Rattle.relay_pointer.specs.Path.{Path}
 use Rattle.relay_pointer.specs.Spelling.{path_of_text}
 use Rattle.relay_patch.specs.Form.{with_part, and_then, kind_of, path_within, path_in, valued, sourced, op_of_kind, op_at, patch_of}
-use Rattle.relay_patch.specs.Patch.{Op, Bounds, ApplyFault, effect, within, refused_at, go_on, after_from, after}
-use Rattle.relay_patch.specs.Walk.{Cause, then_do}
+use Rattle.relay_patch.specs.Patch.{Op, Bounds}
+use Rattle.relay_patch.specs.After.{ApplyFault, spent_after, performed, refused_at, go_on, after_from, after}
+use Rattle.relay_patch.specs.Walk.{Cause}
 use Rattle.relay_patch.specs.declared.form.kind.Kind.{Kind}
 use Rattle.relay_patch.specs.declared.form.kind.Kind.TheVariants as kind
 use Rattle.relay_patch.specs.declared.limits.PatchFault.{PatchFault}
@@ -21,14 +22,15 @@ at_step : (n m : ℕ) (r : Result Document Cause) (f : Document → Result Docum
 at_step n m (Ok d) f h = if_err (f d) (h d) (λ fault k. omega (arith, k))
 at_step n m (Err e) f h = omega arith
 
-after_from-place : (n : ℕ) (bounds : Bounds) (d : Document) (ops : List Op) → IfErr (after_from n bounds d ops) (λ fault. fault.at < n + length ops)
-after_from-place n bounds d [] = tt
-after_from-place n bounds d (op ∷ ops) =
-    at_step n (length ops) (then_do (effect d op) (within bounds)) (λ e. after_from (suc n) bounds e ops) (λ e. after_from-place (suc n) bounds e ops)
+after_from-place : (n spent : ℕ) (bounds : Bounds) (d : Document) (ops : List Op) → IfErr (after_from n spent bounds d ops) (λ fault. fault.at < n + length ops)
+after_from-place n spent bounds d [] = tt
+after_from-place n spent bounds d (op ∷ ops) =
+    let now = spent_after spent d op in
+    at_step n (length ops) (performed bounds spent d op) (λ e. after_from (suc n) now bounds e ops) (λ e. after_from-place (suc n) now bounds e ops)
 
 pub after-place : (d : Document) (ops : List Op) (bounds : Bounds) (fault : ApplyFault) → after d ops bounds ≡ Err fault → fault.at < length ops
 after-place d ops bounds fault h =
-    let place : fault.at < 0 + length ops = subst (λ r. IfErr r (λ e. e.at < 0 + length ops)) h (after_from-place 0 bounds d ops) in
+    let place : fault.at < 0 + length ops = subst (λ r. IfErr r (λ e. e.at < 0 + length ops)) h (after_from-place 0 0 bounds d ops) in
     omega (arith, place)
 
 -- A document that is read as a patch.

@@ -1,10 +1,12 @@
 -- The definitions, computed on small documents.
-use Rattle.std.proofs.Common.{◌≡◌, ℕ, List, [], ◌∷◌, pos, Ok, Err, refl, codes}
+use Rattle.std.proofs.Common.{◌≡◌, ℕ, ◌-◌, ◌^◌, List, [], ◌∷◌, pos, Ok, Err, refl, codes}
+use Rattle.relay_tree.specs.declared.budget.Budget.TheVariants.{Left}
 use Rattle.relay_tree.specs.Document.{Document, null, whole, text, list, object, Items, no_items, item, no_members, member}
 use Rattle.relay_pointer.specs.Index.{index_of, index_text}
 use Rattle.relay_patch.specs.declared.change.Change.TheVariants as change
-use Rattle.relay_patch.specs.Walk.{Missing, NotIndex, PastEnd, NoContainer, Root, IntoItself, TestFailed}
-use Rattle.relay_patch.specs.Patch.{Add, Remove, Replace, Move, Test, effect, after, free}
+use Rattle.relay_patch.specs.Walk.{Missing, NotIndex, PastEnd, NoContainer, Root, IntoItself, TestFailed, TooHeavy}
+use Rattle.relay_patch.specs.Patch.{Bounds, Add, Remove, Replace, Move, Test, effect, free}
+use Rattle.relay_patch.specs.After.{after}
 use Rattle.relay_patch.specs.Change.{changes_of}
 
 abbrev numbers : List ℕ → Items
@@ -81,6 +83,18 @@ tells_the_index_of_dash = refl
 names_the_third : after one_two (Replace (codes "a" ∷ []) null ∷ Add (codes "b" ∷ []) null ∷ Test (codes "a" ∷ []) one_two ∷ []) free ≡ Err (record { at = 2; cause = TestFailed })
 unfolding one_two
 names_the_third = refl
+
+-- each of these changes weighs 17: 9 for its path and 8 for its value
+abbrev paying : ℕ → Bounds
+paying n = record { depth = 2 ^ 64 - 1; weight = 2 ^ 64 - 1; changes = Left n }
+
+pays_for_two_changes : after one_two (Replace (codes "a" ∷ []) null ∷ Replace (codes "a" ∷ []) null ∷ []) (paying 34) ≡ Ok (object (member (codes "a") null no_members))
+unfolding one_two
+pays_for_two_changes = refl
+
+pays_for_one_change : after one_two (Replace (codes "a" ∷ []) null ∷ Replace (codes "a" ∷ []) null ∷ []) (paying 33) ≡ Err (record { at = 1; cause = TooHeavy })
+unfolding one_two
+pays_for_one_change = refl
 
 composes_nothing : effect (text (codes "é")) (Test [] (text (101 ∷ 204 ∷ 129 ∷ []))) ≡ Err TestFailed
 composes_nothing = refl

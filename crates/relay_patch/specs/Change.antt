@@ -6,7 +6,7 @@ use Rattle.relay_pointer.specs.Index.{Token, index_of}
 use Rattle.relay_pointer.specs.Path.{Path, at, is_proper_prefix, same_path}
 use Rattle.relay_patch.specs.Walk.{Cause, NotIndex, NoContainer, walk}
 use Rattle.relay_patch.specs.Place.{Place, place_of}
-use Rattle.relay_patch.specs.Patch.{Bounds, after, Op, effect, Act, insert_child, drop_child, at_path, replaced}
+use Rattle.relay_patch.specs.Patch.{Op, effect, Act, insert_child, drop_child, at_path, replaced}
 pub use Rattle.relay_patch.specs.declared.change.Change.{Change}
 use Rattle.relay_patch.specs.declared.change.Change.TheVariants as change
 use Rattle.relay_patch.specs.declared.op.Op.TheVariants as op
@@ -108,7 +108,3 @@ go_on_changes (Err e) f = []
 abbrev pub all_changes : Document → List Op → List Change
 all_changes d [] = []
 all_changes d (op ∷ ops) = changes_of d op ++ go_on_changes (effect d op) (λ e. all_changes e ops)
-
--- The changes of an accepted patch lead from the old document to the new one.
-abbrev pub IsLed : Type 0
-IsLed = (d d' : Document) (ops : List Op) (bounds : Bounds) → after d ops bounds ≡ Ok d' → Leads d (all_changes d ops) d'

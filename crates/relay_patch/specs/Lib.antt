@@ -5,6 +5,7 @@ pub mod Change
 pub mod Sizes
 pub mod Measure
 pub mod Weight
+pub mod After
 pub mod Undo
 pub mod Steps
 pub mod Form

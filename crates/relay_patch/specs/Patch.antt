@@ -1,7 +1,8 @@
--- JSON Patch (RFC 6902): what each operation makes of a document, and a document after a list of them.
-use Rattle.std.specs.Prelude.{ℕ, suc, ◌-◌, ◌^◌, List, [], ◌∷◌, Bool, Option, Some, None, ok_or, Result, Ok, Err, bytes_eq, if◌then◌else◌, nat_lt}
+-- JSON Patch (RFC 6902): what each operation makes of a document, and the bounds on it.
+use Rattle.std.specs.Prelude.{ℕ, ◌-◌, ◌^◌, List, [], ◌∷◌, Bool, Option, Some, None, ok_or, Result, Ok, Err, bytes_eq, if◌then◌else◌, nat_lt}
 use Rattle.relay_tree.specs.Document.{Document, list, object, Items, depth, weight, saturated}
 use Rattle.relay_tree.specs.Part.{items_length, insert_item, drop_item, put_member, drop_member}
+use Rattle.relay_tree.specs.declared.budget.Budget.TheVariants.{Unbounded}
 use Rattle.relay_pointer.specs.Index.{Token, index_of}
 use Rattle.relay_pointer.specs.Path.{Path, with_child, is_proper_prefix, same_path}
 use Rattle.relay_tree.specs.Same.{same}
@@ -10,7 +11,6 @@ use Rattle.relay_patch.specs.Place.{place_of}
 pub use Rattle.relay_patch.specs.declared.op.Op.{Op}
 pub use Rattle.relay_patch.specs.declared.op.Op.TheVariants.{Add, Remove, Replace, Move, Copy, Test}
 pub use Rattle.relay_patch.specs.declared.bounds.Bounds.{Bounds}
-pub use Rattle.relay_patch.specs.declared.fault.ApplyFault.{ApplyFault}
 
 -- What is done in a container, to the part that a token names.
 
@@ -83,7 +83,7 @@ effect d (Move from path) = then_do (walk d from) (λ v. if is_proper_prefix fro
 effect d (Copy from path) = then_do (walk d from) (λ v. added path v d)
 effect d (Test path v) = then_do (walk d path) (λ w. if same w v then Ok d else Err TestFailed)
 
--- A document after a list of operations (RFC 6902, section 5), within bounds after each.
+-- The bounds on a document.
 
 -- no number exceeds a bound of 2 ^ 64 - 1
 abbrev pub exceeds : ℕ → ℕ → Bool
@@ -91,26 +91,9 @@ exceeds most n = nat_lt most (saturated n)
 
 -- the bounds that nothing exceeds
 abbrev pub free : Bounds
-free = record { depth = 2 ^ 64 - 1; weight = 2 ^ 64 - 1 }
+free = record { depth = 2 ^ 64 - 1; weight = 2 ^ 64 - 1; changes = Unbounded }
 
 -- the document, if it is neither too deep nor too heavy; the depth is checked first
 abbrev pub within : Bounds → Document → Result Document Cause
 within bounds d =
     if exceeds bounds.depth (depth d) then Err TooDeep else (if exceeds bounds.weight (weight d) then Err TooHeavy else Ok d)
-
-abbrev pub refused_at : {A : Type 0} → ℕ → Result A Cause → Result A ApplyFault
-refused_at n (Ok x) = Ok x
-refused_at n (Err e) = Err (record { at = n; cause = e })
-
-abbrev pub go_on : Result Document ApplyFault → (Document → Result Document ApplyFault) → Result Document ApplyFault
-go_on (Ok d) f = f d
-go_on (Err e) f = Err e
-
--- the document after the operations in order, the first of them numbered n
-abbrev pub after_from : ℕ → Bounds → Document → List Op → Result Document ApplyFault
-after_from n bounds d [] = Ok d
-after_from n bounds d (op ∷ ops) = go_on (refused_at n (then_do (effect d op) (within bounds))) (λ e. after_from (suc n) bounds e ops)
-
--- the document after a patch, or the first refusal with its place
-abbrev pub after : Document → List Op → Bounds → Result Document ApplyFault
-after d ops bounds = after_from 0 bounds d ops

@@ -6,7 +6,8 @@ use Rattle.relay_pointer.specs.Index.{Token, index_of, index_text}
 use Rattle.relay_pointer.specs.Path.{Path}
 use Rattle.relay_patch.specs.Walk.{Cause, NotIndex, PastEnd, NoContainer, Root, NoMemory, then_do, is_dash, step, walk}
 use Rattle.relay_patch.specs.Place.{Place, parent, last}
-use Rattle.relay_patch.specs.Patch.{Op, Bounds, effect, after}
+use Rattle.relay_patch.specs.Patch.{Op, Bounds, effect}
+use Rattle.relay_patch.specs.After.{after}
 use Rattle.relay_patch.specs.Change.{Change}
 use Rattle.relay_patch.specs.declared.change.Change.TheVariants as change
 pub use Rattle.relay_patch.specs.declared.applying.insert_target.InsertTarget.{InsertTarget}

@@ -1,13 +1,16 @@
 //! Application of patches: all operations of a patch, or none.
-ghost use Rattle.std.specs.Prelude.{◌≡◌, ◌≢◌, ◌<◌, ◌-◌, ◌^◌, Ok, Err, IsSome, IfOk, IfErr, OnOk, OnErr};
+ghost use Rattle.std.specs.Prelude.{◌≡◌, ◌≢◌, ◌<◌, ◌-◌, ◌^◌, Ok, Err, Some, IsSome, IfOk, IfErr, OnOk, OnErr};
 ghost use Rattle.std.specs.List.{AllByRecursion};
+ghost use Rattle.relay_tree.specs.Budget.{paid};
 ghost use Rattle.relay_tree.specs.Document.{weight};
-ghost use Rattle.relay_patch.specs.Patch.{after, within};
+ghost use Rattle.relay_patch.specs.After.{after};
+ghost use Rattle.relay_patch.specs.Patch.{within};
 ghost use Rattle.relay_patch.specs.Change.{Leads, all_changes};
 ghost use Rattle.relay_patch.specs.Sizes.{ChangeFits};
 ghost use Rattle.relay_patch.specs.Measure.{Known};
 ghost use Rattle.relay_patch.specs.Steps.{Reaches};
 ghost use Rattle.relay_patch.specs.Undo.{taken_back};
+ghost use Rattle.relay_patch.specs.Weight.{changes_weight};
 ghost use Rattle.relay_patch.specs.declared.fault.Cause.TheVariants.{NoMemory};
 
 mod container;
@@ -35,7 +38,8 @@ use relay_tree::Tree;
 use std::alloc::Global;
 
 /// Applies a patch to the tree (RFC 6902, section 5) and returns what it changed. The operations are applied in order, and
-/// after each the document must be within the bounds. If an operation is refused or memory runs out, the tree is as it was.
+/// after each the document, and the changes so far, must be within the bounds. If an operation is refused or memory runs out,
+/// the tree is as it was.
 ///
 /// The changes are those of the operations in order, with canonical paths. They lead from the old document to the new one.
 /// A `test`, and a `move` to its own place, change nothing. If the depth is bounded and the old document is within the
@@ -55,6 +59,7 @@ pub fn apply(
 ) -> Result<Vec<Change>, ApplyFault>
     ensures document { OnOk result (after tree.old patch.now bounds ≡ Ok tree.new) }
     ensures changes { IfOk result (λ changes. changes.items ≡ all_changes tree.old patch.now) }
+    ensures paid { IfOk result (λ changes. IsSome (paid (changes_weight changes.items) bounds.changes)) }
     ensures led { IfOk result (λ changes. Leads tree.old changes.items tree.new) }
     ensures sizes { IfOk result (λ changes. bounds.depth < 2 ^ 64 - 1 → within bounds tree.old ≡ Ok tree.old → AllByRecursion (ChangeFits bounds.depth bounds.depth) changes.items) }
     ensures refused { IfErr result (λ fault. fault.cause ≢ NoMemory → after tree.old patch.now bounds ≡ Err fault) }
@@ -88,6 +93,7 @@ pub fn apply_within(
     requires weighs { known ≡ weight tree.old }
     ensures document { OnOk result (after tree.old patch.now bounds ≡ Ok tree.new) }
     ensures changes { IfOk result (λ applied. applied.changes.items ≡ all_changes tree.old patch.now) }
+    ensures paid { IfOk result (λ applied. IsSome (paid (changes_weight applied.changes.items) bounds.changes)) }
     ensures led { IfOk result (λ applied. Leads tree.old applied.changes.items tree.new) }
     ensures sizes { IfOk result (λ applied. bounds.depth < 2 ^ 64 - 1 → AllByRecursion (ChangeFits bounds.depth bounds.depth) applied.changes.items) }
     ensures weight { IfOk result (λ applied. bounds.weight < 2 ^ 64 - 1 → applied.weight ≡ weight tree.new) }
@@ -96,7 +102,13 @@ pub fn apply_within(
     ensures unchanged { IfErr result (λ _. tree.new ≡ tree.old) }
 {
     match run(alloc, tree, Some(known), patch.ops(), bounds) {
-        Ok(Done { changes, weight }) => Ok(Applied {
+        Ok(
+            Done {
+                changes,
+                weight,
+                ..
+            },
+        ) => Ok(Applied {
             changes,
             weight: weight.unwrap(),
         }),
@@ -117,6 +129,7 @@ fn run(
     ensures weighed { IfOk result (λ done. IsSome known → IsSome done.weight) }
     ensures document { OnOk result (after tree.old ops.now bounds ≡ Ok tree.new) }
     ensures changes { IfOk result (λ done. done.changes.items ≡ all_changes tree.old ops.now) }
+    ensures paid { IfOk result (λ done. paid (changes_weight done.changes.items) bounds.changes ≡ Some done.left) }
     ensures refused { IfErr result (λ fault. fault.cause ≢ NoMemory → after tree.old ops.now bounds ≡ Err fault) }
     ensures memory { IfErr result (λ fault. fault.cause ≡ NoMemory → Reaches tree.old ops.now bounds fault.at) }
     ensures unchanged { IfErr result (λ _. tree.new ≡ tree.old) }
@@ -132,6 +145,7 @@ fn run(
 }
 
 // Applies the operations in order and keeps what takes them back.
+#[tactic(auto, using(relay_tree::proofs::Budgets::paid_nothing))]
 fn run_keeping(
     alloc: Global,
     tree: &mut Tree,
@@ -145,6 +159,7 @@ fn run_keeping(
     ensures weighed { IfOk result (λ done. IsSome known → IsSome done.weight) }
     ensures document { OnOk result (after tree.old ops.now bounds ≡ Ok tree.new) }
     ensures changes { IfOk result (λ done. done.changes.items ≡ all_changes tree.old ops.now) }
+    ensures paid { IfOk result (λ done. paid (changes_weight done.changes.items) bounds.changes ≡ Some done.left) }
     ensures refused { IfErr result (λ fault. fault.cause ≢ NoMemory → after tree.old ops.now bounds ≡ Err fault) }
     ensures memory { IfErr result (λ fault. fault.cause ≡ NoMemory → Reaches tree.old ops.now bounds fault.at) }
     ensures back { OnErr result (taken_back tree.new kept.new.items ≡ taken_back tree.old kept.old.items) }
@@ -152,10 +167,11 @@ fn run_keeping(
     let mut done = Done {
         changes: Vec::new(alloc),
         weight: known,
+        left: bounds.changes,
     };
     for (at, op) in ops.iter().enumerate() {
-        let left = ops.len() - at - 1;
-        done = match perform(alloc, tree, kept, done, op, bounds, left) {
+        let following = ops.len() - at - 1;
+        done = match perform(alloc, tree, kept, done, op, bounds, following) {
             Ok(done) => done,
             Err(cause) => return Err(ApplyFault {
                 at: at as u64,

@@ -1,4 +1,5 @@
-//! How large a document may grow.
+//! How large a document may grow, and how much one patch may change.
+use relay_tree::Budget;
 
 /// The most levels of a shared document.
 pub const MAX_DEPTH: u64 = 64;
@@ -6,11 +7,18 @@ pub const MAX_DEPTH: u64 = 64;
 /// The largest weight of a shared document.
 pub const MAX_WEIGHT: u64 = 262_144;
 
-/// How deep and how heavy a document may be after each operation. `u64::MAX` means no bound.
+/// The largest weight of all changes that one patch makes to a shared document: that of four largest documents.
+pub const MAX_CHANGES_WEIGHT: u64 = 4 * MAX_WEIGHT;
+
+/// The bounds on an application of a patch.
 #[derive(Clone, Copy, Debug, PartialEq, Eq)]
 pub struct Bounds {
+    /// The most levels of the document after each operation. `u64::MAX` means no bound.
     pub depth: u64,
+    /// The largest weight of the document after each operation. `u64::MAX` means no bound.
     pub weight: u64,
+    /// What the changes of the patch may weigh together. A change weighs as much as its value and its paths.
+    pub changes: Budget,
 }
 
 impl Bounds {
@@ -18,11 +26,13 @@ impl Bounds {
     pub const DOCUMENT: Bounds = Bounds {
         depth: MAX_DEPTH,
         weight: MAX_WEIGHT,
+        changes: Budget::Left(MAX_CHANGES_WEIGHT),
     };
 
     /// No bound at all.
     pub const FREE: Bounds = Bounds {
         depth: u64::MAX,
         weight: u64::MAX,
+        changes: Budget::Unbounded,
     };
 }

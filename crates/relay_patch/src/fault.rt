@@ -2,8 +2,9 @@
 use std::alloc::AllocError;
 use thiserror::Error;
 
-/// Why an operation is refused. An operation's own checks come first, in the order of RFC 6902, then the depth and the
-/// weight of the document that it made. Memory is allocated only after an operation's own checks have passed.
+/// Why an operation is refused. An operation's own checks come first, in the order of RFC 6902, then the weight of the changes
+/// so far, and then the depth and the weight of the document that it made. Memory is allocated only after an operation's own
+/// checks have passed.
 #[derive(Clone, Copy, Debug, PartialEq, Eq, Error)]
 pub enum Cause {
     /// A path names a part that is not there.
@@ -30,7 +31,7 @@ pub enum Cause {
     /// The document would be deeper than the bound.
     #[error("too deep")]
     TooDeep,
-    /// The document would weigh more than the bound.
+    /// The changes of the patch, or the document, would weigh more than their bound.
     #[error("too heavy")]
     TooHeavy,
     #[error("out of memory")]

@@ -16,7 +16,7 @@ mod patch;
 mod weight;
 
 pub use applying::{Applied, apply, apply_within};
-pub use bounds::{Bounds, MAX_DEPTH, MAX_WEIGHT};
+pub use bounds::{Bounds, MAX_CHANGES_WEIGHT, MAX_DEPTH, MAX_WEIGHT};
 pub use change::{Change, Place};
 pub use fault::{ApplyFault, Cause};
 pub use limits::{MAX_OPS, MAX_RELAYED_TOKENS, PatchFault, PatchLimits};

@@ -1,7 +1,8 @@
 -- The state of a client, and how each message changes it.
 use Rattle.std.specs.Prelude.{ℕ, List, [], ◌∷◌, Result, Ok, Err, nat_lt, if◌then◌else◌}
 use Rattle.relay_tree.specs.Document.{Document}
-use Rattle.relay_patch.specs.Patch.{after, free}
+use Rattle.relay_patch.specs.Patch.{free}
+use Rattle.relay_patch.specs.After.{after}
 use Rattle.relay_patch.specs.declared.fault.ApplyFault.{ApplyFault}
 use Rattle.relay_patch.specs.declared.op.Op.{Op}
 use Rattle.relay_proto.specs.declared.message.Message.{Message}

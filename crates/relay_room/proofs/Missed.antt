@@ -11,7 +11,8 @@ use Rattle.relay_patch.specs.declared.bounds.TheConstants.Bounds.{DOCUMENT}
 use Rattle.relay_patch.specs.declared.op.Op.{Op}
 use Rattle.relay_patch.specs.declared.change.Change.{Change}
 use Rattle.relay_patch.proofs.Fits.{within_flat}
-use Rattle.relay_patch.specs.Patch.{after, free}
+use Rattle.relay_patch.specs.Patch.{free}
+use Rattle.relay_patch.specs.After.{after}
 use Rattle.relay_patch.specs.Weight.{ops_weight}
 use Rattle.relay_translate.specs.Translate.{local_from, afforded}
 use Rattle.relay_translate.proofs.Slots.{translation}

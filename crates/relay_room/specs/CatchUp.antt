@@ -6,7 +6,8 @@ use Rattle.relay_tree.specs.declared.budget.Budget.{Budget}
 use Rattle.relay_patch.specs.declared.bounds.TheConstants.Bounds.{DOCUMENT}
 use Rattle.relay_patch.specs.declared.limits.TheConstants.PatchLimits.{RELAYED}
 use Rattle.relay_patch.specs.declared.op.Op.{Op}
-use Rattle.relay_patch.specs.Patch.{after, free}
+use Rattle.relay_patch.specs.Patch.{free}
+use Rattle.relay_patch.specs.After.{after}
 use Rattle.relay_patch.specs.Change.{Leads}
 use Rattle.relay_patch.specs.Sizes.{OpFits}
 use Rattle.relay_view.specs.View.{View, view}

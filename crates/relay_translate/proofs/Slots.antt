@@ -10,7 +10,8 @@ use Rattle.relay_pointer.proofs.Indexes.{index_of-index_text}
 use Rattle.relay_patch.specs.Walk.{walk}
 use Rattle.relay_patch.specs.declared.op.Op.{Op}
 use Rattle.relay_patch.specs.declared.op.Op.TheVariants.{Replace}
-use Rattle.relay_patch.specs.Patch.{effect, after_from, free}
+use Rattle.relay_patch.specs.Patch.{effect, free}
+use Rattle.relay_patch.specs.After.{spent_after, after_from}
 use Rattle.relay_patch.specs.declared.change.Change.{Change}
 use Rattle.relay_patch.specs.Change.{Makes, Leads}
 use Rattle.relay_patch.proofs.Walks.{at-walk, at_reached}
@@ -34,9 +35,9 @@ pub Passes-append : (a b : List Op) (d e f : Document) → Passes d a e → Pass
 Passes-append [] b d e f h k = subst (λ x. Passes x b f) (sym h) k
 Passes-append (op ∷ a) b d e f h k = (h.0, h.1, Passes-append a b h.0 e f h.2 k)
 
-pub after-passes : (ops : List Op) (n : ℕ) (d e : Document) → Passes d ops e → after_from n free d ops ≡ Ok e
-after-passes [] n d e h = ap Ok h
-after-passes (op ∷ ops) n d e h = rw (h.1, within_free h.0) (after-passes ops (suc n) h.0 e h.2)
+pub after-passes : (ops : List Op) (n spent : ℕ) (d e : Document) → Passes d ops e → after_from n spent free d ops ≡ Ok e
+after-passes [] n spent d e h = ap Ok h
+after-passes (op ∷ ops) n spent d e h = rw (h.1, within_free h.0) (after-passes ops (suc n) (spent_after spent d op) h.0 e h.2)
 
 -- a slot among the others
 
@@ -143,4 +144,4 @@ slots_pass (s ∷ pointers) done changes d now leads =
     rest
 
 pub translation : IsTranslation
-translation changes now pointers d leads = after-passes (local changes now pointers) 0 (view pointers d) (view pointers now) (slots_pass pointers no_items changes d now leads)
+translation changes now pointers d leads = after-passes (local changes now pointers) 0 0 (view pointers d) (view pointers now) (slots_pass pointers no_items changes d now leads)

@@ -8,7 +8,8 @@ use Rattle.relay_pointer.specs.Index.{Token, index_text}
 use Rattle.relay_pointer.specs.Path.{Path, is_prefix}
 use Rattle.relay_patch.specs.declared.op.Op.{Op}
 use Rattle.relay_patch.specs.declared.op.Op.TheVariants.{Add, Remove, Replace, Move, Copy, Test}
-use Rattle.relay_patch.specs.Patch.{after, free}
+use Rattle.relay_patch.specs.Patch.{free}
+use Rattle.relay_patch.specs.After.{after}
 use Rattle.relay_patch.specs.declared.change.Change.{Change}
 use Rattle.relay_patch.specs.Change.{Leads}
 use Rattle.relay_patch.specs.Weight.{ops_weight}

@@ -31,3 +31,11 @@ paid_out a b (Left n) h = go (nat_le a n) refl h
     go false e k =
         let over : nat_le (a + b) n ≡ false = grind (arith, nat_tests, e) in
         rw over refl
+
+-- nothing costs nothing
+pub paid_nothing : (x : Budget) → paid 0 x ≡ Some x
+paid_nothing Unbounded = refl
+paid_nothing (Left n) =
+    let covers : nat_le 0 n ≡ true = grind (arith, nat_tests) in
+    let rest : n - 0 ≡ n = omega arith in
+    rw (covers, rest) refl

@@ -1,12 +1,14 @@
 //! One operation of a patch: its checks, the change that it makes, and the bounds on the document after it.
-ghost use Rattle.std.specs.Prelude.{◌≡◌, ◌≢◌, ◌<◌, ◌++◌, Ok, Err, Some, false, is_some, IsOk, IsSome, OnOk, OnErr, IfOk, IfErr, IfSome};
+ghost use Rattle.std.specs.Prelude.{◌≡◌, ◌≢◌, ◌<◌, ◌+◌, ◌++◌, Ok, Err, Some, false, is_some, IsOk, IsSome, OnOk, OnErr, IfOk, IfErr, IfSome};
 ghost use Rattle.relay_tree.specs.Document.{Document};
-ghost use Rattle.relay_patch.specs.Walk.{then_do};
+ghost use Rattle.relay_tree.specs.Budget.{paid};
 ghost use Rattle.relay_patch.specs.Patch.{effect, within};
+ghost use Rattle.relay_patch.specs.After.{afforded, performed};
 ghost use Rattle.relay_patch.specs.Change.{Makes, Leads, changes_of};
 ghost use Rattle.relay_patch.specs.Measure.{carries, Known};
 ghost use Rattle.relay_patch.specs.Steps.{listed};
 ghost use Rattle.relay_patch.specs.Undo.{taken_back};
+ghost use Rattle.relay_patch.specs.Weight.{changes_weight};
 ghost use Rattle.relay_patch.specs.declared.change.Change.TheVariants.{Move};
 ghost use Rattle.relay_patch.specs.declared.fault.Cause.TheVariants.{NoMemory};
 
@@ -20,7 +22,7 @@ use crate::bounds::Bounds;
 use crate::change::{Change, Place};
 use crate::fault::Cause;
 use crate::op::Op;
-use relay_tree::Tree;
+use relay_tree::{Budget, Tree};
 use std::alloc::Global;
 
 /// What the operations so far have done to the document.
@@ -29,10 +31,11 @@ pub(crate) struct Done {
     pub(crate) changes: Vec<Change>,
     /// The weight of the document, once it is known to be within the bounds. Unspecified if the weight is not bounded.
     pub(crate) weight: Option<u64>,
+    /// What the changes of the operations to come may weigh.
+    pub(crate) left: Budget,
 }
 
-/// Performs one operation, which `left` others follow, and checks the bounds on the document after it. Keeps what takes it
-/// back, if others follow.
+/// Performs one operation, which `following` others follow, and checks the bounds. Keeps what takes it back, if others follow.
 pub(crate) fn perform(
     alloc: Global,
     tree: &mut Tree,
@@ -40,23 +43,26 @@ pub(crate) fn perform(
     done: Done,
     op: &Op,
     bounds: Bounds,
-    left: usize,
+    following: usize,
 ) -> Result<Done, Cause>
-    requires { Known bounds tree.old done.weight }
+    requires known { Known bounds tree.old done.weight }
+    requires paid { paid (changes_weight done.changes.items) bounds.changes ≡ Some done.left }
     ensures known { IfOk result (λ next. Known bounds tree.new next.weight) }
+    ensures paid { IfOk result (λ next. paid (changes_weight next.changes.items) bounds.changes ≡ Some next.left) }
     ensures weighed { IfOk result (λ next. IsSome next.weight) }
-    ensures document { OnOk result (then_do (effect tree.old op.now) (within bounds) ≡ Ok tree.new) }
+    ensures document { OnOk result (performed bounds (changes_weight done.changes.items) tree.old op.now ≡ Ok tree.new) }
     ensures changes { IfOk result (λ next. next.changes.items ≡ done.changes.items ++ changes_of tree.old op.now) }
-    ensures refused { IfErr result (λ cause. cause ≢ NoMemory → then_do (effect tree.old op.now) (within bounds) ≡ Err cause) }
+    ensures refused { IfErr result (λ cause. cause ≢ NoMemory → performed bounds (changes_weight done.changes.items) tree.old op.now ≡ Err cause) }
     ensures memory { IfErr result (λ cause. cause ≡ NoMemory → IsOk (effect tree.old op.now)) }
-    ensures back { OnOk result (0 < left → taken_back tree.new kept.new.items ≡ taken_back tree.old kept.old.items) }
+    ensures back { OnOk result (0 < following → taken_back tree.new kept.new.items ≡ taken_back tree.old kept.old.items) }
     ensures refused_back { OnErr result (taken_back tree.new kept.new.items ≡ taken_back tree.old kept.old.items) }
 {
     let change = record(alloc, tree, op)?;
-    advance(alloc, tree, kept, done, change, bounds, left)
+    advance(alloc, tree, kept, done, change, bounds, following)
 }
 
-// Makes the change, if there is one, within the bounds.
+// Makes the change, if there is one, within the bounds. It is paid for before it is made.
+#[tactic(auto, using(crate::proofs::Spent::paid_more, crate::proofs::Spent::paid_afforded, crate::proofs::Spent::too_heavy))]
 fn advance(
     alloc: Global,
     tree: &mut Tree,
@@ -64,32 +70,39 @@ fn advance(
     done: Done,
     change: Option<Change>,
     bounds: Bounds,
-    left: usize,
+    following: usize,
 ) -> Result<Done, Cause>
     requires makes { (next : Document) × Leads tree.old (listed change) next }
     requires known { Known bounds tree.old done.weight }
+    requires paid { paid (changes_weight done.changes.items) bounds.changes ≡ Some done.left }
     ensures known { IfOk result (λ next. Known bounds tree.new next.weight) }
+    ensures paid { IfOk result (λ next. paid (changes_weight next.changes.items) bounds.changes ≡ Some next.left) }
     ensures weighed { IfOk result (λ next. IsSome next.weight) }
-    ensures fits { OnOk result (within bounds tree.new ≡ Ok tree.new) }
+    ensures fits { OnOk result (afforded bounds (changes_weight done.changes.items + changes_weight (listed change)) tree.new ≡ Ok tree.new) }
     ensures document { OnOk result (Leads tree.old (listed change) tree.new) }
     ensures changes { IfOk result (λ next. next.changes.items ≡ done.changes.items ++ listed change) }
-    ensures refused { IfErr result (λ cause. cause ≢ NoMemory → (next : Document) × Leads tree.old (listed change) next × (within bounds next ≡ Err cause)) }
-    ensures back { OnOk result (0 < left → taken_back tree.new kept.new.items ≡ taken_back tree.old kept.old.items) }
+    ensures refused { IfErr result (λ cause. cause ≢ NoMemory → (next : Document) × Leads tree.old (listed change) next × (afforded bounds (changes_weight done.changes.items + changes_weight (listed change)) next ≡ Err cause)) }
+    ensures back { OnOk result (0 < following → taken_back tree.new kept.new.items ≡ taken_back tree.old kept.old.items) }
     ensures refused_back { OnErr result (taken_back tree.new kept.new.items ≡ taken_back tree.old kept.old.items) }
 {
     let Done {
         mut changes,
         weight,
+        left,
     } = done;
     let Some(change) = change else {
         let weight = weigh(tree, weight, bounds)?;
         return Ok(Done {
             changes,
             weight: Some(weight),
+            left,
         });
     };
+    let Some(left) = change.pay(left) else {
+        return Err(Cause::TooHeavy);
+    };
     changes.reserve(1)?;
-    let weight = match alter(alloc, tree, kept, weight, &change, bounds, left) {
+    let weight = match alter(alloc, tree, kept, weight, &change, bounds, following) {
         Ok(weight) => weight,
         Err(cause) => return Err(cause),
     };
@@ -97,6 +110,7 @@ fn advance(
     Ok(Done {
         changes,
         weight: Some(weight),
+        left,
     })
 }
 
@@ -120,18 +134,18 @@ fn alter(
     known: Option<u64>,
     change: &Change,
     bounds: Bounds,
-    left: usize,
+    following: usize,
 ) -> Result<u64, Cause>
     requires makes { (next : Document) × Makes tree.old change.now next }
     requires known { Known bounds tree.old known }
     ensures known { IfOk result (λ n. Known bounds tree.new (Some n)) }
     ensures made { OnOk result (Makes tree.old change.now tree.new) }
     ensures refused { IfErr result (λ cause. cause ≢ NoMemory → (next : Document) × Makes tree.old change.now next × (within bounds next ≡ Err cause)) }
-    ensures back { OnOk result (0 < left → taken_back tree.new kept.new.items ≡ taken_back tree.old kept.old.items) }
+    ensures back { OnOk result (0 < following → taken_back tree.new kept.new.items ≡ taken_back tree.old kept.old.items) }
     ensures refused_back { OnErr result (taken_back tree.new kept.new.items ≡ taken_back tree.old kept.old.items) }
 {
     match weigh(tree, known, bounds) {
-        Ok(weight) if left == 0 && !carries(change) => {
+        Ok(weight) if following == 0 && !carries(change) => {
             alter_last(alloc, tree, weight, change, bounds)
         }
         Ok(weight) => alter_keeping(alloc, tree, kept, weight, change, bounds),

@@ -9,5 +9,5 @@ returns-in-Ok-clause-led c =
 
 pub returns-in-Ok-clause-sizes : goal.returns-in-Ok-clause-sizes
 returns-in-Ok-clause-sizes c = λ small.
-    let fits = after_fits c.args.patch.now 0 c.args.bounds c.args.tree.now _ small (within_flat c.args.bounds c.args.tree.now c.args.tree.now small c.requires.fits) (rw c.ops.ensures at c.in-Ok.ensures.document) in
+    let fits = after_fits c.args.patch.now 0 0 c.args.bounds c.args.tree.now _ small (within_flat c.args.bounds c.args.tree.now c.args.tree.now small c.requires.fits) (rw c.ops.ensures at c.in-Ok.ensures.document) in
     rw (c.in-Ok.ensures.changes, c.ops.ensures) fits

@@ -1,5 +1,5 @@
 use Rattle.std.proofs.Common.{sym, ◌∙◌, arith}
-use Rattle.relay_patch.proofs.Folds.{after_more, changes_more, after_done}
+use Rattle.relay_patch.proofs.Folds.{after_more, done_next}
 use Rattle.relay_patch.proofs.applying.run_keeping.Goals as goal
 
 pub loop-at-preserved : goal.loop-at-preserved
@@ -9,11 +9,19 @@ loop-at-preserved c =
     let op = c.index-ops-at.result in
     let d = c.loop-at.tree in
     let e = c.perform.new.tree in
+    let before = c.loop-at.done.changes.items in
+    let now = c.in-Ok.done.changes.items in
+    let inside = c.loop-at-test.true in
+    let is = c.index-ops-at.is in
+    let passes = c.in-Ok.ensures.document in
+    let m = c.loop-at.invariant in
+    let next = done_next c.args.bounds op d e ops at c.args.tree.now before inside is m.reached m.changes passes in
     record {
-      onward = sym (after_more ops at op c.args.bounds d e c.loop-at-test.true c.index-ops-at.is c.in-Ok.ensures.document) ∙ c.loop-at.invariant.onward;
-      changes = changes_more ops at op c.args.bounds d e c.loop-at.done.changes.items c.in-Ok.done.changes.items _ c.loop-at-test.true c.index-ops-at.is c.in-Ok.ensures.document c.in-Ok.ensures.changes c.loop-at.invariant.changes;
+      onward = sym (after_more ops at op c.args.bounds d e before now inside is passes c.in-Ok.ensures.changes) ∙ m.onward;
+      reached = next.0;
+      changes = c.in-Ok.ensures.changes ∙ next.1;
+      paid = c.in-Ok.ensures.paid;
       known = c.in-Ok.ensures.known;
-      reached = after_done ops at op c.args.bounds c.args.tree.now d e c.loop-at-test.true c.index-ops-at.is c.loop-at.invariant.reached c.in-Ok.ensures.document;
       weighed = λ _. c.in-Ok.ensures.weighed;
-      back = λ more. c.in-Ok.ensures.back (omega arith) ∙ c.loop-at.invariant.back c.loop-at-test.true;
+      back = λ more. c.in-Ok.ensures.back (omega arith) ∙ m.back inside;
     }

@@ -13,7 +13,7 @@ invariant_of-self-2 c =
     let room : State = record { document = c.self.inside.document; history = c.self.inside.history } in
     let changes = c.in_ok-changes.field-0.changes.items in
     let made : c.push.new.self ≡ with_revision changes room.history = c.push.ensures in
-    let inside = after_from_within c.args.patch.now 0 DOCUMENT room.document c.apply_within.new.tree c.self.invariant.is.within c.in_ok-changes.ensures.document in
+    let inside = after_from_within c.args.patch.now 0 0 DOCUMENT room.document c.apply_within.new.tree c.self.invariant.is.within c.in_ok-changes.ensures.document in
     let fit = c.in_ok-changes.ensures.sizes (omega arith) in
     record {
       is = rw made (edited_is_room room changes c.apply_within.new.tree c.self.invariant.is (subst IsHistory made c.newest.ensures.kept) inside fit c.in_ok-changes.ensures.led);
