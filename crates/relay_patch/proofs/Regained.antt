@@ -37,21 +37,21 @@ insert_item-drop (item d ds) (suc i) e es was h = go (drop_item ds i) refl (inse
 
 -- A list that is refilled, in terms of its queue.
 
-pub no_room : (xs : List Document) (room i : ℕ) (e : Document) → room ≤ length xs → items_of xs ≡ refilled_items room i e (items_of xs)
-no_room xs room i e full =
-    let few : nat_lt (length xs) room ≡ false = grind (arith, nat_tests) in
+pub no_space : (xs : List Document) (capacity i : ℕ) (e : Document) → capacity ≤ length xs → items_of xs ≡ refilled_items capacity i e (items_of xs)
+no_space xs capacity i e full =
+    let few : nat_lt (length xs) capacity ≡ false = grind (arith, nat_tests) in
     rw (items_length-items_of xs, few) refl
 
-pub past_end : (xs : List Document) (room i : ℕ) (e : Document) → length xs < i → items_of xs ≡ refilled_items room i e (items_of xs)
-past_end xs room i e past = rw (insert_item-past xs i e past) (go (nat_lt (items_length (items_of xs)) room))
+pub past_end : (xs : List Document) (capacity i : ℕ) (e : Document) → length xs < i → items_of xs ≡ refilled_items capacity i e (items_of xs)
+past_end xs capacity i e past = rw (insert_item-past xs i e past) (go (nat_lt (items_length (items_of xs)) capacity))
   where
     go : (x : Bool) → items_of xs ≡ (if x then items_of xs else items_of xs)
     go true = refl
     go false = refl
 
-pub with_room : (xs : List Document) (room i : ℕ) (e : Document) → length xs < room → i ≤ length xs → items_of (insert xs i e) ≡ refilled_items room i e (items_of xs)
-with_room xs room i e large inside =
-    let fits : nat_lt (length xs) room ≡ true = grind (arith, nat_tests) in
+pub with_space : (xs : List Document) (capacity i : ℕ) (e : Document) → length xs < capacity → i ≤ length xs → items_of (insert xs i e) ≡ refilled_items capacity i e (items_of xs)
+with_space xs capacity i e large inside =
+    let fits : nat_lt (length xs) capacity ≡ true = grind (arith, nat_tests) in
     rw (items_length-items_of xs, fits, insert_item-items_of xs i e inside) refl
 
 -- A part removed by replacing its container with a copy without it.
@@ -88,10 +88,10 @@ leaves_so path before t d e n is h went new =
 
 -- An element removed from its list.
 
-refills : (ds es : Items) (i room : ℕ) (e : Document) → drop_item ds i ≡ Some es → item_at ds i ≡ Some e → room ≡ items_length ds → refilled room i e (list es) ≡ list ds
-refills ds es i room e went was large =
+refills : (ds es : Items) (i capacity : ℕ) (e : Document) → drop_item ds i ≡ Some es → item_at ds i ≡ Some e → capacity ≡ items_length ds → refilled capacity i e (list es) ≡ list ds
+refills ds es i capacity e went was large =
     let short = (drop_item-shorter ds i es went).0 in
-    let fits : nat_lt (items_length es) room ≡ true = grind (arith, nat_tests) in
+    let fits : nat_lt (items_length es) capacity ≡ true = grind (arith, nat_tests) in
     rw (fits, insert_item-drop ds i e es was went) refl
 
 -- an element of a list, at the place that its index names
@@ -120,18 +120,18 @@ taken before t d d' e h was =
     let w = then_ok (walk d before) (λ c. then_do (in_list drop_child t c) (λ c'. replaced before c' d)) d' (sym (at_end (in_list drop_child) before t d) ∙ h) in
     taken_of before t w.0 d d' e w.1 was w.2
 
-pub taken_again : (before : Path) (t : Token) (d d' e : Document) (room : ℕ) → (x : Taken before t d d' e) → room ≡ items_length x.items → with_part (refilled room x.index e) before (at d' before) d' ≡ d
-taken_again before t d d' e room x large =
+pub taken_again : (before : Path) (t : Token) (d d' e : Document) (capacity : ℕ) → (x : Taken before t d d' e) → capacity ≡ items_length x.items → with_part (refilled capacity x.index e) before (at d' before) d' ≡ d
+taken_again before t d d' e capacity x large =
     let r = replaced-is before (list x.rest) d d' x.new in
     let there : at d before ≡ Some (list x.items) = at_reached before d (list x.items) x.there in
     let now : at d' before ≡ Some (list x.rest) = at_reached before d' (list x.rest) (walk-replaced before (list x.rest) d d' x.new) in
     let again : put d' before (list x.items) ≡ d = rw r.2 (put-back d before (list x.items) (list x.rest) there) in
-    rw (now, refills x.items x.rest x.index room e x.went x.was large) again
+    rw (now, refills x.items x.rest x.index capacity e x.went x.was large) again
 
 -- the same in terms of a path and numbers of 64 bits
-pub item_again : (path before : Path) (t : Token) (d d' e : Document) (n i room : ℕ) → path ≡ before ++ t ∷ [] → at_path (in_list drop_child) path d ≡ Ok d' → walk d path ≡ Ok e → n < 2 ^ 64 → ((ds : Items) → walk d before ≡ Ok (list ds) → n ≡ items_length ds) → room ≡ n → ((j : ℕ) → index_of t ≡ Some j → j < 2 ^ 64 → i ≡ j) → with_part (refilled room i e) before (at d' before) d' ≡ d
-item_again path before t d d' e n i room is h was few long large at_it =
+pub item_again : (path before : Path) (t : Token) (d d' e : Document) (n i capacity : ℕ) → path ≡ before ++ t ∷ [] → at_path (in_list drop_child) path d ≡ Ok d' → walk d path ≡ Ok e → n < 2 ^ 64 → ((ds : Items) → walk d before ≡ Ok (list ds) → n ≡ items_length ds) → capacity ≡ n → ((j : ℕ) → index_of t ≡ Some j → j < 2 ^ 64 → i ≡ j) → with_part (refilled capacity i e) before (at d' before) d' ≡ d
+item_again path before t d d' e n i capacity is h was few long large at_it =
     let x = taken before t d d' e (rw is at h) (rw is at was) in
     let count = long x.items x.there in
     let same : i ≡ x.index = at_it x.index x.named (omega (arith, few, count, (drop_item-shorter x.items x.index x.rest x.went).1)) in
-    rw same (taken_again before t d d' e room x (large ∙ count))
+    rw same (taken_again before t d d' e capacity x (large ∙ count))

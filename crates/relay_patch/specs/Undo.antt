@@ -35,14 +35,14 @@ abbrev pub or_items : Option Items → Items → Items
 or_items (Some es) ds = es
 or_items None ds = ds
 
--- the elements with e inserted at the index, if a capacity of `room` has space for one more and the index is not past the end;
+-- the elements with e inserted at the index, if `capacity` has space for one more and the index is not past the end;
 -- otherwise unchanged
 abbrev pub refilled_items : ℕ → ℕ → Document → Items → Items
-refilled_items room i e ds = if nat_lt (items_length ds) room then or_items (insert_item ds i e) ds else ds
+refilled_items capacity i e ds = if nat_lt (items_length ds) capacity then or_items (insert_item ds i e) ds else ds
 
 abbrev pub refilled : ℕ → ℕ → Document → Document → Document
-refilled room i e (list ds) = list (refilled_items room i e ds)
-refilled room i e d = d
+refilled capacity i e (list ds) = list (refilled_items capacity i e ds)
+refilled capacity i e d = d
 
 -- the elements with the one at index i removed and inserted at index j of the others; unchanged if either index is past the end
 abbrev pub slid_items : ℕ → ℕ → Items → Items
@@ -61,7 +61,7 @@ with_part change path None d = d
 abbrev pub undone : Undo → Document → Document
 undone (undo.Part path part) d = put d path part
 undone (undo.Inserted path) d = or_same (at_path drop_child path d) d
-undone (undo.Element path i e room) d = with_part (refilled (deque_capacity room) i e) path (at d path) d
+undone (undo.Element path i e capacity) d = with_part (refilled (deque_capacity capacity) i e) path (at d path) d
 undone (undo.Slid path i j) d = with_part (slid i j) path (at d path) d
 
 -- the document before the changes of which these are the records: the last one is taken back first

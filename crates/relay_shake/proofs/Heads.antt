@@ -7,7 +7,7 @@ use Rattle.httparse.specs.Grammar.{RequestHead, Field, IsField, LineEnd, crlf, l
 use Rattle.httparse.specs.Spans.{RequestExceeds}
 use Rattle.std.proofs.lemmas.List.Elements.{All-head, All-tail}
 use Rattle.httparse.proofs.GrammarLemmas.{request_unique}
-use Rattle.relay_shake.specs.declared.reading.TheConstants.{FIELDS_ROOM, MAX_HEAD}
+use Rattle.relay_shake.specs.declared.reading.TheConstants.{MAX_HEAD_FIELDS, MAX_HEAD}
 use Rattle.relay_shake.specs.declared.answer.Shake.{Shake}
 use Rattle.relay_shake.specs.Head.{Fields, parts_of}
 use Rattle.relay_shake.specs.Handshake.{window, refuse, verdict_before_head, verdict_of, verdict_on}
@@ -45,8 +45,8 @@ length-head : (head : RequestHead) (rest : List ℕ) → All IsField head.fields
 unfolding print_request
 length-head head rest fit = simp length-append (omega (arith, length-fields head.fields fit, length-end head.last))
 
--- the fields of the window fit in `FIELDS_ROOM`
-pub no_excess : (bytes buffer : List ℕ) (room : ℕ) → buffer ≡ window bytes → room ≡ FIELDS_ROOM → RequestExceeds room buffer → ⊥
+-- the fields of the window fit in `MAX_HEAD_FIELDS`
+pub no_excess : (bytes buffer : List ℕ) (room : ℕ) → buffer ≡ window bytes → room ≡ MAX_HEAD_FIELDS → RequestExceeds room buffer → ⊥
 no_excess bytes buffer room same enough (front, rest, parts, head, reads, many) =
     let long : 3 * length head.fields < length (front ++ print_end lf) =
     subst (λ b. 3 * length head.fields < length b) (sym reads.1) (length-head head [] reads.0.fields) in

@@ -19,7 +19,7 @@ use std::alloc::{AllocError, Global};
 pub(crate) const MAX_HEAD: usize = 8_192;
 
 /// The most header fields in [`MAX_HEAD`] bytes, since each takes at least three bytes.
-pub(crate) const FIELDS_ROOM: usize = 2_730;
+pub(crate) const MAX_HEAD_FIELDS: usize = 2_730;
 
 /// Answers all bytes received so far.
 ///
@@ -50,12 +50,12 @@ pub fn shake(alloc: Global, bytes: &[u8]) -> Result<Shake, AllocError>
     // Both cases of `AnswersNoHead` hold only if the bytes end in a target that no head can have.
     ensures no_head { IfOk result (AnswersNoHead bytes.now) }
 {
-    let mut fields = vec![in alloc; EMPTY_HEADER; FIELDS_ROOM]?;
+    let mut fields = vec![in alloc; EMPTY_HEADER; MAX_HEAD_FIELDS]?;
     let mut request = Request::new(&mut fields);
     match request.parse(window(bytes)) {
         Ok(Status::Complete(len)) => with_head(alloc, bytes, &request, len),
         Ok(Status::Partial) => without_head(alloc, bytes),
-        // `FIELDS_ROOM` is enough for every field that the window can hold.
+        // `MAX_HEAD_FIELDS` is enough for every field that the window can hold.
         Err(Error::TooManyHeaders) => unreachable!(),
         Err(_) => hopeless(alloc, bytes),
     }

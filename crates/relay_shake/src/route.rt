@@ -21,7 +21,7 @@ fn routed<'b>(alloc: Global, target: &'b str) -> Result<Option<&'b str>, AllocEr
     let mut router = Router::new(alloc);
     match router.insert("/rooms/{room}", ()) {
         Ok(()) => {}
-        Err(fault) => return Err(want_of_memory(&fault)),
+        Err(fault) => return Err(alloc_error(&fault)),
     }
     match router.at(target) {
         Ok(found) => Ok(found.params.get("room")),
@@ -30,7 +30,7 @@ fn routed<'b>(alloc: Global, target: &'b str) -> Result<Option<&'b str>, AllocEr
 }
 
 // The route is well-formed and the only one, so only a lack of memory can refuse it.
-fn want_of_memory(fault: &InsertError) -> AllocError
+fn alloc_error(fault: &InsertError) -> AllocError
     requires { fault.now ≡ InsertError.OutOfMemory }
 {
     match fault {

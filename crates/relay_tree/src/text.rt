@@ -11,7 +11,7 @@ use json::Writer;
 use std::alloc::{AllocError, Global};
 
 /// The initial capacity of a text, in bytes.
-const FIRST_ROOM: usize = 128;
+const INITIAL_CAPACITY: usize = 128;
 
 impl Tree {
     /// Returns the compact text: no white space, member names in byte order, whole numbers in decimal.
@@ -31,7 +31,7 @@ pub fn begin_text(alloc: Global) -> Result<Writer, AllocError>
     ensures before { IfOk result (λ out. out.before ≡ []) }
     ensures tokens { IfOk result (λ out. out.tokens ≡ []) }
 {
-    Ok(Writer::new(Vec::with_capacity(alloc, FIRST_ROOM)?))
+    Ok(Writer::new(Vec::with_capacity(alloc, INITIAL_CAPACITY)?))
 }
 
 /// Returns the text that a writer wrote, if it began with an empty buffer. Allocates nothing.

@@ -143,7 +143,7 @@ fn take_item(
         unreachable!()
     };
     let list = Pointer::from_tokens(copy_tokens(alloc, before)?);
-    let room = VecDeque::with_capacity(alloc, length_at(tree, before))?;
+    let spare = VecDeque::with_capacity(alloc, length_at(tree, before))?;
     let place = Element::new(alloc, Tree::from(Node::Null))?;
     kept.reserve(1)?;
     let index = position(last.as_str());
@@ -152,7 +152,7 @@ fn take_item(
         list,
         index,
         element,
-        room,
+        spare,
     });
     Ok(())
 }

@@ -26,13 +26,13 @@ pub enum Undo {
     Inserted {
         path: Pointer,
     },
-    /// The element was removed from the index of a list. `room` has capacity for as many elements as the list had: only a
+    /// The element was removed from the index of a list. `spare` has capacity for as many elements as the list had: only a
     /// queue with spare capacity accepts one more without growing, and the list's own capacity is not visible through a tree.
     Element {
         list: Pointer,
         index: usize,
         element: Element,
-        room: VecDeque<Element>,
+        spare: VecDeque<Element>,
     },
     /// An element slid within its list: it slides back from the index `from` to the index `to`.
     Slid {
@@ -72,8 +72,8 @@ fn undo_one(tree: &mut Tree, kept: Undo)
             list,
             index,
             element,
-            room,
-        } => refill_at(tree, &list, index, element, room),
+            spare,
+        } => refill_at(tree, &list, index, element, spare),
         Undo::Slid { list, from, to } => slide_at(tree, &list, from, to),
     }
 }
@@ -97,36 +97,36 @@ fn refill_at(
     path: &Pointer,
     index: usize,
     element: Element,
-    room: VecDeque<Element>,
+    spare: VecDeque<Element>,
 )
-    ensures { tree.new ≡ with_part (refilled (deque_capacity room) index element) path.now (at tree.old path.now) tree.old }
+    ensures { tree.new ≡ with_part (refilled (deque_capacity spare) index element) path.now (at tree.old path.now) tree.old }
 {
     if let Some(node) = resolve_mut(tree, path) {
-        refill(node, index, element, room);
+        refill(node, index, element, spare);
     }
 }
 
-fn refill(node: &mut Node, index: usize, element: Element, room: VecDeque<Element>)
-    ensures { document_of node.new ≡ refilled (deque_capacity room) index element (document_of node.old) }
+fn refill(node: &mut Node, index: usize, element: Element, spare: VecDeque<Element>)
+    ensures { document_of node.new ≡ refilled (deque_capacity spare) index element (document_of node.old) }
 {
     if let Node::List(items) = node {
-        insert_with_room(items, index, element, room);
+        insert_into_spare(items, index, element, spare);
     }
 }
 
-// Moves the elements and the new one into `room`, if its capacity is large enough and the index is not past the end.
-fn insert_with_room(
+// Moves the elements and the new one into `spare`, if its capacity is large enough and the index is not past the end.
+fn insert_into_spare(
     items: &mut VecDeque<Element>,
     index: usize,
     element: Element,
-    room: VecDeque<Element>,
+    spare: VecDeque<Element>,
 )
-    ensures { items_of items.new.items ≡ refilled_items (deque_capacity room) index element (items_of items.old.items) }
+    ensures { items_of items.new.items ≡ refilled_items (deque_capacity spare) index element (items_of items.old.items) }
 {
-    if items.len() >= room.capacity() || index > items.len() {
+    if items.len() >= spare.capacity() || index > items.len() {
         return;
     }
-    let mut whole = room;
+    let mut whole = spare;
     whole.clear();
     whole.append(items).unwrap();
     whole.insert(index, element).unwrap();

@@ -6,9 +6,9 @@ use Rattle.matchit.proofs.OnLiterals.{matchit_on_literals}
 use Rattle.relay_shake.proofs.Routes.{plain, room_route, found, found-true, found-false, has_segment_after, seek-row, missed, taken, only_memory}
 use Rattle.relay_shake.proofs.route.routed.Goals as goal
 
-pub want_of_memory-requires : goal.want_of_memory-requires
+pub alloc_error-requires : goal.alloc_error-requires
 unfolding matchit_on_literals
-want_of_memory-requires c =
+alloc_error-requires c =
     let refused = rw c.new-router.ensures at c.in-Err.ensures in
     only_memory (codes "/rooms/" ++ 256 ∷ []) _ refused.1
 

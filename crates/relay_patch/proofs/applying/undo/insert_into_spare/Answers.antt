@@ -1,9 +1,9 @@
 use Rattle.std.proofs.Common.{◌≡◌, ◌++◌, length, ◌∙◌, arith}
 use Rattle.std.specs.VecDeque.{deque_capacity}
 use Rattle.std.specs.List.{insert}
-use Rattle.relay_patch.proofs.Regained.{no_room, past_end, with_room}
-use Rattle.relay_patch.proofs.applying.undo.insert_with_room.Goals as goal
-use Rattle.relay_patch.proofs.applying.undo.insert_with_room.Goals.{then-len-capacity-via-then-len-capacity, then-len-capacity-via-else-len-capacity+then-index-len}
+use Rattle.relay_patch.proofs.Regained.{no_space, past_end, with_space}
+use Rattle.relay_patch.proofs.applying.undo.insert_into_spare.Goals as goal
+use Rattle.relay_patch.proofs.applying.undo.insert_into_spare.Goals.{then-len-capacity-via-then-len-capacity, then-len-capacity-via-else-len-capacity+then-index-len}
 
 pub returns-then-len-capacity : goal.returns-then-len-capacity
 returns-then-len-capacity c =
@@ -13,10 +13,10 @@ returns-then-len-capacity c =
     elim c.then-len-capacity.branch [
       | then-len-capacity-via-then-len-capacity w ↦
           let full = w.if-len-capacity.true in
-          no_room v.items (deque_capacity c.args.room) c.args.index c.args.element (omega (arith, full, c.capacity.ensures, long))
+          no_space v.items (deque_capacity c.args.spare) c.args.index c.args.element (omega (arith, full, c.capacity.ensures, long))
       | then-len-capacity-via-else-len-capacity+then-index-len w ↦
           let again : w.len-else-len-capacity.result ≡ length v.items = w.len-else-len-capacity.ensures ∙ ok.0 in
-          past_end v.items (deque_capacity c.args.room) c.args.index c.args.element (omega (arith, w.if-index-len.true, again))
+          past_end v.items (deque_capacity c.args.spare) c.args.index c.args.element (omega (arith, w.if-index-len.true, again))
     ]
 
 pub returns : goal.returns
@@ -30,4 +30,4 @@ returns c =
     let inside = c.if-index-len.false in
     let whole : c.insert.new.self.items ≡ insert c.append.new.self.items c.args.index c.args.element = rw c.unwrap-2.ensures at c.insert.ensures.items in
     let moved : c.append.new.self.items ≡ c.clear.new.self.items ++ v.items = rw c.unwrap.ensures at c.append.ensures.items in
-    rw (whole, moved, c.clear.ensures.items) (with_room v.items (deque_capacity c.args.room) c.args.index c.args.element (omega (arith, large, size, long)) (omega (arith, inside, again)))
+    rw (whole, moved, c.clear.ensures.items) (with_space v.items (deque_capacity c.args.spare) c.args.index c.args.element (omega (arith, large, size, long)) (omega (arith, inside, again)))
