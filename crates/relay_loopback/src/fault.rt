@@ -2,20 +2,34 @@
 use relay_hub::HubNewFault;
 use relay_lines::ScriptFault;
 use std::alloc::AllocError;
+use std::io;
 use thiserror::Error;
 
 /// Why a job with sockets ended early. Its connections are dropped.
 #[derive(Clone, Copy, Debug, PartialEq, Eq, Error)]
 pub enum ServeFault {
-    /// The port cannot be opened for listening.
+    /// The port cannot be opened for listening. `code` is the number of the system's error, if it gave one.
     #[error("cannot listen")]
-    Listen,
+    Listen { code: Option<i32> },
     /// The system's poll for ready sockets cannot be set up.
     #[error("cannot wait for sockets")]
     Wait,
     /// A fault with which a script can end too.
     #[error("{0}")]
     Ended(ScriptFault),
+}
+
+impl ServeFault {
+    ghost use Rattle.relay_loopback.specs.Faults.{IsListen};
+
+    /// The fault of a port that cannot be opened for this reason.
+    pub fn listen(error: &io::Error) -> ServeFault
+        ensures { IsListen result }
+    {
+        ServeFault::Listen {
+            code: error.raw_os_error(),
+        }
+    }
 }
 
 impl From<ScriptFault> for ServeFault {

@@ -1,6 +1,8 @@
 //! The listener that loopback clients connect to.
 use crate::client_handshake::ClientHandshake;
 use crate::connection::{Connection, MAX_TURNS};
+use crate::fault::ServeFault;
+use crate::sockets::listen;
 use relay_hub::Hub;
 use relay_link::{Link, Stage};
 use std::alloc::{AllocError, Global};
@@ -25,14 +27,22 @@ pub enum Entering<S: Write + Drop> {
 }
 
 impl<'n, N: Net> LoopbackListener<'n, N> {
-    /// Wraps a listener. `None` if its address is unknown.
-    pub fn new(net: &'n N, listener: N::Listener) -> Option<LoopbackListener<'n, N>> {
-        let address = listener.local_addr().ok()?;
-        Some(LoopbackListener {
-            net,
-            listener,
-            address,
-        })
+    ghost use Rattle.std.specs.Prelude.{IfErr};
+    ghost use Rattle.relay_loopback.specs.Faults.{IsListen};
+
+    /// Opens a listener at a port that the system chooses.
+    pub fn new(net: &'n N) -> Result<LoopbackListener<'n, N>, ServeFault>
+        ensures { IfErr result IsListen }
+    {
+        let listener = listen(net, 0)?;
+        match listener.local_addr() {
+            Ok(address) => Ok(LoopbackListener {
+                net,
+                listener,
+                address,
+            }),
+            Err(error) => Err(ServeFault::listen(&error)),
+        }
     }
 
     /// Connects a client, and opens its session.

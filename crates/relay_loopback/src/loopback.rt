@@ -2,12 +2,12 @@
 ghost use Rattle.std.specs.Prelude.{◌≡◌, ◌↔◌, ◌⊎◌, IfErr, IsErrOf};
 ghost use Rattle.relay_hub.specs.Queries.{BadLimits};
 ghost use Rattle.relay_lines.specs.declared.fault.ScriptFault.TheVariants as script;
-ghost use Rattle.relay_loopback.specs.declared.fault.ServeFault.TheVariants.{Ended, Listen};
+ghost use Rattle.relay_loopback.specs.declared.fault.ServeFault.TheVariants.{Ended};
+ghost use Rattle.relay_loopback.specs.Faults.{IsListen};
 
 use crate::connection::Connection;
 use crate::fault::ServeFault;
 use crate::listener::{Entering, LoopbackListener};
-use crate::sockets::listen;
 use indexmap::IndexMap;
 use relay_hub::{Answer, Hub, HubConfig, HubFault};
 use relay_lines::{Outcome, Transport};
@@ -26,15 +26,12 @@ pub struct Loopback<'n, N: Net> {
 impl<'n, N: Net> Loopback<'n, N> {
     /// Creates a hub behind a port that the system chooses, with no sessions. The limits are those of [`Hub::with_config`].
     pub fn new(alloc: Global, net: &'n N, made: HubConfig) -> Result<Loopback<'n, N>, ServeFault>
-        ensures fault { IfErr result (λ fault. (fault ≡ Listen) ⊎ (fault ≡ Ended script.NoMemory) ⊎ (fault ≡ Ended script.BadLimit)) }
+        ensures fault { IfErr result (λ fault. IsListen fault ⊎ (fault ≡ Ended script.NoMemory) ⊎ (fault ≡ Ended script.BadLimit)) }
         ensures bad_limit { IsErrOf result (Ended script.BadLimit) ↔ BadLimits made }
     {
         let hub = Hub::with_config(alloc, made)?;
-        let Some(listener) = LoopbackListener::new(net, listen(net, 0)?) else {
-            return Err(ServeFault::Listen);
-        };
         Ok(Loopback {
-            listener,
+            listener: LoopbackListener::new(net)?,
             hub,
             connections: IndexMap::new(alloc),
         })

@@ -10,7 +10,8 @@ use Rattle.relay_loopback.specs.Loopback.{LoopbackAnswers, unopened}
 use Rattle.relay_lines.specs.declared.fault.ScriptFault.{ScriptFault}
 use Rattle.relay_lines.specs.declared.fault.ScriptFault.TheVariants.{BadLimit, NoMemory}
 use Rattle.relay_loopback.specs.declared.fault.ServeFault.{ServeFault}
-use Rattle.relay_loopback.specs.declared.fault.ServeFault.TheVariants.{Ended, Listen}
+use Rattle.relay_loopback.specs.declared.fault.ServeFault.TheVariants.{Ended, Listen, Wait}
+use Rattle.relay_loopback.specs.Faults.{IsListen}
 use Rattle.relay_server.specs.declared.status.Status.{Status}
 pub use Rattle.relay_lines.proofs.Limits.{limits_kept}
 use Rattle.relay_lines.proofs.RunLemmas.{on_success, if_fault, AnswersSome-none, AnswersAll-seen, AnswersSome-seen}
@@ -50,9 +51,11 @@ untouched (Ok u) remaining contents input left old new same = tt
 untouched (Err fault) remaining contents input left old new same = λ bad. (ap remaining (same bad).0, ap contents (same bad).1)
 
 -- the end of a loop without a hub or sockets
-pub LoopEnds-none : (fault : ServeFault) (input old : Option (List ℕ)) → (fault ≡ Listen) ⊎ (fault ≡ Ended NoMemory) ⊎ (fault ≡ Ended BadLimit)
+pub LoopEnds-none : (fault : ServeFault) (input old : Option (List ℕ)) → IsListen fault ⊎ (fault ≡ Ended NoMemory) ⊎ (fault ≡ Ended BadLimit)
     → LoopEnds (Err fault) input input old old
-LoopEnds-none fault input old (inl e) = subst (λ f. LoopEnds (Err f) input input old old) (sym e) (refl, refl)
+LoopEnds-none (Listen code) input old (inl is) = (refl, refl)
+LoopEnds-none Wait input old (inl is) = absurd is
+LoopEnds-none (Ended fault) input old (inl is) = absurd is
 LoopEnds-none fault input old (inr (inl e)) = subst (λ f. LoopEnds (Err f) input input old old) (sym e) (AnswersSome-none LoopbackAnswers unopened input old)
 LoopEnds-none fault input old (inr (inr e)) = subst (λ f. LoopEnds (Err f) input input old old) (sym e) (refl, refl)
 

@@ -13,7 +13,7 @@ use relay_lines::{Script, ScriptFault, run_follow, run_lines, run_script, write_
 use relay_loopback::{Loopback, ServeFault};
 use relay_options::{Job, Settings, Stop, job_of};
 use std::alloc::{AllocGlobal, Global};
-use std::io::{ErrorKind, Read, Write};
+use std::io::{self, ErrorKind, Read, Write};
 use std::net::Net;
 
 /// The warning for a server in the default epoch, which all runs without `--epoch` share.
@@ -122,8 +122,9 @@ fn report_sockets<E: Write>(ended: Result<(), ServeFault>, port: u16, errors: &m
 {
     match ended {
         Ok(()) => Status::Done,
-        Err(ServeFault::Listen) => {
+        Err(ServeFault::Listen { code }) => {
             let _ = writeln!(errors, "relay: cannot listen on port {port}");
+            say_code(code, errors);
             Status::Failed
         }
         Err(ServeFault::Wait) => {
@@ -131,6 +132,13 @@ fn report_sockets<E: Write>(ended: Result<(), ServeFault>, port: u16, errors: &m
             Status::Failed
         }
         Err(ServeFault::Ended(fault)) => report(Err(fault), errors),
+    }
+}
+
+/// Says what the number of a system's error means, if there is one.
+fn say_code<E: Write>(code: Option<i32>, errors: &mut E) {
+    if let Some(code) = code {
+        let _ = writeln!(errors, "relay: {}", io::Error::from_raw_os_error(code));
     }
 }
 

@@ -8,7 +8,7 @@ ghost use Rattle.relay_lines.specs.Lines.{AppendsPart};
 ghost use Rattle.relay_server.specs.Printed.{served_text};
 ghost use Rattle.relay_serving.specs.Rounds.{RoundsOf};
 ghost use Rattle.relay_lines.specs.declared.fault.ScriptFault.TheVariants.{BadLimit, NoMemory, Output};
-ghost use Rattle.relay_loopback.specs.declared.fault.ServeFault.TheVariants.{Ended, Listen};
+ghost use Rattle.relay_loopback.specs.declared.fault.ServeFault.TheVariants.{Ended};
 
 use crate::config::config_of;
 use relay_hub::Hub;
@@ -88,8 +88,9 @@ fn serve_hub<N: Net, W: Write, J: ConnectionLog>(
     ensures limits { IfErr result (λ fault. fault ≢ Ended BadLimit) }
 {
     let listener = listen(net, served.port)?;
-    let Ok(address) = listener.local_addr() else {
-        return Err(ServeFault::Listen);
+    let address = match listener.local_addr() {
+        Ok(address) => address,
+        Err(error) => return Err(ServeFault::listen(&error)),
     };
     let Ok(polling) = Polling::new(alloc, net, &listener) else {
         return Err(ServeFault::Wait);

@@ -21,11 +21,13 @@ fn serve_in_an_epoch_of_its_own_says_no_more(rt: HostRuntime) {
     assert_eq!(rt; ran.errors.as_str(), "");
 }
 
-/// Asserts the error output and the status of `serve` at a port that is in use.
+/// Asserts the error output and the status of `serve` at a port that is in use: what it could not do, and the system's reason.
 fn is_taken(rt: &(impl Abort + AllocGlobal + Net), port: u16) {
+    let refused = rt.bind(SocketAddr::from((Ipv4Addr::LOCALHOST, port)));
+    let reason = refused.err().expect(rt, "a port in use");
     let line = format!(in rt.alloc(); "relay serve --port {port} --turns 1 --epoch 2");
     let ran = run(rt, line.expect(rt, "memory").as_str(), "");
-    let wanted = format!(in rt.alloc(); "relay: cannot listen on port {port}\n");
+    let wanted = format!(in rt.alloc(); "relay: cannot listen on port {port}\nrelay: {reason}\n");
     assert_eq!(rt; ran.errors.as_str(), wanted.expect(rt, "memory").as_str());
     assert_eq!(rt; ran.status, 1);
 }
