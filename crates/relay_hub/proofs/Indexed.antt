@@ -8,8 +8,10 @@ use Rattle.relay_patch.specs.declared.change.Change.{Change}
 use Rattle.relay_room.specs.Room.{State as Room}
 use Rattle.relay_translate.specs.Watches.{Watches}
 use Rattle.relay_tree.specs.Document.{Document}
+use Rattle.relay_tree.specs.declared.budget.Budget.{Budget}
 use Rattle.relay_view.specs.View.{View}
 use Rattle.relay_hub.specs.Call.{IsAbove}
+use Rattle.relay_hub.specs.Allowance.{Allowance}
 use Rattle.relay_hub.specs.Session.{Session}
 use Rattle.relay_hub.specs.State.{IsRising, session_in}
 use Rattle.relay_hub.specs.Step.{OnlyAt, ToldAs, AllTold}
@@ -77,17 +79,19 @@ first_indexed x none = record {
 
 -- Notifying changes no view.
 
-told_view : (d : Document) (changes : List Change) (room : Room) (v : Option View) (short : Bool) (x y : Session) → ToldAs d changes room v short x y → y.view ≡ x.view
-told_view d changes room (Some v) true x y h = ap (λ (z : Session). z.view) h.1
-told_view d changes room _ _ x y h = ap (λ (z : Session). z.view) h.0
+told_view : (d : Document) (changes : List Change) (room : Room) (allowance : Allowance) (v : Option View) (short : Bool) (x y : Session)
+    → ToldAs d changes room allowance v short x y → y.view ≡ x.view
+told_view d changes room allowance (Some v) true x y h = ap (λ (z : Session). z.view) h.1
+told_view d changes room allowance _ _ x y h = ap (λ (z : Session). z.view) h.0
 
 told_shown : (d : Document) (changes : List Change) (room : Room) (o p : Option Session) → IsTold d changes room o p → shown o ≡ shown p
-told_shown d changes room (Some x) (Some y) h = sym (told_view d changes room x.view h.0 x y h.1)
+told_shown d changes room (Some x) (Some y) h = sym (told_view d changes room h.0 x.view h.1 x y h.2)
 told_shown d changes room None None h = refl
 told_shown d changes room _ _ h = absurd h
 
-pub told_indexed : (d : Document) (changes : List Change) (room : Room) (xs ys : List Session) (n : ℕ) → AllTold d changes room xs ys n → (w : Watches) → IsIndexed w xs → IsIndexed w ys
-told_indexed d changes room xs ys n told w h = record {
-  rising = same_rises xs ys (numbers_told d changes room xs ys n told) h.rising;
-  agrees = λ t. h.agrees t ∙ told_shown d changes room (session_in xs t) (session_in ys t) (each_told d changes room xs ys n told t);
+pub told_indexed : (d : Document) (changes : List Change) (room : Room) (budget : Budget) (xs ys : List Session) (n : ℕ) → AllTold d changes room budget xs ys n
+    → (w : Watches) → IsIndexed w xs → IsIndexed w ys
+told_indexed d changes room budget xs ys n told w h = record {
+  rising = same_rises xs ys (numbers_told d changes room budget xs ys n told) h.rising;
+  agrees = λ t. h.agrees t ∙ told_shown d changes room (session_in xs t) (session_in ys t) (each_told d changes room budget xs ys n told t);
 }

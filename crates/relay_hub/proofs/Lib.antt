@@ -3,6 +3,7 @@ pub mod Lists
 pub mod Sessions
 pub mod Serving
 pub mod Queries
+pub mod Views
 pub mod Told
 pub mod Rising
 pub mod Indexed

@@ -15,7 +15,6 @@ use Rattle.relay_room.specs.Room.{begun, revision}
 use Rattle.relay_room.specs.declared.catch_up.CatchUp.TheVariants.{Snapshot}
 use Rattle.relay_room.specs.declared.fault.EditFault.{EditFault}
 use Rattle.relay_tree.specs.Document.{Document, null}
-use Rattle.relay_tree.specs.declared.budget.Budget.{Budget}
 use Rattle.relay_hub.specs.Refusal.{refused, future_refusal}
 use Rattle.relay_hub.specs.Session.{Session, replied, newcomer, watches, unwatches, resumes, drawn}
 use Rattle.relay_hub.specs.State.{RoomSessions, room_sessions, State, EachOnce, Home, RoomOf, IsHub, place_of, place_named, vacant_place, session_in}
@@ -137,22 +136,22 @@ keeps_only s x y old new e only = record {
   once = only.once;
 }
 
-edit_keeps : (budget : Budget) (s short id : ℕ) (x : Session) (patch : List Op) (o : Result Document EditFault) (old new : RoomSessions) → session_in old.sessions s ≡ Some x
-    → EditServed budget s x id patch o short old new → Keeps old new
-edit_keeps budget s short id x patch (Err fault) old new e h = keeps_only s x (replied h.1 x) old new e h.3.1
-edit_keeps budget s short id x patch (Ok d) old new e h =
+edit_keeps : (made : HubConfig) (s short id : ℕ) (x : Session) (patch : List Op) (o : Result Document EditFault) (old new : RoomSessions) → session_in old.sessions s ≡ Some x
+    → EditServed made s x id patch o short old new → Keeps old new
+edit_keeps made s short id x patch (Err fault) old new e h = keeps_only s x (replied h.1 x) old new e h.3.1
+edit_keeps made s short id x patch (Ok d) old new e h =
     let before = old.room.document in
     let changes = all_changes before patch in
     let room = h.0 in
     let mid = room_sessions room h.2 in
     let answered = keeps_only s x (replied (Done id (revision room)) x) old mid e h.3 in
-    let told = each_told before changes room h.2 new.sessions short h.4 in
+    let told = each_told before changes room made.telling_weight h.2 new.sessions short h.4 in
     record {
       none = λ t none. none_told before changes room (session_in h.2 t) (session_in new.sessions t) (told t) (answered.none t none);
       some = λ t z is.
           let there = some_one (session_in h.2 t) (answered.some t z is) in
           some_told before changes room (session_in h.2 t) (session_in new.sessions t) there.0 (told t) there.1;
-      once = λ once. once_told before changes room h.2 new.sessions short h.4 (answered.once once);
+      once = λ once. once_told before changes room made.telling_weight h.2 new.sessions short h.4 (answered.once once);
     }
 
 resume_keeps : (present past : Bool) (id rev s : ℕ) (pointers : View) (x : Session) (old new : RoomSessions) → session_in old.sessions s ≡ Some x
@@ -167,7 +166,7 @@ serve_keeps made s short x (Err r) old new e h = keeps_only s x (replied (refuse
 serve_keeps made s short x (Ok (Watch id pointers)) old new e h = keeps_only s x (watches id pointers x) old new e h.1.1
 serve_keeps made s short x (Ok (Unwatch id)) old new e h = keeps_only s x (unwatches id x) old new e h.1.1
 serve_keeps made s short x (Ok (Resume id n rev pointers)) old new e h = resume_keeps (n == made.epoch) (nat_le rev (revision old.room)) id rev s pointers x old new e h.1
-serve_keeps made s short x (Ok (Edit id base patch)) old new e h = edit_keeps made.history_weight s short id x patch (edited old.room base patch) old new e h
+serve_keeps made s short x (Ok (Edit id base patch)) old new e h = edit_keeps made s short id x patch (edited old.room base patch) old new e h
 
 receive_keeps : (made : HubConfig) (s : ℕ) (o : Option Session) (text : List ℕ) (answer : Answer) (old new : RoomSessions) → session_in old.sessions s ≡ o
     → Receives made s o text answer old new → Keeps old new

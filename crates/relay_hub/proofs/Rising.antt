@@ -10,9 +10,11 @@ use Rattle.std.proofs.lemmas.List.Kept.{AllPairs-from_increasing, IsStrictlyIncr
 use Rattle.relay_patch.specs.declared.change.Change.{Change}
 use Rattle.relay_room.specs.Room.{State as Room}
 use Rattle.relay_tree.specs.Document.{Document}
+use Rattle.relay_tree.specs.declared.budget.Budget.{Budget}
+use Rattle.relay_hub.specs.Allowance.{Allowance, whole}
 use Rattle.relay_hub.specs.Session.{Session}
 use Rattle.relay_hub.specs.State.{EachOnce, IsRising, numbers, is_number, session_in}
-use Rattle.relay_hub.specs.Step.{AllTold}
+use Rattle.relay_hub.specs.Step.{after_told, ToldFrom, AllTold}
 use Rattle.relay_hub.proofs.Sessions.{none_there}
 use Rattle.relay_hub.proofs.Told.{told_number}
 
@@ -21,10 +23,10 @@ use Rattle.relay_hub.proofs.Told.{told_number}
 pairs : (xs : List Session) → IsRising xs → AllPairs (λ m n. m < n) (numbers xs)
 pairs xs h = AllPairs-from_increasing (numbers xs) h
 
-rest_rises : (x : Session) (xs : List Session) → IsRising (x ∷ xs) → IsRising xs
+pub rest_rises : (x : Session) (xs : List Session) → IsRising (x ∷ xs) → IsRising xs
 rest_rises x xs h k within = pairs (x ∷ xs) h (suc k) (suc (k + 1)) 0 (omega arith) (omega (arith, within))
 
-first_below : (x : Session) (xs : List Session) → IsRising (x ∷ xs) → (k : ℕ) → k < length (numbers xs) → x.number < get_or (numbers xs) k 0
+pub first_below : (x : Session) (xs : List Session) → IsRising (x ∷ xs) → (k : ℕ) → k < length (numbers xs) → x.number < get_or (numbers xs) k 0
 first_below x xs h k within = pairs (x ∷ xs) h 0 (suc k) 0 (omega arith) (omega (arith, within))
 
 -- a number below all is none of them
@@ -49,13 +51,17 @@ numbers_set [] i y d e = refl
 numbers_set (x ∷ xs) zero y d e = ap (λ n. n ∷ numbers xs) e
 numbers_set (x ∷ xs) (suc i) y d e = ap (λ ns. x.number ∷ ns) (numbers_set xs i y d e)
 
-pub numbers_told : (d : Document) (changes : List Change) (room : Room) (xs ys : List Session) (n : ℕ) → AllTold d changes room xs ys n → numbers ys ≡ numbers xs
-numbers_told d changes room [] [] n h = refl
-numbers_told d changes room (x ∷ xs) (y ∷ ys) n h =
-    let first : y.number ≡ x.number = told_number d changes room x.view h.0 x y h.2 in
-    let rest : numbers ys ≡ numbers xs = numbers_told d changes room xs ys h.1 h.4 in
-    λ i. first i ∷ rest i
-numbers_told d changes room _ _ n h = absurd h
+numbers_from : (d : Document) (changes : List Change) (room : Room) (allowance rest : Allowance) (xs ys : List Session) (n : ℕ) → ToldFrom d changes room allowance rest xs ys n
+    → numbers ys ≡ numbers xs
+numbers_from d changes room allowance rest [] [] n h = refl
+numbers_from d changes room allowance rest (x ∷ xs) (y ∷ ys) n h =
+    let first : y.number ≡ x.number = told_number d changes room allowance x.view h.0 x y h.2 in
+    let others : numbers ys ≡ numbers xs = numbers_from d changes room (after_told changes room allowance x.view h.0 x) rest xs ys h.1 h.4 in
+    λ i. first i ∷ others i
+numbers_from d changes room allowance rest _ _ n h = absurd h
+
+pub numbers_told : (d : Document) (changes : List Change) (room : Room) (budget : Budget) (xs ys : List Session) (n : ℕ) → AllTold d changes room budget xs ys n → numbers ys ≡ numbers xs
+numbers_told d changes room budget xs ys n h = numbers_from d changes room (whole budget) h.0 xs ys n h.1
 
 -- A session is removed.
 

@@ -178,7 +178,7 @@ module _ (b : HubConfig) (E : Log) (old : State) (s : ℕ) (mine : Home old s) (
         asked_at : ℕ → Option Watched
         asked_at t = asked_at_home b.epoch (documents E) (watching b.epoch E t) (home E t) text
 
-    edit_stands : (d : Document) → edited g.room base patch ≡ Ok d → EditServed b.history_weight s x id patch (Ok d) short g h → StandsFor b (entry (Receive s text) (Heard (Answered short)) ∷ E) next
+    edit_stands : (d : Document) → edited g.room base patch ≡ Ok d → EditServed b s x id patch (Ok d) short g h → StandsFor b (entry (Receive s text) (Heard (Answered short)) ∷ E) next
     edit_stands d makes step =
         let e = entry (Receive s text) (Heard (Answered short)) in
         let newer : documents (e ∷ E) mine.room.name ≡ ds ++ d ∷ [] = one_added E s short text mine.room.name d at_home.0 (rw read (same_edit b ds g.room base patch was ∙ ap result_ok makes)) in
@@ -197,9 +197,9 @@ module _ (b : HubConfig) (E : Log) (old : State) (s : ℕ) (mine : Home old s) (
         (λ apart. session_stands b E old t mine.room stands t_at)) in
         rw (same_watching at_home.0 t, step.5)
         (told_session b b.max_waiting_patches ds d g.room told changes was room (documents E) (documents (e ∷ E)) mine.room.name (session_in step.2 t) (session_in h.sessions t) (home E t) (watching b.epoch E t)
-        refl newer (each_told g.room.document changes told step.2 h.sessions short step.4 t) answered))
+        refl newer (each_told g.room.document changes told b.telling_weight step.2 h.sessions short step.4 t) answered))
 
-    pub served_edit : (o : Result Document EditFault) → edited g.room base patch ≡ o → ((fault : EditFault) (r : Reply) → o ≡ Err fault → edit_refusal id fault ≡ Some r → HasCounts r) → EditServed b.history_weight s x id patch o short g h
+    pub served_edit : (o : Result Document EditFault) → edited g.room base patch ≡ o → ((fault : EditFault) (r : Reply) → o ≡ Err fault → edit_refusal id fault ≡ Some r → HasCounts r) → EditServed b s x id patch o short g h
         → StandsFor b (entry (Receive s text) (Heard (Answered short)) ∷ E) next
     served_edit (Ok d) makes counts step = edit_stands d makes step
     served_edit (Err fault) makes counts step =

@@ -23,12 +23,13 @@ use Rattle.relay_outbox.specs.Outbox.{Line}
 use Rattle.relay_proto.specs.declared.reply.Reply.{Reply}
 use Rattle.relay_patch.specs.declared.op.Op.{Op}
 use Rattle.relay_view.specs.View.{View, view}
+use Rattle.relay_hub.specs.Allowance.{Allowance, within}
 use Rattle.relay_hub.specs.Session.{Session}
 use Rattle.relay_hub.specs.State.{EachOnce, session_in}
 use Rattle.relay_hub.specs.Session.{with_line, told_line}
-use Rattle.relay_hub.specs.Step.{ToldView, ToldAs, Told, AllTold}
+use Rattle.relay_hub.specs.Step.{ToldView, ToldAs, Told, after_told, ToldFrom}
 use Rattle.relay_hub.proofs.Waiting.{by_due}
-use Rattle.relay_hub.specs.Watched.{IsIndexed, ToldIf, ToldAmong}
+use Rattle.relay_hub.specs.Watched.{IsIndexed, ToldIf, after_if, ToldAmong}
 use Rattle.relay_hub.proofs.Cases.{by_number}
 use Rattle.relay_hub.proofs.Rising.{once_rising}
 
@@ -54,20 +55,33 @@ module _ (room : Room) (d : Document) (changes : List Change) (edited : 0 < revi
       subst (λ ops. after (view v d) ops free ≡ Ok (view v room.document)) none (translation changes room.document v d leads) in
       cc after_none
 
-  quiet_view : (v : View) (x : Session) → caught_up room (revision room - 1) v ≡ Nothing → ToldView d changes room v false x x
-  quiet_view v x missed =
+  quiet_view : (allowance : Allowance) (v : View) (x : Session) → caught_up room (revision room - 1) v ≡ Nothing → ToldView d changes room allowance v false x x
+  quiet_view allowance v x missed =
       let none = none_told v missed in
-      rw (none, afforded_none x.budget) (ap (λ o. with_line o x) (sym (untold_line x.budget (revision room) x.outbox)), same_view v none, tt)
+      rw (none, afforded_none (within allowance v x.budget)) (ap (λ o. with_line o x) (sym (untold_line x.budget (revision room) x.outbox)), same_view v none, tt)
+
+  -- and nothing is made for it
+  quiet_left : (allowance : Allowance) (v : View) (x : Session) → caught_up room (revision room - 1) v ≡ Nothing → after_told changes room allowance (Some v) false x ≡ allowance
+  quiet_left allowance v x missed = rw (none_told v missed, afforded_none (within allowance v x.budget)) (go x.outbox.due)
+    where
+      go : (due : Bool) → (if due then allowance else allowance) ≡ allowance
+      go true = refl
+      go false = refl
 
   module _ (w : Watches) (numbers : List ℕ) (others : OthersMissNothing room w numbers) where
-    quiet_as : (o : Option View) (x : Session) → map.get w x.number ≡ o → list_any (nat_eq x.number) numbers ≡ false → ToldAs d changes room o false x x
-    quiet_as (Some v) x has absent = quiet_view v x (others x.number (revision room - 1) v has absent (omega (arith, edited)) reaches)
-    quiet_as None x has absent = (refl, refl)
+    misses : (v : View) (x : Session) → map.get w x.number ≡ Some v → list_any (nat_eq x.number) numbers ≡ false → caught_up room (revision room - 1) v ≡ Nothing
+    misses v x has absent = others x.number (revision room - 1) v has absent (omega (arith, edited)) reaches
 
-    told_either : (b : Bool) (short : Bool) (x y : Session) → list_any (nat_eq x.number) numbers ≡ b → map.get w x.number ≡ x.view
-        → ToldIf b d changes room short x y → Told d changes room short x y
-    told_either true short x y named has h = h
-    told_either false short x y named has h = rw (h.0, h.1) (quiet_as x.view x has named)
+    quiet_as : (allowance : Allowance) (o : Option View) (x : Session) → map.get w x.number ≡ o → list_any (nat_eq x.number) numbers ≡ false
+        → ToldAs d changes room allowance o false x x × (after_told changes room allowance o false x ≡ allowance)
+    quiet_as allowance (Some v) x has absent = let missed = misses v x has absent in (quiet_view allowance v x missed, quiet_left allowance v x missed)
+    quiet_as allowance None x has absent = ((refl, refl), refl)
+
+    told_either : (b : Bool) (allowance : Allowance) (short : Bool) (x y : Session) → list_any (nat_eq x.number) numbers ≡ b → map.get w x.number ≡ x.view
+        → ToldIf b d changes room allowance short x y
+        → Told d changes room allowance short x y × (after_if b changes room allowance short x ≡ after_told changes room allowance x.view short x)
+    told_either true allowance short x y named has h = (h, refl)
+    told_either false allowance short x y named has h = let quiet = quiet_as allowance x.view x has named in rw (h.0, h.1) (quiet.0, sym quiet.1)
 
     abbrev Has : List Session → Type 0
     Has xs = (t : ℕ) (z : Session) → session_in xs t ≡ Some z → map.get w t ≡ z.view
@@ -82,13 +96,22 @@ module _ (room : Room) (d : Document) (changes : List Change) (edited : 0 < revi
         has t z (by_number (λ t b. session_in xs t ≡ Some z → (if b then Some x else session_in xs t) ≡ Some z) x.number t
         (λ here. absurd (cc (once, here))) (λ other there. there) is)
 
-    all_of_them : (xs ys : List Session) (n : ℕ) → EachOnce xs → Has xs → ToldAmong numbers d changes room xs ys n → AllTold d changes room xs ys n
-    all_of_them [] [] n once has h = h
-    all_of_them (x ∷ xs) (y ∷ ys) n once has h =
-        (h.0, h.1, told_either (list_any (nat_eq x.number) numbers) h.0 x y refl (first_has x xs has) h.2, h.3, all_of_them xs ys h.1 once.1 (rest_have x xs once.0 has) h.4)
-    all_of_them _ _ n once has h = absurd h
+    all_of_them : (allowance rest : Allowance) (xs ys : List Session) (n : ℕ) → EachOnce xs → Has xs → ToldAmong numbers d changes room allowance rest xs ys n
+        → ToldFrom d changes room allowance rest xs ys n
+    all_of_them allowance rest [] [] n once has h = h
+    all_of_them allowance rest (x ∷ xs) (y ∷ ys) n once has h =
+        let told = told_either (list_any (nat_eq x.number) numbers) allowance h.0 x y refl (first_has x xs has) h.2 in (
+          h.0,
+          h.1,
+          told.0,
+          h.3,
+          all_of_them (after_told changes room allowance x.view h.0 x) rest xs ys h.1 once.1 (rest_have x xs once.0 has)
+              (subst (λ a. ToldAmong numbers d changes room a rest xs ys h.1) told.1 h.4),
+        )
+    all_of_them allowance rest _ _ n once has h = absurd h
 
     -- if the sessions that the index names are notified, all are
-    pub among_all : (xs ys : List Session) (n : ℕ) → IsIndexed w xs → ToldAmong numbers d changes room xs ys n → AllTold d changes room xs ys n
-    among_all xs ys n indexed h =
-        all_of_them xs ys n (once_rising xs indexed.rising) (λ t z is. indexed.agrees t ∙ rw is refl) h
+    pub among_all : (allowance rest : Allowance) (xs ys : List Session) (n : ℕ) → IsIndexed w xs → ToldAmong numbers d changes room allowance rest xs ys n
+        → ToldFrom d changes room allowance rest xs ys n
+    among_all allowance rest xs ys n indexed h =
+        all_of_them allowance rest xs ys n (once_rising xs indexed.rising) (λ t z is. indexed.agrees t ∙ rw is refl) h

@@ -124,5 +124,5 @@ module _ (old new : State) (s short : ℕ) (text : List ℕ) (name : List ℕ) (
   pub unmade_no_trace : (id : ℕ) (base : Option ℕ) (patch : List Op) (fault : EditFault) → request_of_text text ≡ Ok (Edit id base patch) → edited g.room base patch ≡ Err fault
       → (r : Reply) × (edit_refusal id fault ≡ Some r) × LeavesNoTrace s (replied r x) old new
   unmade_no_trace id base patch fault read unmade =
-      let served : EditServed old.made.history_weight s x id patch (Err fault) short g done.0 = rw (read, unmade) at done.1 in
+      let served : EditServed old.made s x id patch (Err fault) short g done.0 = rw (read, unmade) at done.1 in
       (served.1, served.2, done.2 (replied served.1 x) served.3)

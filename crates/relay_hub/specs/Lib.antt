@@ -8,6 +8,7 @@ pub mod Update
 pub mod Caller
 pub mod Log
 pub mod Refusal
+pub mod Allowance
 pub mod Step
 pub mod CachedUpdate
 pub mod Watched

@@ -34,6 +34,7 @@ config epoch first history max_waiting_patches = record {
   max_waiting_patches = max_waiting_patches;
   history_weight = Unbounded;
   waiting_weight = Unbounded;
+  telling_weight = Unbounded;
 }
 
 -- a valid configuration: epoch and first session number are counts, and the limits are in their ranges

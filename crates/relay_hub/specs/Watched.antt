@@ -9,7 +9,8 @@ use Rattle.relay_tree.specs.Document.{Document}
 use Rattle.relay_view.specs.View.{View}
 use Rattle.relay_hub.specs.Session.{Session}
 use Rattle.relay_hub.specs.State.{IsRising, session_in}
-use Rattle.relay_hub.specs.Step.{Told}
+use Rattle.relay_hub.specs.Allowance.{Allowance}
+use Rattle.relay_hub.specs.Step.{Told, after_told}
 
 -- the view of session t, if the session is there and watches
 abbrev pub view_in : List Session → ℕ → Option View
@@ -25,15 +26,21 @@ pub record IsIndexed (watches : Watches) (sessions : List Session) : Type 0 wher
   pub agrees : Agrees watches sessions
 
 -- a session that is to be notified is; any other is unchanged
-abbrev pub ToldIf : Bool → Document → List Change → Room → Bool → Session → Session → Type 0
-ToldIf true d changes room short x y = Told d changes room short x y
-ToldIf false d changes room short x y = (y ≡ x) × (short ≡ false)
+abbrev pub ToldIf : Bool → Document → List Change → Room → Allowance → Bool → Session → Session → Type 0
+ToldIf true d changes room allowance short x y = Told d changes room allowance short x y
+ToldIf false d changes room allowance short x y = (y ≡ x) × (short ≡ false)
 
--- the sessions with these numbers are notified, and this many of their outboxes folded because memory ran out; no other session differs
-abbrev pub ToldAmong : List ℕ → Document → List Change → Room → List Session → List Session → ℕ → Type 0
-ToldAmong numbers d changes room [] [] n = n ≡ 0
-ToldAmong numbers d changes room (x ∷ xs) (y ∷ ys) n =
-    (short : Bool) × (m : ℕ) × ToldIf (list_any (nat_eq x.number) numbers) d changes room short x y
-    × (n ≡ m + (if short then 1 else 0)) × ToldAmong numbers d changes room xs ys m
-ToldAmong numbers d changes room [] (y ∷ ys) n = ⊥
-ToldAmong numbers d changes room (x ∷ xs) [] n = ⊥
+-- the allowance afterwards
+abbrev pub after_if : Bool → List Change → Room → Allowance → Bool → Session → Allowance
+after_if told changes room allowance short x = if told then after_told changes room allowance x.view short x else allowance
+
+-- the sessions with these numbers are notified in order, from one allowance to another, and this many of their outboxes folded because
+-- memory ran out; no other session differs
+abbrev pub ToldAmong : List ℕ → Document → List Change → Room → Allowance → Allowance → List Session → List Session → ℕ → Type 0
+ToldAmong numbers d changes room allowance rest [] [] n = (n ≡ 0) × (rest ≡ allowance)
+ToldAmong numbers d changes room allowance rest (x ∷ xs) (y ∷ ys) n =
+    (short : Bool) × (m : ℕ) × ToldIf (list_any (nat_eq x.number) numbers) d changes room allowance short x y
+    × (n ≡ m + (if short then 1 else 0))
+    × ToldAmong numbers d changes room (after_if (list_any (nat_eq x.number) numbers) changes room allowance short x) rest xs ys m
+ToldAmong numbers d changes room allowance rest [] (y ∷ ys) n = ⊥
+ToldAmong numbers d changes room allowance rest (x ∷ xs) [] n = ⊥

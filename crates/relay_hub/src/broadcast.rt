@@ -7,24 +7,24 @@ ghost use Rattle.relay_patch.specs.declared.change.Change.{Change};
 ghost use Rattle.relay_room.specs.Room.{IsRoom, revision, trimmed};
 ghost use Rattle.relay_tree.specs.Document.{Document};
 ghost use Rattle.relay_hub.specs.State.{IsRising};
-ghost use Rattle.relay_hub.specs.Step.{Told, AllTold};
-ghost use Rattle.relay_hub.specs.CachedUpdate.{IsKept};
+ghost use Rattle.relay_hub.specs.CachedUpdate.{IsKept, allowance_of};
+ghost use Rattle.relay_hub.specs.Step.{Told, after_told, ToldFrom, AllTold};
 ghost use Rattle.relay_hub.specs.Watched.{IsIndexed, ToldAmong};
 
-use crate::cached_update::{CachedUpdate, update_for};
+use crate::cached_update::{UpdateCache, update_for};
 use crate::caller::position_of;
+use crate::config::HubConfig;
 use crate::session::Session;
 use crate::update::Update;
 use relay_room::Room;
 use relay_translate::WatchIndex;
-use relay_tree::Budget;
 use std::alloc::{AllocError, Global};
 
-/// Notifies the watchers of the newest edit. Then the room drops the oldest changes that the budget does not pay for. Returns how many
-/// outboxes folded because memory ran out.
+/// Notifies the watchers of the newest edit, within the hub's bounds. Then the room drops the oldest changes that may not be kept. Returns
+/// how many outboxes folded because memory ran out.
 pub fn broadcast_and_trim(
     alloc: Global,
-    budget: Budget,
+    made: HubConfig,
     room: &mut Room,
     watches: &WatchIndex,
     sessions: &mut [Session],
@@ -34,11 +34,12 @@ pub fn broadcast_and_trim(
     requires reaches { Reaches room.old.history (revision room.old - 1) }
     requires indexed { IsIndexed watches.now sessions.old }
     ensures told { (d : Document) (changes : List Change) → changes ≡ changes_since (revision room.old - 1) room.old.history
-        → Leads d changes room.old.document → AllTold d changes room.old sessions.old sessions.new result }
-    ensures trimmed { room.new ≡ trimmed budget room.old }
+        → Leads d changes room.old.document → AllTold d changes room.old made.telling_weight sessions.old sessions.new result }
+    ensures trimmed { room.new ≡ trimmed made.history_weight room.old }
 {
-    let short = broadcast(alloc, room, watches, sessions);
-    room.trim(budget);
+    let mut cache = UpdateCache::new(made.telling_weight);
+    let short = broadcast(alloc, room, watches, sessions, &mut cache);
+    room.trim(made.history_weight);
     short
 }
 
@@ -47,35 +48,48 @@ pub fn broadcast_and_trim(
 ///
 /// Costs the look-up ([`Room::touched`]); for each session found, a binary search and a comparison of two views; and for each whose view
 /// differs from that of the one before, what the edit means to it ([`Room::catch_up_within`]) and the text of that. So an update is made
-/// and written once for all sessions in a row that watch the same view.
-fn broadcast(alloc: Global, room: &Room, watches: &WatchIndex, sessions: &mut [Session]) -> u64
+/// and written once for all sessions in a row that watch the same view. No patch is made that what is left does not pay for.
+fn broadcast(
+    alloc: Global,
+    room: &Room,
+    watches: &WatchIndex,
+    sessions: &mut [Session],
+    cache: &mut UpdateCache,
+) -> u64
     requires room { IsRoom room.now }
     requires edited { 0 < revision room.now }
     requires reaches { Reaches room.now.history (revision room.now - 1) }
     requires indexed { IsIndexed watches.now sessions.old }
+    requires kept { IsKept room.now cache.old }
     ensures { (d : Document) (changes : List Change) → changes ≡ changes_since (revision room.now - 1) room.now.history
-        → Leads d changes room.now.document → AllTold d changes room.now sessions.old sessions.new result }
+        → Leads d changes room.now.document → ToldFrom d changes room.now (allowance_of cache.old) (allowance_of cache.new) sessions.old sessions.new result }
 {
     match room.touched(alloc, watches) {
-        Ok(numbers) => notify_those(alloc, room, sessions, numbers.as_slice()),
-        Err(_) => notify_all(alloc, room, sessions),
+        Ok(numbers) => notify_those(alloc, room, sessions, numbers.as_slice(), cache),
+        Err(_) => notify_all(alloc, room, sessions, cache),
     }
 }
 
 /// Notifies the sessions with these numbers, which rise.
-fn notify_those(alloc: Global, room: &Room, sessions: &mut [Session], numbers: &[u64]) -> u64
+fn notify_those(
+    alloc: Global,
+    room: &Room,
+    sessions: &mut [Session],
+    numbers: &[u64],
+    cache: &mut UpdateCache,
+) -> u64
     requires room { IsRoom room.now }
     requires edited { 0 < revision room.now }
     requires reaches { Reaches room.now.history (revision room.now - 1) }
     requires ordered { IsRising sessions.old }
     requires rising { IsStrictlyIncreasing numbers.now }
+    requires kept { IsKept room.now cache.old }
     ensures { (d : Document) (changes : List Change) → changes ≡ changes_since (revision room.now - 1) room.now.history
-        → Leads d changes room.now.document → ToldAmong numbers.now d changes room.now sessions.old sessions.new result }
+        → Leads d changes room.now.document → ToldAmong numbers.now d changes room.now (allowance_of cache.old) (allowance_of cache.new) sessions.old sessions.new result }
 {
     let mut short: u64 = 0;
-    let mut kept = None;
     for number in numbers {
-        if notify_one(alloc, room, sessions, *number, &mut kept).is_err() {
+        if notify_one(alloc, room, sessions, *number, cache).is_err() {
             short += 1;
         }
     }
@@ -88,37 +102,37 @@ fn notify_one(
     room: &Room,
     sessions: &mut [Session],
     number: u64,
-    kept: &mut Option<CachedUpdate>,
+    cache: &mut UpdateCache,
 ) -> Result<(), AllocError>
     requires room { IsRoom room.now }
     requires edited { 0 < revision room.now }
     requires reaches { Reaches room.now.history (revision room.now - 1) }
     requires ordered { IsRising sessions.old }
-    requires kept { IsKept room.now kept.old }
-    ensures kept { IsKept room.now kept.new }
+    requires kept { IsKept room.now cache.old }
+    ensures kept { IsKept room.now cache.new }
     ensures ordered { IsRising sessions.new }
     ensures told { (d : Document) (changes : List Change) → changes ≡ changes_since (revision room.now - 1) room.now.history
         → Leads d changes room.now.document
-        → ToldAmong (number ∷ []) d changes room.now sessions.old sessions.new (if is_err result then 1 else 0) }
+        → ToldAmong (number ∷ []) d changes room.now (allowance_of cache.old) (allowance_of cache.new) sessions.old sessions.new (if is_err result then 1 else 0) }
 {
     match position_of(sessions, number) {
-        Some(place) => notify(alloc, room, &mut sessions[place], kept),
+        Some(place) => notify(alloc, room, &mut sessions[place], cache),
         None => Ok(()),
     }
 }
 
 /// Notifies every watcher of the newest edit.
-fn notify_all(alloc: Global, room: &Room, sessions: &mut [Session]) -> u64
+fn notify_all(alloc: Global, room: &Room, sessions: &mut [Session], cache: &mut UpdateCache) -> u64
     requires room { IsRoom room.now }
     requires edited { 0 < revision room.now }
     requires reaches { Reaches room.now.history (revision room.now - 1) }
+    requires kept { IsKept room.now cache.old }
     ensures { (d : Document) (changes : List Change) → changes ≡ changes_since (revision room.now - 1) room.now.history
-        → Leads d changes room.now.document → AllTold d changes room.now sessions.old sessions.new result }
+        → Leads d changes room.now.document → ToldFrom d changes room.now (allowance_of cache.old) (allowance_of cache.new) sessions.old sessions.new result }
 {
     let mut short: u64 = 0;
-    let mut kept = None;
     for session in sessions.iter_mut() {
-        if notify(alloc, room, session, &mut kept).is_err() {
+        if notify(alloc, room, session, cache).is_err() {
             short += 1;
         }
     }
@@ -131,16 +145,19 @@ fn notify(
     alloc: Global,
     room: &Room,
     session: &mut Session,
-    kept: &mut Option<CachedUpdate>,
+    cache: &mut UpdateCache,
 ) -> Result<(), AllocError>
     requires room { IsRoom room.now }
     requires edited { 0 < revision room.now }
     requires reaches { Reaches room.now.history (revision room.now - 1) }
-    requires kept { IsKept room.now kept.old }
-    ensures kept { IsKept room.now kept.new }
+    requires kept { IsKept room.now cache.old }
+    ensures kept { IsKept room.now cache.new }
     ensures number { session.new.number ≡ session.old.number }
     ensures told { (d : Document) (changes : List Change) → changes ≡ changes_since (revision room.now - 1) room.now.history
-        → Leads d changes room.now.document → Told d changes room.now (is_err result) session.old session.new }
+        → Leads d changes room.now.document → Told d changes room.now (allowance_of cache.old) (is_err result) session.old session.new }
+    ensures left { (d : Document) (changes : List Change) → changes ≡ changes_since (revision room.now - 1) room.now.history
+        → Leads d changes room.now.document
+        → allowance_of cache.new ≡ after_told changes room.now (allowance_of cache.old) session.old.view (is_err result) session.old }
 {
     if session.is_due() {
         return Ok(());
@@ -148,7 +165,7 @@ fn notify(
     let Some(view) = session.view() else {
         return Ok(());
     };
-    match update_for(alloc, room, view, session.budget(), kept) {
+    match update_for(alloc, room, view, session.budget(), cache) {
         Ok(update) => {
             session.take_update(update);
             Ok(())

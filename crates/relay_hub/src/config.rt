@@ -42,6 +42,8 @@ pub struct HubConfig {
     pub history_weight: Budget,
     /// The most that the patches waiting for a session may weigh together.
     pub waiting_weight: Budget,
+    /// The most that the patches made for one edit may weigh together. A patch that several sessions share counts once.
+    pub telling_weight: Budget,
 }
 
 impl HubConfig {
@@ -58,6 +60,7 @@ impl HubConfig {
             max_waiting_patches,
             history_weight: Budget::Unbounded,
             waiting_weight: Budget::Unbounded,
+            telling_weight: Budget::Unbounded,
         }
     }
 

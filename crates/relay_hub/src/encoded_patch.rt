@@ -45,7 +45,8 @@ impl Model for EncodedPatch {
 }
 
 impl EncodedPatch {
-    ghost use Rattle.std.specs.Prelude.{◌≡◌, Some, IfOk, string_bytes};
+    ghost use Rattle.std.specs.Prelude.{◌≡◌, Some, is_some, IfOk, string_bytes};
+    ghost use Rattle.relay_tree.specs.Budget.{paid};
     ghost use Rattle.relay_hub.specs.EncodedPatch.{counted, patch_message, message_text, ReadsBack};
     ghost use Rattle.relay_patch.specs.Weight.{ops_weight};
 
@@ -81,6 +82,17 @@ impl EncodedPatch {
         ensures { result ≡ counted (ops_weight self.now.1) }
     {
         self.encoding.weight
+    }
+
+    /// Whether a budget pays for the patch.
+    pub fn is_within(&self, budget: Budget) -> bool
+        ensures { result ≡ is_some (paid (ops_weight self.now.1) budget) }
+    {
+        match (budget, self.weight()) {
+            (Budget::Unbounded, _) => true,
+            (Budget::Left(left), Some(weight)) => weight <= left,
+            (Budget::Left(_), None) => false,
+        }
     }
 
     /// Returns a copy of the text of the message.

@@ -24,7 +24,6 @@ use relay_patch::{Cause, Patch};
 use relay_proto::{Refusal, Reply, Request, RequestFault, Word};
 use relay_room::{CatchFault, CatchUp, EditFault, Room};
 use relay_translate::WatchIndex;
-use relay_tree::Budget;
 use relay_view::View;
 use std::alloc::{AllocError, Global};
 
@@ -90,9 +89,8 @@ fn perform(
 {
     match request {
         Request::Edit { id, base, patch } => {
-            let budget = made.history_weight;
             let request = EditRequest { id, base, patch };
-            edit(alloc, budget, room, watches, sessions, caller, &request)
+            edit(alloc, made, room, watches, sessions, caller, &request)
         }
         Request::Watch { id, view } => {
             watch(alloc, watches, sessions, caller, id, view)?;
@@ -138,10 +136,10 @@ struct ResumeRequest {
 }
 
 /// Makes the room's next document, replies to the sender, and notifies the watchers that the edit touches, the sender among them. Then the
-/// room drops the oldest changes that the budget does not pay for. Returns how many outboxes folded because memory ran out.
+/// room drops the oldest changes that may not be kept. Returns how many outboxes folded because memory ran out.
 fn edit(
     alloc: Global,
-    budget: Budget,
+    made: HubConfig,
     room: &mut Room,
     watches: &WatchIndex,
     sessions: &mut [Session],
@@ -152,7 +150,7 @@ fn edit(
     requires space { HasRoom sessions.old caller.number }
     requires indexed { IsIndexed watches.now sessions.old }
     ensures ok { IfOk result (λ short. (x : Session) → session_in sessions.old caller.number ≡ Some x →
-        EditServed budget caller.number x request.now.id request.now.patch (edited room.old request.now.base request.now.patch) short
+        EditServed made caller.number x request.now.id request.now.patch (edited room.old request.now.base request.now.patch) short
         (room_sessions room.old sessions.old) (room_sessions room.new sessions.new)) }
     ensures err { OnErr result (room_sessions room.new sessions.new ≡ room_sessions room.old sessions.old) }
     ensures indexed { IsIndexed watches.now sessions.new }
@@ -164,7 +162,7 @@ fn edit(
                 rev,
             };
             session_mut(sessions, caller).reply(done);
-            Ok(broadcast_and_trim(alloc, budget, room, watches, sessions))
+            Ok(broadcast_and_trim(alloc, made, room, watches, sessions))
         }
         Err(fault) => {
             let Some(reply) = edit_refusal(request.id, fault) else {

@@ -1,4 +1,4 @@
-//! Tests of what waits, and of what a room keeps, within a weight.
+//! Tests of what waits, of what a room keeps, and of what is made for one edit, within a weight.
 use crate::hub::Call::{Draw, Open, Say, Shed, Waiting};
 use crate::hub::{Call, tells};
 use relay_hub::{Hub, HubConfig};
@@ -157,5 +157,121 @@ fn gives_memory_back(rt: HostRuntime) {
             (Say(1, RESUME_2), ANSWERED),
             (Draw(1), BY_SNAPSHOT),
         ],
+    );
+}
+
+const WATCH_X: &str = r#"{"do":"watch","id":1,"view":["/x"]}"#;
+
+/// After [`WATCHING`], sessions 3 and 4 watch one member of the document, and have drawn all that waits. Session 1 is told of [`EDIT`] by a
+/// patch of 35. They are told of the first one by a patch of 25: a token of one byte, and a list with the number. Later the member is
+/// there, and their patch weighs 26: two tokens, and the number.
+const TWO_MORE: &[(Call, &str)] = &[
+    (Open("r"), "Ok(3)"),
+    (Open("r"), "Ok(4)"),
+    (Say(3, WATCH_X), ANSWERED),
+    (Say(4, WATCH_X), ANSWERED),
+    (
+        Draw(3),
+        r#"{"epoch":1,"kind":"welcome","rev":1,"session":3}"#,
+    ),
+    (Draw(3), r#"{"id":1,"kind":"watching"}"#),
+    (Draw(3), r#"{"kind":"snapshot","rev":1,"view":[[]]}"#),
+    (
+        Draw(4),
+        r#"{"epoch":1,"kind":"welcome","rev":1,"session":4}"#,
+    ),
+    (Draw(4), r#"{"id":1,"kind":"watching"}"#),
+    (Draw(4), r#"{"kind":"snapshot","rev":1,"view":[[]]}"#),
+    (Say(2, EDIT), ANSWERED),
+];
+
+/// Asserts what sessions 1, 3 and 4 draw after [`TWO_MORE`], if the patches that are made for an edit may weigh this much.
+fn made_within(rt: &(impl Abort + AllocGlobal), telling_weight: Budget, parts: &[&[(Call, &str)]]) {
+    let config = HubConfig {
+        telling_weight,
+        ..HubConfig::new(1, 1, 64, 32)
+    };
+    let mut hub = Hub::with_config(rt.alloc(), config).expect(rt, "a hub");
+    tells(rt, &mut hub, WATCHING);
+    tells(rt, &mut hub, TWO_MORE);
+    for rows in parts {
+        tells(rt, &mut hub, rows);
+    }
+}
+
+/// What sessions 1, 3 and 4 draw after the first edit, if it is told by patches, and then a second edit.
+const FIRST_PATCHES: &[(Call, &str)] = &[
+    (
+        Draw(1),
+        r#"{"kind":"patch","patch":[{"op":"add","path":"/0/0/x","value":1}],"rev":2}"#,
+    ),
+    (Draw(3), MEMBER_PATCH),
+    (Draw(4), MEMBER_PATCH),
+    (Say(2, EDIT), ANSWERED),
+    (
+        Draw(1),
+        r#"{"kind":"patch","patch":[{"op":"replace","path":"/0/0/x","value":1}],"rev":3}"#,
+    ),
+];
+
+const MEMBER_PATCH: &str =
+    r#"{"kind":"patch","patch":[{"op":"replace","path":"/0","value":[1]}],"rev":2}"#;
+
+const MEMBER_PATCH_AGAIN: &str =
+    r#"{"kind":"patch","patch":[{"op":"replace","path":"/0/0","value":1}],"rev":3}"#;
+
+const WHOLE_SNAPSHOT: &str = r#"{"kind":"snapshot","rev":2,"view":[[{"x":1}]]}"#;
+
+/// Patches that weigh 61 together are made if they may weigh 61. The one that two sessions share counts once, and each edit may weigh as
+/// much again.
+#[test]
+fn an_edit_is_told_within_a_weight(rt: HostRuntime) {
+    made_within(
+        &rt,
+        Budget::Left(61),
+        &[
+            FIRST_PATCHES,
+            &[(Draw(3), MEMBER_PATCH_AGAIN), (Draw(4), MEMBER_PATCH_AGAIN)],
+        ],
+    );
+}
+
+/// If they may weigh 60, those of the first edit are made. At the second one the sessions behind the first get a snapshot.
+#[test]
+fn an_edit_is_told_by_snapshots_beyond_a_weight(rt: HostRuntime) {
+    let snapshot = r#"{"kind":"snapshot","rev":3,"view":[[1]]}"#;
+    made_within(
+        &rt,
+        Budget::Left(60),
+        &[FIRST_PATCHES, &[(Draw(3), snapshot), (Draw(4), snapshot)]],
+    );
+}
+
+/// A patch that is too heavy is not made and costs nothing, so a lighter one that follows is made.
+#[test]
+fn a_lighter_patch_is_made_behind_a_heavy_one(rt: HostRuntime) {
+    made_within(
+        &rt,
+        Budget::Left(34),
+        &[&[
+            (Draw(1), WHOLE_SNAPSHOT),
+            (Draw(3), MEMBER_PATCH),
+            (Draw(4), MEMBER_PATCH),
+        ]],
+    );
+}
+
+/// A bound of nothing makes no patch.
+#[test]
+fn an_edit_is_told_by_snapshots_alone(rt: HostRuntime) {
+    let snapshot = r#"{"kind":"snapshot","rev":2,"view":[[1]]}"#;
+    made_within(
+        &rt,
+        Budget::Left(0),
+        &[&[
+            (Draw(1), WHOLE_SNAPSHOT),
+            (Draw(3), snapshot),
+            (Draw(4), snapshot),
+        ]],
     );
 }

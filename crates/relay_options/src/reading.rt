@@ -62,6 +62,9 @@ const HISTORY_WEIGHT: &str = "262144";
 /// The default of `--max-waiting-weight` for a server: a quarter of that.
 const WAITING_WEIGHT: &str = "65536";
 
+/// The default of `--max-telling-weight` for a server: the weight of four largest documents.
+const TELLING_WEIGHT: &str = "1048576";
+
 /// Parses the arguments `words`, of which the first is the program's name. Each number of the job is in range.
 pub fn job_of(alloc: Global, words: &[String]) -> Result<Job, Stop>
     ensures { IfOk result IsPossible }
@@ -90,7 +93,8 @@ fn script<'a>(alloc: Global) -> Result<Command<'a>, AllocError> {
         .after_help(SCRIPT_EXAMPLE);
     with_settings(alloc, script)?
         .arg(history_weight(alloc))?
-        .arg(waiting_weight(alloc))
+        .arg(waiting_weight(alloc))?
+        .arg(telling_weight(alloc))
 }
 
 fn looped<'a>(alloc: Global) -> Result<Command<'a>, AllocError> {
@@ -99,7 +103,8 @@ fn looped<'a>(alloc: Global) -> Result<Command<'a>, AllocError> {
         .after_help(LOOP_EXAMPLE);
     with_settings(alloc, looped)?
         .arg(history_weight(alloc))?
-        .arg(waiting_weight(alloc))
+        .arg(waiting_weight(alloc))?
+        .arg(telling_weight(alloc))
 }
 
 fn serve<'a>(alloc: Global) -> Result<Command<'a>, AllocError> {
@@ -119,6 +124,7 @@ fn serve<'a>(alloc: Global) -> Result<Command<'a>, AllocError> {
     with_settings(alloc, serve)?
         .arg(history_weight(alloc).default_value(HISTORY_WEIGHT))?
         .arg(waiting_weight(alloc).default_value(WAITING_WEIGHT))?
+        .arg(telling_weight(alloc).default_value(TELLING_WEIGHT))?
         .arg(port)?
         .arg(turns)?
         .arg(log)
@@ -182,6 +188,17 @@ fn waiting_weight<'a>(alloc: Global) -> Arg<'a> {
     )
 }
 
+fn telling_weight<'a>(alloc: Global) -> Arg<'a> {
+    number(
+        alloc,
+        "max-telling-weight",
+        ValueParser::unsigned(0, MAX_WEIGHT_LIMIT),
+    )
+    .help(
+        "How much the patches that are made for one edit weigh together at most; a script's may weigh any",
+    )
+}
+
 /// An option that takes a number.
 fn number<'a>(alloc: Global, name: &'a str, parser: ValueParser<'a>) -> Arg<'a> {
     Arg::new(alloc, name)
@@ -223,6 +240,7 @@ fn settings_of(alloc: Global, given: &ArgMatches<'_>) -> Result<Settings, Stop>
         epoch: number_of(alloc, given, "epoch", 0, MAX_EPOCH)?,
         history_weight: given.get_one::<u64>("max-history-weight"),
         waiting_weight: given.get_one::<u64>("max-waiting-weight"),
+        telling_weight: given.get_one::<u64>("max-telling-weight"),
     })
 }
 

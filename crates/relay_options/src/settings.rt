@@ -41,6 +41,8 @@ pub struct Settings {
     pub history_weight: Option<u64>,
     /// `--max-waiting-weight`: the maximum total weight of the patches that wait for a session. `None` means no limit.
     pub waiting_weight: Option<u64>,
+    /// `--max-telling-weight`: the maximum total weight of the patches that are made for one edit. `None` means no limit.
+    pub telling_weight: Option<u64>,
 }
 
 impl Settings {
@@ -53,5 +55,6 @@ impl Settings {
         epoch: 1,
         history_weight: None,
         waiting_weight: None,
+        telling_weight: None,
     };
 }

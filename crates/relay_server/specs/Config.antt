@@ -15,4 +15,5 @@ config_of settings = record {
   max_waiting_patches = settings.max_waiting_patches;
   history_weight = bounded_by settings.history_weight;
   waiting_weight = bounded_by settings.waiting_weight;
+  telling_weight = bounded_by settings.telling_weight;
 }

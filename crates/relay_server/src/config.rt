@@ -21,6 +21,7 @@ pub(crate) fn config_of(settings: Settings) -> HubConfig
         max_waiting_patches: settings.max_waiting_patches,
         history_weight: budget_of(settings.history_weight),
         waiting_weight: budget_of(settings.waiting_weight),
+        telling_weight: budget_of(settings.telling_weight),
     }
 }
 

@@ -52,6 +52,7 @@ fn serve_with(port: u16, turns: u64, log: bool, settings: Settings) -> Job {
         settings: Settings {
             history_weight: Some(262_144),
             waiting_weight: Some(65_536),
+            telling_weight: Some(1_048_576),
             ..settings
         },
     }
@@ -86,10 +87,11 @@ fn reads_script_jobs(rt: HostRuntime) {
                 Job::Script(settings_for(65_536, 1)),
             ),
             (
-                "relay script --max-history-weight 0 --max-waiting-weight 9007199254740991",
+                "relay script --max-history-weight 0 --max-waiting-weight 9007199254740991 --max-telling-weight 5",
                 Job::Script(Settings {
                     history_weight: Some(0),
                     waiting_weight: Some(9_007_199_254_740_991),
+                    telling_weight: Some(5),
                     ..Settings::DEFAULT
                 }),
             ),

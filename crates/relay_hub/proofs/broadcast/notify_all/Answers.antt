@@ -1,4 +1,5 @@
 use Rattle.std.proofs.Common.{◌≡◌, ◌+◌, true, false, rules, arith, is_err, if◌then◌else◌}
+use Rattle.relay_hub.specs.CachedUpdate.{allowance_of}
 use Rattle.relay_hub.proofs.Queries.{tell_more, rest_more}
 use Rattle.relay_hub.proofs.broadcast.notify_all.Goals as goal
 use Rattle.relay_hub.proofs.broadcast.notify_all.Goals.{then-is_err, else-is_err}
@@ -13,8 +14,9 @@ loop-session-preserved c =
       | else-is_err w ↦ let told : is_err c.notify.result ≡ false = search rules in rw told (omega (arith, w.short-is))
     ] in
     record {
-      told = λ d changes since led. rw short (tell_more d changes c.args.room.now xs l.sessions l.session-index l.short (is_err c.notify.result) c.session-item.result c.notify.new.session
-          (omega arith) l.auto.sessions l.invariant.rest (c.notify.ensures.told d changes since led) (l.invariant.told d changes since led));
+      told = λ d changes since led. rw (short, c.notify.ensures.left d changes since led) (tell_more d changes c.args.room.now (allowance_of c.args.cache.now) (allowance_of l.cache) xs
+          l.sessions l.session-index l.short (is_err c.notify.result) c.session-item.result c.notify.new.session (omega arith) l.auto.sessions l.invariant.rest
+          (c.notify.ensures.told d changes since led) (l.invariant.told d changes since led));
       rest = rest_more xs l.sessions l.session-index c.notify.new.session l.invariant.rest;
       kept = c.notify.ensures.kept;
       count = elim c.if-is_err.branch [ then-is_err w ↦ omega (arith, w.short-is, l.invariant.count) | else-is_err w ↦ omega (arith, w.short-is, l.invariant.count) ];

@@ -1,4 +1,5 @@
 use Rattle.std.proofs.Common.{sym, ◌∙◌, is_err, slice_set}
+use Rattle.relay_hub.specs.CachedUpdate.{allowance_of}
 use Rattle.relay_hub.proofs.Among.{absent_among, place_among}
 use Rattle.relay_hub.proofs.Rising.{once_rising, same_rises, numbers_set}
 use Rattle.relay_hub.proofs.Sessions.{not_found}
@@ -14,9 +15,12 @@ pub returns-in-Some-clause-told : goal.returns-in-Some-clause-told
 returns-in-Some-clause-told c = λ d changes since leads.
     let xs = c.args.sessions.now in
     let z = c.index-sessions-place.result in
-    place_among d changes c.args.room.now c.args.number xs c.in-Some.place z c.notify.new.session (is_err c.notify.result) (sym c.position_of.ensures ∙ c.in-Some.is) (once_rising xs c.requires.ordered)
-    (c.notify.ensures.told d changes since leads)
+    let a = allowance_of c.args.cache.now in
+    rw (c.notify.ensures.left d changes since leads)
+    (place_among d changes c.args.room.now c.args.number a xs c.in-Some.place z c.notify.new.session (is_err c.notify.result) (sym c.position_of.ensures ∙ c.in-Some.is)
+    (once_rising xs c.requires.ordered) (c.notify.ensures.told d changes since leads))
 
 pub returns-in-None-clause-told : goal.returns-in-None-clause-told
 returns-in-None-clause-told c = λ d changes since leads.
-    absent_among d changes c.args.room.now c.args.number c.args.sessions.now (not_found c.args.sessions.now c.args.number (sym c.position_of.ensures ∙ c.in-None.is))
+    absent_among d changes c.args.room.now c.args.number (allowance_of c.args.cache.now) c.args.sessions.now
+    (not_found c.args.sessions.now c.args.number (sym c.position_of.ensures ∙ c.in-None.is))

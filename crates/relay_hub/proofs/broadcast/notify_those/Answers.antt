@@ -1,13 +1,14 @@
 use Rattle.std.proofs.Common.{◌≡◌, ◌+◌, ◌<◌, ℕ, length, true, false, rules, arith, is_err, if◌then◌else◌}
+use Rattle.relay_hub.specs.CachedUpdate.{allowance_of}
 use Rattle.relay_hub.proofs.Among.{none_among, next_among}
 use Rattle.relay_hub.proofs.broadcast.notify_those.Goals as goal
 use Rattle.relay_hub.proofs.broadcast.notify_those.Goals.{then-is_err, else-is_err}
 
 pub loop-number-init : goal.loop-number-init
 loop-number-init c = record {
-  told = λ d changes since leads. none_among d changes c.args.room.now c.args.sessions.now;
+  told = λ d changes since leads. none_among d changes c.args.room.now (allowance_of c.args.cache.now) c.args.sessions.now;
   ordered = c.requires.ordered;
-  kept = tt;
+  kept = c.requires.kept;
   count = omega arith;
 }
 
@@ -22,7 +23,8 @@ loop-number-preserved c =
       | else-is_err w ↦ let told : is_err c.notify_one.result ≡ false = search rules in rw told (omega (arith, w.short-is))
     ] in
     record {
-      told = λ d changes since leads. rw short (next_among d changes c.args.room.now c.args.numbers.now l.number-index 0 c.args.sessions.now l.sessions c.notify_one.new.sessions l.short more
+      told = λ d changes since leads. rw short (next_among d changes c.args.room.now c.args.numbers.now l.number-index 0 (allowance_of c.args.cache.now) (allowance_of l.cache)
+          (allowance_of c.notify_one.new.cache) c.args.sessions.now l.sessions c.notify_one.new.sessions l.short more c.requires.ordered
           c.requires.rising within (l.invariant.told d changes since leads) (c.notify_one.ensures.told d changes since leads));
       ordered = c.notify_one.ensures.ordered;
       kept = c.notify_one.ensures.kept;

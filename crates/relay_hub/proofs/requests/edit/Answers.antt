@@ -37,7 +37,7 @@ returns-in-Ok-clause-indexed c =
     let number = ap (λ (y : Session). y.number) c.reply.ensures in
     let view = ap (λ (y : Session). y.view) c.reply.ensures in
     let replied = written_same xs c.args.caller c.requires.caller x there c.reply.new.self number c.args.watches.now c.requires.indexed view in
-    told_indexed old.document changes told ys c.broadcast_and_trim.new.sessions c.broadcast_and_trim.result all_told c.args.watches.now replied
+    told_indexed old.document changes told c.args.made.telling_weight ys c.broadcast_and_trim.new.sessions c.broadcast_and_trim.result all_told c.args.watches.now replied
 
 pub returns-in-Some-clause-indexed : goal.returns-in-Some-clause-indexed
 returns-in-Some-clause-indexed c =
