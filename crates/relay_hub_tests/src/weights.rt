@@ -162,9 +162,8 @@ fn gives_memory_back(rt: HostRuntime) {
 
 const WATCH_X: &str = r#"{"do":"watch","id":1,"view":["/x"]}"#;
 
-/// After [`WATCHING`], sessions 3 and 4 watch one member of the document, and have drawn all that waits. Session 1 is told of [`EDIT`] by a
-/// patch of 35. They are told of the first one by a patch of 25: a token of one byte, and a list with the number. Later the member is
-/// there, and their patch weighs 26: two tokens, and the number.
+/// After [`WATCHING`], sessions 3 and 4 watch one member of the document, and have drawn all that waits. Their patch of [`EDIT`] weighs
+/// 25: a token of one byte, and a list with the number. With that of session 1, which weighs 35, it makes 60.
 const TWO_MORE: &[(Call, &str)] = &[
     (Open("r"), "Ok(3)"),
     (Open("r"), "Ok(4)"),
@@ -186,7 +185,7 @@ const TWO_MORE: &[(Call, &str)] = &[
 ];
 
 /// Asserts what sessions 1, 3 and 4 draw after [`TWO_MORE`], if the patches that are made for an edit may weigh this much.
-fn made_within(rt: &(impl Abort + AllocGlobal), telling_weight: Budget, parts: &[&[(Call, &str)]]) {
+fn made_within(rt: &(impl Abort + AllocGlobal), telling_weight: Budget, rows: &[(Call, &str)]) {
     let config = HubConfig {
         telling_weight,
         ..HubConfig::new(1, 1, 64, 32)
@@ -194,56 +193,54 @@ fn made_within(rt: &(impl Abort + AllocGlobal), telling_weight: Budget, parts: &
     let mut hub = Hub::with_config(rt.alloc(), config).expect(rt, "a hub");
     tells(rt, &mut hub, WATCHING);
     tells(rt, &mut hub, TWO_MORE);
-    for rows in parts {
-        tells(rt, &mut hub, rows);
-    }
+    tells(rt, &mut hub, rows);
 }
 
-/// What sessions 1, 3 and 4 draw after the first edit, if it is told by patches, and then a second edit.
-const FIRST_PATCHES: &[(Call, &str)] = &[
-    (
-        Draw(1),
-        r#"{"kind":"patch","patch":[{"op":"add","path":"/0/0/x","value":1}],"rev":2}"#,
-    ),
-    (Draw(3), MEMBER_PATCH),
-    (Draw(4), MEMBER_PATCH),
-    (Say(2, EDIT), ANSWERED),
-    (
-        Draw(1),
-        r#"{"kind":"patch","patch":[{"op":"replace","path":"/0/0/x","value":1}],"rev":3}"#,
-    ),
-];
+const WHOLE_PATCH: &str =
+    r#"{"kind":"patch","patch":[{"op":"add","path":"/0/0/x","value":1}],"rev":2}"#;
+
+const WHOLE_SNAPSHOT: &str = r#"{"kind":"snapshot","rev":2,"view":[[{"x":1}]]}"#;
 
 const MEMBER_PATCH: &str =
     r#"{"kind":"patch","patch":[{"op":"replace","path":"/0","value":[1]}],"rev":2}"#;
 
-const MEMBER_PATCH_AGAIN: &str =
-    r#"{"kind":"patch","patch":[{"op":"replace","path":"/0/0","value":1}],"rev":3}"#;
+const MEMBER_SNAPSHOT: &str = r#"{"kind":"snapshot","rev":2,"view":[[1]]}"#;
 
-const WHOLE_SNAPSHOT: &str = r#"{"kind":"snapshot","rev":2,"view":[[{"x":1}]]}"#;
-
-/// Patches that weigh 61 together are made if they may weigh 61. The one that two sessions share counts once, and each edit may weigh as
+/// Patches that weigh 60 together are made if they may weigh 60. The one that two sessions share counts once, and each edit may weigh as
 /// much again.
 #[test]
 fn an_edit_is_told_within_a_weight(rt: HostRuntime) {
     made_within(
         &rt,
-        Budget::Left(61),
+        Budget::Left(60),
         &[
-            FIRST_PATCHES,
-            &[(Draw(3), MEMBER_PATCH_AGAIN), (Draw(4), MEMBER_PATCH_AGAIN)],
+            (Draw(1), WHOLE_PATCH),
+            (Draw(3), MEMBER_PATCH),
+            (Draw(4), MEMBER_PATCH),
+            (Say(2, EDIT), ANSWERED),
+            (
+                Draw(1),
+                r#"{"kind":"patch","patch":[{"op":"replace","path":"/0/0/x","value":1}],"rev":3}"#,
+            ),
+            (
+                Draw(4),
+                r#"{"kind":"patch","patch":[{"op":"replace","path":"/0","value":[1]}],"rev":3}"#,
+            ),
         ],
     );
 }
 
-/// If they may weigh 60, those of the first edit are made. At the second one the sessions behind the first get a snapshot.
+/// If they may weigh 59, the sessions behind the first get a snapshot.
 #[test]
 fn an_edit_is_told_by_snapshots_beyond_a_weight(rt: HostRuntime) {
-    let snapshot = r#"{"kind":"snapshot","rev":3,"view":[[1]]}"#;
     made_within(
         &rt,
-        Budget::Left(60),
-        &[FIRST_PATCHES, &[(Draw(3), snapshot), (Draw(4), snapshot)]],
+        Budget::Left(59),
+        &[
+            (Draw(1), WHOLE_PATCH),
+            (Draw(3), MEMBER_SNAPSHOT),
+            (Draw(4), MEMBER_SNAPSHOT),
+        ],
     );
 }
 
@@ -253,25 +250,24 @@ fn a_lighter_patch_is_made_behind_a_heavy_one(rt: HostRuntime) {
     made_within(
         &rt,
         Budget::Left(34),
-        &[&[
+        &[
             (Draw(1), WHOLE_SNAPSHOT),
             (Draw(3), MEMBER_PATCH),
             (Draw(4), MEMBER_PATCH),
-        ]],
+        ],
     );
 }
 
 /// A bound of nothing makes no patch.
 #[test]
 fn an_edit_is_told_by_snapshots_alone(rt: HostRuntime) {
-    let snapshot = r#"{"kind":"snapshot","rev":2,"view":[[1]]}"#;
     made_within(
         &rt,
         Budget::Left(0),
-        &[&[
+        &[
             (Draw(1), WHOLE_SNAPSHOT),
-            (Draw(3), snapshot),
-            (Draw(4), snapshot),
-        ]],
+            (Draw(3), MEMBER_SNAPSHOT),
+            (Draw(4), MEMBER_SNAPSHOT),
+        ],
     );
 }
