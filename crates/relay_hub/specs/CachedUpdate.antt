@@ -1,5 +1,5 @@
 -- The update of the newest edit for one view.
-use Rattle.std.specs.Prelude.{ℕ, ◌≡◌, ◌-◌, Bool, true, false, List, Option, option_map, is_some, IfSome, if◌then◌else◌}
+use Rattle.std.specs.Prelude.{ℕ, ◌≡◌, ◌-◌, Bool, true, false, List, option_map, is_some, IfSome, if◌then◌else◌}
 use Rattle.relay_history.specs.History.{changes_since}
 use Rattle.relay_patch.specs.Change.{Leads}
 use Rattle.relay_patch.specs.Weight.{ops_weight}
