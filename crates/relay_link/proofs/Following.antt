@@ -48,9 +48,9 @@ pub follows_none : {rooms : List ℕ → Type 0} {p q : Point} → Follows no_ro
 follows_none = follows_wider (λ room none. absurd none)
 
 -- the same of an equal state
-pub follows_from : {S : Type 0} {hub : Hub} {made : List Event} {q : Point} (old state : State S) → state ≡ old → Follows (asked_by state) (at hub (session_of state) made) q
-    → Follows (asked_by old) (at hub (session_of old) made) q
-follows_from {hub = hub} {made = made} {q = q} old state same follows = subst (λ s. Follows (asked_by s) (at hub (session_of s) made) q) same follows
+pub follows_from : {S : Type 0} {hub : Hub} {made : List Event} {q : Point} (remaining : S → Option (List ℕ)) (old state : State S) → state ≡ old → Follows (asked_by remaining state) (at hub (session_of state) made) q
+    → Follows (asked_by remaining old) (at hub (session_of old) made) q
+follows_from {hub = hub} {made = made} {q = q} remaining old state same follows = subst (λ s. Follows (asked_by remaining s) (at hub (session_of s) made) q) same follows
 
 -- a call without an answer changed nothing
 pub unanswered : (old new : Hub) (event : Event) (answer : Option Answer) → false ≡ is_some answer → StepIf old event answer new → new ≡ old

@@ -1,4 +1,5 @@
 pub mod Follows
+pub mod Stream
 pub mod Asks
 pub mod Adds
 pub mod Stage

@@ -1,10 +1,10 @@
 -- The contract of a turn of a link.
-use Rattle.std.specs.Prelude.{◌≡◌, ◌≤◌, ℕ, [], None, Some, true, min, is_some, length}
+use Rattle.std.specs.Prelude.{◌≡◌, ◌≤◌, ℕ, List, [], Option, None, Some, true, min, is_some, length}
 use Rattle.std.specs.List.{Contains}
 use Rattle.relay_hub.specs.State.{State as Hub}
 use Rattle.relay_hub.specs.declared.event.Event.TheVariants.{Close}
 use Rattle.relay_link.specs.Adds.{receives, draws}
-use Rattle.relay_link.specs.Asks.{asked_by}
+use Rattle.relay_link.specs.Asks.{asked_by, Receives}
 use Rattle.relay_link.specs.Follows.{Follows, at}
 use Rattle.relay_link.specs.Stage.{stage_of, session_of, leaves, is_over}
 use Rattle.relay_link.specs.declared.link.TheConstants.{MAX_DRAWS}
@@ -14,10 +14,12 @@ use Rattle.relay_link.specs.declared.state.State.{State}
 use Rattle.relay_link.specs.declared.turn.Turn.{Turn}
 
 -- A turn from the hub and the link before it to those after it, with at most `texts` receives, and at most `most` draws.
-pub record Turns {S : Type 0} (texts most : ℕ) (hub : Hub) (old : State S) (next : Hub) (new : State S) (turn : Turn) : Type 0 where
-  -- the hub changed by exactly the events of the turn, which are the link's own; a session is opened only in the room that the bytes of
-  -- the head ask for
-  pub follows : Follows (asked_by old) (at hub (session_of old) []) (at next (session_of new) turn.made.items)
+pub record Turns {S : Type 0} (remaining : S → Option (List ℕ)) (texts most : ℕ) (hub : Hub) (old : State S) (next : Hub) (new : State S) (turn : Turn) : Type 0 where
+  -- the hub changed by exactly the events of the turn, which are the link's own; a session is opened only in the room that the head asks
+  -- for, which is what the link had received, and then what one read took from its stream
+  pub follows : Follows (asked_by remaining old) (at hub (session_of old) []) (at next (session_of new) turn.made.items)
+  -- a link that still waits for its head has received exactly what its stream gave in the turn
+  pub received : Receives remaining old new
   pub few : length turn.made.items ≤ MAX_EVENTS
   pub heard : receives turn.made.items ≤ texts
   pub drew : draws turn.made.items ≤ min most MAX_DRAWS

@@ -1,6 +1,7 @@
 //! A stream with buffered output that can be corked.
-ghost use Rattle.std.specs.Prelude.{◌≡◌, ◌&&◌, ◌==◌, not, length};
+ghost use Rattle.std.specs.Prelude.{◌≡◌, IfOk, ◌&&◌, ◌==◌, not, length};
 ghost use Rattle.std.specs.Io.Buffered.{writer_buffer, writer_inner};
+ghost use Rattle.relay_link.specs.Stream.{stream_of};
 
 use crate::non_blocking::NonBlocking;
 use std::alloc::{AllocError, Global};
@@ -15,10 +16,9 @@ pub(crate) struct CorkedWriter<S: Write + Drop> {
 }
 
 impl<S: Write + Drop> CorkedWriter<S> {
-    pub(crate) fn new(
-        alloc: Global,
-        stream: S,
-    ) -> std::result::Result<CorkedWriter<S>, AllocError> {
+    pub(crate) fn new(alloc: Global, stream: S) -> std::result::Result<CorkedWriter<S>, AllocError>
+        ensures { IfOk result (λ writer. stream_of writer ≡ stream) }
+    {
         match BufWriter::new(alloc, NonBlocking::new(stream)) {
             Ok(writer) => Ok(CorkedWriter {
                 writer,
@@ -48,7 +48,9 @@ impl<S: Write + Drop> CorkedWriter<S> {
     }
 
     /// Begins a read turn.
-    pub(crate) fn begin_poll(&mut self) {
+    pub(crate) fn begin_poll(&mut self)
+        ensures { stream_of self.new ≡ stream_of self.old }
+    {
         self.writer.get_mut().begin_poll();
     }
 
@@ -66,6 +68,8 @@ impl<S: Write + Drop> CorkedWriter<S> {
 }
 
 impl<S: Read + Write + Drop> Read for CorkedWriter<S> {
+    ghost remaining = { λ w. S.remaining (stream_of w) };
+
     fn read(&mut self, buf: &mut [u8]) -> Result<usize> {
         self.writer.get_mut().read(buf)
     }

@@ -1,9 +1,10 @@
 //! The handshake of a link: its request head, then the reply.
-ghost use Rattle.std.specs.Prelude.{◌≡◌, ◌+◌, ◌≤◌, length, is_some, Some, None, string_bytes};
+ghost use Rattle.std.specs.Prelude.{◌≡◌, ◌+◌, ◌≤◌, length, is_some, Some, None, string_bytes, false};
 ghost use Rattle.relay_link.specs.Adds.{Adds};
-ghost use Rattle.relay_link.specs.Asks.{Asks};
+ghost use Rattle.relay_link.specs.Asks.{Asks, Receives, awaits_head};
 ghost use Rattle.relay_link.specs.Follows.{Follows, no_room, is_room, at};
 ghost use Rattle.relay_link.specs.Stage.{entered, leaves, stage_of, session_of};
+ghost use Rattle.relay_link.specs.Stream.{stream_of};
 ghost use Rattle.relay_link.specs.declared.event_log.TheConstants.{MAX_EVENTS};
 ghost use Rattle.relay_link.specs.declared.stage.Stage.TheVariants.{Head};
 
@@ -22,7 +23,7 @@ use std::alloc::Global;
 use std::io::{Read, Write};
 
 /// Reads once, and checks the bytes received so far as a handshake.
-#[tactic(auto, using(crate::proofs::Following::follows_same, crate::proofs::Following::follows_none))]
+#[tactic(auto, using(crate::proofs::Following::follows_same, crate::proofs::Following::follows_none, crate::proofs::Heads::received_past))]
 pub(crate) fn listen<S: Read + Write + Drop>(
     alloc: Global,
     mut stream: CorkedWriter<S>,
@@ -31,7 +32,8 @@ pub(crate) fn listen<S: Read + Write + Drop>(
     made: &mut EventLog,
 ) -> Transition<S>
     requires { length made.old + 2 ≤ MAX_EVENTS }
-    ensures follows { Follows (Asks bytes.items) (at hub.old None made.old) (at hub.new (session_of result.state) made.new) }
+    ensures follows { Follows (Asks bytes.items (S.remaining (stream_of stream))) (at hub.old None made.old) (at hub.new (session_of result.state) made.new) }
+    ensures received { Receives S.remaining (State.Head stream bytes) result.state }
     ensures adds { Adds 2 0 0 made.old made.new }
     ensures cause { is_some result.cause ≡ leaves Head (stage_of result.state) }
 {
@@ -72,6 +74,7 @@ fn admit<S: Read + Write + Drop>(
 ) -> Transition<S>
     requires { length made.old + 2 ≤ MAX_EVENTS }
     ensures follows { Follows (is_room (string_bytes room)) (at hub.old None made.old) (at hub.new (session_of result.state) made.new) }
+    ensures past { awaits_head result.state ≡ false }
     ensures adds { Adds 2 0 0 made.old made.new }
     ensures cause { is_some result.cause ≡ leaves Head (stage_of result.state) }
 {
@@ -102,6 +105,7 @@ fn answer<S: Read + Write + Drop>(
 ) -> Transition<S>
     requires { length made.old + 1 ≤ MAX_EVENTS }
     ensures follows { Follows no_room (at hub.old (entered verdict) made.old) (at hub.new (session_of result.state) made.new) }
+    ensures past { awaits_head result.state ≡ false }
     ensures adds { Adds 1 0 0 made.old made.new }
     ensures cause { is_some result.cause ≡ leaves Head (stage_of result.state) }
 {
@@ -120,6 +124,7 @@ pub(crate) fn reply<S: Read + Write + Drop>(
 ) -> Transition<S>
     requires { length made.old + 1 ≤ MAX_EVENTS }
     ensures follows { Follows no_room (at hub.old (entered reply.verdict) made.old) (at hub.new (session_of result.state) made.new) }
+    ensures past { awaits_head result.state ≡ false }
     ensures adds { Adds 1 0 0 made.old made.new }
     ensures cause { is_some result.cause ≡ leaves Head (stage_of result.state) }
 {

@@ -1,7 +1,7 @@
 //! A link: one socket, driven by turns.
 ghost use Rattle.std.specs.Prelude.{◌≡◌, ◌+◌, ◌≤◌, [], None, is_some, IfOk, OnOk, OnErr, length};
 ghost use Rattle.relay_link.specs.Adds.{Adds, texts_of};
-ghost use Rattle.relay_link.specs.Asks.{asked_by};
+ghost use Rattle.relay_link.specs.Asks.{asked_by, IsFresh, Receives};
 ghost use Rattle.relay_link.specs.Follows.{Follows, no_room, at, closing_of};
 ghost use Rattle.relay_link.specs.Stage.{stage_of, session_of, has_corked_output, is_idle, leaves, ended, IsForward};
 ghost use Rattle.relay_link.specs.Turns.{Turns};
@@ -50,6 +50,7 @@ impl<S: Read + Write + Drop> Link<S> {
     pub fn new(alloc: Global, stream: S) -> Result<Link<S>, AllocError>
         ensures stage { IfOk result (λ link. stage_of link ≡ Head) }
         ensures session { IfOk result (λ link. session_of link ≡ None) }
+        ensures fresh { IfOk result (IsFresh stream) }
     {
         Ok(Link {
             state: State::Head {
@@ -106,7 +107,7 @@ impl<S: Read + Write + Drop> Link<S> {
     /// The turn has a cause exactly if it ended Head without Open, left Open, or ended Closing. [`Cause::Stream`] comes only if
     /// in this very turn a call on the stream failed or a write accepted no byte.
     pub fn turn(&mut self, alloc: Global, hub: &mut Hub, draws: u64) -> Result<Turn, AllocError>
-        ensures turns { IfOk result (Turns 1 draws hub.old self.old hub.new self.new) }
+        ensures turns { IfOk result (Turns S.remaining 1 draws hub.old self.old hub.new self.new) }
         ensures forward { IsForward (stage_of self.old) (stage_of self.new) }
         ensures unchanged { OnErr result (self.new ≡ self.old) }
         ensures hub_unchanged { OnErr result (hub.new ≡ hub.old) }
@@ -122,7 +123,7 @@ impl<S: Read + Write + Drop> Link<S> {
         hub: &mut Hub,
         draws: u64,
     ) -> Result<Turn, AllocError>
-        ensures turns { IfOk result (Turns 1 draws hub.old self.old hub.new self.new) }
+        ensures turns { IfOk result (Turns S.remaining 1 draws hub.old self.old hub.new self.new) }
         ensures forward { IsForward (stage_of self.old) (stage_of self.new) }
         ensures unchanged { OnErr result (self.new ≡ self.old) }
         ensures hub_unchanged { OnErr result (hub.new ≡ hub.old) }
@@ -139,7 +140,7 @@ impl<S: Read + Write + Drop> Link<S> {
         hub: &mut Hub,
         draws: u64,
     ) -> Result<Turn, AllocError>
-        ensures turns { IfOk result (Turns 0 draws hub.old self.old hub.new self.new) }
+        ensures turns { IfOk result (Turns S.remaining 0 draws hub.old self.old hub.new self.new) }
         ensures forward { IsForward (stage_of self.old) (stage_of self.new) }
         ensures unchanged { OnErr result (self.new ≡ self.old) }
         ensures hub_unchanged { OnErr result (hub.new ≡ hub.old) }
@@ -189,7 +190,7 @@ impl<S: Read + Write + Drop> Link<S> {
         hub: &mut Hub,
         draws: u64,
     ) -> Result<Turn, AllocError>
-        ensures turns { IfOk result (Turns (texts_of phase) draws hub.old self.old hub.new self.new) }
+        ensures turns { IfOk result (Turns S.remaining (texts_of phase) draws hub.old self.old hub.new self.new) }
         ensures forward { IsForward (stage_of self.old) (stage_of self.new) }
         ensures unchanged { OnErr result (self.new ≡ self.old) }
         ensures hub_unchanged { OnErr result (hub.new ≡ hub.old) }
@@ -209,7 +210,7 @@ impl<S: Read + Write + Drop> Link<S> {
 }
 
 /// Runs a turn by the state of the link. In a write turn a link that waits for a head or a close is unchanged.
-#[tactic(auto, using(crate::proofs::Following::follows_same))]
+#[tactic(auto, using(crate::proofs::Following::follows_same, crate::proofs::Heads::received_none, crate::proofs::Heads::received_past, crate::proofs::Heads::received_open, crate::proofs::Heads::received_closing))]
 fn advance<S: Read + Write + Drop>(
     alloc: Global,
     state: State<S>,
@@ -219,7 +220,8 @@ fn advance<S: Read + Write + Drop>(
     made: &mut EventLog,
 ) -> Transition<S>
     requires { length made.old + draws + 2 ≤ MAX_EVENTS }
-    ensures follows { Follows (asked_by state) (at hub.old (session_of state) made.old) (at hub.new (session_of result.state) made.new) }
+    ensures follows { Follows (asked_by S.remaining state) (at hub.old (session_of state) made.old) (at hub.new (session_of result.state) made.new) }
+    ensures received { Receives S.remaining state result.state }
     ensures adds { Adds (draws + 2) (texts_of phase) draws made.old made.new }
     ensures cause { is_some result.cause ≡ leaves (stage_of state) (stage_of result.state) }
     ensures forward { IsForward (stage_of state) (stage_of result.state) }

@@ -20,9 +20,11 @@ pub(crate) struct NonBlocking<S> {
 }
 
 impl<S> NonBlocking<S> {
-    ghost use Rattle.std.specs.Prelude.{◌≡◌, Ok, IfOk, not};
+    ghost use Rattle.std.specs.Prelude.{◌≡◌, Ok, IfOk, is_err, not};
 
-    pub(crate) fn new(stream: S) -> NonBlocking<S> {
+    pub(crate) fn new(stream: S) -> NonBlocking<S>
+        ensures { result.stream ≡ stream }
+    {
         NonBlocking {
             stream,
             reads: MAX_READS,
@@ -32,13 +34,17 @@ impl<S> NonBlocking<S> {
     }
 
     /// Begins a read turn.
-    pub(crate) fn begin_poll(&mut self) {
+    pub(crate) fn begin_poll(&mut self)
+        ensures { self.new.stream ≡ self.old.stream }
+    {
         self.reads = MAX_READS;
         self.wants_poll = false;
     }
 
     /// Asks for another turn.
-    pub(crate) fn request_poll(&mut self) {
+    pub(crate) fn request_poll(&mut self)
+        ensures { self.new.stream ≡ self.old.stream }
+    {
         self.wants_poll = true;
     }
 
@@ -52,7 +58,9 @@ impl<S> NonBlocking<S> {
 
     /// The result of a call. An interrupted call asks for another turn, and becomes `WouldBlock`.
     fn noted<T>(&mut self, called: io::Result<T>) -> io::Result<T>
-        ensures { IfOk result (λ value. called ≡ Ok value) }
+        ensures ok { IfOk result (λ value. called ≡ Ok value) }
+        ensures err { is_err result ≡ is_err called }
+        ensures stream { self.new.stream ≡ self.old.stream }
     {
         match called {
             Err(error) if error.kind() == ErrorKind::Interrupted => {
@@ -65,6 +73,8 @@ impl<S> NonBlocking<S> {
 }
 
 impl<S: Read> Read for NonBlocking<S> {
+    ghost remaining = { λ n. S.remaining n.stream };
+
     fn read(&mut self, buf: &mut [u8]) -> io::Result<usize> {
         match self.reads.checked_sub(1) {
             Some(reads) => self.reads = reads,

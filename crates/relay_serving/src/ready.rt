@@ -83,6 +83,8 @@ impl<S> Watched<S> {
 }
 
 impl<S: Read> Read for Watched<S> {
+    ghost remaining = { λ w. S.remaining w.stream };
+
     fn read(&mut self, buf: &mut [u8]) -> io::Result<usize> {
         if !self.known.is_readable() {
             return Err(nothing_now());

@@ -1,6 +1,10 @@
--- The room is the one that the bytes received so far ask for.
-use Rattle.std.proofs.Common.{rules, ◌≡◌, ℕ, List, false, string_bytes, Some, sym, ap, is_err, ◌∙◌}
-use Rattle.relay_link.specs.Asks.{Asks}
+-- The room is the one that the head asks for: the bytes received before, and those that the read took.
+use Rattle.std.proofs.Common.{rules, ◌≡◌, ◌≤◌, ℕ, List, false, length, take, string_bytes, Some, sym, ap, is_err, ◌∙◌, subst}
+use Rattle.std.specs.Io.KnownBytes.{Consumes}
+use Rattle.relay_link.specs.Asks.{Asks, Receives}
+use Rattle.relay_link.specs.Stream.{stream_of}
+use Rattle.relay_link.specs.declared.socket.TheConstants.{MAX_READ}
+use Rattle.relay_link.specs.declared.state.State.TheVariants.{Head}
 use Rattle.relay_link.proofs.Following.{follows_wider}
 use Rattle.relay_link.proofs.Heads.{extended, asks_with}
 use Rattle.relay_link.proofs.head.listen.Goals as goal
@@ -8,8 +12,23 @@ use Rattle.relay_link.proofs.head.listen.Goals as goal
 pub returns-in-Ok-Accept-clause-follows : goal.returns-in-Ok-Accept-clause-follows
 returns-in-Ok-Accept-clause-follows g c = follows_wider asks c.admit.ensures.follows
   where
-    asks : (room : List ℕ) → room ≡ string_bytes c.in-Ok-Accept.room → Asks c.args.bytes.items room
+    asks : (room : List ℕ) → room ≡ string_bytes c.in-Ok-Accept.room → Asks c.args.bytes.items (g.S.Read.remaining (stream_of c.args.stream)) room
     asks room is =
         let fits : is_err c.extend_from_slice.result ≡ false = search rules in
         let whole = c.as_slice.ensures.value ∙ extended c.extend_from_slice.result c.args.bytes.items c.extend_from_slice.new.self.items _ fits c.extend_from_slice.ensures.items in
-        asks_with _ _ _ room c.in-Ok-Accept.field-0 whole c.in-Ok-Accept.ensures.head c.in-Ok-Accept.ensures.no_head (rw c.in-Ok-Accept.field-0-is (ap Some (sym is)))
+        let left = g.S.Read.remaining (stream_of c.read.new.self) in
+        let taken = take c.in-Ok.len c.read.new.buf in
+        let first = subst (λ stream. Consumes (g.S.Read.remaining stream) left taken) c.begin_poll.ensures c.in-Ok.ensures.bytes.0 in
+        let within : c.in-Ok.len ≤ MAX_READ = search rules in
+        let one_read : length taken ≤ MAX_READ = subst (λ n. n ≤ MAX_READ) c.in-Ok.ensures.bound.1 within in
+        asks_with _ taken _ room _ left c.in-Ok-Accept.field-0 whole first one_read c.in-Ok-Accept.ensures.head c.in-Ok-Accept.ensures.no_head (rw c.in-Ok-Accept.field-0-is (ap Some (sym is)))
+
+-- The head is not whole: the bytes that the read took are held.
+pub returns-in-Ok-More-clause-received : goal.returns-in-Ok-More-clause-received
+returns-in-Ok-More-clause-received g c =
+    let fits : is_err c.extend_from_slice.result ≡ false = search rules in
+    let taken = take c.in-Ok.len c.read.new.buf in
+    let left = g.S.Read.remaining (stream_of c.read.new.self) in
+    let first = subst (λ stream. Consumes (g.S.Read.remaining stream) left taken) c.begin_poll.ensures c.in-Ok.ensures.bytes.0 in
+    let grown = extended c.extend_from_slice.result c.args.bytes.items c.extend_from_slice.new.self.items taken fits c.extend_from_slice.ensures.items in
+    subst (λ t. Receives g.S.Read.remaining (Head c.args.stream c.args.bytes) t.state) (sym c.on-in-Ok-More.ensures) (taken, first, grown)

@@ -1,5 +1,6 @@
 -- If the link no longer has its session, one of the events closed it.
-use Rattle.std.proofs.Common.{◌≡◌, ◌∙◌, Some, ap, rules}
+use Rattle.std.proofs.Common.{◌≡◌, ◌∙◌, Some, ap, rules, subst}
+use Rattle.relay_link.specs.Asks.{Receives}
 use Rattle.relay_link.specs.Stage.{session_of}
 use Rattle.relay_link.proofs.Closed.{closed}
 use Rattle.relay_link.proofs.Following.{follows_from}
@@ -7,7 +8,8 @@ use Rattle.relay_link.proofs.link.Link.take.Goals as goal
 
 pub returns-clause-turns : goal.returns-clause-turns
 returns-clause-turns g c = record {
-  follows = follows_from _ _ (c.replace-state.ensures.value ∙ c.self.view_is) (search rules);
+  follows = follows_from g.S.Read.remaining _ _ (c.replace-state.ensures.value ∙ c.self.view_is) (search rules);
+  received = subst (λ state. Receives g.S.Read.remaining state c.advance-next.result.state) (c.replace-state.ensures.value ∙ c.self.view_is) c.advance-next.ensures.received;
   few = search rules;
   heard = search rules;
   drew = search rules;
