@@ -6,7 +6,7 @@ use Rattle.std.proofs.lemmas.Bool.Decides.{nat_tests}
 use Rattle.std.proofs.lemmas.Option.{slice_get-map}
 use Rattle.indexmap.specs.IndexMap.{set_value_at, with_value_at, values}
 use Rattle.relay_outbox.specs.declared.outbox.TheConstants.{MAX_REPLIES}
-use Rattle.relay_hub.specs.Call.{StepIf, ReceivesIf, DrawsIf, HasRoom}
+use Rattle.relay_hub.specs.Call.{StepIf, ReceivesIf, DrawsIf, HasSpace}
 use Rattle.relay_hub.specs.Representation.{named, hub_of}
 use Rattle.relay_hub.specs.Session.{Session}
 use Rattle.relay_hub.specs.State.{RoomSessions, State, IsHub, place_of, place_named, session_in, session_of}
@@ -96,7 +96,7 @@ module _ (h : Inside) (s i : ℕ) (is : IsHub (hub_of h)) (at : place_of (hub_of
     pub session_is : session_of (hub_of h) s ≡ session_in g.sessions s
     session_is = rw (at, here.was) refl
 
-    pub hears : HasRoom g.sessions s → may_hear (session_of (hub_of h) s) ≡ true
+    pub hears : HasSpace g.sessions s → may_hear (session_of (hub_of h) s) ≡ true
     hears space =
         let x = session_there in
         let fits : nat_lt (length x.0.outbox.replies) MAX_REPLIES ≡ true = grind (arith, nat_tests, space x.0 x.1) in

@@ -10,7 +10,7 @@ use Rattle.relay_room.specs.Room.{State as Room, revision}
 use Rattle.relay_room.specs.declared.catch_up.CatchUp.{CatchUp}
 use Rattle.relay_room.specs.declared.catch_up.CatchUp.TheVariants.{Nothing}
 use Rattle.relay_hub.proofs.Sessions.{session_there}
-use Rattle.relay_hub.specs.Call.{HasRoom}
+use Rattle.relay_hub.specs.Call.{HasSpace}
 use Rattle.relay_hub.specs.Session.{Session, resumes}
 use Rattle.relay_hub.specs.State.{RoomSessions, room_sessions, is_number, session_in}
 use Rattle.relay_hub.specs.Step.{OnlyAt, ResumeServed, Serves, Receives}
@@ -20,7 +20,7 @@ use Rattle.relay_hub.specs.declared.event.Heard.TheVariants.{Answered}
 
 -- a text of a session that is there, and in whose outbox a reply fits, is answered
 pub answered : (made : HubConfig) (s i short : ℕ) (text : List ℕ) (asked : Result Request Refusal) (old new : RoomSessions) →
-    position (is_number s) old.sessions ≡ Some i → HasRoom old.sessions s → request_of_text text ≡ asked →
+    position (is_number s) old.sessions ≡ Some i → HasSpace old.sessions s → request_of_text text ≡ asked →
     ((x : Session) → session_in old.sessions s ≡ Some x → Serves made s x asked short old new) →
     Receives made s (session_in old.sessions s) text (Heard (Answered short)) old new
 answered made s i short text asked old new at space read serves =

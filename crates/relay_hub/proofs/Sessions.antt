@@ -7,7 +7,7 @@ use Rattle.std.proofs.lemmas.Bool.Decides.{eqb_tells, leb_tells, nat_tests}
 use Rattle.std.proofs.lemmas.List.Folds.{find-set, find_past, find_at, find-append}
 use Rattle.std.proofs.lemmas.Option.{slice_get_past, slice_get-get_or}
 use Rattle.relay_outbox.specs.declared.outbox.TheConstants.{MAX_REPLIES}
-use Rattle.relay_hub.specs.Call.{HasRoom, IsFull}
+use Rattle.relay_hub.specs.Call.{HasSpace, IsFull}
 use Rattle.relay_hub.specs.Session.{Session}
 use Rattle.relay_hub.specs.State.{session_in, is_number, EachOnce}
 use Rattle.relay_hub.specs.Step.{OnlyAt}
@@ -165,7 +165,7 @@ filter_removes xs s = record { found = session_in-others xs s; once = once_other
 
 -- the outbox of a session is full, or a reply fits
 pub full_or_room : (xs : List Session) (s : ℕ) (y : Session) → session_in xs s ≡ Some y → length y.outbox.replies ≤ MAX_REPLIES →
-    MatchBool (nat_le MAX_REPLIES (length y.outbox.replies)) (IsFull xs s) (HasRoom xs s)
+    MatchBool (nat_le MAX_REPLIES (length y.outbox.replies)) (IsFull xs s) (HasSpace xs s)
 full_or_room xs s y there within =
     let n = length y.outbox.replies in
     let same : (x : Session) → session_in xs s ≡ Some x → length x.outbox.replies ≡ n =

@@ -94,8 +94,8 @@ abbrev pub ChangesBy : ℕ → (Session → Session) → List Session → List S
 ChangesBy s f old new = (x : Session) → session_in old s ≡ Some x → OnlyAt s (Some (f x)) old new
 
 -- the outbox of session s has space for a reply
-abbrev pub HasRoom : List Session → ℕ → Type 0
-HasRoom sessions s = (x : Session) → session_in sessions s ≡ Some x → length x.outbox.replies < MAX_REPLIES
+abbrev pub HasSpace : List Session → ℕ → Type 0
+HasSpace sessions s = (x : Session) → session_in sessions s ≡ Some x → length x.outbox.replies < MAX_REPLIES
 
 abbrev pub IsFull : List Session → ℕ → Type 0
 IsFull sessions s = (x : Session) → session_in sessions s ≡ Some x → length x.outbox.replies ≡ MAX_REPLIES

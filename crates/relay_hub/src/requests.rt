@@ -4,7 +4,7 @@ ghost use Rattle.std.specs.Bool.{MatchBool};
 ghost use Rattle.std.specs.FinMap as map;
 ghost use Rattle.relay_room.specs.Edit.{edited};
 ghost use Rattle.relay_room.specs.Room.{revision};
-ghost use Rattle.relay_hub.specs.Call.{receiving, drawing, ReceivesIf, DrawsIf, ChangesBy, HasRoom, IsFull};
+ghost use Rattle.relay_hub.specs.Call.{receiving, drawing, ReceivesIf, DrawsIf, ChangesBy, HasSpace, IsFull};
 ghost use Rattle.relay_hub.specs.Caller.{IsCaller};
 ghost use Rattle.relay_hub.specs.Refusal.{cause_word, edit_refusal};
 ghost use Rattle.relay_hub.specs.Session.{Session, watches as watching, unwatches, waiting};
@@ -41,7 +41,7 @@ pub fn receive(
     requires indexed { IsIndexed watches.old sessions.old }
     ensures step { ReceivesIf made number text.now (receiving result) (room_sessions room.old sessions.old) (room_sessions room.new sessions.new) }
     ensures indexed { IsIndexed watches.new sessions.new }
-    ensures no_memory { IsErrOf result HubFault.NoMemory → HasRoom sessions.old number }
+    ensures no_memory { IsErrOf result HubFault.NoMemory → HasSpace sessions.old number }
 {
     let caller = Caller::find(sessions, number);
     if is_full(sessions, caller) {
@@ -64,7 +64,7 @@ pub fn receive(
 /// Whether 32 replies wait for the caller.
 fn is_full(sessions: &[Session], caller: Caller) -> bool
     requires { IsCaller sessions.now caller }
-    ensures { MatchBool result (IsFull sessions.now caller.number) (HasRoom sessions.now caller.number) }
+    ensures { MatchBool result (IsFull sessions.now caller.number) (HasSpace sessions.now caller.number) }
 {
     session_at(sessions, caller).is_full()
 }
@@ -80,7 +80,7 @@ fn perform(
     request: Request,
 ) -> Result<u64, AllocError>
     requires caller { IsCaller sessions.old caller }
-    requires space { HasRoom sessions.old caller.number }
+    requires space { HasSpace sessions.old caller.number }
     requires indexed { IsIndexed watches.old sessions.old }
     ensures ok { IfOk result (λ short. (x : Session) → session_in sessions.old caller.number ≡ Some x →
         Serves made caller.number x (Ok request) short (room_sessions room.old sessions.old) (room_sessions room.new sessions.new)) }
@@ -147,7 +147,7 @@ fn edit(
     request: &EditRequest,
 ) -> Result<u64, AllocError>
     requires caller { IsCaller sessions.old caller }
-    requires space { HasRoom sessions.old caller.number }
+    requires space { HasSpace sessions.old caller.number }
     requires indexed { IsIndexed watches.now sessions.old }
     ensures ok { IfOk result (λ short. (x : Session) → session_in sessions.old caller.number ≡ Some x →
         EditServed made caller.number x request.now.id request.now.patch (edited room.old request.now.base request.now.patch) short
@@ -219,7 +219,7 @@ fn watch(
     view: View,
 ) -> Result<(), AllocError>
     requires caller { IsCaller sessions.old caller }
-    requires space { HasRoom sessions.old caller.number }
+    requires space { HasSpace sessions.old caller.number }
     requires indexed { IsIndexed watches.old sessions.old }
     ensures ok { OnOk result (ChangesBy caller.number (watching id view) sessions.old sessions.new) }
     ensures err { OnErr result (sessions.new ≡ sessions.old) }
@@ -233,7 +233,7 @@ fn watch(
 /// Watches nothing from now on.
 fn unwatch(watches: &mut WatchIndex, sessions: &mut [Session], caller: Caller, id: u64)
     requires caller { IsCaller sessions.old caller }
-    requires space { HasRoom sessions.old caller.number }
+    requires space { HasSpace sessions.old caller.number }
     requires indexed { IsIndexed watches.old sessions.old }
     ensures unwatches { ChangesBy caller.number (unwatches id) sessions.old sessions.new }
     ensures indexed { IsIndexed watches.new sessions.new }
@@ -253,7 +253,7 @@ fn resume(
     request: ResumeRequest,
 ) -> Result<(), AllocError>
     requires caller { IsCaller sessions.old caller }
-    requires space { HasRoom sessions.old caller.number }
+    requires space { HasSpace sessions.old caller.number }
     requires indexed { IsIndexed watches.old sessions.old }
     ensures ok { OnOk result ((x : Session) → session_in sessions.old caller.number ≡ Some x →
         ResumeServed (request.epoch == made.epoch) (nat_le request.rev (revision room.now)) request.id request.rev request.view caller.number x

@@ -38,7 +38,7 @@ impl Model for RoomSessions {
 
 impl RoomSessions {
     ghost use Rattle.std.specs.Prelude.{◌≡◌, ◌<◌, [], ◌∷◌, Some, None, IfOk, OnOk, OnErr, IsErrOf, IsSome, IsSomeAnd, option_map};
-    ghost use Rattle.relay_hub.specs.Call.{receiving, drawing, ReceivesIf, DrawsIf, HasRoom, IsAbove};
+    ghost use Rattle.relay_hub.specs.Call.{receiving, drawing, ReceivesIf, DrawsIf, HasSpace, IsAbove};
     ghost use Rattle.relay_hub.specs.Session.{waiting};
     ghost use Rattle.relay_hub.specs.Shed.{shed_room};
     ghost use Rattle.relay_hub.specs.State.{room_sessions, is_untouched, session_in};
@@ -118,7 +118,7 @@ impl RoomSessions {
     ) -> Result<Heard, HubFault>
         requires { IsSome (session_in self.old.sessions number) }
         ensures step { ReceivesIf made number text.now (receiving result) self.old self.new }
-        ensures no_memory { IsErrOf result HubFault.NoMemory → HasRoom self.old.sessions number }
+        ensures no_memory { IsErrOf result HubFault.NoMemory → HasSpace self.old.sessions number }
     {
         requests::receive(
             alloc,

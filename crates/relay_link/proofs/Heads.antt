@@ -10,7 +10,7 @@ use Rattle.relay_link.specs.Stream.{stream_of}
 use Rattle.relay_link.specs.declared.stage.Stage.TheVariants as stage
 use Rattle.relay_link.specs.declared.state.State.{State}
 use Rattle.relay_link.specs.declared.state.State.TheVariants.{Head, Replying, Open, Closing, Gone}
-use Rattle.relay_link.specs.declared.socket.TheConstants.{MAX_READ}
+use Rattle.relay_link.specs.declared.head.TheConstants.{MAX_READ}
 
 -- bytes that found memory were appended
 pub extended : {T E : Type 0} (result : Result T E) (old new more : List ℕ) → is_err result ≡ false → new ≡ (if is_ok result then old ++ more else old) → new ≡ old ++ more

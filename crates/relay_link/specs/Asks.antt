@@ -6,7 +6,7 @@ use Rattle.relay_shake.specs.declared.answer.Shake.{Shake}
 use Rattle.relay_shake.specs.declared.answer.Shake.TheVariants.{Accept}
 use Rattle.relay_link.specs.Follows.{no_room}
 use Rattle.relay_link.specs.Stream.{stream_of}
-use Rattle.relay_link.specs.declared.socket.TheConstants.{MAX_READ}
+use Rattle.relay_link.specs.declared.head.TheConstants.{MAX_READ}
 use Rattle.relay_link.specs.declared.state.State.{State}
 use Rattle.relay_link.specs.declared.state.State.TheVariants.{Head}
 

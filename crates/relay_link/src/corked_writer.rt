@@ -7,6 +7,9 @@ use crate::non_blocking::NonBlocking;
 use std::alloc::{AllocError, Global};
 use std::io::{BufWriter, Read, Result, Write};
 
+/// The size of an output buffer, in bytes: enough for a reply and a few patches that are written together.
+const OUTPUT_BUFFER: usize = 1_024;
+
 /// A non-blocking stream behind an output buffer. While it is corked, a flush leaves the output in the buffer; output that exceeds
 /// the buffer is written all the same.
 #[derive(Drop)]
@@ -19,7 +22,7 @@ impl<S: Write + Drop> CorkedWriter<S> {
     pub(crate) fn new(alloc: Global, stream: S) -> std::result::Result<CorkedWriter<S>, AllocError>
         ensures { IfOk result (λ writer. stream_of writer ≡ stream) }
     {
-        match BufWriter::new(alloc, NonBlocking::new(stream)) {
+        match BufWriter::with_capacity(alloc, OUTPUT_BUFFER, NonBlocking::new(stream)) {
             Ok(writer) => Ok(CorkedWriter {
                 writer,
                 holds: false,

@@ -14,13 +14,16 @@ use crate::event_log::EventLog;
 use crate::events;
 use crate::non_blocking::is_nothing_now;
 use crate::reply::{Reply, Verdict};
-use crate::socket::{MAX_READ, socket_on};
+use crate::socket::socket_on;
 use crate::state::State;
 use crate::transition::Transition;
 use relay_hub::Hub;
 use relay_shake::{Shake, refusal, shake};
 use std::alloc::Global;
 use std::io::{Read, Write};
+
+/// The most bytes of a head that a turn reads.
+pub(crate) const MAX_READ: usize = 4_096;
 
 /// Reads once, and checks the bytes received so far as a handshake.
 #[tactic(auto, using(crate::proofs::Following::follows_same, crate::proofs::Following::follows_none, crate::proofs::Heads::received_past))]

@@ -29,7 +29,7 @@ use tungstenite::CloseCode;
 pub const MAX_DRAWS: u64 = 32;
 
 /// The initial capacity for a head, in bytes.
-const HEAD_ROOM: usize = 512;
+const HEAD_CAPACITY: usize = 512;
 
 /// A stream and its session in the hub. Contracts see its state: its stage, its session, and whether it is idle or corked.
 #[derive(Drop)]
@@ -55,7 +55,7 @@ impl<S: Read + Write + Drop> Link<S> {
         Ok(Link {
             state: State::Head {
                 stream: CorkedWriter::new(alloc, stream)?,
-                bytes: Vec::with_capacity(alloc, HEAD_ROOM)?,
+                bytes: Vec::with_capacity(alloc, HEAD_CAPACITY)?,
             },
         })
     }

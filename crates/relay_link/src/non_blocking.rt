@@ -2,9 +2,9 @@
 use std::io;
 use std::io::{Error, ErrorKind, Read, Write};
 
-/// The maximum number of reads (of 4 KiB each) in a turn. So a side that never stops sending, in however small frames, cannot delay
+/// The maximum number of reads (of 1 KiB each) in a turn. So a side that never stops sending, in however small frames, cannot delay
 /// the others.
-const MAX_READS: u64 = 32;
+const MAX_READS: u64 = 128;
 
 /// A stream that returns `WouldBlock` for an interruption, since a socket would otherwise retry at once and forever. It also returns
 /// `WouldBlock` after the maximum number of reads in a turn, and rejects writes after a write has failed.

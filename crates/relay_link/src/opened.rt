@@ -20,19 +20,19 @@ use tungstenite::{CloseCode, Message, Utf8Bytes};
 
 /// How an open link ends.
 #[derive(Clone, Copy)]
-enum Parting {
+enum Ending {
     /// The link waits for the other side's close.
     Closing(Cause),
     Gone(Cause),
 }
 
-impl From<Cause> for Parting {
-    ghost use Rattle.relay_link.specs.declared.opened.Parting.TheVariants as parting;
+impl From<Cause> for Ending {
+    ghost use Rattle.relay_link.specs.declared.opened.Ending.TheVariants as ending;
 
-    ghost from_gives = { λ cause given. given ≡ parting.Gone cause };
+    ghost from_gives = { λ cause given. given ≡ ending.Gone cause };
 
-    fn from(cause: Cause) -> Parting {
-        Parting::Gone(cause)
+    fn from(cause: Cause) -> Ending {
+        Ending::Gone(cause)
     }
 }
 
@@ -63,7 +63,7 @@ pub(crate) fn turn<S: Read + Write + Drop>(
 /// The link after a turn: still open, or its session is closed.
 #[tactic(auto, using(crate::proofs::Following::follows_same, crate::proofs::Following::follows_then))]
 fn settle<S: Read + Write + Drop>(
-    turned: Result<(), Parting>,
+    turned: Result<(), Ending>,
     socket: Socket<S>,
     session: u64,
     hub: &mut Hub,
@@ -77,11 +77,11 @@ fn settle<S: Read + Write + Drop>(
 {
     match turned {
         Ok(()) => Transition::on(State::Open { socket, session }),
-        Err(parting) => {
+        Err(ending) => {
             events::close(hub, session, made);
-            match parting {
-                Parting::Closing(cause) => Transition::closing(socket, cause),
-                Parting::Gone(cause) => Transition::gone(cause),
+            match ending {
+                Ending::Closing(cause) => Transition::closing(socket, cause),
+                Ending::Gone(cause) => Transition::gone(cause),
             }
         }
     }
@@ -98,7 +98,7 @@ fn talk<S: Read + Write + Drop>(
     draws: u64,
     hub: &mut Hub,
     made: &mut EventLog,
-) -> Result<(), Parting>
+) -> Result<(), Ending>
     requires { length made.old + draws + 1 ≤ MAX_EVENTS }
     ensures follows { Follows no_room (at hub.old (Some session) made.old) (at hub.new (Some session) made.new) }
     ensures adds { Adds (draws + 1) (texts_of phase) draws made.old made.new }
@@ -112,7 +112,7 @@ fn talk<S: Read + Write + Drop>(
         .get_mut()
         .hold(phase == TurnPhase::Read && exchanged.is_ok());
     let sent = flush(socket);
-    if !matches!(exchanged, Err(Parting::Gone(_))) {
+    if !matches!(exchanged, Err(Ending::Gone(_))) {
         sent?;
     }
     exchanged
@@ -128,7 +128,7 @@ fn exchange<S: Read + Write + Drop>(
     draws: u64,
     hub: &mut Hub,
     made: &mut EventLog,
-) -> Result<(), Parting>
+) -> Result<(), Ending>
     requires { length made.old + draws + 1 ≤ MAX_EVENTS }
     ensures follows { Follows no_room (at hub.old (Some session) made.old) (at hub.new (Some session) made.new) }
     ensures adds { Adds (draws + 1) (texts_of phase) draws made.old made.new }
@@ -148,7 +148,7 @@ fn receive_message<S: Read + Write + Drop>(
     session: u64,
     hub: &mut Hub,
     made: &mut EventLog,
-) -> Result<(), Parting>
+) -> Result<(), Ending>
     requires { length made.old + 1 ≤ MAX_EVENTS }
     ensures follows { Follows no_room (at hub.old (Some session) made.old) (at hub.new (Some session) made.new) }
     ensures adds { Adds 1 1 0 made.old made.new }
@@ -159,18 +159,18 @@ fn receive_message<S: Read + Write + Drop>(
     match message {
         Message::Text(words) => {
             let Ok(text) = String::from_str(alloc, words.as_str()) else {
-                return Err(Parting::Gone(Cause::Memory));
+                return Err(Ending::Gone(Cause::Memory));
             };
             match events::receive(alloc, hub, session, text, made) {
                 Ok(()) => Ok(()),
-                Err(_) => Err(Parting::Gone(Cause::Memory)),
+                Err(_) => Err(Ending::Gone(Cause::Memory)),
             }
         }
         Message::Binary(_) => {
             close(socket, CloseCode::Unsupported)?;
-            Err(Parting::Closing(Cause::Binary))
+            Err(Ending::Closing(Cause::Binary))
         }
-        Message::Close(_) => Err(Parting::Closing(Cause::Peer)),
+        Message::Close(_) => Err(Ending::Closing(Cause::Peer)),
         Message::Ping(_) | Message::Pong(_) => Ok(()),
     }
 }

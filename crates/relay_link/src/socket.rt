@@ -14,8 +14,9 @@ use tungstenite::{
 /// A WebSocket on the server side, whose frames are not masked.
 pub(crate) type Socket<S> = WebSocket<CorkedWriter<S>, NoMask>;
 
-/// The size of one read, in bytes. The default of `tungstenite`, 128 KiB, is too much if many sockets are held.
-pub(crate) const MAX_READ: usize = 4_096;
+/// The size of a socket's read buffer, in bytes, which is also the most that one read gives. Most requests are shorter. The default of
+/// `tungstenite`, 128 KiB, is too much if many sockets are held.
+const READ_BUFFER: usize = 1_024;
 
 /// The maximum size of an incoming message and of each of its frames, in bytes. It is a little more than the longest request, so
 /// that a request that is slightly too long still gets a reply. A longer message ends the link with [`Cause::Broken`].
@@ -30,7 +31,7 @@ pub(crate) fn socket_on<S: Read + Write + Drop>(
     stream: CorkedWriter<S>,
 ) -> Socket<S> {
     let config = WebSocketConfig::default()
-        .read_buffer_size(MAX_READ)
+        .read_buffer_size(READ_BUFFER)
         .write_buffer_size(MAX_GATHERED)
         .max_message_size(Some(MAX_MESSAGE))
         .max_frame_size(Some(MAX_MESSAGE));

@@ -79,15 +79,15 @@ fn writes_a_byte_at_a_time(rt: HostRuntime) {
     );
 }
 
-/// A turn makes at most 32 reads.
+/// A turn makes at most 128 reads.
 #[test]
 fn a_flood_ends_a_turn(rt: HostRuntime) {
     play_open(
         &rt,
         &[
             (1, Reads(Some(InjectedFault::OneByte)), "Open as 1"),
-            (1, Comes(b"\x81\xfe\x00\x80\x00\x00\x00\x00"), "Open as 1"),
-            (1, Fills(128), "Open as 1"),
+            (1, Comes(b"\x81\xfe\x02\x00\x00\x00\x00\x00"), "Open as 1"),
+            (1, Fills(512), "Open as 1"),
             (2, Idle, "Open as 1"),
             (1, Idle, "receive 1; Open as 1"),
         ],

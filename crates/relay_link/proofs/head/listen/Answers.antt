@@ -3,7 +3,7 @@ use Rattle.std.proofs.Common.{rules, ◌≡◌, ◌≤◌, ℕ, List, false, len
 use Rattle.std.specs.Io.KnownBytes.{Consumes}
 use Rattle.relay_link.specs.Asks.{Asks, Receives}
 use Rattle.relay_link.specs.Stream.{stream_of}
-use Rattle.relay_link.specs.declared.socket.TheConstants.{MAX_READ}
+use Rattle.relay_link.specs.declared.head.TheConstants.{MAX_READ}
 use Rattle.relay_link.specs.declared.state.State.TheVariants.{Head}
 use Rattle.relay_link.proofs.Following.{follows_wider}
 use Rattle.relay_link.proofs.Heads.{extended, asks_with}
