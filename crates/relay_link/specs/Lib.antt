@@ -5,3 +5,4 @@ pub mod Adds
 pub mod Stage
 pub mod SocketError
 pub mod Turns
+pub mod Ends

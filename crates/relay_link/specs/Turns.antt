@@ -1,15 +1,17 @@
 -- The contract of a turn of a link.
-use Rattle.std.specs.Prelude.{◌≡◌, ◌≤◌, ℕ, List, [], Option, None, Some, true, min, is_some, length}
+use Rattle.std.specs.Prelude.{◌≡◌, ◌≤◌, ◌+◌, ℕ, List, [], Option, None, Some, true, min, is_some, length}
 use Rattle.std.specs.List.{Contains}
 use Rattle.relay_hub.specs.State.{State as Hub}
 use Rattle.relay_hub.specs.declared.event.Event.TheVariants.{Close}
 use Rattle.relay_link.specs.Adds.{receives, draws}
 use Rattle.relay_link.specs.Asks.{asked_by, Receives}
+use Rattle.relay_link.specs.Ends.{turns_left}
 use Rattle.relay_link.specs.Follows.{Follows, at}
 use Rattle.relay_link.specs.Stage.{stage_of, session_of, leaves, is_over}
+use Rattle.relay_link.specs.declared.cause.Cause.TheVariants.{Silent}
 use Rattle.relay_link.specs.declared.link.TheConstants.{MAX_DRAWS}
 use Rattle.relay_link.specs.declared.event_log.TheConstants.{MAX_EVENTS}
-use Rattle.relay_link.specs.declared.stage.Stage.TheVariants.{Gone}
+use Rattle.relay_link.specs.declared.stage.Stage.TheVariants.{Closing, Gone}
 use Rattle.relay_link.specs.declared.state.State.{State}
 use Rattle.relay_link.specs.declared.turn.Turn.{Turn}
 
@@ -28,4 +30,7 @@ pub record Turns {S : Type 0} (remaining : S → Option (List ℕ)) (texts most 
   pub over : is_over (stage_of new) ≡ true → session_of new ≡ None
   pub stage : turn.stage ≡ stage_of new
   pub cause : is_some turn.cause ≡ leaves (stage_of old) (stage_of new)
+  -- a turn uses up one of those in which the other side may answer a close, and only when they are used up is it silent
+  pub patient : stage_of new ≡ Closing → turns_left old ≤ turns_left new + 1
+  pub silent : turn.cause ≡ Some Silent → turns_left old ≤ 1
   pub gone : stage_of old ≡ Gone → (turn.made.items ≡ []) × (new ≡ old)

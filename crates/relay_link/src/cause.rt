@@ -26,11 +26,15 @@ pub enum Cause {
 }
 
 impl Cause {
+    ghost use Rattle.std.specs.Prelude.{◌≡◌};
     ghost use Rattle.relay_link.specs.SocketError.{IsOfSocket};
+    ghost use Rattle.relay_link.specs.Ends.{socket_cause, IsPrompt};
 
     /// The cause for an error of a socket whose handshake is done.
     pub(crate) fn of(error: &Error) -> Cause
         requires { IsOfSocket error.now }
+        ensures cause { result ≡ socket_cause error.now }
+        ensures prompt { IsPrompt result }
     {
         match error {
             Error::ConnectionClosed

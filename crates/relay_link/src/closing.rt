@@ -1,6 +1,8 @@
 //! The turn of a closing link, whose session is closed and which waits for the other side's close frame.
-ghost use Rattle.std.specs.Prelude.{◌≡◌, is_some, None};
+ghost use Rattle.std.specs.Prelude.{◌≡◌, ◌+◌, ◌≤◌, is_some, Some, None, IfErr};
+ghost use Rattle.relay_link.specs.Ends.{IsPrompt, turns_left};
 ghost use Rattle.relay_link.specs.Stage.{leaves, stage_of, session_of, IsForward};
+ghost use Rattle.relay_link.specs.declared.cause.Cause.TheVariants.{Silent};
 ghost use Rattle.relay_link.specs.declared.stage.Stage.TheVariants.{Closing};
 
 use crate::cause::Cause;
@@ -17,6 +19,8 @@ pub(crate) fn turn<S: Read + Write + Drop>(mut socket: Socket<S>, turns: u64) ->
     ensures session { session_of result.state ≡ None }
     ensures cause { is_some result.cause ≡ leaves Closing (stage_of result.state) }
     ensures forward { IsForward Closing (stage_of result.state) }
+    ensures silent { result.cause ≡ Some Silent → turns ≤ 1 }
+    ensures patient { stage_of result.state ≡ Closing → turns ≤ turns_left result.state + 1 }
 {
     socket.get_mut().begin_poll();
     if let Err(cause) = let_go(&mut socket) {
@@ -33,7 +37,9 @@ pub(crate) fn turn<S: Read + Write + Drop>(mut socket: Socket<S>, turns: u64) ->
 }
 
 /// Sends pending output, then reads one message and drops it.
-fn let_go<S: Read + Write + Drop>(socket: &mut Socket<S>) -> Result<(), Cause> {
+fn let_go<S: Read + Write + Drop>(socket: &mut Socket<S>) -> Result<(), Cause>
+    ensures { IfErr result IsPrompt }
+{
     if socket.get_ref().has_output() {
         flush(socket)?;
     }

@@ -1,10 +1,13 @@
 //! The handshake of a link: its request head, then the reply.
-ghost use Rattle.std.specs.Prelude.{◌≡◌, ◌+◌, ◌≤◌, length, is_some, Some, None, string_bytes, false};
+ghost use Rattle.std.specs.Prelude.{◌≡◌, ◌≢◌, ◌+◌, ◌≤◌, length, is_some, Some, None, string_bytes, false};
 ghost use Rattle.relay_link.specs.Adds.{Adds};
 ghost use Rattle.relay_link.specs.Asks.{Asks, Receives, awaits_head};
+ghost use Rattle.relay_link.specs.Ends.{turns_left};
 ghost use Rattle.relay_link.specs.Follows.{Follows, no_room, is_room, at};
 ghost use Rattle.relay_link.specs.Stage.{entered, leaves, stage_of, session_of};
 ghost use Rattle.relay_link.specs.Stream.{stream_of};
+ghost use Rattle.relay_link.specs.declared.cause.Cause.TheVariants.{Silent};
+ghost use Rattle.relay_link.specs.declared.closing.TheConstants.{MAX_TURNS};
 ghost use Rattle.relay_link.specs.declared.event_log.TheConstants.{MAX_EVENTS};
 ghost use Rattle.relay_link.specs.declared.stage.Stage.TheVariants.{Head};
 
@@ -39,6 +42,8 @@ pub(crate) fn listen<S: Read + Write + Drop>(
     ensures received { Receives S.remaining (State.Head stream bytes) result.state }
     ensures adds { Adds 2 0 0 made.old made.new }
     ensures cause { is_some result.cause ≡ leaves Head (stage_of result.state) }
+    ensures prompt { result.cause ≢ Some Silent }
+    ensures patient { MAX_TURNS ≤ turns_left result.state }
 {
     stream.begin_poll();
     let mut chunk = [0u8; MAX_READ];
@@ -80,6 +85,8 @@ fn admit<S: Read + Write + Drop>(
     ensures past { awaits_head result.state ≡ false }
     ensures adds { Adds 2 0 0 made.old made.new }
     ensures cause { is_some result.cause ≡ leaves Head (stage_of result.state) }
+    ensures prompt { result.cause ≢ Some Silent }
+    ensures patient { MAX_TURNS ≤ turns_left result.state }
 {
     match events::open(alloc, hub, room, made) {
         Some(session) => answer(
@@ -111,6 +118,8 @@ fn answer<S: Read + Write + Drop>(
     ensures past { awaits_head result.state ≡ false }
     ensures adds { Adds 1 0 0 made.old made.new }
     ensures cause { is_some result.cause ≡ leaves Head (stage_of result.state) }
+    ensures prompt { result.cause ≢ Some Silent }
+    ensures patient { MAX_TURNS ≤ turns_left result.state }
 {
     reply(alloc, stream, Reply { rest, verdict }, hub, made)
 }
@@ -130,6 +139,8 @@ pub(crate) fn reply<S: Read + Write + Drop>(
     ensures past { awaits_head result.state ≡ false }
     ensures adds { Adds 1 0 0 made.old made.new }
     ensures cause { is_some result.cause ≡ leaves Head (stage_of result.state) }
+    ensures prompt { result.cause ≢ Some Silent }
+    ensures patient { MAX_TURNS ≤ turns_left result.state }
 {
     match reply.send(&mut stream) {
         Ok(()) => match reply.verdict {

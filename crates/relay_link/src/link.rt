@@ -1,12 +1,14 @@
 //! A link: one socket, driven by turns.
-ghost use Rattle.std.specs.Prelude.{◌≡◌, ◌+◌, ◌≤◌, [], None, is_some, IfOk, OnOk, OnErr, length};
+ghost use Rattle.std.specs.Prelude.{◌≡◌, ◌+◌, ◌≤◌, [], Some, None, is_some, IfOk, OnOk, OnErr, length};
 ghost use Rattle.relay_link.specs.Adds.{Adds, texts_of};
 ghost use Rattle.relay_link.specs.Asks.{asked_by, IsFresh, Receives};
+ghost use Rattle.relay_link.specs.Ends.{turns_left};
 ghost use Rattle.relay_link.specs.Follows.{Follows, no_room, at, closing_of};
 ghost use Rattle.relay_link.specs.Stage.{stage_of, session_of, has_corked_output, is_idle, leaves, ended, IsForward};
 ghost use Rattle.relay_link.specs.Turns.{Turns};
+ghost use Rattle.relay_link.specs.declared.cause.Cause.TheVariants.{Silent};
 ghost use Rattle.relay_link.specs.declared.event_log.TheConstants.{MAX_EVENTS};
-ghost use Rattle.relay_link.specs.declared.stage.Stage.TheVariants.{Head, Gone};
+ghost use Rattle.relay_link.specs.declared.stage.Stage.TheVariants.{Head, Closing, Gone};
 
 use crate::cause::Cause;
 use crate::corked_writer::CorkedWriter;
@@ -226,6 +228,8 @@ fn advance<S: Read + Write + Drop>(
     ensures cause { is_some result.cause ≡ leaves (stage_of state) (stage_of result.state) }
     ensures forward { IsForward (stage_of state) (stage_of result.state) }
     ensures gone { stage_of state ≡ Gone → (made.new ≡ made.old) × (result.state ≡ state) }
+    ensures silent { result.cause ≡ Some Silent → turns_left state ≤ 1 }
+    ensures patient { stage_of result.state ≡ Closing → turns_left state ≤ turns_left result.state + 1 }
 {
     match state {
         State::Replying { stream, reply } => head::reply(alloc, stream, reply, hub, made),

@@ -1,8 +1,11 @@
 //! The turn of an open link: it sends pending output, reads a message, then draws and sends messages.
-ghost use Rattle.std.specs.Prelude.{◌≡◌, ◌+◌, ◌≤◌, length, is_some, Some, None};
+ghost use Rattle.std.specs.Prelude.{◌≡◌, ◌≢◌, ◌+◌, ◌≤◌, length, is_some, Some, None, IfErr};
 ghost use Rattle.relay_link.specs.Adds.{Adds, texts_of};
+ghost use Rattle.relay_link.specs.Ends.{IsPrompt, cause_of, turns_left};
 ghost use Rattle.relay_link.specs.Follows.{Follows, no_room, at};
 ghost use Rattle.relay_link.specs.Stage.{leaves, stage_of, session_of, IsForward};
+ghost use Rattle.relay_link.specs.declared.cause.Cause.TheVariants.{Silent};
+ghost use Rattle.relay_link.specs.declared.closing.TheConstants.{MAX_TURNS};
 ghost use Rattle.relay_link.specs.declared.event_log.TheConstants.{MAX_EVENTS};
 ghost use Rattle.relay_link.specs.declared.stage.Stage.TheVariants.{Open};
 
@@ -52,6 +55,8 @@ pub(crate) fn turn<S: Read + Write + Drop>(
     ensures adds { Adds (draws + 2) (texts_of phase) draws made.old made.new }
     ensures cause { is_some result.cause ≡ leaves Open (stage_of result.state) }
     ensures forward { IsForward Open (stage_of result.state) }
+    ensures prompt { result.cause ≢ Some Silent }
+    ensures patient { MAX_TURNS ≤ turns_left result.state }
 {
     if phase != TurnPhase::Write {
         socket.get_mut().begin_poll();
@@ -69,11 +74,14 @@ fn settle<S: Read + Write + Drop>(
     hub: &mut Hub,
     made: &mut EventLog,
 ) -> Transition<S>
-    requires { length made.old + 1 ≤ MAX_EVENTS }
+    requires space { length made.old + 1 ≤ MAX_EVENTS }
+    requires prompt { IfErr turned (λ ending. IsPrompt (cause_of ending)) }
     ensures follows { Follows no_room (at hub.old (Some session) made.old) (at hub.new (session_of result.state) made.new) }
     ensures adds { Adds 1 0 0 made.old made.new }
     ensures cause { is_some result.cause ≡ leaves Open (stage_of result.state) }
     ensures forward { IsForward Open (stage_of result.state) }
+    ensures prompt { result.cause ≢ Some Silent }
+    ensures patient { MAX_TURNS ≤ turns_left result.state }
 {
     match turned {
         Ok(()) => Transition::on(State::Open { socket, session }),
@@ -102,6 +110,7 @@ fn talk<S: Read + Write + Drop>(
     requires { length made.old + draws + 1 ≤ MAX_EVENTS }
     ensures follows { Follows no_room (at hub.old (Some session) made.old) (at hub.new (Some session) made.new) }
     ensures adds { Adds (draws + 1) (texts_of phase) draws made.old made.new }
+    ensures prompt { IfErr result (λ ending. IsPrompt (cause_of ending)) }
 {
     if !flush(socket)? {
         return Ok(());
@@ -132,6 +141,7 @@ fn exchange<S: Read + Write + Drop>(
     requires { length made.old + draws + 1 ≤ MAX_EVENTS }
     ensures follows { Follows no_room (at hub.old (Some session) made.old) (at hub.new (Some session) made.new) }
     ensures adds { Adds (draws + 1) (texts_of phase) draws made.old made.new }
+    ensures prompt { IfErr result (λ ending. IsPrompt (cause_of ending)) }
 {
     if phase != TurnPhase::Write && hub.may_hear(session) {
         receive_message(alloc, socket, session, hub, made)?;
@@ -152,6 +162,7 @@ fn receive_message<S: Read + Write + Drop>(
     requires { length made.old + 1 ≤ MAX_EVENTS }
     ensures follows { Follows no_room (at hub.old (Some session) made.old) (at hub.new (Some session) made.new) }
     ensures adds { Adds 1 1 0 made.old made.new }
+    ensures prompt { IfErr result (λ ending. IsPrompt (cause_of ending)) }
 {
     let Some(message) = read(socket)? else {
         return Ok(());
@@ -189,6 +200,7 @@ fn gather<S: Read + Write + Drop>(
     requires { length made.old + draws ≤ MAX_EVENTS }
     ensures follows { Follows no_room (at hub.old (Some session) made.old) (at hub.new (Some session) made.new) }
     ensures adds { Adds draws 0 draws made.old made.new }
+    ensures prompt { IfErr result IsPrompt }
 {
     for _ in 0..draws {
         let text = match events::draw(alloc, hub, session, made) {

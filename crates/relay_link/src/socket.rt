@@ -1,5 +1,6 @@
 //! The WebSocket of a link. No call blocks.
 ghost use Rattle.std.specs.Prelude.{IfErr};
+ghost use Rattle.relay_link.specs.Ends.{IsPrompt};
 ghost use Rattle.relay_link.specs.SocketError.{IsOfSocket};
 
 use crate::cause::Cause;
@@ -41,9 +42,9 @@ pub(crate) fn socket_on<S: Read + Write + Drop>(
 /// Reads one message. `None` if no complete message is available now. After a message the socket asks for another turn, since the
 /// next one may already be buffered.
 #[tactic(auto, using(crate::proofs::SocketErrors::read_error))]
-pub(crate) fn read<S: Read + Write + Drop>(
-    socket: &mut Socket<S>,
-) -> Result<Option<Message>, Cause> {
+pub(crate) fn read<S: Read + Write + Drop>(socket: &mut Socket<S>) -> Result<Option<Message>, Cause>
+    ensures { IfErr result IsPrompt }
+{
     match socket.read() {
         Ok(message) => {
             socket.get_mut().request_poll();
@@ -56,7 +57,9 @@ pub(crate) fn read<S: Read + Write + Drop>(
 
 /// Sends pending output. `false` if output is still pending; so for `write` and `close`.
 #[tactic(auto, using(crate::proofs::SocketErrors::flush_error))]
-pub(crate) fn flush<S: Read + Write + Drop>(socket: &mut Socket<S>) -> Result<bool, Cause> {
+pub(crate) fn flush<S: Read + Write + Drop>(socket: &mut Socket<S>) -> Result<bool, Cause>
+    ensures { IfErr result IsPrompt }
+{
     is_sent(socket.flush())
 }
 
@@ -65,7 +68,9 @@ pub(crate) fn flush<S: Read + Write + Drop>(socket: &mut Socket<S>) -> Result<bo
 pub(crate) fn write<S: Read + Write + Drop>(
     socket: &mut Socket<S>,
     words: Utf8Bytes,
-) -> Result<bool, Cause> {
+) -> Result<bool, Cause>
+    ensures { IfErr result IsPrompt }
+{
     is_sent(socket.write(Message::Text(words)))
 }
 
@@ -74,7 +79,9 @@ pub(crate) fn write<S: Read + Write + Drop>(
 pub(crate) fn close<S: Read + Write + Drop>(
     socket: &mut Socket<S>,
     code: CloseCode,
-) -> Result<bool, Cause> {
+) -> Result<bool, Cause>
+    ensures { IfErr result IsPrompt }
+{
     let reason = Utf8Bytes::new();
     is_sent(socket.close(Some(CloseFrame { code, reason })))
 }
@@ -82,6 +89,7 @@ pub(crate) fn close<S: Read + Write + Drop>(
 /// Whether a call has sent all pending output.
 fn is_sent(sent: Result<(), Error>) -> Result<bool, Cause>
     requires { IfErr sent IsOfSocket }
+    ensures { IfErr result IsPrompt }
 {
     match sent {
         Ok(()) => Ok(true),

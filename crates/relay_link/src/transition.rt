@@ -14,7 +14,9 @@ pub(crate) struct Transition<S: Write + Drop> {
 
 impl<S: Write + Drop> Transition<S> {
     ghost use Rattle.std.specs.Prelude.{◌≡◌, Some, None};
+    ghost use Rattle.relay_link.specs.Ends.{turns_left};
     ghost use Rattle.relay_link.specs.Stage.{stage_of, session_of};
+    ghost use Rattle.relay_link.specs.declared.closing.TheConstants.{MAX_TURNS};
     ghost use Rattle.relay_link.specs.declared.stage.Stage.TheVariants.{Closing, Gone};
 
     pub(crate) fn on(state: State<S>) -> Transition<S>
@@ -27,6 +29,7 @@ impl<S: Write + Drop> Transition<S> {
         ensures stage { stage_of result.state ≡ Closing }
         ensures session { session_of result.state ≡ None }
         ensures cause { result.cause ≡ Some cause }
+        ensures turns { turns_left result.state ≡ MAX_TURNS }
     {
         Transition {
             state: State::Closing {

@@ -19,5 +19,7 @@ returns-clause-turns g c = record {
   over = search rules;
   stage = search rules;
   cause = search rules;
+  patient = search rules;
+  silent = search rules;
   gone = search rules;
 }
