@@ -89,3 +89,11 @@ def flood(attackers):
         heavy.begin(editor)
     copies = heavy.edit_heaviest(editors[0])
     attackers.pour(editors, heavy.edit(copies), 1_000_000, SECONDS)
+
+
+def removals(attackers):
+    """Removals from large objects, from 18 connections for five seconds, as fast as they are read."""
+    editors = [attackers.open(f"heavy{room}") for room in range(EDITORS)]
+    for editor in editors:
+        heavy.begin_members(editor)
+    attackers.pour(editors, heavy.edit_members(), 1_000_000, SECONDS)

@@ -1,5 +1,6 @@
-"""The heavy edit: a few bytes that stand for many values. A list of 15,000 is copied to one place, again and again, so that the document
-stays within its limit, and each copy is a change of its own that carries all values."""
+"""Heavy edits: a few bytes that stand for much work. Either a list of 15,000 is copied to one place, again and again, so that the document
+stays within its limit, and each copy is a change of its own that carries all values. Or a member of a large object is removed and added
+again: the changes weigh nothing, but each removal that other operations follow copies the object."""
 
 import wire
 from attackers import Wrong
@@ -11,13 +12,29 @@ VIEW = ["/t"] * 16
 """The copies come from outside these slots, so each slot is told all values of each copy."""
 
 
+MEMBERS = 18_000
+AGAIN = [{"op": "remove", "path": "/m0"}, {"op": "add", "path": "/m0", "value": 0}]
+
+
 def edit(copies):
     return wire.request("edit", patch=[COPY] * copies)
 
 
+def edit_members():
+    return wire.request("edit", patch=AGAIN * (OPERATIONS // 2))
+
+
 def begin(client, items=ITEMS):
     """Makes the document; the list is in its room from here on."""
-    document = {"a": [0] * items, "t": {}}
+    set_document(client, {"a": [0] * items, "t": {}})
+
+
+def begin_members(client):
+    """Makes a document of many members; it is in its room from here on."""
+    set_document(client, {f"m{number}": 0 for number in range(MEMBERS)})
+
+
+def set_document(client, document):
     reply = client.ask(wire.request("edit", patch=[{"op": "add", "path": "", "value": document}]))
     if reply["kind"] != "done":
         raise Wrong(f"the document is answered {reply}")
