@@ -120,7 +120,7 @@ fn host<L: OpenListener, P: Readiness<L::Stream>, W: Write, J: ConnectionLog>(
 ) -> Result<(), ServeFault>
 where
     L::Stream: Read + Write + OpenStream + Drop,
-    ensures rounds { RoundsOf server.old server.new }
+    ensures rounds { RoundsOf L.Stream.remaining server.old server.new }
     ensures done { OnOk result (Appends (W.contents writer.old) (W.contents writer.new) (served_text port turns)) }
     ensures stopped { OnErr result (AppendsPart (W.contents writer.old) (W.contents writer.new) (served_text port turns)) }
     ensures uncut { IfErr result (λ fault. fault ≡ Ended NoMemory → Listens port (W.contents writer.old) (W.contents writer.new)) }

@@ -1,45 +1,50 @@
 -- Lemmas about `Advances`: one after another, and that the hub goes on standing for its log.
-use Rattle.std.proofs.Common.{◌≡◌, ◌≢◌, ℕ, List, [], ◌++◌, Option, refl, sym, ◌∙◌, subst}
+use Rattle.std.proofs.Common.{◌≡◌, ℕ, List, Option, refl, ◌∙◌}
 use Rattle.relay_hub.specs.Log.{Log}
-use Rattle.relay_hub.specs.Shed.{shed}
 use Rattle.relay_hub.specs.Stands.{StandsFor, EachHoldsPresent, EachIsAtNamed}
 use Rattle.relay_hub.specs.State.{State}
 use Rattle.relay_hub.specs.declared.config.HubConfig.{HubConfig}
-use Rattle.relay_hub.specs.declared.event.Event.{Event}
 use Rattle.relay_hub.proofs.Shedding.{shed_stands}
 use Rattle.relay_hub.proofs.Stands.{step_stands}
 use Rattle.relay_hub.proofs.Watchers.{exactly_held, each_held}
-use Rattle.relay_link.specs.Follows.{Point, any_room, Follows, stays as none, makes, at}
-use Rattle.relay_serving.specs.Advances.{Sessions, Advances, stays, turns, sheds, with_events, with_turns}
+use Rattle.relay_link.specs.Follows.{Point, Follows, stays as none, makes}
+use Rattle.relay_serving.specs.Advances.{Links, Advances, stays, turns, adds, removes, sheds, with_events, with_turns}
 use Rattle.relay_serving.specs.Rounds.{Rounds}
 use Rattle.relay_serving.proofs.Owners.{connected_after}
 
--- sessions are the same if each key's is
-pub advances_same : {hub next : State} {old held new : Sessions} → Advances hub old next held → ((key : ℕ) → new key ≡ held key) → Advances hub old next new
-advances_same (stays was) same = stays (λ key. same key ∙ was key)
-advances_same (turns {mid = mid} {next = next} {held = held} before key made follows others) same =
-    turns before key made (subst (λ session. Follows any_room (at mid (held key) []) (at next session made)) (sym (same key)) follows) (λ other apart. same other ∙ others other apart)
-advances_same (sheds before) same = sheds (advances_same before same)
+module _ {S : Type 0} {remaining : S → Option (List ℕ)} where
+  -- links are the same if each key's is
+  pub advances_same : {hub next : State} {old held new : Links S} → Advances remaining hub old next held → ((key : ℕ) → new key ≡ held key) → Advances remaining hub old next new
+  advances_same (stays was) same = stays (λ key. same key ∙ was key)
+  advances_same (turns before key made had has others follows received) same = turns before key made had (same key ∙ has) (λ other apart. same other ∙ others other apart) follows received
+  advances_same (adds before key had has others fresh) same = adds before key had (same key ∙ has) (λ other apart. same other ∙ others other apart) fresh
+  advances_same (removes before key had has others bare) same = removes before key had (same key ∙ has) (λ other apart. same other ∙ others other apart) bare
+  advances_same (sheds before) same = sheds (advances_same before same)
 
--- one after the other
-pub advances_then : {hub mid next : State} {old held new : Sessions} → Advances hub old mid held → Advances mid held next new → Advances hub old next new
-advances_then before (stays same) = advances_same before same
-advances_then before (turns after key made follows others) = turns (advances_then before after) key made follows others
-advances_then before (sheds after) = sheds (advances_then before after)
+  -- one after the other
+  pub advances_then : {hub mid next : State} {old held new : Links S} → Advances remaining hub old mid held → Advances remaining mid held next new → Advances remaining hub old next new
+  advances_then before (stays same) = advances_same before same
+  advances_then before (turns after key made had has others follows received) = turns (advances_then before after) key made had has others follows received
+  advances_then before (adds after key had has others fresh) = adds (advances_then before after) key had has others fresh
+  advances_then before (removes after key had has others bare) = removes (advances_then before after) key had has others bare
+  advances_then before (sheds after) = sheds (advances_then before after)
 
 -- after a link's events the hub stands for the log with their entries
-follows_stand : (b : HubConfig) (E : Log) {p q : Point} → StandsFor b E p.hub → (follows : Follows any_room p q) → StandsFor b (with_events follows E) q.hub
+follows_stand : (b : HubConfig) (E : Log) {rooms : List ℕ → Type 0} {p q : Point} → StandsFor b E p.hub → (follows : Follows rooms p q) → StandsFor b (with_events follows E) q.hub
 follows_stand b E stands none = stands
 follows_stand b E stands (makes {q = q} {hub = hub} event answer before own step) = step_stands b (with_events before E) q.hub hub event answer (follows_stand b E stands before) step
 
--- the same after several links' events
-pub advances_stand : (b : HubConfig) (E : Log) {hub next : State} {old new : Sessions} → StandsFor b E hub → (advances : Advances hub old next new) → StandsFor b (with_turns advances E) next
-advances_stand b E stands (stays same) = stands
-advances_stand b E stands (turns before key made follows others) = follows_stand b (with_turns before E) (advances_stand b E stands before) follows
-advances_stand b E stands (sheds {mid = mid} before) = shed_stands b (with_turns before E) mid (advances_stand b E stands before)
+module _ {S : Type 0} {remaining : S → Option (List ℕ)} where
+  -- the same after several links' events
+  pub advances_stand : (b : HubConfig) (E : Log) {hub next : State} {old new : Links S} → StandsFor b E hub → (advances : Advances remaining hub old next new) → StandsFor b (with_turns advances E) next
+  advances_stand b E stands (stays same) = stands
+  advances_stand b E stands (turns before key made had has others follows received) = follows_stand b (with_turns before E) (advances_stand b E stands before) follows
+  advances_stand b E stands (adds before key had has others fresh) = advances_stand b E stands before
+  advances_stand b E stands (removes before key had has others bare) = advances_stand b E stands before
+  advances_stand b E stands (sheds {mid = mid} before) = shed_stands b (with_turns before E) mid (advances_stand b E stands before)
 
 -- and each client that watches holds what is so
-module _ {hub next : State} {old new : Sessions} (advances : Advances hub old next new) (b : HubConfig) (E : Log) (stands : StandsFor b E hub) where
+module _ {S : Type 0} {remaining : S → Option (List ℕ)} {hub next : State} {old new : Links S} (advances : Advances remaining hub old next new) (b : HubConfig) (E : Log) (stands : StandsFor b E hub) where
   pub exact_after : EachHoldsPresent b (with_turns advances E) next
   exact_after s name g x w there is watches = exactly_held b (with_turns advances E) next s name g x w (advances_stand b E stands advances) there is watches
 
@@ -48,7 +53,7 @@ module _ {hub next : State} {old new : Sessions} (advances : Advances hub old ne
       each_held b (with_turns advances E) next s name g x w (advances_stand b E stands advances) there is watches before after m split
 
 -- what follows from turns of links
-pub rounds_of : {hub next : State} {old new : Sessions} → Advances hub old next new → Rounds hub old next new
+pub rounds_of : {S : Type 0} {remaining : S → Option (List ℕ)} {hub next : State} {old new : Links S} → Advances remaining hub old next new → Rounds remaining hub old next new
 rounds_of advances = record {
   advances = advances;
   stands = λ b E stands. advances_stand b E stands advances;
@@ -57,9 +62,9 @@ rounds_of advances = record {
   connected = connected_after advances;
 }
 
-pub no_rounds : {hub : State} {sessions : Sessions} → Rounds hub sessions hub sessions
-no_rounds {hub = hub} {sessions = sessions} =
-    let none : Advances hub sessions hub sessions = stays (λ key. refl) in
+pub no_rounds : {S : Type 0} {remaining : S → Option (List ℕ)} {hub : State} {links : Links S} → Rounds remaining hub links hub links
+no_rounds {remaining = remaining} {hub = hub} {links = links} =
+    let none : Advances remaining hub links hub links = stays (λ key. refl) in
     record {
       advances = none;
       stands = λ b E stands. stands;

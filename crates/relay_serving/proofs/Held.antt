@@ -1,5 +1,5 @@
--- What changes of the slab mean for the sessions of its connections.
-use Rattle.std.proofs.Common.{◌≡◌, ◌≢◌, ℕ, List, [], Option, Some, None, refl, sym, ◌∙◌, ap, subst, subst₂, inl, inr, option_and_then, arith, ◌<◌, ◌≤◌, length, cond, is_some, get_or}
+-- What changes of the slab mean for the links of its connections.
+use Rattle.std.proofs.Common.{◌≡◌, ◌≢◌, ℕ, List, [], Option, Some, None, refl, sym, ◌∙◌, ap, subst, inl, inr, option_map, arith, ◌<◌, ◌≤◌, length, cond, is_some, get_or}
 use Rattle.std.proofs.lemmas.Bool.{cases_eq}
 use Rattle.std.proofs.lemmas.List.Sums.{sum_by-set}
 use Rattle.slab.specs.Slab.{Slab, get, slab_len, with_value, Updates}
@@ -7,38 +7,64 @@ use Rattle.slab.proofs.SlabLemmas.{Updates-with_value, ContainsKey-within}
 use Rattle.relay_hub.specs.Shed.{shed}
 use Rattle.relay_hub.specs.State.{State}
 use Rattle.relay_hub.specs.declared.event.Event.{Event}
-use Rattle.relay_link.specs.Follows.{Follows, any_room, at}
-use Rattle.relay_link.proofs.Following.{follows_wider}
+use Rattle.relay_link.specs.Asks.{asked_by, IsFresh, Receives}
+use Rattle.relay_link.specs.Follows.{Follows, at, no_room}
+use Rattle.relay_link.proofs.Following.{follows_none}
 use Rattle.relay_link.specs.Stage.{stage_of, session_of}
 use Rattle.relay_link.specs.declared.stage.Stage.TheVariants as stage
 use Rattle.relay_link.specs.declared.state.State.{State as Link}
 use Rattle.relay_link.specs.declared.state.State.TheVariants.{Head, Replying, Open, Closing, Gone}
-use Rattle.relay_serving.specs.Advances.{Sessions, sessions_of, Advances, stays, turns, sheds}
+use Rattle.relay_serving.specs.Advances.{Links, IsNew, links_of, Advances, stays, turns, adds, removes, sheds}
 use Rattle.relay_serving.specs.declared.connection.Connection.{Connection}
+use Rattle.relay_serving.specs.declared.ready.Watched.{Watched}
 
 abbrev is_one : {X : Type 0} → Option X → ℕ
 is_one o = cond (is_some o) 1 0
 
-abbrev of : {S : Type 0} → Option (Connection S) → Option ℕ
-of o = option_and_then (λ c. session_of c.link) o
+abbrev of : {S : Type 0} → Option (Connection S) → Option (Link (Watched S))
+of o = option_map (λ c. c.link) o
+
+-- A link that is gone has no session.
+gone_is_none : {S : Type 0} (link : Link S) → stage_of link ≡ stage.Gone → session_of link ≡ None
+gone_is_none (Head stream bytes) is = absurd (cc is)
+gone_is_none (Replying stream reply) is = absurd (cc is)
+gone_is_none (Open socket s) is = absurd (cc is)
+gone_is_none (Closing socket left) is = refl
+gone_is_none Gone is = refl
+
+-- Nor does it wait for a head.
+gone_receives : {S : Type 0} (remaining : S → Option (List ℕ)) (old link : Link S) → stage_of link ≡ stage.Gone → Receives remaining old link
+gone_receives remaining old (Head stream bytes) is = absurd (cc is)
+gone_receives remaining old (Replying stream reply) is = tt
+gone_receives remaining old (Open socket s) is = tt
+gone_receives remaining old (Closing socket left) is = tt
+gone_receives remaining old Gone is = tt
+
+-- A link on a stream that was just given has received nothing.
+pub new_of : {S : Type 0} (given : S) (link : Link S) → IsFresh given link → IsNew link
+new_of given (Head stream bytes) fresh = fresh.1
+new_of given (Replying stream reply) fresh = absurd fresh
+new_of given (Open socket s) fresh = absurd fresh
+new_of given (Closing socket left) fresh = absurd fresh
+new_of given Gone fresh = absurd fresh
 
 module _ {S : Type 0} (old new : Slab (Connection S)) (key : ℕ) (slot : Option (Connection S)) (updates : Updates old new key slot) where
-  -- the sessions stay, if that of the key does
-  pub updated_same : of slot ≡ of (get old key) → (other : ℕ) → sessions_of new other ≡ sessions_of old other
+  -- the links stay, if that of the key does
+  pub updated_same : of slot ≡ of (get old key) → (other : ℕ) → links_of new other ≡ links_of old other
   updated_same same other =
       elim (cases_eq other key) [
         | inl here ↦ rw here (ap of updates.changed ∙ same)
         | inr apart ↦ ap of (updates.others other apart)
       ]
 
-  pub updated_others : (other : ℕ) → other ≢ key → sessions_of new other ≡ sessions_of old other
+  pub updated_others : (other : ℕ) → other ≢ key → links_of new other ≡ links_of old other
   updated_others other apart = ap of (updates.others other apart)
 
 pub no_more_then : (new mid old : ℕ) → new ≤ mid → mid ≤ old → new ≤ old
 no_more_then new mid old after before = omega (arith, after, before)
 
 -- Nothing changed.
-pub none_changed : {hub : State} {sessions : Sessions} → Advances hub sessions hub sessions
+pub none_changed : {S : Type 0} {remaining : S → Option (List ℕ)} {hub : State} {links : Links S} → Advances remaining hub links hub links
 none_changed = stays (λ key. refl)
 
 module _ {S : Type 0} (held : Slab (Connection S)) (key : ℕ) (was is : Connection S) (there : get held key ≡ Some was) where
@@ -53,40 +79,38 @@ module _ {S : Type 0} (held : Slab (Connection S)) (key : ℕ) (was is : Connect
       let found : get_or held.slots key None ≡ Some was = there in
       omega (arith, sums, ap is_one found)
 
-  -- A connection changed, and its link did not.
-  pub woken : (hub : State) → is.link ≡ was.link → Advances hub (sessions_of held) hub (sessions_of (with_value held key is))
-  woken hub same = stays (updated_same held (with_value held key is) key (Some is) written (ap session_of same ∙ sym (ap of there)))
+  module _ {remaining : Watched S → Option (List ℕ)} where
+    -- A connection changed, and its link did not.
+    pub woken : (hub : State) → is.link ≡ was.link → Advances remaining hub (links_of held) hub (links_of (with_value held key is))
+    woken hub same = stays (updated_same held (with_value held key is) key (Some is) written (ap Some same ∙ sym (ap of there)))
 
-  -- A call on its link changed nothing.
-  pub unmoved : (hub next : State) → next ≡ hub → is.link ≡ was.link → Advances hub (sessions_of held) next (sessions_of (with_value held key is))
-  unmoved hub next same link = subst (λ h. Advances hub (sessions_of held) h (sessions_of (with_value held key is))) (sym same) (woken hub link)
+    -- A call on its link changed nothing.
+    pub unmoved : (hub next : State) → next ≡ hub → is.link ≡ was.link → Advances remaining hub (links_of held) next (links_of (with_value held key is))
+    unmoved hub next same link = subst (λ h. Advances remaining hub (links_of held) h (links_of (with_value held key is))) (sym same) (woken hub link)
 
-  -- Its link made a turn.
-  pub turned : (rooms : List ℕ → Type 0) (hub next : State) (made : List Event) → Follows rooms (at hub (session_of was.link) []) (at next (session_of is.link) made)
-      → Advances hub (sessions_of held) next (sessions_of (with_value held key is))
-  turned rooms hub next made follows =
-      turns (stays (λ other. refl)) key made
-      (subst₂ (λ before after. Follows any_room (at hub before []) (at next after made)) (sym (ap of there)) (sym (ap of written.changed)) (follows_wider (λ room asked. tt) follows))
-      (updated_others held (with_value held key is) key (Some is) written)
+    -- Its link made a turn.
+    pub turned : (hub next : State) (made : List Event) → Follows (asked_by remaining was.link) (at hub (session_of was.link) []) (at next (session_of is.link) made)
+        → Receives remaining was.link is.link → Advances remaining hub (links_of held) next (links_of (with_value held key is))
+    turned hub next made follows received =
+        turns (stays (λ other. refl)) key made (ap of there) (ap of written.changed) (updated_others held (with_value held key is) key (Some is) written) follows received
 
--- A connection without a session was added.
-pub added : {S : Type 0} (held new : Slab (Connection S)) (key : ℕ) (connection : Connection S) (hub : State) → get held key ≡ None → Updates held new key (Some connection)
-    → session_of connection.link ≡ None → Advances hub (sessions_of held) hub (sessions_of new)
-added held new key connection hub vacant updates none = stays (updated_same held new key (Some connection) updates (none ∙ sym (ap of vacant)))
+    -- Its link ended.
+    pub ended : (hub next : State) (made : List Event) → Follows no_room (at hub (session_of was.link) []) (at next (session_of is.link) made)
+        → stage_of is.link ≡ stage.Gone → Advances remaining hub (links_of held) next (links_of (with_value held key is))
+    ended hub next made follows gone = turned hub next made (follows_none follows) (gone_receives remaining was.link is.link gone)
 
--- A link that is gone has no session.
-gone_is_none : {S : Type 0} (link : Link S) → stage_of link ≡ stage.Gone → session_of link ≡ None
-gone_is_none (Head stream bytes) is = absurd (cc is)
-gone_is_none (Replying stream reply) is = absurd (cc is)
-gone_is_none (Open socket s) is = absurd (cc is)
-gone_is_none (Closing socket left) is = refl
-gone_is_none Gone is = refl
+-- A new connection was added.
+pub added : {S : Type 0} {remaining : Watched S → Option (List ℕ)} (held new : Slab (Connection S)) (key : ℕ) (connection : Connection S) (hub : State) → get held key ≡ None
+    → Updates held new key (Some connection) → IsNew connection.link → Advances remaining hub (links_of held) hub (links_of new)
+added held new key connection hub vacant updates fresh =
+    adds (stays (λ other. refl)) key (ap of vacant) (ap of updates.changed) (updated_others held new key (Some connection) updates) fresh
 
 -- A connection whose link is gone was removed.
-pub removed : {S : Type 0} (held new : Slab (Connection S)) (key : ℕ) (was : Connection S) (hub : State) → get held key ≡ Some was → stage_of was.link ≡ stage.Gone
-    → Updates held new key None → Advances hub (sessions_of held) hub (sessions_of new)
-removed held new key was hub there gone updates = stays (updated_same held new key None updates (sym (ap of there ∙ gone_is_none was.link gone)))
+pub removed : {S : Type 0} {remaining : Watched S → Option (List ℕ)} (held new : Slab (Connection S)) (key : ℕ) (was : Connection S) (hub : State) → get held key ≡ Some was
+    → stage_of was.link ≡ stage.Gone → Updates held new key None → Advances remaining hub (links_of held) hub (links_of new)
+removed held new key was hub there gone updates =
+    removes (stays (λ other. refl)) key (ap of there) (ap of updates.changed) (updated_others held new key None updates) (gone_is_none was.link gone)
 
 -- The hub gave memory back.
-pub shed_back : (hub : State) (sessions : Sessions) → Advances hub sessions (shed hub) sessions
-shed_back hub sessions = sheds (stays (λ key. refl))
+pub shed_back : {S : Type 0} {remaining : S → Option (List ℕ)} (hub : State) (links : Links S) → Advances remaining hub links (shed hub) links
+shed_back hub links = sheds (stays (λ key. refl))

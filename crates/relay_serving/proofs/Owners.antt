@@ -1,19 +1,22 @@
 -- Each open session stays that of exactly one connection.
-use Rattle.std.proofs.Common.{◌≡◌, ◌≢◌, ◌⊎◌, ℕ, ◌==◌, ◌≤◌, Bool, true, false, List, [], Option, Some, None, is_some, refl, sym, ◌∙◌, ap, subst, inl, inr, arith, slice_get, nat_eq, IsSome, if◌then◌else◌}
+use Rattle.std.proofs.Common.{◌≡◌, ◌≢◌, ◌⊎◌, ℕ, ◌==◌, List, [], Option, Some, None, refl, sym, ◌∙◌, ap, subst, inl, inr, arith, slice_get, nat_eq, IsSome, if◌then◌else◌, option_and_then}
 use Rattle.std.proofs.lemmas.Bool.Decides.{eqb_tells}
 use Rattle.std.specs.Map.{lookup}
 use Rattle.relay_hub.specs.Session.{Session}
 use Rattle.relay_hub.specs.State.{State, RoomSessions, Home, IsHub, place_of, session_in}
-use Rattle.relay_hub.specs.Step.{Step, AtHome, AtPlace, InRoom, ClosesIn, ClosesInRoom, ClosesAt, Opens}
+use Rattle.relay_hub.specs.Step.{Step, AtPlace, InRoom, ClosesIn, ClosesAt}
 use Rattle.relay_hub.specs.declared.event.Answer.{Answer}
-use Rattle.relay_hub.specs.declared.event.Answer.TheVariants.{Opened, NotOpened, Heard, Drawn, Closed, NoSession}
+use Rattle.relay_hub.specs.declared.event.Answer.TheVariants.{Opened, NotOpened, Closed}
 use Rattle.relay_hub.specs.declared.event.Event.{Event}
 use Rattle.relay_hub.specs.declared.event.Event.TheVariants.{Open, Receive, Draw, Close}
 use Rattle.relay_hub.proofs.Members.{step_is_hub}
 use Rattle.relay_hub.proofs.Cases.{by_number}
 use Rattle.relay_hub.proofs.Shedding.{shed_is_hub}
-use Rattle.relay_link.specs.Follows.{Point, any_room, Follows, stays as none, makes, at, IsOwn, session_after}
-use Rattle.relay_serving.specs.Advances.{Sessions, Advances, stays, turns, sheds}
+use Rattle.relay_link.specs.Follows.{Point, Follows, stays as none, makes, IsOwn, session_after}
+use Rattle.relay_link.specs.Stage.{session_of}
+use Rattle.relay_link.specs.declared.state.State.{State as Link}
+use Rattle.relay_link.specs.declared.state.State.TheVariants.{Head, Replying, Open as Opening, Closing, Gone}
+use Rattle.relay_serving.specs.Advances.{Links, IsNew, Sessions, sessions_in, Advances, stays, turns, adds, removes, sheds}
 use Rattle.relay_serving.specs.Rounds.{OneEach, Connected}
 
 -- the same sessions, but for one key's
@@ -162,46 +165,71 @@ module _ (key : ℕ) (sessions : Sessions) where
             ]
       ]
 
-  one_event : (mine : Option ℕ) (event : Event) (answer : Answer) (old new : State) → IsHub old → IsOwn any_room mine event → Step old event answer new
+  one_event : (rooms : List ℕ → Type 0) (mine : Option ℕ) (event : Event) (answer : Answer) (old new : State) → IsHub old → IsOwn rooms mine event → Step old event answer new
       → OneEach old (with_session key mine sessions) → OneEach new (with_session key (session_after mine event answer) sessions)
-  one_event mine (Open name) (Opened n) old new is own step each =
+  one_event rooms mine (Open name) (Opened n) old new is own step each =
       let o = step.1 in
       opens n o.place old new (ap (λ t. place_of old t) o.number ∙ is.below old.next (omega arith)) o.home (subst (λ session. OneEach old (with_session key session sessions)) own.0 each)
-  one_event mine (Open name) (NotOpened fault) old new is own step each = one_each_same (λ t. ap (λ hub. place_of hub t) step.1) (λ k. refl) each
-  one_event mine (Receive s text) answer old new is own step each = one_each_same (at_place_homes (place_of old s) old new answer _ step) (λ k. refl) each
-  one_event mine (Draw s) answer old new is own step each = one_each_same (at_place_homes (place_of old s) old new answer _ step) (λ k. refl) each
-  one_event mine (Close s) answer old new is own step each =
+  one_event rooms mine (Open name) (NotOpened fault) old new is own step each = one_each_same (λ t. ap (λ hub. place_of hub t) step.1) (λ k. refl) each
+  one_event rooms mine (Receive s text) answer old new is own step each = one_each_same (at_place_homes (place_of old s) old new answer _ step) (λ k. refl) each
+  one_event rooms mine (Draw s) answer old new is own step each = one_each_same (at_place_homes (place_of old s) old new answer _ step) (λ k. refl) each
+  one_event rooms mine (Close s) answer old new is own step each =
       let some = each.opened key s (mine_there mine ∙ own) in
       closes s old new (closed s (place_of old s) old new answer is refl some step) (subst (λ session. OneEach old (with_session key session sessions)) own each)
-  one_event mine (Open name) answer old new is own step each = absurd step
+  one_event rooms mine (Open name) answer old new is own step each = absurd step
 
   -- several events of a link
-  one_link : {p q : Point} → Follows any_room p q → IsHub p.hub → OneEach p.hub (with_session key p.session sessions) → IsHub q.hub × OneEach q.hub (with_session key q.session sessions)
+  one_link : {rooms : List ℕ → Type 0} {p q : Point} → Follows rooms p q → IsHub p.hub → OneEach p.hub (with_session key p.session sessions) → IsHub q.hub × OneEach q.hub (with_session key q.session sessions)
   one_link none is each = (is, each)
-  one_link (makes {q = q} {hub = hub} event answer before own step) is each =
+  one_link {rooms = rooms} (makes {q = q} {hub = hub} event answer before own step) is each =
       let was = one_link before is each in
-      (step_is_hub q.hub hub event answer was.0 step, one_event q.session event answer q.hub hub was.0 own step was.1)
+      (step_is_hub q.hub hub event answer was.0 step, one_event rooms q.session event answer q.hub hub was.0 own step was.1)
 
 -- a link's session changes, and no other
-set_back : (key : ℕ) (held new : Sessions) → ((other : ℕ) → other ≢ key → new other ≡ held other) → (k : ℕ) → new k ≡ with_session key (new key) held k
-set_back key held new others k = elim (eqb_tells key k) [
-  | inl same ↦ rw same.0 (sym (ap new same.1))
+set_back : (key : ℕ) (mine : Option ℕ) (held new : Sessions) → new key ≡ mine → ((other : ℕ) → other ≢ key → new other ≡ held other) → (k : ℕ) → new k ≡ with_session key mine held k
+set_back key mine held new has others k = elim (eqb_tells key k) [
+  | inl same ↦ rw same.0 (sym (ap new same.1) ∙ has)
   | inr apart ↦ rw apart.0 (others k (λ same. apart.1 (sym same)))
 ]
 
-advance_each : {hub next : State} {old new : Sessions} → Advances hub old next new → IsHub hub → OneEach hub old → IsHub next × OneEach next new
-advance_each (stays same) is each = (is, one_each_same (λ t. refl) same each)
-advance_each (turns {held = held} {new = new} before key made follows others) is each =
-    let was = advance_each before is each in
-    let mine = one_each_same (λ t. refl) (λ k. sym (set_back key held held (λ other apart. refl) k)) was.1 in
-    let done = one_link key held follows was.0 mine in
-    (done.0, one_each_same (λ t. refl) (set_back key held new others) done.1)
-advance_each (sheds {mid = mid} before) is each =
-    let was = advance_each before is each in
-    (shed_is_hub mid was.0, one_each_same (λ t. refl) (λ k. refl) was.1)
+new_none : {S : Type 0} (link : Link S) → IsNew link → session_of link ≡ None
+new_none (Head stream bytes) fresh = refl
+new_none (Replying stream reply) fresh = absurd fresh
+new_none (Opening socket s) fresh = absurd fresh
+new_none (Closing socket left) fresh = absurd fresh
+new_none Gone fresh = absurd fresh
 
-pub connected_after : {hub next : State} {old new : Sessions} → Advances hub old next new → Connected hub old → Connected next new
-connected_after advances was = advance_each advances was.0 was.1
+-- the sessions are the same if no other key has another link, and this key's has the same session
+kept_sessions : {S : Type 0} (held new : Links S) (key : ℕ) → sessions_in new key ≡ sessions_in held key → ((other : ℕ) → other ≢ key → new other ≡ held other)
+    → (k : ℕ) → sessions_in new k ≡ sessions_in held k
+kept_sessions held new key same others k = elim (eqb_tells k key) [
+  | inl here ↦ subst (λ k. sessions_in new k ≡ sessions_in held k) (sym here.1) same
+  | inr apart ↦ ap (option_and_then session_of) (others k apart.1)
+]
+
+module _ {S : Type 0} {remaining : S → Option (List ℕ)} where
+  advance_each : {hub next : State} {old new : Links S} → Advances remaining hub old next new → IsHub hub → OneEach hub (sessions_in old)
+      → IsHub next × OneEach next (sessions_in new)
+  advance_each (stays same) is each = (is, one_each_same (λ t. refl) (λ k. ap (option_and_then session_of) (same k)) each)
+  advance_each (turns {held = held} {new = new} {was = was} {is = now} before key made had has others follows received) is each =
+      let earlier = advance_each before is each in
+      let mine = one_each_same (λ t. refl) (λ k. sym (set_back key (session_of was) (sessions_in held) (sessions_in held) (ap (option_and_then session_of) had) (λ other apart. refl) k)) earlier.1 in
+      let done = one_link key (sessions_in held) follows earlier.0 mine in
+      (done.0, one_each_same (λ t. refl) (set_back key (session_of now) (sessions_in held) (sessions_in new) (ap (option_and_then session_of) has) (λ other apart. ap (option_and_then session_of) (others other apart))) done.1)
+  advance_each (adds {held = held} {new = new} {is = now} before key had has others fresh) is each =
+      let earlier = advance_each before is each in
+      let same = ap (option_and_then session_of) has ∙ new_none now fresh ∙ sym (ap (option_and_then session_of) had) in
+      (earlier.0, one_each_same (λ t. refl) (kept_sessions held new key same others) earlier.1)
+  advance_each (removes {held = held} {new = new} {was = was} before key had has others bare) is each =
+      let earlier = advance_each before is each in
+      let same = ap (option_and_then session_of) has ∙ sym bare ∙ sym (ap (option_and_then session_of) had) in
+      (earlier.0, one_each_same (λ t. refl) (kept_sessions held new key same others) earlier.1)
+  advance_each (sheds {mid = mid} before) is each =
+      let earlier = advance_each before is each in
+      (shed_is_hub mid earlier.0, one_each_same (λ t. refl) (λ k. refl) earlier.1)
+
+  pub connected_after : {hub next : State} {old new : Links S} → Advances remaining hub old next new → Connected hub (sessions_in old) → Connected next (sessions_in new)
+  connected_after advances was = advance_each advances was.0 was.1
 
 -- a hub without open sessions, and no connection with one
 pub none_connected : (hub : State) (sessions : Sessions) → IsHub hub → hub.homes ≡ [] → ((key : ℕ) → sessions key ≡ None) → Connected hub sessions

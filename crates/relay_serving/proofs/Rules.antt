@@ -1,7 +1,7 @@
 -- The lemmas that the server's functions use.
 use Rattle.relay_serving.proofs.Advancing.{advances_then, rounds_of}
-use Rattle.relay_serving.proofs.Held.{none_changed, woken, turned, added, removed, shed_back}
+use Rattle.relay_serving.proofs.Held.{none_changed, woken, turned, ended, added, removed, shed_back}
 
-pub ruleset advances = (advances_then, none_changed, woken, turned, added, removed, shed_back)
+pub ruleset advances = (advances_then, none_changed, woken, turned, ended, added, removed, shed_back)
 
 pub ruleset rounds = (advances_then, none_changed, rounds_of)

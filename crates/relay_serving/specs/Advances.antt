@@ -1,50 +1,83 @@
--- What a server does to its hub: turns of its connections' links, one after another, and giving memory back when it was refused.
-use Rattle.std.specs.Prelude.{ℕ, ◌≡◌, ◌≢◌, ◌≤◌, List, [], ◌∷◌, Option, option_and_then}
+-- What a server does to its hub and to its connections' links: turns of links, one after another, and giving memory back when it was
+-- refused. Between turns links are added and removed, and none changes.
+use Rattle.std.specs.Prelude.{ℕ, ◌≡◌, ◌≢◌, ◌≤◌, List, [], ◌∷◌, Option, Some, None, option_map, option_and_then}
 use Rattle.slab.specs.Slab.{Slab, get}
 use Rattle.relay_hub.specs.Log.{Log, entry}
 use Rattle.relay_hub.specs.Shed.{shed}
 use Rattle.relay_hub.specs.State.{State}
 use Rattle.relay_hub.specs.declared.event.Event.{Event}
-use Rattle.relay_link.specs.Follows.{Point, any_room, Follows, stays as none, makes, at}
+use Rattle.relay_link.specs.Asks.{asked_by, Receives}
+use Rattle.relay_link.specs.Follows.{Point, Follows, stays as none, makes, at}
 use Rattle.relay_link.specs.Stage.{session_of}
+use Rattle.relay_link.specs.declared.state.State.{State as Link}
+use Rattle.relay_link.specs.declared.state.State.TheVariants.{Head}
 use Rattle.relay_serving.specs.Connections.{connections_of, limit_of}
+use Rattle.relay_serving.specs.Ready.{left_of}
 use Rattle.relay_serving.specs.declared.connection.Connection.{Connection}
+use Rattle.relay_serving.specs.declared.ready.Watched.{Watched}
 use Rattle.relay_serving.specs.declared.server.Server.{Server}
 
--- by key, the session of the connection there, if it has one
+-- by key, the link of the connection there, if there is one
+abbrev pub Links : Type 0 → Type 0
+Links S = ℕ → Option (Link S)
+
+abbrev pub links_of : {S : Type 0} → Slab (Connection S) → Links (Watched S)
+links_of held key = option_map (λ c. c.link) (get held key)
+
+-- by key, the session of that link, if it has one
 abbrev pub Sessions : Type 0
 Sessions = ℕ → Option ℕ
 
-abbrev pub sessions_of : {S : Type 0} → Slab (Connection S) → Sessions
-sessions_of held key = option_and_then (λ c. session_of c.link) (get held key)
+abbrev pub sessions_in : {S : Type 0} → Links S → Sessions
+sessions_in links key = option_and_then session_of (links key)
 
--- The second hub, with its sessions, is reached from the first. The hub changes by turns of links alone, whose events are each the link's
--- own, and by giving memory back.
-pub data Advances : State → Sessions → State → Sessions → Type 0 where
-  stays : {hub : State} {old new : Sessions} → ((key : ℕ) → new key ≡ old key) → Advances hub old hub new
-  turns : {hub mid next : State} {old held new : Sessions} → Advances hub old mid held → (key : ℕ) (made : List Event)
-      → Follows any_room (at mid (held key) []) (at next (new key) made) → ((other : ℕ) → other ≢ key → new other ≡ held other) → Advances hub old next new
-  sheds : {hub mid : State} {old new : Sessions} → Advances hub old mid new → Advances hub old (shed mid) new
+-- the link waits for a head, and has received nothing
+abbrev pub IsNew : {S : Type 0} → Link S → Type 0
+IsNew (Head stream bytes) = bytes.items ≡ []
+IsNew _ = ⊥
+
+-- no key but this one has another link
+abbrev pub Others : {S : Type 0} → ℕ → Links S → Links S → Type 0
+Others key old new = (other : ℕ) → other ≢ key → new other ≡ old other
+
+module _ {S : Type 0} (remaining : S → Option (List ℕ)) where
+  -- The second hub, with its links, is reached from the first. The hub changes by turns of links alone, whose events are each the link's
+  -- own, and by giving memory back. A session is opened only in the room that the link's head asks for. The head is what the link has
+  -- received since it was added, and then what the turn reads.
+  pub data Advances : State → Links S → State → Links S → Type 0 where
+    stays : {hub : State} {old new : Links S} → ((key : ℕ) → new key ≡ old key) → Advances hub old hub new
+    turns : {hub mid next : State} {old held new : Links S} {was is : Link S} → Advances hub old mid held → (key : ℕ) (made : List Event)
+        → held key ≡ Some was → new key ≡ Some is → Others key held new
+        → Follows (asked_by remaining was) (at mid (session_of was) []) (at next (session_of is) made) → Receives remaining was is → Advances hub old next new
+    adds : {hub mid : State} {old held new : Links S} {is : Link S} → Advances hub old mid held → (key : ℕ)
+        → held key ≡ None → new key ≡ Some is → Others key held new → IsNew is → Advances hub old mid new
+    removes : {hub mid : State} {old held new : Links S} {was : Link S} → Advances hub old mid held → (key : ℕ)
+        → held key ≡ Some was → new key ≡ None → Others key held new → session_of was ≡ None → Advances hub old mid new
+    sheds : {hub mid : State} {old new : Links S} → Advances hub old mid new → Advances hub old (shed mid) new
 
 -- a log with the entries of a link's events
-abbrev pub with_events : {p q : Point} → Follows any_room p q → Log → Log
+abbrev pub with_events : {rooms : List ℕ → Type 0} {p q : Point} → Follows rooms p q → Log → Log
 with_events none E = E
 with_events (makes event answer before own step) E = entry event answer ∷ with_events before E
 
--- a log with the entries of all events
-abbrev pub with_turns : {hub next : State} {old new : Sessions} → Advances hub old next new → Log → Log
-with_turns (stays same) E = E
-with_turns (turns before key made follows others) E = with_events follows (with_turns before E)
-with_turns (sheds before) E = with_turns before E
+module _ {S : Type 0} {remaining : S → Option (List ℕ)} where
+  -- a log with the entries of all events
+  abbrev pub with_turns : {hub next : State} {old new : Links S} → Advances remaining hub old next new → Log → Log
+  with_turns (stays same) E = E
+  with_turns (turns before key made had has others follows received) E = with_events follows (with_turns before E)
+  with_turns (adds before key had has others fresh) E = with_turns before E
+  with_turns (removes before key had has others bare) E = with_turns before E
+  with_turns (sheds before) E = with_turns before E
 
--- from one server to another: the hub advances, and the limit on connections stays
-abbrev pub Keeps : {S R : Type 0} → Server S R → Server S R → Type 0
-Keeps old new = (new.most ≡ old.most) × Advances old.hub (sessions_of old.connections) new.hub (sessions_of new.connections)
+module _ {S R : Type 0} (remaining : S → Option (List ℕ)) where
+  -- from one server to another: the hub advances, and the limit on connections stays
+  abbrev pub Keeps : Server S R → Server S R → Type 0
+  Keeps old new = (new.most ≡ old.most) × Advances (left_of remaining) old.hub (links_of old.connections) new.hub (links_of new.connections)
 
--- no connection is added
-abbrev pub KeepsFewer : {S R : Type 0} → Server S R → Server S R → Type 0
-KeepsFewer old new = Keeps old new × (connections_of new ≤ connections_of old)
+  -- no connection is added
+  abbrev pub KeepsFewer : Server S R → Server S R → Type 0
+  KeepsFewer old new = Keeps old new × (connections_of new ≤ connections_of old)
 
--- none is added beyond the limit
-abbrev pub KeepsWithin : {S R : Type 0} → Server S R → Server S R → Type 0
-KeepsWithin old new = Keeps old new × (connections_of old ≤ limit_of old → connections_of new ≤ limit_of old)
+  -- none is added beyond the limit
+  abbrev pub KeepsWithin : Server S R → Server S R → Type 0
+  KeepsWithin old new = Keeps old new × (connections_of old ≤ limit_of old → connections_of new ≤ limit_of old)

@@ -1,3 +1,4 @@
 pub mod Connections
+pub mod Ready
 pub mod Advances
 pub mod Rounds

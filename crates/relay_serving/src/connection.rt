@@ -1,7 +1,8 @@
 //! A connection of a server: a link, and whether a turn of it would do anything.
-ghost use Rattle.std.specs.Prelude.{◌≡◌, ◌↔◌, ◌&&◌, ◌||◌, None, IfOk, IsTrue, is_none, not};
+ghost use Rattle.std.specs.Prelude.{◌≡◌, ◌↔◌, ◌&&◌, ◌||◌, IfOk, IsTrue, is_none, not};
 ghost use Rattle.relay_link.specs.Stage.{stage_of, session_of, is_idle};
 ghost use Rattle.relay_link.specs.declared.stage.Stage.TheVariants.{Closing};
+ghost use Rattle.relay_serving.specs.Advances.{IsNew};
 ghost use Rattle.relay_serving.specs.Connections.{has_room};
 
 use crate::readiness::StreamReady;
@@ -35,13 +36,14 @@ pub(crate) struct Connection<S: Write + Drop> {
 
 impl<S: Read + Write + Drop> Connection<S> {
     /// A connection that was just accepted.
+    #[tactic(auto, using(crate::proofs::Held::new_of))]
     pub(crate) fn new(
         alloc: Global,
         stream: S,
         place: u64,
         since: u64,
     ) -> Result<Connection<S>, AllocError>
-        ensures { IfOk result (λ connection. session_of connection.link ≡ None) }
+        ensures { IfOk result (λ connection. IsNew connection.link) }
     {
         let (stream, known) = Watched::new(alloc, stream)?;
         Ok(Connection {

@@ -1,4 +1,6 @@
 //! A stream, together with its readiness as the system last reported it.
+ghost use Rattle.relay_serving.specs.Ready.{left_of};
+
 use crate::readiness::StreamReady;
 use std::alloc::{AllocError, Global};
 use std::cell::Cell;
@@ -83,7 +85,7 @@ impl<S> Watched<S> {
 }
 
 impl<S: Read> Read for Watched<S> {
-    ghost remaining = { λ w. S.remaining w.stream };
+    ghost remaining = { left_of S.remaining };
 
     fn read(&mut self, buf: &mut [u8]) -> io::Result<usize> {
         if !self.known.is_readable() {

@@ -122,7 +122,7 @@ impl<S: Read + Write + OpenStream + Drop, R: Readiness<S>> Server<S, R> {
         listener: &L,
         log: &mut J,
     )
-        ensures rounds { RoundsOf self.old self.new }
+        ensures rounds { RoundsOf S.remaining self.old self.new }
         ensures limit { limit_of self.new ≡ limit_of self.old }
         ensures within { connections_of self.old ≤ limit_of self.old → connections_of self.new ≤ limit_of self.old }
     {
@@ -142,7 +142,7 @@ impl<S: Read + Write + OpenStream + Drop, R: Readiness<S>> Server<S, R> {
         rounds: u64,
         log: &mut J,
     )
-        ensures rounds { RoundsOf self.old self.new }
+        ensures rounds { RoundsOf S.remaining self.old self.new }
         ensures limit { limit_of self.new ≡ limit_of self.old }
         ensures within { connections_of self.old ≤ limit_of self.old → connections_of self.new ≤ limit_of self.old }
     {
@@ -155,7 +155,7 @@ impl<S: Read + Write + OpenStream + Drop, R: Readiness<S>> Server<S, R> {
     /// Ends every connection, by rising key.
     #[tactic(auto, using(crate::proofs::Rules::rounds))]
     pub fn end<J: ConnectionLog>(&mut self, alloc: Global, log: &mut J)
-        ensures rounds { RoundsOf self.old self.new }
+        ensures rounds { RoundsOf S.remaining self.old self.new }
         ensures limit { limit_of self.new ≡ limit_of self.old }
         ensures fewer { connections_of self.new ≤ connections_of self.old }
     {
@@ -172,7 +172,7 @@ impl<S: Read + Write + OpenStream + Drop, R: Readiness<S>> Server<S, R> {
     /// Polls what became ready, and waits if there is no work.
     #[tactic(auto, using(crate::proofs::Rules::advances))]
     fn poll(&mut self)
-        ensures { KeepsFewer self.old self.new }
+        ensures { KeepsFewer S.remaining self.old self.new }
     {
         let has_work = self.has_work();
         let most = Duration::from_millis(if has_work { 0 } else { WAIT });
@@ -235,7 +235,7 @@ impl<S: Read + Write + OpenStream + Drop, R: Readiness<S>> Server<S, R> {
     /// Applies an event. An event of a dropped connection is ignored.
     #[tactic(auto, using(crate::proofs::Rules::advances))]
     fn apply(&mut self, event: ReadyEvent)
-        ensures { KeepsFewer self.old self.new }
+        ensures { KeepsFewer S.remaining self.old self.new }
     {
         match event {
             ReadyEvent::Incoming => self.accept_ready = true,
@@ -249,7 +249,7 @@ impl<S: Read + Write + OpenStream + Drop, R: Readiness<S>> Server<S, R> {
     /// Marks everything as ready.
     #[tactic(auto, using(crate::proofs::Rules::advances))]
     fn mark_all(&mut self)
-        ensures { KeepsFewer self.old self.new }
+        ensures { KeepsFewer S.remaining self.old self.new }
     {
         self.accept_ready = true;
         self.write_pending = true;
@@ -261,7 +261,7 @@ impl<S: Read + Write + OpenStream + Drop, R: Readiness<S>> Server<S, R> {
     /// Records what the stream of a connection is ready for, if the connection is held.
     #[tactic(auto, using(crate::proofs::Rules::advances))]
     fn wake(&mut self, key: usize, ready: StreamReady)
-        ensures { KeepsFewer self.old self.new }
+        ensures { KeepsFewer S.remaining self.old self.new }
     {
         let Some(connection) = self.connections.get_mut(key) else {
             return;
@@ -272,7 +272,7 @@ impl<S: Read + Write + OpenStream + Drop, R: Readiness<S>> Server<S, R> {
     /// Gives each closing link a read turn.
     #[tactic(auto, using(crate::proofs::Rules::advances))]
     fn mark_closing(&mut self)
-        ensures { KeepsFewer self.old self.new }
+        ensures { KeepsFewer S.remaining self.old self.new }
     {
         for key in 0..self.keys() {
             self.mark_closing_at(key);
@@ -281,7 +281,7 @@ impl<S: Read + Write + OpenStream + Drop, R: Readiness<S>> Server<S, R> {
 
     #[tactic(auto, using(crate::proofs::Rules::advances))]
     fn mark_closing_at(&mut self, key: usize)
-        ensures { KeepsFewer self.old self.new }
+        ensures { KeepsFewer S.remaining self.old self.new }
     {
         let Some(connection) = self.connections.get_mut(key) else {
             return;
@@ -297,7 +297,7 @@ impl<S: Read + Write + OpenStream + Drop, R: Readiness<S>> Server<S, R> {
         listener: &L,
         log: &mut J,
     )
-        ensures { KeepsWithin self.old self.new }
+        ensures { KeepsWithin S.remaining self.old self.new }
     {
         for _ in 0..MAX_ACCEPTS {
             if !self.accept_ready {
@@ -321,7 +321,7 @@ impl<S: Read + Write + OpenStream + Drop, R: Readiness<S>> Server<S, R> {
     /// If the maximum number of connections is held, ends the oldest one without a session.
     #[tactic(auto, using(crate::proofs::Rules::advances))]
     fn evict<J: ConnectionLog>(&mut self, alloc: Global, log: &mut J)
-        ensures { KeepsFewer self.old self.new }
+        ensures { KeepsFewer S.remaining self.old self.new }
     {
         if self.connections.len() < self.most {
             return;
@@ -349,7 +349,7 @@ impl<S: Read + Write + OpenStream + Drop, R: Readiness<S>> Server<S, R> {
     /// Holds a new connection. It is dropped if there is no capacity, or if its stream cannot be made non-blocking or watched.
     #[tactic(auto, using(crate::proofs::Rules::advances))]
     fn add(&mut self, alloc: Global, stream: S) -> Result<(), AllocError>
-        ensures { KeepsWithin self.old self.new }
+        ensures { KeepsWithin S.remaining self.old self.new }
     {
         if self.connections.len() >= self.most || stream.set_nonblocking(true).is_err() {
             return Ok(());
@@ -372,7 +372,7 @@ impl<S: Read + Write + OpenStream + Drop, R: Readiness<S>> Server<S, R> {
     /// Reads from the links, in passes, until a pass reads no text or the round's share is read.
     #[tactic(auto, using(crate::proofs::Rules::advances))]
     fn read<J: ConnectionLog>(&mut self, alloc: Global, log: &mut J)
-        ensures { KeepsFewer self.old self.new }
+        ensures { KeepsFewer S.remaining self.old self.new }
     {
         let mut left = self.share;
         for _ in 0..MAX_TEXTS {
@@ -393,7 +393,7 @@ impl<S: Read + Write + OpenStream + Drop, R: Readiness<S>> Server<S, R> {
         share: ReadShare,
         log: &mut J,
     ) -> ReadShare
-        ensures { KeepsFewer self.old self.new }
+        ensures { KeepsFewer S.remaining self.old self.new }
     {
         let keys = self.keys();
         let behind = self.last_read.saturating_add(1).min(keys);
@@ -415,7 +415,7 @@ impl<S: Read + Write + OpenStream + Drop, R: Readiness<S>> Server<S, R> {
     /// Gives a link a read turn. Returns how many bytes the text has that the turn read, if it read one.
     #[tactic(auto, using(crate::proofs::Rules::advances))]
     fn read_link<J: ConnectionLog>(&mut self, alloc: Global, key: usize, log: &mut J) -> Option<u64>
-        ensures { KeepsFewer self.old self.new }
+        ensures { KeepsFewer S.remaining self.old self.new }
     {
         let Some(connection) = self.connections.get_mut(key) else {
             return None;
@@ -436,7 +436,7 @@ impl<S: Read + Write + OpenStream + Drop, R: Readiness<S>> Server<S, R> {
     /// those that have waiting messages.
     #[tactic(auto, using(crate::proofs::Rules::advances))]
     fn write<J: ConnectionLog>(&mut self, alloc: Global, log: &mut J)
-        ensures { KeepsFewer self.old self.new }
+        ensures { KeepsFewer S.remaining self.old self.new }
     {
         if !self.write_pending {
             return;
@@ -458,7 +458,7 @@ impl<S: Read + Write + OpenStream + Drop, R: Readiness<S>> Server<S, R> {
         last: usize,
         log: &mut J,
     ) -> usize
-        ensures { KeepsFewer self.old self.new }
+        ensures { KeepsFewer S.remaining self.old self.new }
     {
         let keys = self.keys();
         let behind = last.saturating_add(1).min(keys);
@@ -480,7 +480,7 @@ impl<S: Read + Write + OpenStream + Drop, R: Readiness<S>> Server<S, R> {
     /// Gives a link a write turn. Returns how many bytes the texts have that it drew.
     #[tactic(auto, using(crate::proofs::Rules::advances))]
     fn write_link<J: ConnectionLog>(&mut self, alloc: Global, key: usize, log: &mut J) -> u64
-        ensures { KeepsFewer self.old self.new }
+        ensures { KeepsFewer S.remaining self.old self.new }
     {
         let Some(connection) = self.connections.get_mut(key) else {
             return 0;
@@ -503,7 +503,7 @@ impl<S: Read + Write + OpenStream + Drop, R: Readiness<S>> Server<S, R> {
     /// Ends a link. Out of memory leaves it as it is, with its session.
     #[tactic(auto, using(crate::proofs::Rules::advances))]
     fn end_link<J: ConnectionLog>(&mut self, alloc: Global, key: usize, log: &mut J)
-        ensures { KeepsFewer self.old self.new }
+        ensures { KeepsFewer S.remaining self.old self.new }
     {
         let Some(connection) = self.connections.get_mut(key) else {
             return;
@@ -519,7 +519,7 @@ impl<S: Read + Write + OpenStream + Drop, R: Readiness<S>> Server<S, R> {
     /// Logs what a turn did to a connection, and drops the connection if its link is gone.
     #[tactic(auto, using(crate::proofs::Rules::advances))]
     fn settle<J: ConnectionLog>(&mut self, key: usize, before: Stage, turn: &Turn, log: &mut J)
-        ensures { KeepsFewer self.old self.new }
+        ensures { KeepsFewer S.remaining self.old self.new }
     {
         let Some(connection) = self.connections.get(key) else {
             return;
@@ -549,7 +549,7 @@ impl<S: Read + Write + OpenStream + Drop, R: Readiness<S>> Server<S, R> {
     /// Makes the hub give memory back, because an allocation failed. Logs it once in 1,024 rounds at most.
     #[tactic(auto, using(crate::proofs::Rules::advances))]
     fn shed<J: ConnectionLog>(&mut self, log: &mut J)
-        ensures { KeepsFewer self.old self.new }
+        ensures { KeepsFewer S.remaining self.old self.new }
     {
         self.hub.shed();
         if self.rounds >= self.next_shed_entry {
@@ -561,7 +561,7 @@ impl<S: Read + Write + OpenStream + Drop, R: Readiness<S>> Server<S, R> {
     /// Drops a connection whose link is gone, and so has no session.
     #[tactic(auto, using(crate::proofs::Rules::advances))]
     fn remove_gone(&mut self, key: usize)
-        ensures { KeepsFewer self.old self.new }
+        ensures { KeepsFewer S.remaining self.old self.new }
     {
         let Some(connection) = self.connections.get(key) else {
             return;

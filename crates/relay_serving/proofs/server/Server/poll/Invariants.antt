@@ -3,4 +3,4 @@ use Rattle.relay_serving.specs.Advances.{KeepsFewer}
 use Rattle.relay_serving.proofs.server.Server.poll.Given as goal
 
 abbrev pub invariant-loop-place : goal.invariant-loop-place
-invariant-loop-place g l = KeepsFewer l.initial.self l.self
+invariant-loop-place g l = KeepsFewer g.S.Read.remaining l.initial.self l.self

@@ -3,4 +3,4 @@ use Rattle.relay_serving.specs.Advances.{KeepsWithin}
 use Rattle.relay_serving.proofs.server.Server.run.Given as goal
 
 abbrev pub invariant-loop : goal.invariant-loop
-invariant-loop g l = KeepsWithin l.initial.self l.self
+invariant-loop g l = KeepsWithin g.S.Read.remaining l.initial.self l.self
