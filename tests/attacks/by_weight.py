@@ -48,18 +48,21 @@ def histories(attackers):
     for room in range(ROOMS):
         edits = 0
         while edits < EDITS_A_ROOM and sizes:
-            made, is_refused = fill(attackers, f"heavy{room}", *sizes[0], EDITS_A_ROOM - edits)
+            items, copies = sizes[0]
+            made, accepted_copies, is_refused = fill(attackers, f"heavy{room}", items, copies, EDITS_A_ROOM - edits)
             edits += made
             if is_refused:
                 sizes.pop(0)
+            else:
+                sizes[0] = items, accepted_copies
         accepted += edits
     if not accepted:
         raise Wrong("no edit to any room is accepted")
 
 
 def fill(attackers, room, items, copies, count):
-    """So many edits in one session. How many were accepted, and whether the relay then ended it: it refuses a session, or an edit, for
-    which it finds no memory."""
+    """So many edits in one session. How many were accepted, of how many copies the last one was, and whether the relay then ended it: it
+    refuses a session, or an edit, for which it finds no memory."""
     made = 0
     try:
         editor = attackers.open(room)
@@ -68,8 +71,8 @@ def fill(attackers, room, items, copies, count):
             copies = heavy.edit_heaviest(editor, copies)
             made += 1
     except wire.Ended:
-        return made, True
-    return made, False
+        return made, copies, True
+    return made, copies, False
 
 
 def silent_watcher(attackers):
