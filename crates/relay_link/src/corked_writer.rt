@@ -8,7 +8,7 @@ use std::alloc::{AllocError, Global};
 use std::io::{BufWriter, Read, Result, Write};
 
 /// The size of an output buffer, in bytes: enough for a reply and a few patches that are written together.
-const OUTPUT_BUFFER: usize = 1_024;
+const OUTPUT_BUFFER: usize = 1_536;
 
 /// A non-blocking stream behind an output buffer. While it is corked, a flush leaves the output in the buffer; output that exceeds
 /// the buffer is written all the same.
