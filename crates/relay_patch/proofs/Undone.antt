@@ -1,5 +1,6 @@
 -- A change whose record is kept does not alter the document that taking back restores.
 use Rattle.std.proofs.Common.{◌≡◌, ℕ, List, [], ◌∷◌, ◌++◌, Bool, true, false, Option, Some, None, Result, Ok, Err, ok_or, is_ok, IsOk, refl, sym, ap, subst, ◌∙◌, if◌then◌else◌, IsNone, IfSome, option_to_list}
+use Rattle.std.specs.List.{list_any}
 use Rattle.std.specs.Result.{result_ok}
 use Rattle.relay_tree.specs.Document.{Document, list, object, Items}
 use Rattle.relay_tree.specs.Part.{insert_item, member_at, add_member}
@@ -14,8 +15,9 @@ use Rattle.relay_patch.specs.Place.{Place, parent, last}
 use Rattle.relay_patch.specs.Patch.{Act, replaced, insert_child, insert_element, drop_child, below, at_path}
 use Rattle.relay_patch.specs.Change.{Change, Makes, in_list, in_object, inserted, inserted_at}
 use Rattle.relay_patch.specs.Measure.{displaced, gone}
-use Rattle.relay_patch.specs.Undo.{target, brought, or_same, undone, taken_back}
+use Rattle.relay_patch.specs.Undo.{target, brought, replaces_document, or_same, undone, taken_back}
 use Rattle.relay_patch.specs.declared.applying.undo.Undo.{Undo}
+use Rattle.relay_patch.specs.declared.applying.undo.Undo.TheVariants as undo
 use Rattle.relay_patch.specs.declared.change.Change.TheVariants as change
 use Rattle.relay_patch.proofs.Refusals.{then_ok, ok_or_some}
 use Rattle.relay_patch.proofs.Parts.{at_index, place_in_at_index}
@@ -117,6 +119,19 @@ taken_back-more d (x ∷ kept) k = ap (undone x) (taken_back-more d kept k)
 -- after a change whose record is kept, taking back gives the same document as before it
 pub kept_back : (d d' : Document) (old new : List Undo) (k : Undo) → undone k d' ≡ d → new ≡ old ++ k ∷ [] → taken_back d' new ≡ taken_back d old
 kept_back d d' old new k back more = rw more (taken_back-more d' old k ∙ ap (λ e. taken_back e old) back)
+
+-- a record of a document at the root takes back to it, whatever the document is now
+pub document_back : (d e : Document) (old new : List Undo) (path : Path) (part : Document) → path ≡ [] → part ≡ e → new ≡ old ++ undo.Part path part ∷ [] → taken_back d new ≡ taken_back e old
+document_back d e old new path part root is more = kept_back e d old new (undo.Part path part) (rw root is) more
+
+-- where a record replaces the whole document, what the document is now does not matter
+pub whole_back : (kept : List Undo) (d e : Document) → list_any replaces_document kept ≡ true → taken_back d kept ≡ taken_back e kept
+whole_back [] d e h = cc
+whole_back (undo.Part [] part ∷ kept) d e h = refl
+whole_back (undo.Part (t ∷ path) part ∷ kept) d e h = ap (undone (undo.Part (t ∷ path) part)) (whole_back kept d e h)
+whole_back (undo.Inserted path ∷ kept) d e h = ap (undone (undo.Inserted path)) (whole_back kept d e h)
+whole_back (undo.Element path i v capacity ∷ kept) d e h = ap (undone (undo.Element path i v capacity)) (whole_back kept d e h)
+whole_back (undo.Slid path i j ∷ kept) d e h = ap (undone (undo.Slid path i j)) (whole_back kept d e h)
 
 -- the last record is taken back first
 pub one_back : (d n w : Document) (all kept : List Undo) (o : Option Undo) (k : Undo) → o ≡ Some k → all ≡ kept ++ option_to_list o → n ≡ undone k d → taken_back d all ≡ w → taken_back n kept ≡ w

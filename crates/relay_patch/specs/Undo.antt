@@ -1,6 +1,6 @@
 -- How changes are taken back: a replaced part is put back, an inserted one is dropped, an element that was removed from a list is inserted
 -- again, and one that slid within its list slides back.
-use Rattle.std.specs.Prelude.{ℕ, List, [], ◌∷◌, Option, Some, None, option_and_then, Result, Ok, Err, nat_lt, if◌then◌else◌}
+use Rattle.std.specs.Prelude.{ℕ, List, [], ◌∷◌, Option, Some, None, option_and_then, Result, Ok, Err, nat_lt, if◌then◌else◌, Bool, true, false}
 use Rattle.std.specs.VecDeque.{deque_capacity}
 use Rattle.relay_tree.specs.Document.{Document, list, Items}
 use Rattle.relay_tree.specs.Part.{items_length, item_at, insert_item, drop_item}
@@ -26,6 +26,11 @@ target (change.Copy from to v) = Some to.path
 abbrev pub brought : Path → Option Document → Undo
 brought path (Some part) = undo.Part path part
 brought path None = undo.Inserted path
+
+-- whether the record replaces the whole document, so that the document after the change does not matter
+abbrev pub replaces_document : Undo → Bool
+replaces_document (undo.Part [] part) = true
+replaces_document k = false
 
 abbrev pub or_same : Result Document Cause → Document → Document
 or_same (Ok e) d = e

@@ -28,7 +28,7 @@ mod undo;
 mod walk;
 
 use self::steps::{Done, perform};
-use self::undo::{Undo, take_back};
+use self::undo::{Kept, take_back};
 use crate::bounds::Bounds;
 use crate::change::Change;
 use crate::fault::ApplyFault;
@@ -49,8 +49,9 @@ use std::alloc::Global;
 /// into a list, or a removal, moves pointers to the elements on its shorter side. A far move within one list does both; a
 /// near one exchanges neighbours. If a later operation is refused, the earlier ones are taken back. One case costs more: if
 /// a member is moved, or if it is removed and either another operation follows or the old document is outside the bounds,
-/// the object is copied without it. The document is measured once, as far as there are bounds, and again after the first
-/// change if it was outside them. After that, only what an operation changed is measured.
+/// the object is copied without it. If the weight is bounded and the document within its bounds, the objects that a patch copies weigh
+/// no more than the document; for the next, the whole document is copied once, and then no more. The document is measured once, as far
+/// as there are bounds, and again after the first change if it was outside them. After that, only what an operation changed is measured.
 pub fn apply(
     alloc: Global,
     tree: &mut Tree,
@@ -134,11 +135,11 @@ fn run(
     ensures memory { IfErr result (λ fault. fault.cause ≡ NoMemory → Reaches tree.old ops.now bounds fault.at) }
     ensures unchanged { IfErr result (λ _. tree.new ≡ tree.old) }
 {
-    let mut kept = Vec::new(alloc);
+    let mut kept = Kept::new(alloc);
     match run_keeping(alloc, tree, &mut kept, known, ops, bounds) {
         Ok(done) => Ok(done),
         Err(fault) => {
-            take_back(tree, kept);
+            take_back(tree, kept.undos);
             Err(fault)
         }
     }
@@ -149,7 +150,7 @@ fn run(
 fn run_keeping(
     alloc: Global,
     tree: &mut Tree,
-    kept: &mut Vec<Undo>,
+    kept: &mut Kept,
     known: Option<u64>,
     ops: &[Op],
     bounds: Bounds,
@@ -162,7 +163,7 @@ fn run_keeping(
     ensures paid { IfOk result (λ done. paid (changes_weight done.changes.items) bounds.changes ≡ Some done.left) }
     ensures refused { IfErr result (λ fault. fault.cause ≢ NoMemory → after tree.old ops.now bounds ≡ Err fault) }
     ensures memory { IfErr result (λ fault. fault.cause ≡ NoMemory → Reaches tree.old ops.now bounds fault.at) }
-    ensures back { OnErr result (taken_back tree.new kept.new.items ≡ taken_back tree.old kept.old.items) }
+    ensures back { OnErr result (taken_back tree.new kept.new.undos.items ≡ taken_back tree.old kept.old.undos.items) }
 {
     let mut done = Done {
         changes: Vec::new(alloc),

@@ -17,7 +17,7 @@ use super::making::make;
 use super::measuring::{displaced, gone, measure, weight_after};
 use super::recording::record;
 use super::sliding::in_one_list;
-use super::undo::Undo;
+use super::undo::Kept;
 use crate::bounds::Bounds;
 use crate::change::{Change, Place};
 use crate::fault::Cause;
@@ -39,7 +39,7 @@ pub(crate) struct Done {
 pub(crate) fn perform(
     alloc: Global,
     tree: &mut Tree,
-    kept: &mut Vec<Undo>,
+    kept: &mut Kept,
     done: Done,
     op: &Op,
     bounds: Bounds,
@@ -54,8 +54,8 @@ pub(crate) fn perform(
     ensures changes { IfOk result (λ next. next.changes.items ≡ done.changes.items ++ changes_of tree.old op.now) }
     ensures refused { IfErr result (λ cause. cause ≢ NoMemory → performed bounds (changes_weight done.changes.items) tree.old op.now ≡ Err cause) }
     ensures memory { IfErr result (λ cause. cause ≡ NoMemory → IsOk (effect tree.old op.now)) }
-    ensures back { OnOk result (0 < following → taken_back tree.new kept.new.items ≡ taken_back tree.old kept.old.items) }
-    ensures refused_back { OnErr result (taken_back tree.new kept.new.items ≡ taken_back tree.old kept.old.items) }
+    ensures back { OnOk result (0 < following → taken_back tree.new kept.new.undos.items ≡ taken_back tree.old kept.old.undos.items) }
+    ensures refused_back { OnErr result (taken_back tree.new kept.new.undos.items ≡ taken_back tree.old kept.old.undos.items) }
 {
     let change = record(alloc, tree, op)?;
     advance(alloc, tree, kept, done, change, bounds, following)
@@ -66,7 +66,7 @@ pub(crate) fn perform(
 fn advance(
     alloc: Global,
     tree: &mut Tree,
-    kept: &mut Vec<Undo>,
+    kept: &mut Kept,
     done: Done,
     change: Option<Change>,
     bounds: Bounds,
@@ -82,8 +82,8 @@ fn advance(
     ensures document { OnOk result (Leads tree.old (listed change) tree.new) }
     ensures changes { IfOk result (λ next. next.changes.items ≡ done.changes.items ++ listed change) }
     ensures refused { IfErr result (λ cause. cause ≢ NoMemory → (next : Document) × Leads tree.old (listed change) next × (afforded bounds (changes_weight done.changes.items + changes_weight (listed change)) next ≡ Err cause)) }
-    ensures back { OnOk result (0 < following → taken_back tree.new kept.new.items ≡ taken_back tree.old kept.old.items) }
-    ensures refused_back { OnErr result (taken_back tree.new kept.new.items ≡ taken_back tree.old kept.old.items) }
+    ensures back { OnOk result (0 < following → taken_back tree.new kept.new.undos.items ≡ taken_back tree.old kept.old.undos.items) }
+    ensures refused_back { OnErr result (taken_back tree.new kept.new.undos.items ≡ taken_back tree.old kept.old.undos.items) }
 {
     let Done {
         mut changes,
@@ -130,7 +130,7 @@ fn weigh(tree: &Tree, known: Option<u64>, bounds: Bounds) -> Result<u64, Cause>
 fn alter(
     alloc: Global,
     tree: &mut Tree,
-    kept: &mut Vec<Undo>,
+    kept: &mut Kept,
     known: Option<u64>,
     change: &Change,
     bounds: Bounds,
@@ -141,8 +141,8 @@ fn alter(
     ensures known { IfOk result (λ n. Known bounds tree.new (Some n)) }
     ensures made { OnOk result (Makes tree.old change.now tree.new) }
     ensures refused { IfErr result (λ cause. cause ≢ NoMemory → (next : Document) × Makes tree.old change.now next × (within bounds next ≡ Err cause)) }
-    ensures back { OnOk result (0 < following → taken_back tree.new kept.new.items ≡ taken_back tree.old kept.old.items) }
-    ensures refused_back { OnErr result (taken_back tree.new kept.new.items ≡ taken_back tree.old kept.old.items) }
+    ensures back { OnOk result (0 < following → taken_back tree.new kept.new.undos.items ≡ taken_back tree.old kept.old.undos.items) }
+    ensures refused_back { OnErr result (taken_back tree.new kept.new.undos.items ≡ taken_back tree.old kept.old.undos.items) }
 {
     match weigh(tree, known, bounds) {
         Ok(weight) if following == 0 && !carries(change) => {
@@ -196,7 +196,7 @@ fn alter_last(
 fn alter_keeping(
     alloc: Global,
     tree: &mut Tree,
-    kept: &mut Vec<Undo>,
+    kept: &mut Kept,
     weight: u64,
     change: &Change,
     bounds: Bounds,
@@ -206,14 +206,15 @@ fn alter_keeping(
     ensures known { IfOk result (λ n. Known bounds tree.new (Some n)) }
     ensures made { OnOk result (Makes tree.old change.now tree.new) }
     ensures refused { IfErr result (λ cause. cause ≢ NoMemory → (next : Document) × Makes tree.old change.now next × (within bounds next ≡ Err cause)) }
-    ensures back { taken_back tree.new kept.new.items ≡ taken_back tree.old kept.old.items }
+    ensures back { taken_back tree.new kept.new.undos.items ≡ taken_back tree.old kept.old.undos.items }
 {
+    let most = copies_bound(weight, bounds);
     let Some((from, to, value)) = carried(change) else {
         let next = weight_after(weight, change, gone(tree, change), bounds)?;
-        make_keeping(alloc, tree, kept, change)?;
+        make_keeping(alloc, tree, kept, change, most)?;
         return Ok(next);
     };
-    take_out(alloc, tree, kept, from)?;
+    take_out(alloc, tree, kept, from, most)?;
     let next = match weight_after(weight, change, displaced(tree, to), bounds) {
         Ok(next) => next,
         Err(cause) => return Err(cause),
@@ -222,11 +223,20 @@ fn alter_keeping(
     Ok(next)
 }
 
+// What the copies of objects that are kept may weigh: as much as the document, if its weight is known.
+fn copies_bound(weight: u64, bounds: Bounds) -> u64 {
+    if bounds.weight == u64::MAX {
+        u64::MAX
+    } else {
+        weight
+    }
+}
+
 // Makes a change to a document that is not within the bounds, keeps what takes it back, and measures the result.
 fn alter_unjudged(
     alloc: Global,
     tree: &mut Tree,
-    kept: &mut Vec<Undo>,
+    kept: &mut Kept,
     change: &Change,
     bounds: Bounds,
 ) -> Result<u64, Cause>
@@ -234,8 +244,8 @@ fn alter_unjudged(
     ensures known { IfOk result (λ n. Known bounds tree.new (Some n)) }
     ensures made { OnOk result (Makes tree.old change.now tree.new) }
     ensures refused { IfErr result (λ cause. cause ≢ NoMemory → (next : Document) × Makes tree.old change.now next × (within bounds next ≡ Err cause)) }
-    ensures back { taken_back tree.new kept.new.items ≡ taken_back tree.old kept.old.items }
+    ensures back { taken_back tree.new kept.new.undos.items ≡ taken_back tree.old kept.old.undos.items }
 {
-    make_keeping(alloc, tree, kept, change)?;
+    make_keeping(alloc, tree, kept, change, u64::MAX)?;
     measure(tree, bounds)
 }

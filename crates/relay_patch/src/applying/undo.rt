@@ -1,17 +1,19 @@
 //! Records of changes, by which they are taken back without allocating.
-ghost use Rattle.std.specs.Prelude.{◌≡◌};
+ghost use Rattle.std.specs.Prelude.{◌≡◌, []};
+ghost use Rattle.std.specs.List.{list_any};
 ghost use Rattle.std.specs.VecDeque.{deque_capacity};
 ghost use Rattle.relay_tree.specs.Document.{items_of};
 ghost use Rattle.relay_tree.specs.Seen.{document_of};
 ghost use Rattle.relay_pointer.specs.Path.{path_of, at, put};
 ghost use Rattle.relay_patch.specs.Patch.{at_path, drop_child};
-ghost use Rattle.relay_patch.specs.Undo.{brought, or_same, refilled_items, refilled, with_part, undone, taken_back};
+ghost use Rattle.relay_patch.specs.Undo.{brought, replaces_document, or_same, refilled_items, refilled, with_part, undone, taken_back};
 
 use super::insert_target::resolve_existing;
 use super::making::remove_at;
 use super::sliding::slide_at;
 use relay_pointer::{Pointer, exchange, resolve_mut};
 use relay_tree::{Element, Node, Tree};
+use std::alloc::Global;
 use std::collections::VecDeque;
 
 /// The record that takes a change back.
@@ -40,6 +42,42 @@ pub enum Undo {
         from: usize,
         to: usize,
     },
+}
+
+/// What takes the changes so far back.
+#[derive(Drop)]
+pub(crate) struct Kept {
+    /// The records of the changes, the newest last.
+    pub(crate) undos: Vec<Undo>,
+    /// What the copies of objects that were made for these records weigh.
+    pub(crate) copied: u64,
+}
+
+impl Kept {
+    pub(crate) fn new(alloc: Global) -> Kept
+        ensures { result.undos.items ≡ [] }
+    {
+        Kept {
+            undos: Vec::new(alloc),
+            copied: 0,
+        }
+    }
+}
+
+/// Returns whether some record replaces the whole document.
+pub(crate) fn holds_document(undos: &[Undo]) -> bool
+    ensures { result ≡ list_any replaces_document undos.now }
+{
+    undos.iter().any(replaces_document)
+}
+
+fn replaces_document(undo: &Undo) -> bool
+    ensures { result ≡ replaces_document undo.now }
+{
+    match undo {
+        Undo::Part { path, .. } => path.tokens().is_empty(),
+        _ => false,
+    }
 }
 
 /// Returns the record of a value that was put at the path, given the part that it replaced, if any.

@@ -8,6 +8,6 @@ returns-clause-made c = inserts_so c.args.place.now c.args.value.now c.args.tree
 
 pub returns-clause-back : goal.returns-clause-back
 returns-clause-back c =
-    kept_back c.args.tree.now c.put.new.tree c.args.kept.now.items c.push_reserved.new.self.items c.brought.result
+    kept_back c.args.tree.now c.put.new.tree c.args.kept.now.undos.items c.push_reserved.new.self.items c.brought.result
     (rw (c.brought.ensures, c.in_ok-path.ensures, c.in_ok-part.ensures.went) (copied_back c.args.place.now c.args.value.now c.args.tree.now c.put.new.tree (returns-clause-made c)))
     (c.push_reserved.ensures.items ∙ ap (λ xs. xs ++ c.brought.result ∷ []) c.in_ok-reserve.ensures.items)

@@ -25,6 +25,6 @@ returns-clause-back c =
     let element = c.with_tree-element.result in
     let k : Undo = undo.Element c.from_tokens-list.result c.position-index.result element c.in_ok-spare.spare in
     let at_it = rw c.as_str.ensures.value at c.position-index.ensures in
-    kept_back d gone c.args.kept.now.items c.push_reserved.new.self.items k
+    kept_back d gone c.args.kept.now.undos.items c.push_reserved.new.self.items k
     (rw here (item_again (path_of path) _ _ d gone element c.length_at.result c.position-index.result (deque_capacity c.in_ok-spare.spare) is (returns-clause-made c) (c.remove_at.ensures.value ∙ ap Ok (sym c.with_tree-element.ensures)) c.length_at.type_inv c.length_at.ensures c.in_ok-spare.ensures.exact at_it))
     (c.push_reserved.ensures.items ∙ ap (λ xs. xs ++ k ∷ []) c.in_ok-reserve.ensures.items)
