@@ -32,7 +32,7 @@ impl Model for Room {
 impl Room {
     ghost use Rattle.std.specs.Prelude.{◌≡◌, ◌<◌, ◌↔◌, ◌⊎◌, Some, None, IfOk, IfErr, IsErrOf};
     ghost use Rattle.relay_tree.specs.Document.{Document};
-    ghost use Rattle.relay_tree.specs.Document.{null};
+    ghost use Rattle.relay_tree.specs.Document.{null, weight};
     ghost use Rattle.relay_history.specs.declared.history.TheConstants.{MAX_REVISIONS};
     ghost use Rattle.relay_room.specs.Room.{IsRoom, begun, revision, trimmed};
     ghost use Rattle.relay_room.specs.Fault.{room_fault};
@@ -102,5 +102,12 @@ impl Room {
         ensures revision { result ≡ revision self.now }
     {
         self.history.newest()
+    }
+
+    /// Returns the weight of the present document, which the room keeps, so that nothing is measured. Allocates nothing.
+    pub fn weight(&self) -> u64
+        ensures { result ≡ weight self.now.document }
+    {
+        self.weight
     }
 }
