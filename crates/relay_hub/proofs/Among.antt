@@ -13,11 +13,11 @@ use Rattle.relay_tree.specs.Document.{Document}
 use Rattle.relay_hub.specs.Session.{Session}
 use Rattle.relay_hub.specs.Allowance.{Allowance}
 use Rattle.relay_hub.specs.State.{EachOnce, IsRising, is_number, numbers, session_in}
-use Rattle.relay_hub.specs.Step.{Told, after_told}
-use Rattle.relay_hub.specs.Watched.{ToldIf, after_if, ToldAmong}
+use Rattle.relay_hub.specs.Step.{Notified, after_notified}
+use Rattle.relay_hub.specs.Watched.{NotifiedIf, after_if, NotifiedAmong}
 use Rattle.relay_hub.proofs.Rising.{first_below, rest_rises}
 use Rattle.relay_hub.proofs.Sessions.{none_there, place_within}
-use Rattle.relay_hub.proofs.Told.{told_number}
+use Rattle.relay_hub.proofs.Notified.{notified_number}
 
 -- Numbers that rise.
 
@@ -61,106 +61,106 @@ free_above ns s fresh (x ∷ xs) above =
 
 module _ (d : Document) (changes : List Change) (room : Room) where
   -- a session keeps its number, whether it is notified or not
-  told_if_number : (b : Bool) (a : Allowance) (short : Bool) (x y : Session) → ToldIf b d changes room a short x y → y.number ≡ x.number
-  told_if_number true a short x y h = told_number d changes room a x.view short x y h
-  told_if_number false a short x y h = ap (λ (z : Session). z.number) h.0
+  notified_if_number : (b : Bool) (a : Allowance) (short : Bool) (x y : Session) → NotifiedIf b d changes room a short x y → y.number ≡ x.number
+  notified_if_number true a short x y h = notified_number d changes room a x.view short x y h
+  notified_if_number false a short x y h = ap (λ (z : Session). z.number) h.0
 
   -- no session is notified if none has the number
-  pub absent_among : (s : ℕ) (a : Allowance) (xs : List Session) → session_in xs s ≡ None → ToldAmong (s ∷ []) d changes room a a xs xs 0
+  pub absent_among : (s : ℕ) (a : Allowance) (xs : List Session) → session_in xs s ≡ None → NotifiedAmong (s ∷ []) d changes room a a xs xs 0
   absent_among s a [] none = (refl, refl)
   absent_among s a (x ∷ xs) none =
       let n = none_there x xs s none in
       rw n.0 (false, 0, (refl, refl), refl, absent_among s a xs n.1)
 
   one_among : (s : ℕ) (a : Allowance) (xs : List Session) (i : ℕ) (z y : Session) (short : Bool) → i ≡ position_or_len (is_number s) xs → i < length xs → EachOnce xs
-      → Told d changes room a short (get_or xs i z) y
-      → ToldAmong (s ∷ []) d changes room a (after_told changes room a (get_or xs i z).view short (get_or xs i z)) xs (slice_set xs i y) (if short then 1 else 0)
-  one_among s a [] i z y short place within once told = absurd (omega (arith, within))
-  one_among s a (x ∷ xs) zero z y short place within once told =
+      → Notified d changes room a short (get_or xs i z) y
+      → NotifiedAmong (s ∷ []) d changes room a (after_notified changes room a (get_or xs i z).view short (get_or xs i z)) xs (slice_set xs i y) (if short then 1 else 0)
+  one_among s a [] i z y short place within once notified = absurd (omega (arith, within))
+  one_among s a (x ∷ xs) zero z y short place within once notified =
       elim (eqb_tells x.number s) [
         | inl same ↦
-            let left = after_told changes room a x.view short x in (
+            let left = after_notified changes room a x.view short x in (
               short,
               0,
-              subst (λ b. ToldIf b d changes room a short x y) (sym (is_named x.number s true same.0)) told,
+              subst (λ b. NotifiedIf b d changes room a short x y) (sym (is_named x.number s true same.0)) notified,
               omega arith,
-              subst (λ b. ToldAmong (s ∷ []) d changes room (after_if b changes room a short x) left xs xs 0) (sym (is_named x.number s true same.0))
+              subst (λ b. NotifiedAmong (s ∷ []) d changes room (after_if b changes room a short x) left xs xs 0) (sym (is_named x.number s true same.0))
                   (absent_among s left xs (subst (λ n. session_in xs n ≡ None) same.1 once.0)),
             )
         | inr other ↦ let no : 0 ≡ 1 + position_or_len (is_number s) xs = rw other.0 at place in absurd (omega (arith, no))
       ]
-  one_among s a (x ∷ xs) (suc i) z y short place within once told =
+  one_among s a (x ∷ xs) (suc i) z y short place within once notified =
       elim (eqb_tells x.number s) [
         | inl same ↦ let no : suc i ≡ 0 = rw same.0 at place in absurd (omega (arith, no))
         | inr other ↦
             let further : suc i ≡ 1 + position_or_len (is_number s) xs = rw other.0 at place in
-            let left = after_told changes room a (get_or xs i z).view short (get_or xs i z) in
+            let left = after_notified changes room a (get_or xs i z).view short (get_or xs i z) in
             let count : ℕ = if short then 1 else 0 in (
               false,
               count,
-              subst (λ b. ToldIf b d changes room a false x x) (sym (is_named x.number s false other.0)) (refl, refl),
+              subst (λ b. NotifiedIf b d changes room a false x x) (sym (is_named x.number s false other.0)) (refl, refl),
               omega arith,
-              subst (λ b. ToldAmong (s ∷ []) d changes room (after_if b changes room a false x) left xs (slice_set xs i y) count) (sym (is_named x.number s false other.0))
-                  (one_among s a xs i z y short (omega (arith, further)) (omega (arith, within)) once.1 told),
+              subst (λ b. NotifiedAmong (s ∷ []) d changes room (after_if b changes room a false x) left xs (slice_set xs i y) count) (sym (is_named x.number s false other.0))
+                  (one_among s a xs i z y short (omega (arith, further)) (omega (arith, within)) once.1 notified),
             )
       ]
 
   -- the session with the number is notified, at its place
   pub place_among : (s : ℕ) (a : Allowance) (xs : List Session) (i : ℕ) (z y : Session) (short : Bool) → position (is_number s) xs ≡ Some i → EachOnce xs
-      → Told d changes room a short (get_or xs i z) y
-      → ToldAmong (s ∷ []) d changes room a (after_told changes room a (get_or xs i z).view short (get_or xs i z)) xs (slice_set xs i y) (if short then 1 else 0)
-  place_among s a xs i z y short at once told =
+      → Notified d changes room a short (get_or xs i z) y
+      → NotifiedAmong (s ∷ []) d changes room a (after_notified changes room a (get_or xs i z).view short (get_or xs i z)) xs (slice_set xs i y) (if short then 1 else 0)
+  place_among s a xs i z y short at once notified =
       let place = place_within xs s i at in
-      one_among s a xs i z y short place.1 place.0 once told
+      one_among s a xs i z y short place.1 place.0 once notified
 
   -- if the numbers name no session, none is notified
-  nobody : (ns : List ℕ) (a : Allowance) (xs : List Session) → Free ns xs → ToldAmong ns d changes room a a xs xs 0
+  nobody : (ns : List ℕ) (a : Allowance) (xs : List Session) → Free ns xs → NotifiedAmong ns d changes room a a xs xs 0
   nobody ns a [] free = (refl, refl)
   nobody ns a (x ∷ xs) free = rw free.0 (false, 0, (refl, refl), refl, nobody ns a xs free.1)
 
-  nobody_told : (ns : List ℕ) (a z : Allowance) (xs ys : List Session) (n : ℕ) → Free ns xs → ToldAmong ns d changes room a z xs ys n → (ys ≡ xs) × (n ≡ 0) × (z ≡ a)
-  nobody_told ns a z [] [] n free h = (refl, h.0, h.1)
-  nobody_told ns a z (x ∷ xs) (y ∷ ys) n free h =
-      let told : ToldIf false d changes room a h.0 x y = subst (λ b. ToldIf b d changes room a h.0 x y) free.0 h.2 in
-      let more : ToldAmong ns d changes room a z xs ys h.1 = subst (λ b. ToldAmong ns d changes room (after_if b changes room a h.0 x) z xs ys h.1) free.0 h.4 in
-      let same = nobody_told ns a z xs ys h.1 free.1 more in
-      let count : n ≡ h.1 + 0 = rw told.1 at h.3 in
-      (λ i. told.0 i ∷ same.0 i, omega (arith, count, same.1), same.2)
-  nobody_told ns a z _ _ n free h = absurd h
+  nobody_notified : (ns : List ℕ) (a z : Allowance) (xs ys : List Session) (n : ℕ) → Free ns xs → NotifiedAmong ns d changes room a z xs ys n → (ys ≡ xs) × (n ≡ 0) × (z ≡ a)
+  nobody_notified ns a z [] [] n free h = (refl, h.0, h.1)
+  nobody_notified ns a z (x ∷ xs) (y ∷ ys) n free h =
+      let notified : NotifiedIf false d changes room a h.0 x y = subst (λ b. NotifiedIf b d changes room a h.0 x y) free.0 h.2 in
+      let more : NotifiedAmong ns d changes room a z xs ys h.1 = subst (λ b. NotifiedAmong ns d changes room (after_if b changes room a h.0 x) z xs ys h.1) free.0 h.4 in
+      let same = nobody_notified ns a z xs ys h.1 free.1 more in
+      let count : n ≡ h.1 + 0 = rw notified.1 at h.3 in
+      (λ i. notified.0 i ∷ same.0 i, omega (arith, count, same.1), same.2)
+  nobody_notified ns a z _ _ n free h = absurd h
 
   -- some were notified, and now one with a number above all of theirs is
   pub more_among : (ns : List ℕ) (s : ℕ) → ((n : ℕ) → s ≤ n → list_any (nat_eq n) ns ≡ false) → (a b z : Allowance) (xs ys zs : List Session) (n m : ℕ) → IsRising xs
-      → ToldAmong ns d changes room a b xs ys n → ToldAmong (s ∷ []) d changes room b z ys zs m → ToldAmong (ns ++ s ∷ []) d changes room a z xs zs (n + m)
+      → NotifiedAmong ns d changes room a b xs ys n → NotifiedAmong (s ∷ []) d changes room b z ys zs m → NotifiedAmong (ns ++ s ∷ []) d changes room a z xs zs (n + m)
   more_among ns s fresh a b z [] [] [] n m rises h k = (omega (arith, h.0, k.0), k.1 ∙ h.1)
   more_among ns s fresh a b z (x ∷ xs) (y ∷ ys) (w ∷ ws) n m rises h k =
       elim (eqb_tells x.number s) [
         | inl same ↦ last_among x xs y ys w ws n m same.0 same.1 rises h k
         | inr other ↦
             let named : list_any (nat_eq x.number) (s ∷ []) ≡ false = is_named x.number s false other.0 in
-            let number : y.number ≡ x.number = told_if_number (list_any (nat_eq x.number) ns) a h.0 x y h.2 in
+            let number : y.number ≡ x.number = notified_if_number (list_any (nat_eq x.number) ns) a h.0 x y h.2 in
             let unnamed : list_any (nat_eq y.number) (s ∷ []) ≡ false = ap (λ q. list_any (nat_eq q) (s ∷ [])) number ∙ named in
-            let stays : ToldIf false d changes room b k.0 y w = subst (λ t. ToldIf t d changes room b k.0 y w) unnamed k.2 in
-            let rest : ToldAmong (s ∷ []) d changes room b z ys ws k.1 =
-            subst (λ t. ToldAmong (s ∷ []) d changes room (after_if t changes room b k.0 y) z ys ws k.1) unnamed k.4 in
+            let stays : NotifiedIf false d changes room b k.0 y w = subst (λ t. NotifiedIf t d changes room b k.0 y w) unnamed k.2 in
+            let rest : NotifiedAmong (s ∷ []) d changes room b z ys ws k.1 =
+            subst (λ t. NotifiedAmong (s ∷ []) d changes room (after_if t changes room b k.0 y) z ys ws k.1) unnamed k.4 in
             let among : list_any (nat_eq x.number) ns ≡ list_any (nat_eq x.number) (ns ++ s ∷ []) =
             sym (list_any-append (nat_eq x.number) ns (s ∷ []) ∙ (ap (λ t. list_any (nat_eq x.number) ns || t) named ∙ or_false (list_any (nat_eq x.number) ns))) in
-            let told : ToldIf (list_any (nat_eq x.number) ns) d changes room a h.0 x w =
-            subst (λ v. ToldIf (list_any (nat_eq x.number) ns) d changes room a h.0 x v) (sym stays.0) h.2 in
+            let notified : NotifiedIf (list_any (nat_eq x.number) ns) d changes room a h.0 x w =
+            subst (λ v. NotifiedIf (list_any (nat_eq x.number) ns) d changes room a h.0 x v) (sym stays.0) h.2 in
             let count : m ≡ k.1 + 0 = rw stays.1 at k.3 in
             let left = after_if (list_any (nat_eq x.number) ns) changes room a h.0 x in (
               h.0,
               h.1 + k.1,
-              subst (λ t. ToldIf t d changes room a h.0 x w) among told,
+              subst (λ t. NotifiedIf t d changes room a h.0 x w) among notified,
               omega (arith, h.3, count),
-              subst (λ t. ToldAmong (ns ++ s ∷ []) d changes room (after_if t changes room a h.0 x) z xs ws (h.1 + k.1)) among
+              subst (λ t. NotifiedAmong (ns ++ s ∷ []) d changes room (after_if t changes room a h.0 x) z xs ws (h.1 + k.1)) among
                   (more_among ns s fresh left b z xs ys ws h.1 k.1 (rest_rises x xs rises) h.4 rest),
             )
       ]
     where
       -- the one with the number is the last that is notified
       last_among : (x : Session) (xs : List Session) (y : Session) (ys : List Session) (w : Session) (ws : List Session) (n m : ℕ) → (x.number == s) ≡ true → x.number ≡ s → IsRising (x ∷ xs)
-          → ToldAmong ns d changes room a b (x ∷ xs) (y ∷ ys) n → ToldAmong (s ∷ []) d changes room b z (y ∷ ys) (w ∷ ws) m
-          → ToldAmong (ns ++ s ∷ []) d changes room a z (x ∷ xs) (w ∷ ws) (n + m)
+          → NotifiedAmong ns d changes room a b (x ∷ xs) (y ∷ ys) n → NotifiedAmong (s ∷ []) d changes room b z (y ∷ ys) (w ∷ ws) m
+          → NotifiedAmong (ns ++ s ∷ []) d changes room a z (x ∷ xs) (w ∷ ws) (n + m)
       last_among x xs y ys w ws n m is same rises h k =
           let above : (i : ℕ) → i < length (numbers xs) → s < get_or (numbers xs) i 0 = λ i within. subst (λ q. q < get_or (numbers xs) i 0) same (first_below x xs rises i within) in
           let later : (q : ℕ) → s < q → list_any (nat_eq q) ns ≡ false = λ q beyond. fresh q (omega (arith, beyond)) in
@@ -169,43 +169,43 @@ module _ (d : Document) (changes : List Change) (room : Room) where
           let unnamed : list_any (nat_eq x.number) ns ≡ false = fresh x.number (omega (arith, same)) in
           let named : list_any (nat_eq x.number) (s ∷ []) ≡ true = is_named x.number s true is in
           let now : list_any (nat_eq x.number) (ns ++ s ∷ []) ≡ true = rw (list_any-append (nat_eq x.number) ns (s ∷ []), unnamed, named) refl in
-          let stays : ToldIf false d changes room a h.0 x y = subst (λ t. ToldIf t d changes room a h.0 x y) unnamed h.2 in
-          let first : ToldAmong ns d changes room a b xs ys h.1 = subst (λ t. ToldAmong ns d changes room (after_if t changes room a h.0 x) b xs ys h.1) unnamed h.4 in
-          let before = nobody_told ns a b xs ys h.1 (free_above ns s later xs above) first in
+          let stays : NotifiedIf false d changes room a h.0 x y = subst (λ t. NotifiedIf t d changes room a h.0 x y) unnamed h.2 in
+          let first : NotifiedAmong ns d changes room a b xs ys h.1 = subst (λ t. NotifiedAmong ns d changes room (after_if t changes room a h.0 x) b xs ys h.1) unnamed h.4 in
+          let before = nobody_notified ns a b xs ys h.1 (free_above ns s later xs above) first in
           let number : list_any (nat_eq y.number) (s ∷ []) ≡ true = ap (λ (v : Session). list_any (nat_eq v.number) (s ∷ [])) stays.0 ∙ named in
-          let at_y : Told d changes room b k.0 y w = subst (λ t. ToldIf t d changes room b k.0 y w) number k.2 in
-          let at_x : Told d changes room b k.0 x w = subst (λ v. Told d changes room b k.0 v w) stays.0 at_y in
-          let told : Told d changes room a k.0 x w = subst (λ l. Told d changes room l k.0 x w) before.2 at_x in
-          let behind : ToldAmong (s ∷ []) d changes room (after_told changes room b y.view k.0 y) z ys ws k.1 =
-          subst (λ t. ToldAmong (s ∷ []) d changes room (after_if t changes room b k.0 y) z ys ws k.1) number k.4 in
-          let left = after_told changes room b y.view k.0 y in
-          let after = nobody_told (s ∷ []) left z ys ws k.1 (subst (λ vs. Free (s ∷ []) vs) (sym before.0) (free_above (s ∷ []) s single xs above)) behind in
-          let same_left : left ≡ after_told changes room a x.view k.0 x =
-          ap (λ (v : Session). after_told changes room b v.view k.0 v) stays.0 ∙ ap (λ l. after_told changes room l x.view k.0 x) before.2 in
-          let end = after_told changes room a x.view k.0 x in
-          let over : ToldAmong (ns ++ s ∷ []) d changes room end z xs ws 0 =
-          subst (λ l. ToldAmong (ns ++ s ∷ []) d changes room end l xs ws 0) (sym (after.2 ∙ same_left))
-          (subst (λ vs. ToldAmong (ns ++ s ∷ []) d changes room end end xs vs 0) (sym (after.0 ∙ before.0)) (nobody (ns ++ s ∷ []) end xs (free_above (ns ++ s ∷ []) s neither xs above))) in
+          let at_y : Notified d changes room b k.0 y w = subst (λ t. NotifiedIf t d changes room b k.0 y w) number k.2 in
+          let at_x : Notified d changes room b k.0 x w = subst (λ v. Notified d changes room b k.0 v w) stays.0 at_y in
+          let notified : Notified d changes room a k.0 x w = subst (λ l. Notified d changes room l k.0 x w) before.2 at_x in
+          let behind : NotifiedAmong (s ∷ []) d changes room (after_notified changes room b y.view k.0 y) z ys ws k.1 =
+          subst (λ t. NotifiedAmong (s ∷ []) d changes room (after_if t changes room b k.0 y) z ys ws k.1) number k.4 in
+          let left = after_notified changes room b y.view k.0 y in
+          let after = nobody_notified (s ∷ []) left z ys ws k.1 (subst (λ vs. Free (s ∷ []) vs) (sym before.0) (free_above (s ∷ []) s single xs above)) behind in
+          let same_left : left ≡ after_notified changes room a x.view k.0 x =
+          ap (λ (v : Session). after_notified changes room b v.view k.0 v) stays.0 ∙ ap (λ l. after_notified changes room l x.view k.0 x) before.2 in
+          let end = after_notified changes room a x.view k.0 x in
+          let over : NotifiedAmong (ns ++ s ∷ []) d changes room end z xs ws 0 =
+          subst (λ l. NotifiedAmong (ns ++ s ∷ []) d changes room end l xs ws 0) (sym (after.2 ∙ same_left))
+          (subst (λ vs. NotifiedAmong (ns ++ s ∷ []) d changes room end end xs vs 0) (sym (after.0 ∙ before.0)) (nobody (ns ++ s ∷ []) end xs (free_above (ns ++ s ∷ []) s neither xs above))) in
           let count : n ≡ h.1 + 0 = rw stays.1 at h.3 in (
             k.0,
             0,
-            subst (λ t. ToldIf t d changes room a k.0 x w) (sym now) told,
+            subst (λ t. NotifiedIf t d changes room a k.0 x w) (sym now) notified,
             omega (arith, count, before.1, k.3, after.1),
-            subst (λ t. ToldAmong (ns ++ s ∷ []) d changes room (after_if t changes room a k.0 x) z xs ws 0) (sym now) over,
+            subst (λ t. NotifiedAmong (ns ++ s ∷ []) d changes room (after_if t changes room a k.0 x) z xs ws 0) (sym now) over,
           )
   more_among ns s fresh a b z [] (y ∷ ys) zs n m rises h k = absurd h
   more_among ns s fresh a b z (x ∷ xs) [] zs n m rises h k = absurd h
   more_among ns s fresh a b z _ _ _ n m rises h k = absurd k
 
   -- an empty list of numbers notifies no session
-  pub none_among : (a : Allowance) (xs : List Session) → ToldAmong [] d changes room a a xs xs 0
+  pub none_among : (a : Allowance) (xs : List Session) → NotifiedAmong [] d changes room a a xs xs 0
   none_among a [] = (refl, refl)
   none_among a (x ∷ xs) = (false, 0, (refl, refl), refl, none_among a xs)
 
   -- those of the numbers before a place were notified, and now the one at that place is
   pub next_among : (numbers : List ℕ) (k e : ℕ) (a b z : Allowance) (xs ys zs : List Session) (n m : ℕ) → IsRising xs → IsStrictlyIncreasing numbers → k < length numbers
-      → ToldAmong (take k numbers) d changes room a b xs ys n → ToldAmong (get_or numbers k e ∷ []) d changes room b z ys zs m
-      → ToldAmong (take (k + 1) numbers) d changes room a z xs zs (n + m)
+      → NotifiedAmong (take k numbers) d changes room a b xs ys n → NotifiedAmong (get_or numbers k e ∷ []) d changes room b z ys zs m
+      → NotifiedAmong (take (k + 1) numbers) d changes room a z xs zs (n + m)
   next_among numbers k e a b z xs ys zs n m ordered rises within h one =
       rw (take_more numbers k e within)
       (more_among (take k numbers) (get_or numbers k e) (rising_fresh numbers k e rises within) a b z xs ys zs n m ordered h one)

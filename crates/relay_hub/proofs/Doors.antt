@@ -12,7 +12,7 @@ use Rattle.relay_tree.specs.Document.{Document, null}
 use Rattle.relay_tree.specs.declared.count.TheConstants.{MAX_COUNT}
 use Rattle.relay_hub.specs.Log.{Log, entry, home, is_opened, documents, watching}
 use Rattle.relay_hub.specs.Session.{newcomer}
-use Rattle.relay_hub.specs.Stands.{RoomStands, LineStands, RoomSessionsStand, HomeStands, StandsFor}
+use Rattle.relay_hub.specs.Stands.{RoomStands, OutboxStands, RoomSessionsStand, HomeStands, StandsFor}
 use Rattle.relay_hub.specs.State.{RoomSessions, room_sessions, State, RoomOf, place_of, place_named, vacant_place, is_crowded}
 use Rattle.relay_hub.specs.Step.{open_fault, Founds, Enters, Opens, Closes}
 use Rattle.relay_hub.specs.declared.config.HubConfig.{HubConfig}
@@ -40,8 +40,8 @@ number_left hub name h =
     last false false false true h = absurd (cc h)
     last false false false false h = refl
 
-newcomer_line : (most : ℕ) (made : HubConfig) (rev n : ℕ) → IsCount made.epoch → IsCount rev → IsCount n → made.max_waiting_patches ≡ most → LineStands most (newcomer made rev n)
-newcomer_line most made rev n e r i same = record { max_waiting_patches = same; replies = ((e, r, i), tt); patches = tt }
+newcomer_outbox : (most : ℕ) (made : HubConfig) (rev n : ℕ) → IsCount made.epoch → IsCount rev → IsCount n → made.max_waiting_patches ≡ most → OutboxStands most (newcomer made rev n)
+newcomer_outbox most made rev n e r i same = record { max_waiting_patches = same; replies = ((e, r, i), tt); patches = tt }
 
 begun_led : (history rev : ℕ) (d : Document) → slice_get (null ∷ []) rev ≡ Some d → Leads d (changes_since rev (begun null 0 history).history) null
 begun_led history zero d at = cc
@@ -83,8 +83,8 @@ module _ (b : HubConfig) (E : Log) (old new : State) (name : List ℕ) (n : ℕ)
       let same : known ≡ name = name_found old.rooms name known g i named at in
       let room = stands.rooms i known g at in
       let mine : (n == n) ≡ true = grind (arith, nat_tests) in
-      let welcome : LineStands b.max_waiting_patches (newcomer old.made (revision g.room) n) =
-      newcomer_line b.max_waiting_patches old.made (revision g.room) n epoch_counts room.is.history.last count waiting_is in
+      let welcome : OutboxStands b.max_waiting_patches (newcomer old.made (revision g.room) n) =
+      newcomer_outbox b.max_waiting_patches old.made (revision g.room) n epoch_counts room.is.history.last count waiting_is in
       record {
         made = step.made ∙ stands.made;
         is = stands.is;
@@ -124,8 +124,8 @@ module _ (b : HubConfig) (E : Log) (old new : State) (name : List ℕ) (n : ℕ)
       rw (named, is, stands.others name absent) founded_stands
   room_stands absent p known g (inr k) = stands.rooms p known g k.1
 
-  first_line : LineStands b.max_waiting_patches (newcomer old.made 0 n)
-  first_line = newcomer_line b.max_waiting_patches old.made 0 n epoch_counts (omega arith) count waiting_is
+  first_outbox : OutboxStands b.max_waiting_patches (newcomer old.made 0 n)
+  first_outbox = newcomer_outbox b.max_waiting_patches old.made 0 n epoch_counts (omega arith) count waiting_is
 
   found_stands : place_named name old.rooms ≡ None → Founds None (name, founded) old.rooms step.place new.rooms → StandsFor b (entry (Open name) (Opened n) ∷ E) new
   found_stands absent enters = record {
@@ -148,7 +148,7 @@ module _ (b : HubConfig) (E : Log) (old new : State) (name : List ℕ) (n : ℕ)
         stands.others other before;
     sessions = λ t. elim (eqb_tells n t) [
       | inl is ↦ rw (step.home t, is.0, enters.0, enters.1, slice_get-last old.rooms (name, founded), is.0)
-          (refl, first_line, (refl, refl, refl))
+          (refl, first_outbox, (refl, refl, refl))
       | inr apart ↦ let o = others_home t apart.1 in rw (o.0, o.1, o.2, enters.1) (later t (place_of old t) (stands.sessions t))
     ];
   }
@@ -191,7 +191,7 @@ module _ (b : HubConfig) (E : Log) (old new : State) (name : List ℕ) (n : ℕ)
         (λ apart. stands.others other (sym (named_other old.rooms i v.name name other v.room_sessions founded v.there differ apart) ∙ (ap (place_named other) (sym enters.1) ∙ none))));
     sessions = λ t. elim (eqb_tells n t) [
       | inl is ↦ rw (step.home t, is.0, enters.0, enters.1, slice_get-set old.rooms i (v.name, v.room_sessions) (name, founded) v.there, is.0)
-          (refl, first_line, (refl, refl, refl))
+          (refl, first_outbox, (refl, refl, refl))
       | inr apart ↦ let o = others_home t apart.1 in rw (o.0, o.1, o.2, enters.1) (elsewhere t (place_of old t) (stands.sessions t))
     ];
   }

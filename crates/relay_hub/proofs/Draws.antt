@@ -3,7 +3,7 @@ use Rattle.std.proofs.Common.{◌≡◌, ℕ, ◌==◌, Bool, true, false, List,
 use Rattle.std.specs.List.{AllByRecursion}
 use Rattle.std.specs.Prelude.{⊤, option_map}
 use Rattle.std.proofs.lemmas.Bool.Decides.{nat_tests}
-use Rattle.relay_outbox.specs.Outbox.{line, first_of, rest_of}
+use Rattle.relay_outbox.specs.Outbox.{contents, first_of, rest_of}
 use Rattle.relay_patch.specs.declared.bounds.TheConstants.Bounds.{DOCUMENT}
 use Rattle.relay_patch.specs.declared.op.Op.{Op}
 use Rattle.relay_patch.proofs.Fits.{within_flat}
@@ -26,7 +26,7 @@ use Rattle.relay_hub.specs.declared.config.HubConfig.{HubConfig}
 use Rattle.relay_hub.specs.declared.event.Answer.TheVariants.{Drawn}
 use Rattle.relay_hub.specs.declared.event.Event.TheVariants.{Draw}
 use Rattle.relay_hub.proofs.Frames.{session_changes, here}
-use Rattle.relay_hub.proofs.Waiting.{line_drawn}
+use Rattle.relay_hub.proofs.Waiting.{outbox_drawn}
 
 -- the text reads as the message
 abbrev Reads : Option Message → Type 0
@@ -58,20 +58,20 @@ heard_message : (w : Watching) (m : Message) → message_of_text (message_text m
 heard_message w m reads = ap (λ o. Some (record { view = w.view; start = w.start; heard = w.heard ++ view_message o })) reads
 
 watch_drawn : (ds : List Document) (room : Room) (x : Session) (pointers : Option View) (replies : List Reply) (patches : List (ℕ × List Op)) (due : Bool) (k : ℕ) (w : Option Watching)
-    → Reads (message_of room pointers (first_of replies patches due)) → WatchStands ds room (session_with pointers (line replies patches due k) x) w
+    → Reads (message_of room pointers (first_of replies patches due)) → WatchStands ds room (session_with pointers (contents replies patches due k) x) w
     → WatchStands ds room (session_with pointers (rest_of replies patches due k) x) (hearing (option_map message_text (message_of room pointers (first_of replies patches due))) w)
 watch_drawn ds room x pointers (r ∷ replies) patches due k (Some w) reads h =
     let m = message.Reply r in
-    subst (λ after. WatchStands ds room (session_with pointers (line replies patches due k) x) after) (sym (heard_message w m reads))
-    (h.0, hears ds w m (later room w.view (line replies patches due k)) h.1)
+    subst (λ after. WatchStands ds room (session_with pointers (contents replies patches due k) x) after) (sym (heard_message w m reads))
+    (h.0, hears ds w m (later room w.view (contents replies patches due k)) h.1)
 watch_drawn ds room x pointers [] (p ∷ patches) due k (Some w) reads h =
     let m = patch_message p in
-    subst (λ after. WatchStands ds room (session_with pointers (line [] patches due k) x) after) (sym (heard_message w m reads))
-    (h.0, hears ds w m (later room w.view (line [] patches due k)) h.1)
+    subst (λ after. WatchStands ds room (session_with pointers (contents [] patches due k) x) after) (sym (heard_message w m reads))
+    (h.0, hears ds w m (later room w.view (contents [] patches due k)) h.1)
 watch_drawn ds room x (Some v) [] [] true k (Some w) reads h =
     let same : v ≡ w.view = cc in
     let m = snapshot_of room v in
-    subst (λ after. WatchStands ds room (session_with (Some v) (line [] [] false k) x) after) (sym (heard_message w m reads)) (h.0, hears ds w m [] (rw same h.1))
+    subst (λ after. WatchStands ds room (session_with (Some v) (contents [] [] false k) x) after) (sym (heard_message w m reads)) (h.0, hears ds w m [] (rw same h.1))
 watch_drawn ds room x None [] [] true k (Some w) reads h = absurd (cc h.0)
 watch_drawn ds room x pointers [] (p ∷ patches) due k None reads h = absurd (cc h.1)
 watch_drawn ds room x pointers [] [] true k None reads h = absurd (cc h.2)
@@ -92,5 +92,5 @@ draw_stands b E old s mine h text stands step =
     (λ other. refl)
     s (drawn x) mine.at at_home.0 step.1
     (λ t apart. let other : (s == t) ≡ false = grind (arith, nat_tests, apart) in rw other refl)
-    (line_drawn b.max_waiting_patches x at_home.1)
+    (outbox_drawn b.max_waiting_patches x at_home.1)
     (rw (same, step.0) (watch_drawn (documents E r.name) r.room_sessions.room x x.view o.replies o.patches o.due o.max_waiting_patches (watching b.epoch E s) reads at_home.2))

@@ -3,7 +3,7 @@ use Rattle.std.proofs.Common.{◌≡◌, ℕ, ◌<◌, Bool, true, false, List, 
 use Rattle.std.proofs.lemmas.Bool.Decides.{nat_tests}
 use Rattle.std.proofs.lemmas.List.{map-append}
 use Rattle.std.proofs.lemmas.Option.{slice_get_within}
-use Rattle.relay_outbox.specs.Outbox.{Line, line, folded, with_patch}
+use Rattle.relay_outbox.specs.Outbox.{Contents, contents, folded, with_patch}
 use Rattle.relay_patch.specs.Patch.{free}
 use Rattle.relay_patch.specs.After.{after}
 use Rattle.relay_patch.specs.declared.op.Op.{Op}
@@ -19,7 +19,7 @@ use Rattle.relay_tree.specs.Document.{Document}
 use Rattle.relay_tree.specs.declared.budget.Budget.{Budget}
 use Rattle.relay_view.specs.View.{View, view}
 use Rattle.relay_hub.specs.Log.{Watching, begun}
-use Rattle.relay_hub.specs.Session.{led_line, told_line, with_patch_within, snapshot_of, patch_message, later}
+use Rattle.relay_hub.specs.Session.{led_outbox, notified_outbox, with_patch_within, snapshot_of, patch_message, later}
 use Rattle.relay_hub.specs.declared.config.HubConfig.{HubConfig}
 use Rattle.relay_hub.specs.Stands.{HoldsRevision, IsAtNamed, EachLeads, HoldsPresent, Follows, RoomStands}
 use Rattle.relay_hub.proofs.Documents.{slice_get-present}
@@ -122,58 +122,58 @@ module _ (most : HubConfig) (ds : List Document) (d : Document) (w : Watching) (
     exactly = stays_present (client_after w.start (w.heard ++ before)) follows.exactly same;
   }
 
-  line_due : (o : Line AnyReply (ℕ × List Op)) → o.due ≡ true → Follows ds w (later room w.view o) → Follows (ds ++ d ∷ []) w (later next w.view o)
-  line_due o due follows =
+  outbox_due : (o : Contents AnyReply (ℕ × List Op)) → o.due ≡ true → Follows ds w (later room w.view o) → Follows (ds ++ d ∷ []) w (later next w.view o)
+  outbox_due o due follows =
       let before = map patch_message o.patches in
       let each = EachLeads-left ds w.view w.start (w.heard ++ before) (snapshot_of room w.view ∷ [])
       (rw (append_assoc w.heard before (snapshot_of room w.view ∷ [])) (rw due at follows.each)) in
       rw due (Follows-due most (ds ++ d ∷ []) w next k before (EachLeads-newer ds d w.view w.start (w.heard ++ before) each))
 
   -- what was drawn so far still brings the client where it says, and a snapshot is due
-  pub folded_follows : (o : Line AnyReply (ℕ × List Op)) → Follows ds w (later room w.view o) → Follows (ds ++ d ∷ []) w (later next w.view (folded o))
+  pub folded_follows : (o : Contents AnyReply (ℕ × List Op)) → Follows ds w (later room w.view o) → Follows (ds ++ d ∷ []) w (later next w.view (folded o))
   folded_follows o follows =
       Follows-snapshot most (ds ++ d ∷ []) w next k (EachLeads-newer ds d w.view w.start w.heard (EachLeads-left ds w.view w.start w.heard (later room w.view o) follows.each))
 
-  stays_follows : (o : Line AnyReply (ℕ × List Op)) (due : Bool) → o.due ≡ due → view w.view room.document ≡ view w.view next.document
+  stays_follows : (o : Contents AnyReply (ℕ × List Op)) (due : Bool) → o.due ≡ due → view w.view room.document ≡ view w.view next.document
       → Follows ds w (later room w.view o) → Follows (ds ++ d ∷ []) w (later next w.view o)
-  stays_follows o true e same follows = line_due o e follows
+  stays_follows o true e same follows = outbox_due o e follows
   stays_follows o false e same follows =
       let before = map patch_message o.patches ++ [] in
       let plain : Follows ds w before = rw e at follows in
       rw e (Follows-stays before plain same)
 
-  later_plain : (r : Room) (o : Line AnyReply (ℕ × List Op)) → o.due ≡ false → later r w.view o ≡ map patch_message o.patches
+  later_plain : (r : Room) (o : Contents AnyReply (ℕ × List Op)) → o.due ≡ false → later r w.view o ≡ map patch_message o.patches
   later_plain r o e =
       ap (λ (b : Bool). map patch_message o.patches ++ (if b then snapshot_of r w.view ∷ [] else [])) e ∙ append-nil (map patch_message o.patches)
 
-  patched_follows : (o : Line AnyReply (ℕ × List Op)) (ops : List Op) → after (view w.view room.document) ops free ≡ Ok (view w.view next.document)
+  patched_follows : (o : Contents AnyReply (ℕ × List Op)) (ops : List Op) → after (view w.view room.document) ops free ≡ Ok (view w.view next.document)
       → Follows ds w (later room w.view o) → Follows (ds ++ d ∷ []) w (later next w.view (with_patch (revision next, ops) o))
   patched_follows o ops leads follows =
       by_waiting (λ o. Follows (ds ++ d ∷ []) w (later next w.view o)) (revision next) ops o
-      (λ due. line_due o due follows)
+      (λ due. outbox_due o due follows)
       (λ none. waits none)
       (folded_follows o follows)
     where
-      waits : o.due ≡ false → Follows (ds ++ d ∷ []) w (later next w.view (line o.replies (o.patches ++ (revision next, ops) ∷ []) o.due o.max_waiting_patches))
+      waits : o.due ≡ false → Follows (ds ++ d ∷ []) w (later next w.view (contents o.replies (o.patches ++ (revision next, ops) ∷ []) o.due o.max_waiting_patches))
       waits none =
           let before = map patch_message o.patches in
           let plain : Follows ds w before = rw (later_plain room o none) at follows in
-          let sent = line o.replies (o.patches ++ (revision next, ops) ∷ []) o.due o.max_waiting_patches in
+          let sent = contents o.replies (o.patches ++ (revision next, ops) ∷ []) o.due o.max_waiting_patches in
           let lists : later next w.view sent ≡ before ++ Patch (revision next) ops ∷ [] = later_plain next sent none ∙ map-append patch_message o.patches ((revision next, ops) ∷ []) in
           subst (λ ms. Follows (ds ++ d ∷ []) w ms) (sym lists) (Follows-patch before ops plain leads)
 
-  led_follows : (budget : Budget) (o : Line AnyReply (ℕ × List Op)) (told : CatchUp) → MakesPresent next w.view room.document told
-      → Follows ds w (later room w.view o) → Follows (ds ++ d ∷ []) w (later next w.view (led_line budget (revision next) told o))
+  led_follows : (budget : Budget) (o : Contents AnyReply (ℕ × List Op)) (notified : CatchUp) → MakesPresent next w.view room.document notified
+      → Follows ds w (later room w.view o) → Follows (ds ++ d ∷ []) w (later next w.view (led_outbox budget (revision next) notified o))
   led_follows budget o how.Nothing makes follows = stays_follows o o.due refl makes follows
   led_follows budget o (how.Patch ops) makes follows =
       by_weight (λ o. Follows (ds ++ d ∷ []) w (later next w.view o)) budget (revision next, ops) o (patched_follows o ops makes follows) (folded_follows o follows)
   led_follows budget o how.Snapshot makes follows = folded_follows o follows
 
   -- an outbox that is notified of the document still brings its client to the present view
-  pub told_follows : (budget : Budget) (o : Line AnyReply (ℕ × List Op)) (told : CatchUp) → MakesPresent next w.view room.document told
-      → Follows ds w (later room w.view o) → Follows (ds ++ d ∷ []) w (later next w.view (told_line budget (revision next) told o))
-  told_follows budget o told makes follows =
-      by_due (λ o. Follows (ds ++ d ∷ []) w (later next w.view o)) budget (revision next) told o (λ due. line_due o due follows) (λ due. led_follows budget o told makes follows)
+  pub notified_follows : (budget : Budget) (o : Contents AnyReply (ℕ × List Op)) (notified : CatchUp) → MakesPresent next w.view room.document notified
+      → Follows ds w (later room w.view o) → Follows (ds ++ d ∷ []) w (later next w.view (notified_outbox budget (revision next) notified o))
+  notified_follows budget o notified makes follows =
+      by_due (λ o. Follows (ds ++ d ∷ []) w (later next w.view o)) budget (revision next) notified o (λ due. outbox_due o due follows) (λ due. led_follows budget o notified makes follows)
 
 -- A client that resumes from an earlier document.
 
@@ -189,7 +189,7 @@ patch_follows most ds v room rev d ops h earlier leads =
     record { each = (rw is (snapshot_leads most ds v room h), tt); exactly = rw is (snapshot_present most ds v room h) }
 
 -- an outbox in which no patch waits, and to which one is added that makes the present view
-pub resumed_follows : (most : HubConfig) (ds : List Document) (v : View) (room : Room) (rev : ℕ) (d : Document) (ops : List Op) (budget : Budget) (o : Line AnyReply (ℕ × List Op)) → RoomStands most ds room → rev < revision room
+pub resumed_follows : (most : HubConfig) (ds : List Document) (v : View) (room : Room) (rev : ℕ) (d : Document) (ops : List Op) (budget : Budget) (o : Contents AnyReply (ℕ × List Op)) → RoomStands most ds room → rev < revision room
     → after (view v d) ops free ≡ Ok (view v room.document) → o.patches ≡ [] → o.due ≡ false
     → Follows ds (begun v (holds rev (view v d))) (later room v (with_patch_within budget (revision room, ops) o))
 resumed_follows most ds v room rev d ops budget o h earlier leads none not_due =

@@ -5,7 +5,7 @@ use Rattle.relay_room.specs.Room.{State as Room}
 use Rattle.relay_tree.specs.Document.{Document, null}
 use Rattle.relay_hub.specs.Log.{Log, Entry, Watching, home, is_opened, documents, watching, opened, open_count}
 use Rattle.relay_hub.specs.Session.{Session}
-use Rattle.relay_hub.specs.Stands.{RoomStands, LineStands, WatchStands, SessionStands, RoomSessionsStand, HomeStands, StandsFor}
+use Rattle.relay_hub.specs.Stands.{RoomStands, OutboxStands, WatchStands, SessionStands, RoomSessionsStand, HomeStands, StandsFor}
 use Rattle.relay_hub.specs.State.{RoomSessions, State, RoomOf, Home, place_of, place_named, session_in}
 use Rattle.relay_hub.specs.Step.{ChangesOnly, with_room}
 use Rattle.relay_hub.specs.declared.config.HubConfig.{HubConfig}
@@ -27,7 +27,7 @@ session_stands b E hub t r h at = rw (at, r.there) at (h.sessions t)
 
 -- a session that is open
 pub here : (b : HubConfig) (E : Log) (hub : State) (s : ℕ) (mine : Home hub s) → StandsFor b E hub
-    → (home E s ≡ Some mine.room.name) × LineStands b.max_waiting_patches mine.session × WatchStands (documents E mine.room.name) mine.room.room_sessions.room mine.session (watching b.epoch E s)
+    → (home E s ≡ Some mine.room.name) × OutboxStands b.max_waiting_patches mine.session × WatchStands (documents E mine.room.name) mine.room.room_sessions.room mine.session (watching b.epoch E s)
 here b E hub s mine h = let found = session_stands b E hub s mine.room h mine.at in rw mine.is at found
 
 -- two rooms have different names
@@ -143,13 +143,13 @@ module _ (b : HubConfig) (E : Log) (e : Entry) (old : State) (r : RoomOf old) (h
   -- if only one session differs, and no documents do
   pub session_changes : Quiet E e → ((other : List ℕ) → documents (e ∷ E) other ≡ documents E other) → (s : ℕ) (y : Session) → place_of old s ≡ Some r.place → home E s ≡ Some r.name
       → ChangesOnly s (Some y) r.room_sessions h → ((t : ℕ) → s ≢ t → watching b.epoch (e ∷ E) t ≡ watching b.epoch E t)
-      → LineStands b.max_waiting_patches y → WatchStands (documents E r.name) r.room_sessions.room y (watching b.epoch (e ∷ E) s) → StandsFor b (e ∷ E) (with_room r.place r.name h old)
-  session_changes quiet same s y s_at s_home changes others line watch =
+      → OutboxStands b.max_waiting_patches y → WatchStands (documents E r.name) r.room_sessions.room y (watching b.epoch (e ∷ E) s) → StandsFor b (e ∷ E) (with_room r.place r.name h old)
+  session_changes quiet same s y s_at s_home changes others contents watch =
       room_changes quiet
       (rw (same r.name, changes.0) (stands.rooms r.place r.name r.room_sessions r.there))
       (λ t apart. others t (λ is. apart (subst (λ u. place_of old u ≡ Some r.place) is s_at)))
       (λ t t_at. rw (changes.0, changes.1.found t, quiet.home t)
       (session_stays b.max_waiting_patches (documents E) (documents (e ∷ E)) r.name r.room_sessions.room (if s == t then Some y else session_in r.room_sessions.sessions t) (home E t) (watching b.epoch (e ∷ E) t) (same r.name)
       (by_number (λ t c. SessionStands b.max_waiting_patches (documents E) r.name r.room_sessions.room (if c then Some y else session_in r.room_sessions.sessions t) (home E t) (watching b.epoch (e ∷ E) t)) s t
-      (s_home, line, watch)
+      (s_home, contents, watch)
       (λ apart. rw (others t apart) (session_stands b E old t r stands t_at)))))

@@ -14,12 +14,12 @@ use Rattle.relay_hub.specs.Call.{IsAbove}
 use Rattle.relay_hub.specs.Allowance.{Allowance}
 use Rattle.relay_hub.specs.Session.{Session}
 use Rattle.relay_hub.specs.State.{IsRising, session_in}
-use Rattle.relay_hub.specs.Step.{OnlyAt, ToldAs, AllTold}
+use Rattle.relay_hub.specs.Step.{OnlyAt, NotifiedAs, AllNotified}
 use Rattle.relay_hub.specs.Watched.{IsIndexed}
 use Rattle.relay_hub.proofs.Cases.{by_number}
 use Rattle.relay_hub.proofs.Sessions.{push_last}
-use Rattle.relay_hub.proofs.Told.{IsTold, each_told}
-use Rattle.relay_hub.proofs.Rising.{same_rises, numbers_told, joined_rises, one_rises}
+use Rattle.relay_hub.proofs.Notified.{IsNotified, each_notified}
+use Rattle.relay_hub.proofs.Rising.{same_rises, numbers_notified, joined_rises, one_rises}
 
 -- the view of a session, if it is there and watches
 abbrev pub shown : Option Session → Option View
@@ -79,19 +79,19 @@ first_indexed x none = record {
 
 -- Notifying changes no view.
 
-told_view : (d : Document) (changes : List Change) (room : Room) (allowance : Allowance) (v : Option View) (short : Bool) (x y : Session)
-    → ToldAs d changes room allowance v short x y → y.view ≡ x.view
-told_view d changes room allowance (Some v) true x y h = ap (λ (z : Session). z.view) h.1
-told_view d changes room allowance _ _ x y h = ap (λ (z : Session). z.view) h.0
+notified_view : (d : Document) (changes : List Change) (room : Room) (allowance : Allowance) (v : Option View) (short : Bool) (x y : Session)
+    → NotifiedAs d changes room allowance v short x y → y.view ≡ x.view
+notified_view d changes room allowance (Some v) true x y h = ap (λ (z : Session). z.view) h.1
+notified_view d changes room allowance _ _ x y h = ap (λ (z : Session). z.view) h.0
 
-told_shown : (d : Document) (changes : List Change) (room : Room) (o p : Option Session) → IsTold d changes room o p → shown o ≡ shown p
-told_shown d changes room (Some x) (Some y) h = sym (told_view d changes room h.0 x.view h.1 x y h.2)
-told_shown d changes room None None h = refl
-told_shown d changes room _ _ h = absurd h
+notified_shown : (d : Document) (changes : List Change) (room : Room) (o p : Option Session) → IsNotified d changes room o p → shown o ≡ shown p
+notified_shown d changes room (Some x) (Some y) h = sym (notified_view d changes room h.0 x.view h.1 x y h.2)
+notified_shown d changes room None None h = refl
+notified_shown d changes room _ _ h = absurd h
 
-pub told_indexed : (d : Document) (changes : List Change) (room : Room) (budget : Budget) (xs ys : List Session) (n : ℕ) → AllTold d changes room budget xs ys n
+pub notified_indexed : (d : Document) (changes : List Change) (room : Room) (budget : Budget) (xs ys : List Session) (n : ℕ) → AllNotified d changes room budget xs ys n
     → (w : Watches) → IsIndexed w xs → IsIndexed w ys
-told_indexed d changes room budget xs ys n told w h = record {
-  rising = same_rises xs ys (numbers_told d changes room budget xs ys n told) h.rising;
-  agrees = λ t. h.agrees t ∙ told_shown d changes room (session_in xs t) (session_in ys t) (each_told d changes room budget xs ys n told t);
+notified_indexed d changes room budget xs ys n notified w h = record {
+  rising = same_rises xs ys (numbers_notified d changes room budget xs ys n notified) h.rising;
+  agrees = λ t. h.agrees t ∙ notified_shown d changes room (session_in xs t) (session_in ys t) (each_notified d changes room budget xs ys n notified t);
 }

@@ -4,7 +4,7 @@ pub mod Sessions
 pub mod Serving
 pub mod Queries
 pub mod Views
-pub mod Told
+pub mod Notified
 pub mod Rising
 pub mod Indexed
 pub mod Callers

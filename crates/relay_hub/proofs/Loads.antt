@@ -1,6 +1,6 @@
 -- The weight of what waits in an outbox, after one more patch is added or the front is drawn.
 use Rattle.std.proofs.Common.{◌≡◌, ◌≢◌, ℕ, ◌+◌, Bool, true, false, List, [], ◌∷◌, ◌++◌, refl, sym, ap, arith}
-use Rattle.relay_outbox.specs.Outbox.{Line, reply, patch, snapshot, nothing, first_of, rest_of, front_of, without_front}
+use Rattle.relay_outbox.specs.Outbox.{Contents, reply, patch, snapshot, nothing, first_of, rest_of, front_of, without_front}
 use Rattle.relay_patch.specs.Weight.{ops_weight}
 use Rattle.relay_patch.specs.declared.op.Op.{Op}
 use Rattle.relay_proto.specs.declared.reply.Reply.{Reply}
@@ -11,7 +11,7 @@ one_more [] p = omega arith
 one_more (q ∷ ps) p = let ih = one_more ps p in omega (arith, ih)
 
 -- a front that is no patch weighs nothing
-after_other : (o : Line Reply (ℕ × List Op)) → ((p : ℕ × List Op) → front_of o ≢ patch p) → patches_weight (without_front o).patches ≡ patches_weight o.patches
+after_other : (o : Contents Reply (ℕ × List Op)) → ((p : ℕ × List Op) → front_of o ≢ patch p) → patches_weight (without_front o).patches ≡ patches_weight o.patches
 after_other o other = go o.replies o.patches o.due other
   where
     go : (replies : List Reply) (patches : List (ℕ × List Op)) (due : Bool) → ((p : ℕ × List Op) → first_of replies patches due ≢ patch p)
@@ -20,16 +20,16 @@ after_other o other = go o.replies o.patches o.due other
     go [] (q ∷ patches) due other = absurd (other q refl)
     go [] [] due other = refl
 
-pub after_reply : (o : Line Reply (ℕ × List Op)) (r : Reply) → front_of o ≡ reply r → patches_weight (without_front o).patches ≡ patches_weight o.patches
+pub after_reply : (o : Contents Reply (ℕ × List Op)) (r : Reply) → front_of o ≡ reply r → patches_weight (without_front o).patches ≡ patches_weight o.patches
 after_reply o r h = after_other o (λ p k. absurd (cc (h, k)))
 
-pub after_snapshot : (o : Line Reply (ℕ × List Op)) → front_of o ≡ snapshot → patches_weight (without_front o).patches ≡ patches_weight o.patches
+pub after_snapshot : (o : Contents Reply (ℕ × List Op)) → front_of o ≡ snapshot → patches_weight (without_front o).patches ≡ patches_weight o.patches
 after_snapshot o h = after_other o (λ p k. absurd (cc (h, k)))
 
-pub after_nothing : (o : Line Reply (ℕ × List Op)) → front_of o ≡ nothing → patches_weight (without_front o).patches ≡ patches_weight o.patches
+pub after_nothing : (o : Contents Reply (ℕ × List Op)) → front_of o ≡ nothing → patches_weight (without_front o).patches ≡ patches_weight o.patches
 after_nothing o h = after_other o (λ p k. absurd (cc (h, k)))
 
-pub after_patch : (o : Line Reply (ℕ × List Op)) (p : ℕ × List Op) → front_of o ≡ patch p
+pub after_patch : (o : Contents Reply (ℕ × List Op)) (p : ℕ × List Op) → front_of o ≡ patch p
     → ops_weight p.1 + patches_weight (without_front o).patches ≡ patches_weight o.patches
 after_patch o p h = go o.replies o.patches o.due h
   where

@@ -28,7 +28,7 @@ use Rattle.relay_hub.specs.declared.event.Heard.TheVariants.{Answered, Busy}
 use Rattle.relay_hub.proofs.Cases.{by_number, by_finding}
 use Rattle.relay_hub.proofs.Lists.{slice_set_cases, append_cases, slice_get-set, slice_get-set_other, slice_get-earlier, slice_get-last}
 use Rattle.relay_hub.proofs.Rooms.{Vacant, vacant}
-use Rattle.relay_hub.proofs.Told.{each_told, none_told, some_told, once_told}
+use Rattle.relay_hub.proofs.Notified.{each_notified, none_notified, some_notified, once_notified}
 
 -- each session is in no room but its own
 abbrev StandAlone : State → Type 0
@@ -145,13 +145,13 @@ edit_keeps made s short id x patch (Ok d) old new e h =
     let room = h.0 in
     let mid = room_sessions room h.2 in
     let answered = keeps_only s x (replied (Done id (revision room)) x) old mid e h.3 in
-    let told = each_told before changes room made.telling_weight h.2 new.sessions short h.4 in
+    let notified = each_notified before changes room made.telling_weight h.2 new.sessions short h.4 in
     record {
-      none = λ t none. none_told before changes room (session_in h.2 t) (session_in new.sessions t) (told t) (answered.none t none);
+      none = λ t none. none_notified before changes room (session_in h.2 t) (session_in new.sessions t) (notified t) (answered.none t none);
       some = λ t z is.
           let there = some_one (session_in h.2 t) (answered.some t z is) in
-          some_told before changes room (session_in h.2 t) (session_in new.sessions t) there.0 (told t) there.1;
-      once = λ once. once_told before changes room made.telling_weight h.2 new.sessions short h.4 (answered.once once);
+          some_notified before changes room (session_in h.2 t) (session_in new.sessions t) there.0 (notified t) there.1;
+      once = λ once. once_notified before changes room made.telling_weight h.2 new.sessions short h.4 (answered.once once);
     }
 
 resume_keeps : (present past : Bool) (id rev s : ℕ) (pointers : View) (x : Session) (old new : RoomSessions) → session_in old.sessions s ≡ Some x

@@ -14,9 +14,9 @@ use Rattle.relay_tree.specs.declared.budget.Budget.{Budget}
 use Rattle.relay_hub.specs.Allowance.{Allowance, whole}
 use Rattle.relay_hub.specs.Session.{Session}
 use Rattle.relay_hub.specs.State.{EachOnce, IsRising, numbers, is_number, session_in}
-use Rattle.relay_hub.specs.Step.{after_told, ToldFrom, AllTold}
+use Rattle.relay_hub.specs.Step.{after_notified, NotifiedFrom, AllNotified}
 use Rattle.relay_hub.proofs.Sessions.{none_there}
-use Rattle.relay_hub.proofs.Told.{told_number}
+use Rattle.relay_hub.proofs.Notified.{notified_number}
 
 -- What rises.
 
@@ -51,17 +51,17 @@ numbers_set [] i y d e = refl
 numbers_set (x ∷ xs) zero y d e = ap (λ n. n ∷ numbers xs) e
 numbers_set (x ∷ xs) (suc i) y d e = ap (λ ns. x.number ∷ ns) (numbers_set xs i y d e)
 
-numbers_from : (d : Document) (changes : List Change) (room : Room) (allowance rest : Allowance) (xs ys : List Session) (n : ℕ) → ToldFrom d changes room allowance rest xs ys n
+numbers_from : (d : Document) (changes : List Change) (room : Room) (allowance rest : Allowance) (xs ys : List Session) (n : ℕ) → NotifiedFrom d changes room allowance rest xs ys n
     → numbers ys ≡ numbers xs
 numbers_from d changes room allowance rest [] [] n h = refl
 numbers_from d changes room allowance rest (x ∷ xs) (y ∷ ys) n h =
-    let first : y.number ≡ x.number = told_number d changes room allowance x.view h.0 x y h.2 in
-    let others : numbers ys ≡ numbers xs = numbers_from d changes room (after_told changes room allowance x.view h.0 x) rest xs ys h.1 h.4 in
+    let first : y.number ≡ x.number = notified_number d changes room allowance x.view h.0 x y h.2 in
+    let others : numbers ys ≡ numbers xs = numbers_from d changes room (after_notified changes room allowance x.view h.0 x) rest xs ys h.1 h.4 in
     λ i. first i ∷ others i
 numbers_from d changes room allowance rest _ _ n h = absurd h
 
-pub numbers_told : (d : Document) (changes : List Change) (room : Room) (budget : Budget) (xs ys : List Session) (n : ℕ) → AllTold d changes room budget xs ys n → numbers ys ≡ numbers xs
-numbers_told d changes room budget xs ys n h = numbers_from d changes room (whole budget) h.0 xs ys n h.1
+pub numbers_notified : (d : Document) (changes : List Change) (room : Room) (budget : Budget) (xs ys : List Session) (n : ℕ) → AllNotified d changes room budget xs ys n → numbers ys ≡ numbers xs
+numbers_notified d changes room budget xs ys n h = numbers_from d changes room (whole budget) h.0 xs ys n h.1
 
 -- A session is removed.
 

@@ -31,7 +31,7 @@ use Rattle.relay_view.specs.View.{View, view}
 use Rattle.relay_hub.specs.Log.{Log, Watching as Watched, begun, entry, home, documents, requested, asked, asked_at_home, watching}
 use Rattle.relay_hub.specs.Refusal.{refused, edit_refusal, future_refusal}
 use Rattle.relay_hub.specs.Session.{Session, session_with, replied, watches, unwatches, resumes}
-use Rattle.relay_hub.specs.Stands.{RoomStands, LineStands, WatchStands, SessionStands, StandsFor}
+use Rattle.relay_hub.specs.Stands.{RoomStands, OutboxStands, WatchStands, SessionStands, StandsFor}
 use Rattle.relay_hub.specs.State.{RoomSessions, State, Home, session_in}
 use Rattle.relay_hub.specs.Step.{ChangesOnly, EditServed, ResumeServed, with_room}
 use Rattle.relay_hub.specs.declared.config.HubConfig.{HubConfig}
@@ -40,12 +40,12 @@ use Rattle.relay_hub.specs.declared.event.Event.TheVariants.{Receive}
 use Rattle.relay_hub.specs.declared.event.Heard.TheVariants.{Answered}
 use Rattle.relay_hub.proofs.Cases.{by_number}
 use Rattle.relay_hub.proofs.Documents.{goes_on_stands, trimmed_stands}
-use Rattle.relay_hub.proofs.Edits.{same_edit, told_session}
+use Rattle.relay_hub.proofs.Edits.{same_edit, notified_session}
 use Rattle.relay_hub.proofs.Follow.{Follows-snapshot, level_follows, resumed_follows}
 use Rattle.relay_hub.proofs.Frames.{room_changes, session_changes, session_stands, here}
 use Rattle.relay_hub.proofs.Rooms.{one_added, none_added, others_stay}
-use Rattle.relay_hub.proofs.Told.{each_told}
-use Rattle.relay_hub.proofs.Waiting.{line_replied, line_folded, line_cleared, line_patched}
+use Rattle.relay_hub.proofs.Notified.{each_notified}
+use Rattle.relay_hub.proofs.Waiting.{outbox_replied, outbox_folded, outbox_cleared, outbox_patched}
 
 -- a reply changes nothing that a watcher holds
 pub watch_replied : (ds : List Document) (room : Room) (x : Session) (r : Reply) (w : Option Watched) → WatchStands ds room x w → WatchStands ds room (replied r x) w
@@ -82,11 +82,11 @@ watch_resumed most ds room rev id v d (Patch ops) x h at past is leads =
     (refl, resumed_follows most ds v room rev d ops x.budget (cleared (with_reply (Resumed id how.Patch) x.outbox)) h earlier (leads d (h.led rev d at reach)) refl refl)
 watch_resumed most ds room rev id v d Snapshot x h at past is leads = (refl, Follows-snapshot most ds (begun v (holds rev (view v d))) room h tt)
 
-line_resumed : (most rev id : ℕ) (v : View) (up : CatchUp) (x : Session) → IsCount id → IsCount rev → Fits up → LineStands most x → LineStands most (resumes rev id v up x)
-line_resumed most rev id v Nothing x i r fits h = line_cleared most (replied (Resumed id how.Nothing) x) (Some v) (line_replied most x (Resumed id how.Nothing) i h)
-line_resumed most rev id v (Patch ops) x i r fits h =
-    line_patched most rev ops (session_with (Some v) (cleared (with_reply (Resumed id how.Patch) x.outbox)) x) (Some v) (r, fits) (line_cleared most (replied (Resumed id how.Patch) x) (Some v) (line_replied most x (Resumed id how.Patch) i h))
-line_resumed most rev id v Snapshot x i r fits h = line_folded most (replied (Resumed id how.Snapshot) x) (Some v) (line_replied most x (Resumed id how.Snapshot) i h)
+outbox_resumed : (most rev id : ℕ) (v : View) (up : CatchUp) (x : Session) → IsCount id → IsCount rev → Fits up → OutboxStands most x → OutboxStands most (resumes rev id v up x)
+outbox_resumed most rev id v Nothing x i r fits h = outbox_cleared most (replied (Resumed id how.Nothing) x) (Some v) (outbox_replied most x (Resumed id how.Nothing) i h)
+outbox_resumed most rev id v (Patch ops) x i r fits h =
+    outbox_patched most rev ops (session_with (Some v) (cleared (with_reply (Resumed id how.Patch) x.outbox)) x) (Some v) (r, fits) (outbox_cleared most (replied (Resumed id how.Patch) x) (Some v) (outbox_replied most x (Resumed id how.Patch) i h))
+outbox_resumed most rev id v Snapshot x i r fits h = outbox_folded most (replied (Resumed id how.Snapshot) x) (Some v) (outbox_replied most x (Resumed id how.Snapshot) i h)
 
 -- A request of session s, which is open.
 
@@ -107,14 +107,14 @@ module _ (b : HubConfig) (E : Log) (old : State) (s : ℕ) (mine : Home old s) (
   was : RoomStands b ds g.room
   was = stands.rooms mine.room.place mine.room.name g mine.room.there
 
-  at_home : (home E s ≡ Some mine.room.name) × LineStands b.max_waiting_patches x × WatchStands ds g.room x (watching b.epoch E s)
+  at_home : (home E s ≡ Some mine.room.name) × OutboxStands b.max_waiting_patches x × WatchStands ds g.room x (watching b.epoch E s)
   at_home = here b E old s mine stands
 
   -- a request that adds no document, and that changes the session alone
-  pub served : (r : Result Request Refusal) (y : Session) → request_of_text text ≡ r → requested ds r ≡ None → ChangesOnly s (Some y) g h → LineStands b.max_waiting_patches y
+  pub served : (r : Result Request Refusal) (y : Session) → request_of_text text ≡ r → requested ds r ≡ None → ChangesOnly s (Some y) g h → OutboxStands b.max_waiting_patches y
       → WatchStands ds g.room y (asked b.epoch ds (watching b.epoch E s) r)
       → StandsFor b (entry (Receive s text) (Heard (Answered short)) ∷ E) next
-  served r y read none changes line watch =
+  served r y read none changes contents watch =
       let e = entry (Receive s text) (Heard (Answered short)) in
       let same : (s == s) ≡ true = grind (arith, nat_tests) in
       session_changes b E e old mine.room h stands (others_stay E s short text mine.room.name at_home.0)
@@ -122,35 +122,35 @@ module _ (b : HubConfig) (E : Log) (old : State) (s : ℕ) (mine : Home old s) (
       (none_added E s short text mine.room.name at_home.0 (rw read none))
       s y mine.at at_home.0 changes
       (λ t apart. let other : (s == t) ≡ false = grind (arith, nat_tests, apart) in rw other refl)
-      line
+      contents
       (rw (same, at_home.0, read) watch)
 
   pub served_reply : (r : Result Request Refusal) (why : Reply) → request_of_text text ≡ r → requested ds r ≡ None
       → asked b.epoch ds (watching b.epoch E s) r ≡ watching b.epoch E s → ChangesOnly s (Some (replied why x)) g h → HasCounts why
       → StandsFor b (entry (Receive s text) (Heard (Answered short)) ∷ E) next
   served_reply r why read none same changes counts =
-      served r (replied why x) read none changes (line_replied b.max_waiting_patches x why counts at_home.1)
+      served r (replied why x) read none changes (outbox_replied b.max_waiting_patches x why counts at_home.1)
       (rw same (watch_replied ds g.room x why (watching b.epoch E s) at_home.2))
 
   pub served_watch : (id : ℕ) (v : View) → request_of_text text ≡ Ok (Watch id v) → ChangesOnly s (Some (watches id v x)) g h → IsCount id
       → StandsFor b (entry (Receive s text) (Heard (Answered short)) ∷ E) next
   served_watch id v read changes i =
       served (Ok (Watch id v)) (watches id v x) read refl changes
-      (line_folded b.max_waiting_patches (replied (Watching id) x) (Some v) (line_replied b.max_waiting_patches x (Watching id) i at_home.1))
+      (outbox_folded b.max_waiting_patches (replied (Watching id) x) (Some v) (outbox_replied b.max_waiting_patches x (Watching id) i at_home.1))
       (watch_begun b ds g.room v was id x)
 
   pub served_unwatch : (id : ℕ) → request_of_text text ≡ Ok (Unwatch id) → ChangesOnly s (Some (unwatches id x)) g h → IsCount id
       → StandsFor b (entry (Receive s text) (Heard (Answered short)) ∷ E) next
   served_unwatch id read changes i =
       served (Ok (Unwatch id)) (unwatches id x) read refl changes
-      (line_cleared b.max_waiting_patches (replied (Unwatched id) x) None (line_replied b.max_waiting_patches x (Unwatched id) i at_home.1))
+      (outbox_cleared b.max_waiting_patches (replied (Unwatched id) x) None (outbox_replied b.max_waiting_patches x (Unwatched id) i at_home.1))
       (refl, refl, refl)
 
   pub served_resume : (id e rev : ℕ) (v : View) (present past : Bool) → request_of_text text ≡ Ok (Resume id e rev v) → (e == b.epoch) ≡ present → nat_le rev (revision g.room) ≡ past
       → ResumeServed present past id rev v s x g h → IsCount id → StandsFor b (entry (Receive s text) (Heard (Answered short)) ∷ E) next
   served_resume id e rev v false past read p q step i =
       served (Ok (Resume id e rev v)) (resumes (revision g.room) id v Snapshot x) read refl step
-      (line_folded b.max_waiting_patches (replied (Resumed id how.Snapshot) x) (Some v) (line_replied b.max_waiting_patches x (Resumed id how.Snapshot) i at_home.1))
+      (outbox_folded b.max_waiting_patches (replied (Resumed id how.Snapshot) x) (Some v) (outbox_replied b.max_waiting_patches x (Resumed id how.Snapshot) i at_home.1))
       (rw p (refl, Follows-snapshot b ds (begun v nothing) g.room was tt))
   served_resume id e rev v true false read p q step i =
       let room = was in
@@ -162,7 +162,7 @@ module _ (b : HubConfig) (E : Log) (old : State) (s : ℕ) (mine : Home old s) (
       let within : rev < length ds = omega (arith, past, room.made) in
       let found = slice_get-get_or ds rev null within in
       served (Ok (Resume id e rev v)) (resumes (revision g.room) id v (caught_up_within x.budget g.room rev v) x) read refl step.2
-      (line_resumed b.max_waiting_patches (revision g.room) id v (caught_up_within x.budget g.room rev v) x i room.is.history.last step.1 at_home.1)
+      (outbox_resumed b.max_waiting_patches (revision g.room) id v (caught_up_within x.budget g.room rev v) x i room.is.history.last step.1 at_home.1)
       (rw (p, found) (watch_resumed b ds g.room rev id v (get_or ds rev null) (caught_up_within x.budget g.room rev v) x room found past refl step.0))
 
   -- An edit.
@@ -182,22 +182,22 @@ module _ (b : HubConfig) (E : Log) (old : State) (s : ℕ) (mine : Home old s) (
     edit_stands d makes step =
         let e = entry (Receive s text) (Heard (Answered short)) in
         let newer : documents (e ∷ E) mine.room.name ≡ ds ++ d ∷ [] = one_added E s short text mine.room.name d at_home.0 (rw read (same_edit b ds g.room base patch was ∙ ap result_ok makes)) in
-        let told = step.0 in
-        let room : RoomStands b (ds ++ d ∷ []) told = goes_on_stands b ds g.room told patch d was step.1 in
-        let answer = Done id (revision told) in
+        let notified = step.0 in
+        let room : RoomStands b (ds ++ d ∷ []) notified = goes_on_stands b ds g.room notified patch d was step.1 in
+        let answer = Done id (revision notified) in
         let changes = all_changes g.room.document patch in
         room_changes b E e old mine.room h stands (others_stay E s short text mine.room.name at_home.0)
         (record { opened = refl; count = refl; rooms = λ name. refl; home = λ t. refl })
-        (rw (newer, step.5) (trimmed_stands b (ds ++ d ∷ []) told b.history_weight (λ all. all) room))
+        (rw (newer, step.5) (trimmed_stands b (ds ++ d ∷ []) notified b.history_weight (λ all. all) room))
         (λ t apart. same_watching at_home.0 t)
         (λ t t_at.
         let answered : SessionStands b.max_waiting_patches (documents E) mine.room.name g.room (session_in step.2 t) (home E t) (watching b.epoch E t) =
         rw (step.3.found t) (by_number (λ t c. SessionStands b.max_waiting_patches (documents E) mine.room.name g.room (if c then Some (replied answer x) else session_in g.sessions t) (home E t) (watching b.epoch E t)) s t
-        (at_home.0, line_replied b.max_waiting_patches x answer (i, room.is.history.last) at_home.1, watch_replied ds g.room x answer (watching b.epoch E s) at_home.2)
+        (at_home.0, outbox_replied b.max_waiting_patches x answer (i, room.is.history.last) at_home.1, watch_replied ds g.room x answer (watching b.epoch E s) at_home.2)
         (λ apart. session_stands b E old t mine.room stands t_at)) in
         rw (same_watching at_home.0 t, step.5)
-        (told_session b b.max_waiting_patches ds d g.room told changes was room (documents E) (documents (e ∷ E)) mine.room.name (session_in step.2 t) (session_in h.sessions t) (home E t) (watching b.epoch E t)
-        refl newer (each_told g.room.document changes told b.telling_weight step.2 h.sessions short step.4 t) answered))
+        (notified_session b b.max_waiting_patches ds d g.room notified changes was room (documents E) (documents (e ∷ E)) mine.room.name (session_in step.2 t) (session_in h.sessions t) (home E t) (watching b.epoch E t)
+        refl newer (each_notified g.room.document changes notified b.telling_weight step.2 h.sessions short step.4 t) answered))
 
     pub served_edit : (o : Result Document EditFault) → edited g.room base patch ≡ o → ((fault : EditFault) (r : Reply) → o ≡ Err fault → edit_refusal id fault ≡ Some r → HasCounts r) → EditServed b s x id patch o short g h
         → StandsFor b (entry (Receive s text) (Heard (Answered short)) ∷ E) next

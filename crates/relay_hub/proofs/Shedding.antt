@@ -3,7 +3,7 @@ use Rattle.std.proofs.Common.{◌≡◌, ℕ, ◌+◌, ◌==◌, Bool, true, fal
 use Rattle.std.specs.List.{position_or_len}
 use Rattle.std.proofs.lemmas.List.{length-map}
 use Rattle.std.proofs.lemmas.Option.{slice_get-map}
-use Rattle.relay_outbox.specs.Outbox.{Line}
+use Rattle.relay_outbox.specs.Outbox.{Contents}
 use Rattle.relay_patch.specs.declared.op.Op.{Op}
 use Rattle.relay_proto.specs.declared.reply.Reply.{Reply}
 use Rattle.relay_room.specs.Room.{State as Room, trimmed}
@@ -12,9 +12,9 @@ use Rattle.relay_tree.specs.Document.{Document}
 use Rattle.relay_tree.specs.declared.budget.Budget.{Budget}
 use Rattle.relay_tree.specs.declared.budget.Budget.TheVariants.{Unbounded}
 use Rattle.relay_hub.specs.Log.{Log, Watching, home, documents, watching}
-use Rattle.relay_hub.specs.Session.{Session, with_line, later}
+use Rattle.relay_hub.specs.Session.{Session, with_outbox, later}
 use Rattle.relay_hub.specs.Shed.{shed_budget, fold_patches, shed_session, shed_room, shed_named, shed}
-use Rattle.relay_hub.specs.Stands.{RoomStands, LineStands, WatchStands, SessionStands, RoomSessionsStand, HomeStands, Follows, StandsFor}
+use Rattle.relay_hub.specs.Stands.{RoomStands, OutboxStands, WatchStands, SessionStands, RoomSessionsStand, HomeStands, Follows, StandsFor}
 use Rattle.relay_hub.specs.State.{RoomSessions, State, EachOnce, IsHub, numbers, place_of, place_named, session_in}
 use Rattle.relay_hub.specs.Watched.{IsIndexed}
 use Rattle.relay_hub.specs.declared.config.HubConfig.{HubConfig}
@@ -108,20 +108,20 @@ shed_is_hub hub h = record {
 
 -- The log.
 
-fold_stands : (most : ℕ) (x : Session) → LineStands most x → LineStands most (shed_session x)
+fold_stands : (most : ℕ) (x : Session) → OutboxStands most x → OutboxStands most (shed_session x)
 fold_stands most x h = go x.outbox.patches refl
   where
-    go : (ps : List (ℕ × List Op)) → x.outbox.patches ≡ ps → LineStands most (with_line (fold_patches ps x.outbox) x)
+    go : (ps : List (ℕ × List Op)) → x.outbox.patches ≡ ps → OutboxStands most (with_outbox (fold_patches ps x.outbox) x)
     go [] is = h
     go (p ∷ ps) is = record { max_waiting_patches = h.max_waiting_patches; replies = h.replies; patches = tt }
 
-fold_follows : (b : HubConfig) (ds : List Document) (room : Room) (w : Watching) (line : Line Reply (ℕ × List Op)) → RoomStands b ds room
-    → Follows ds w (later room w.view line) → Follows ds w (later room w.view (fold_patches line.patches line))
-fold_follows b ds room w line stands h = go line.patches refl
+fold_follows : (b : HubConfig) (ds : List Document) (room : Room) (w : Watching) (contents : Contents Reply (ℕ × List Op)) → RoomStands b ds room
+    → Follows ds w (later room w.view contents) → Follows ds w (later room w.view (fold_patches contents.patches contents))
+fold_follows b ds room w contents stands h = go contents.patches refl
   where
-    go : (ps : List (ℕ × List Op)) → line.patches ≡ ps → Follows ds w (later room w.view (fold_patches ps line))
+    go : (ps : List (ℕ × List Op)) → contents.patches ≡ ps → Follows ds w (later room w.view (fold_patches ps contents))
     go [] is = h
-    go (p ∷ ps) is = Follows-snapshot b ds w room stands (EachLeads-left ds w.view w.start w.heard (later room w.view line) h.each)
+    go (p ∷ ps) is = Follows-snapshot b ds w room stands (EachLeads-left ds w.view w.start w.heard (later room w.view contents) h.each)
 
 watch_stands : (b : HubConfig) (ds : List Document) (room : Room) (budget : Budget) (x : Session) (w : Option Watching) → RoomStands b ds room → WatchStands ds room x w
     → WatchStands ds (trimmed budget room) (shed_session x) w

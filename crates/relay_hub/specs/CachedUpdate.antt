@@ -20,7 +20,7 @@ use Rattle.relay_hub.specs.declared.cached_update.UpdateCache.{UpdateCache}
 
 -- the update is what an edit from the document d by some changes means to a view, within a budget
 pub record Tells (budget : Budget) (d : Document) (changes : List Change) (room : Room) (pointers : View) (update : Update) : Type 0 where
-  pub told : update ≡ update_of (revision room) (telling budget changes room pointers)
+  pub notified : update ≡ update_of (revision room) (telling budget changes room pointers)
   pub makes : MakesPresent room pointers d (telling budget changes room pointers)
   pub fits : Fits (telling budget changes room pointers)
 

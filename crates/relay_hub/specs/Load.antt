@@ -1,6 +1,6 @@
 -- The weight of the patches that wait in an outbox, counted beside it.
 use Rattle.std.specs.Prelude.{ℕ, ◌≡◌, ◌≤◌, ⊤, List}
-use Rattle.relay_outbox.specs.Outbox.{Line}
+use Rattle.relay_outbox.specs.Outbox.{Contents}
 use Rattle.relay_patch.specs.declared.op.Op.{Op}
 use Rattle.relay_proto.specs.declared.reply.Reply.{Reply}
 use Rattle.relay_tree.specs.declared.budget.Budget.{Budget}
@@ -8,6 +8,6 @@ use Rattle.relay_tree.specs.declared.budget.Budget.TheVariants.{Unbounded, Left}
 use Rattle.relay_hub.specs.Session.{patches_weight}
 
 -- the load is what the waiting patches weigh, and is within the budget; it is counted only if there is a bound
-abbrev pub IsLoad : Budget → ℕ → Line Reply (ℕ × List Op) → Type 0
-IsLoad Unbounded load line = ⊤
-IsLoad (Left most) load line = (load ≡ patches_weight line.patches) × (load ≤ most)
+abbrev pub IsLoad : Budget → ℕ → Contents Reply (ℕ × List Op) → Type 0
+IsLoad Unbounded load contents = ⊤
+IsLoad (Left most) load contents = (load ≡ patches_weight contents.patches) × (load ≤ most)

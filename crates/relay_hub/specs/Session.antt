@@ -1,7 +1,7 @@
 -- How one session changes: its view and its outbox.
 use Rattle.std.specs.Prelude.{ℕ, ◌≡◌, ◌+◌, false, length, List, [], ◌∷◌, ◌++◌, map, Option, Some, None, option_map, is_some, if◌then◌else◌, refl}
 use Rattle.std.specs.Coded.{Coded, code_by, coded×, coded_ℕ, coded_list, coded_option}
-use Rattle.relay_outbox.specs.Outbox.{Line, Foremost, reply, patch, snapshot, nothing, empty, with_reply, with_patch, folded, cleared, front_of, without_front, line_code}
+use Rattle.relay_outbox.specs.Outbox.{Contents, Foremost, reply, patch, snapshot, nothing, empty, with_reply, with_patch, folded, cleared, front_of, without_front, contents_code}
 use Rattle.relay_patch.specs.Weight.{ops_weight}
 use Rattle.relay_patch.specs.declared.op.Op.{Op}
 use Rattle.relay_proto.specs.declared.message.Message.{Message}
@@ -24,12 +24,12 @@ pub use Rattle.relay_hub.specs.EncodedPatch.{patch_message, message_text, ReadsB
 pub record Session : Type 0 where
   pub number : ℕ
   pub view : Option View
-  pub outbox : Line Reply (ℕ × List Op)
+  pub outbox : Contents Reply (ℕ × List Op)
   pub budget : Budget
 
 -- the session with another view and another outbox
-abbrev pub session_with : Option View → Line Reply (ℕ × List Op) → Session → Session
-session_with pointers line x = record { number = x.number; view = pointers; outbox = line; budget = x.budget }
+abbrev pub session_with : Option View → Contents Reply (ℕ × List Op) → Session → Session
+session_with pointers contents x = record { number = x.number; view = pointers; outbox = contents; budget = x.budget }
 
 -- What holds of each session.
 pub record IsSession (x : Session) : Type 0 where
@@ -37,12 +37,12 @@ pub record IsSession (x : Session) : Type 0 where
   pub idle : x.view ≡ None → (x.outbox.patches ≡ []) × (x.outbox.due ≡ false)
 
 -- the session with another outbox
-abbrev pub with_line : Line Reply (ℕ × List Op) → Session → Session
-with_line line x = session_with x.view line x
+abbrev pub with_outbox : Contents Reply (ℕ × List Op) → Session → Session
+with_outbox contents x = session_with x.view contents x
 
 -- the session with one more reply
 abbrev pub replied : Reply → Session → Session
-replied r x = with_line (with_reply r x.outbox) x
+replied r x = with_outbox (with_reply r x.outbox) x
 
 -- a session that was just opened, in a room at that revision
 abbrev pub newcomer : HubConfig → ℕ → ℕ → Session
@@ -61,9 +61,9 @@ patches_weight [] = 0
 patches_weight (p ∷ ps) = ops_weight p.1 + patches_weight ps
 
 -- a patch waits behind the others if a budget pays for all of them; otherwise the outbox folds
-abbrev pub with_patch_within : Budget → ℕ × List Op → Line Reply (ℕ × List Op) → Line Reply (ℕ × List Op)
-with_patch_within budget p line =
-    if is_some (paid (patches_weight line.patches + ops_weight p.1) budget) then with_patch p line else folded line
+abbrev pub with_patch_within : Budget → ℕ × List Op → Contents Reply (ℕ × List Op) → Contents Reply (ℕ × List Op)
+with_patch_within budget p contents =
+    if is_some (paid (patches_weight contents.patches + ops_weight p.1) budget) then with_patch p contents else folded contents
 
 -- the session when it begins to watch, and when it stops
 abbrev pub watches : ℕ → View → Session → Session
@@ -80,14 +80,14 @@ resumes rev id pointers (Patch ops) x =
 resumes rev id pointers Snapshot x = session_with (Some pointers) (folded (with_reply (Resumed id how.Snapshot) x.outbox)) x
 
 -- an outbox in which no snapshot is due, after an update to revision rev: it is unchanged, has one more patch, or a snapshot is due
-abbrev pub led_line : Budget → ℕ → CatchUp → Line Reply (ℕ × List Op) → Line Reply (ℕ × List Op)
-led_line budget rev Nothing line = line
-led_line budget rev (Patch ops) line = with_patch_within budget (rev, ops) line
-led_line budget rev Snapshot line = folded line
+abbrev pub led_outbox : Budget → ℕ → CatchUp → Contents Reply (ℕ × List Op) → Contents Reply (ℕ × List Op)
+led_outbox budget rev Nothing contents = contents
+led_outbox budget rev (Patch ops) contents = with_patch_within budget (rev, ops) contents
+led_outbox budget rev Snapshot contents = folded contents
 
 -- any outbox: one in which a snapshot is due is unchanged, since that snapshot will show the revision too
-abbrev pub told_line : Budget → ℕ → CatchUp → Line Reply (ℕ × List Op) → Line Reply (ℕ × List Op)
-told_line budget rev how line = if line.due then line else led_line budget rev how line
+abbrev pub notified_outbox : Budget → ℕ → CatchUp → Contents Reply (ℕ × List Op) → Contents Reply (ℕ × List Op)
+notified_outbox budget rev how contents = if contents.due then contents else led_outbox budget rev how contents
 
 -- What is drawn.
 
@@ -111,16 +111,16 @@ waiting x = length x.outbox.replies + length x.outbox.patches + (if x.outbox.due
 
 -- the session after its front was drawn
 abbrev pub drawn : Session → Session
-drawn x = with_line (without_front x.outbox) x
+drawn x = with_outbox (without_front x.outbox) x
 
 -- the patches and the snapshot that wait, for a view
-abbrev pub later : Room → View → Line Reply (ℕ × List Op) → List Message
-later room pointers line = map patch_message line.patches ++ (if line.due then snapshot_of room pointers ∷ [] else [])
+abbrev pub later : Room → View → Contents Reply (ℕ × List Op) → List Message
+later room pointers contents = map patch_message contents.patches ++ (if contents.due then snapshot_of room pointers ∷ [] else [])
 
 -- how the logic stores a session
 abbrev pub session_code : Coded Slot → Coded Reply → Coded Op → Coded Session
-session_code slots replies ops = code_by (ℕ × (Option View × (Line Reply (ℕ × List Op) × Budget)))
-    (coded× coded_ℕ (coded× (coded_option (coded_list slots)) (coded× (line_code replies (coded× coded_ℕ (coded_list ops))) budget_code)))
+session_code slots replies ops = code_by (ℕ × (Option View × (Contents Reply (ℕ × List Op) × Budget)))
+    (coded× coded_ℕ (coded× (coded_option (coded_list slots)) (coded× (contents_code replies (coded× coded_ℕ (coded_list ops))) budget_code)))
     (λ x. (x.number, (x.view, (x.outbox, x.budget))))
     (λ p. record { number = p.0; view = p.1.0; outbox = p.1.1.0; budget = p.1.1.1 })
     (λ _. refl)

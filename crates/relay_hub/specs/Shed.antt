@@ -1,12 +1,12 @@
 -- What a hub gives back when memory was refused: what its rooms remember, and the patches that wait.
 use Rattle.std.specs.Prelude.{ℕ, List, [], ◌∷◌, map}
-use Rattle.relay_outbox.specs.Outbox.{Line, folded}
+use Rattle.relay_outbox.specs.Outbox.{Contents, folded}
 use Rattle.relay_patch.specs.declared.op.Op.{Op}
 use Rattle.relay_proto.specs.declared.reply.Reply.{Reply}
 use Rattle.relay_room.specs.Room.{trimmed}
 use Rattle.relay_tree.specs.declared.budget.Budget.{Budget}
 use Rattle.relay_tree.specs.declared.budget.Budget.TheVariants.{Unbounded, Left}
-use Rattle.relay_hub.specs.Session.{Session, with_line}
+use Rattle.relay_hub.specs.Session.{Session, with_outbox}
 use Rattle.relay_hub.specs.State.{RoomSessions, room_sessions, State}
 
 -- what the changes that a room remembers may weigh afterwards: nothing, if there was a bound. Without one a room promises all of its
@@ -16,12 +16,12 @@ shed_budget Unbounded = Unbounded
 shed_budget (Left most) = Left 0
 
 -- the patches that wait, if there are any, fold into a snapshot that is due
-abbrev pub fold_patches : List (ℕ × List Op) → Line Reply (ℕ × List Op) → Line Reply (ℕ × List Op)
-fold_patches [] line = line
-fold_patches (p ∷ ps) line = folded line
+abbrev pub fold_patches : List (ℕ × List Op) → Contents Reply (ℕ × List Op) → Contents Reply (ℕ × List Op)
+fold_patches [] contents = contents
+fold_patches (p ∷ ps) contents = folded contents
 
 abbrev pub shed_session : Session → Session
-shed_session x = with_line (fold_patches x.outbox.patches x.outbox) x
+shed_session x = with_outbox (fold_patches x.outbox.patches x.outbox) x
 
 abbrev pub shed_room : Budget → RoomSessions → RoomSessions
 shed_room budget g = room_sessions (trimmed budget g.room) (map shed_session g.sessions)

@@ -71,7 +71,7 @@ abbrev pub PatchFits : ℕ × List Op → Type 0
 PatchFits p = IsCount p.0 × AllByRecursion IsSent p.1
 
 -- the replies and patches that wait for a session round-trip through their texts
-pub record LineStands (most : ℕ) (x : Session) : Type 0 where
+pub record OutboxStands (most : ℕ) (x : Session) : Type 0 where
   pub max_waiting_patches : x.outbox.max_waiting_patches ≡ most
   pub replies : AllByRecursion HasCounts x.outbox.replies
   pub patches : AllByRecursion PatchFits x.outbox.patches
@@ -82,7 +82,7 @@ WatchStands documents room x (Some w) = (x.view ≡ Some w.view) × Follows docu
 WatchStands documents room x None = (x.view ≡ None) × (x.outbox.patches ≡ []) × (x.outbox.due ≡ false)
 
 abbrev pub SessionStands : ℕ → (List ℕ → List Document) → List ℕ → Room → Option Session → Option (List ℕ) → Option Watching → Type 0
-SessionStands most documents name room (Some x) there w = (there ≡ Some name) × LineStands most x × WatchStands (documents name) room x w
+SessionStands most documents name room (Some x) there w = (there ≡ Some name) × OutboxStands most x × WatchStands (documents name) room x w
 SessionStands most documents name room None there w = ⊥
 
 abbrev pub RoomSessionsStand : ℕ → (List ℕ → List Document) → ℕ → Option (List ℕ × RoomSessions) → Option (List ℕ) → Option Watching → Type 0

@@ -34,7 +34,7 @@ use Rattle.relay_hub.specs.declared.fault.OpenFault.{OpenFault}
 use Rattle.relay_hub.specs.declared.fault.OpenFault.TheVariants.{RoomName, RoomsFull, SessionsFull, Exhausted}
 use Rattle.relay_hub.specs.Allowance.{Allowance, whole, within, after_update}
 use Rattle.relay_hub.specs.Refusal.{refused, edit_refusal, future_refusal}
-use Rattle.relay_hub.specs.Session.{Session, with_line, replied, newcomer, watches, unwatches, resumes, told_line, front_message, message_text, ReadsBack, drawn}
+use Rattle.relay_hub.specs.Session.{Session, with_outbox, replied, newcomer, watches, unwatches, resumes, notified_outbox, front_message, message_text, ReadsBack, drawn}
 use Rattle.relay_hub.specs.State.{RoomSessions, room_sessions, State, EachOnce, place_of, place_named, vacant_place, is_crowded, session_in}
 
 -- Within a room.
@@ -68,49 +68,49 @@ telling_within allowance budget changes room pointers = telling (within allowanc
 -- a watcher is notified of an edit in one of three ways: its outbox is unchanged, if its view is, or if a snapshot is due already; a patch
 -- that brings its view to the new one is added, or a snapshot is due in place of one that is too heavy; or the outbox folds because memory
 -- ran out, and counts as short
-abbrev pub ToldView : Document → List Change → Room → Allowance → View → Bool → Session → Session → Type 0
-ToldView d changes room allowance pointers true x y = (x.outbox.due ≡ false) × (y ≡ with_line (folded x.outbox) x)
-ToldView d changes room allowance pointers false x y =
-    (y ≡ with_line (told_line x.budget (revision room) (telling_within allowance x.budget changes room pointers) x.outbox) x)
+abbrev pub NotifiedView : Document → List Change → Room → Allowance → View → Bool → Session → Session → Type 0
+NotifiedView d changes room allowance pointers true x y = (x.outbox.due ≡ false) × (y ≡ with_outbox (folded x.outbox) x)
+NotifiedView d changes room allowance pointers false x y =
+    (y ≡ with_outbox (notified_outbox x.budget (revision room) (telling_within allowance x.budget changes room pointers) x.outbox) x)
     × MakesPresent room pointers d (telling_within allowance x.budget changes room pointers)
     × Fits (telling_within allowance x.budget changes room pointers)
 
 -- a session that watches nothing is not notified
-abbrev pub ToldAs : Document → List Change → Room → Allowance → Option View → Bool → Session → Session → Type 0
-ToldAs d changes room allowance (Some pointers) short x y = ToldView d changes room allowance pointers short x y
-ToldAs d changes room allowance None short x y = (y ≡ x) × (short ≡ false)
+abbrev pub NotifiedAs : Document → List Change → Room → Allowance → Option View → Bool → Session → Session → Type 0
+NotifiedAs d changes room allowance (Some pointers) short x y = NotifiedView d changes room allowance pointers short x y
+NotifiedAs d changes room allowance None short x y = (y ≡ x) × (short ≡ false)
 
-abbrev pub Told : Document → List Change → Room → Allowance → Bool → Session → Session → Type 0
-Told d changes room allowance short x y = ToldAs d changes room allowance x.view short x y
+abbrev pub Notified : Document → List Change → Room → Allowance → Bool → Session → Session → Type 0
+Notified d changes room allowance short x y = NotifiedAs d changes room allowance x.view short x y
 
 -- the allowance after a session is notified. Nothing is made for one in whose outbox a snapshot is due, nor if memory ran out
-abbrev pub after_told : List Change → Room → Allowance → Option View → Bool → Session → Allowance
-after_told changes room allowance (Some pointers) true x = allowance
-after_told changes room allowance (Some pointers) false x =
+abbrev pub after_notified : List Change → Room → Allowance → Option View → Bool → Session → Allowance
+after_notified changes room allowance (Some pointers) true x = allowance
+after_notified changes room allowance (Some pointers) false x =
     if x.outbox.due then allowance else after_update allowance pointers (telling_within allowance x.budget changes room pointers)
-after_told changes room allowance None short x = allowance
+after_notified changes room allowance None short x = allowance
 
 -- the sessions are notified one after the other, from one allowance to another: each watcher is, no other session changes, and this many
 -- outboxes folded because memory ran out
-abbrev pub ToldFrom : Document → List Change → Room → Allowance → Allowance → List Session → List Session → ℕ → Type 0
-ToldFrom d changes room allowance rest [] [] n = (n ≡ 0) × (rest ≡ allowance)
-ToldFrom d changes room allowance rest (x ∷ xs) (y ∷ ys) n =
-    (short : Bool) × (m : ℕ) × Told d changes room allowance short x y × (n ≡ m + (if short then 1 else 0))
-    × ToldFrom d changes room (after_told changes room allowance x.view short x) rest xs ys m
-ToldFrom d changes room allowance rest [] (y ∷ ys) n = ⊥
-ToldFrom d changes room allowance rest (x ∷ xs) [] n = ⊥
+abbrev pub NotifiedFrom : Document → List Change → Room → Allowance → Allowance → List Session → List Session → ℕ → Type 0
+NotifiedFrom d changes room allowance rest [] [] n = (n ≡ 0) × (rest ≡ allowance)
+NotifiedFrom d changes room allowance rest (x ∷ xs) (y ∷ ys) n =
+    (short : Bool) × (m : ℕ) × Notified d changes room allowance short x y × (n ≡ m + (if short then 1 else 0))
+    × NotifiedFrom d changes room (after_notified changes room allowance x.view short x) rest xs ys m
+NotifiedFrom d changes room allowance rest [] (y ∷ ys) n = ⊥
+NotifiedFrom d changes room allowance rest (x ∷ xs) [] n = ⊥
 
 -- all of them, by patches that weigh no more together than the budget
-abbrev pub AllTold : Document → List Change → Room → Budget → List Session → List Session → ℕ → Type 0
-AllTold d changes room budget xs ys n = (rest : Allowance) × ToldFrom d changes room (whole budget) rest xs ys n
+abbrev pub AllNotified : Document → List Change → Room → Budget → List Session → List Session → ℕ → Type 0
+AllNotified d changes room budget xs ys n = (rest : Allowance) × NotifiedFrom d changes room (whole budget) rest xs ys n
 
 -- an edit of session s, which is x. If it is accepted: s gets a reply, then all watchers are notified, and then the room drops what its
 -- history may not hold. If it is refused: s gets a reply, and nothing else changes
 abbrev pub EditServed : HubConfig → ℕ → Session → ℕ → List Op → Result Document EditFault → ℕ → RoomSessions → RoomSessions → Type 0
-EditServed made s x id patch (Ok d) short old new = (told : Room) × GoesOn old.room patch d told
-    × (mid : List Session) × OnlyAt s (Some (replied (Done id (revision told)) x)) old.sessions mid
-    × AllTold old.room.document (all_changes old.room.document patch) told made.telling_weight mid new.sessions short
-    × (new.room ≡ trimmed made.history_weight told)
+EditServed made s x id patch (Ok d) short old new = (notified : Room) × GoesOn old.room patch d notified
+    × (mid : List Session) × OnlyAt s (Some (replied (Done id (revision notified)) x)) old.sessions mid
+    × AllNotified old.room.document (all_changes old.room.document patch) notified made.telling_weight mid new.sessions short
+    × (new.room ≡ trimmed made.history_weight notified)
 EditServed made s x id patch (Err fault) short old new = (short ≡ 0)
     × (r : Reply) × (edit_refusal id fault ≡ Some r) × ChangesOnly s (Some (replied r x)) old new
 

@@ -1,6 +1,6 @@
 -- What brings a view to a later revision, and what it does to an outbox.
 use Rattle.std.specs.Prelude.{ℕ, List}
-use Rattle.relay_outbox.specs.Outbox.{Line, folded}
+use Rattle.relay_outbox.specs.Outbox.{Contents, folded}
 use Rattle.relay_patch.specs.declared.op.Op.{Op}
 use Rattle.relay_proto.specs.declared.reply.ResumeOutcome.{ResumeOutcome}
 use Rattle.relay_proto.specs.declared.reply.ResumeOutcome.TheVariants as how
@@ -25,7 +25,7 @@ word_of (Patch p) = how.Patch
 word_of Snapshot = how.Snapshot
 
 -- an outbox after an update, if its patches may weigh as much as a budget pays for
-abbrev pub heard : Budget → Update → Line Reply (ℕ × List Op) → Line Reply (ℕ × List Op)
-heard budget Nothing line = line
-heard budget (Patch p) line = with_patch_within budget p line
-heard budget Snapshot line = folded line
+abbrev pub heard : Budget → Update → Contents Reply (ℕ × List Op) → Contents Reply (ℕ × List Op)
+heard budget Nothing contents = contents
+heard budget (Patch p) contents = with_patch_within budget p contents
+heard budget Snapshot contents = folded contents

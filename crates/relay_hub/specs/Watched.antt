@@ -10,7 +10,7 @@ use Rattle.relay_view.specs.View.{View}
 use Rattle.relay_hub.specs.Session.{Session}
 use Rattle.relay_hub.specs.State.{IsRising, session_in}
 use Rattle.relay_hub.specs.Allowance.{Allowance}
-use Rattle.relay_hub.specs.Step.{Told, after_told}
+use Rattle.relay_hub.specs.Step.{Notified, after_notified}
 
 -- the view of session t, if the session is there and watches
 abbrev pub view_in : List Session → ℕ → Option View
@@ -26,21 +26,21 @@ pub record IsIndexed (watches : Watches) (sessions : List Session) : Type 0 wher
   pub agrees : Agrees watches sessions
 
 -- a session that is to be notified is; any other is unchanged
-abbrev pub ToldIf : Bool → Document → List Change → Room → Allowance → Bool → Session → Session → Type 0
-ToldIf true d changes room allowance short x y = Told d changes room allowance short x y
-ToldIf false d changes room allowance short x y = (y ≡ x) × (short ≡ false)
+abbrev pub NotifiedIf : Bool → Document → List Change → Room → Allowance → Bool → Session → Session → Type 0
+NotifiedIf true d changes room allowance short x y = Notified d changes room allowance short x y
+NotifiedIf false d changes room allowance short x y = (y ≡ x) × (short ≡ false)
 
 -- the allowance afterwards
 abbrev pub after_if : Bool → List Change → Room → Allowance → Bool → Session → Allowance
-after_if told changes room allowance short x = if told then after_told changes room allowance x.view short x else allowance
+after_if notified changes room allowance short x = if notified then after_notified changes room allowance x.view short x else allowance
 
 -- the sessions with these numbers are notified in order, from one allowance to another, and this many of their outboxes folded because
 -- memory ran out; no other session differs
-abbrev pub ToldAmong : List ℕ → Document → List Change → Room → Allowance → Allowance → List Session → List Session → ℕ → Type 0
-ToldAmong numbers d changes room allowance rest [] [] n = (n ≡ 0) × (rest ≡ allowance)
-ToldAmong numbers d changes room allowance rest (x ∷ xs) (y ∷ ys) n =
-    (short : Bool) × (m : ℕ) × ToldIf (list_any (nat_eq x.number) numbers) d changes room allowance short x y
+abbrev pub NotifiedAmong : List ℕ → Document → List Change → Room → Allowance → Allowance → List Session → List Session → ℕ → Type 0
+NotifiedAmong numbers d changes room allowance rest [] [] n = (n ≡ 0) × (rest ≡ allowance)
+NotifiedAmong numbers d changes room allowance rest (x ∷ xs) (y ∷ ys) n =
+    (short : Bool) × (m : ℕ) × NotifiedIf (list_any (nat_eq x.number) numbers) d changes room allowance short x y
     × (n ≡ m + (if short then 1 else 0))
-    × ToldAmong numbers d changes room (after_if (list_any (nat_eq x.number) numbers) changes room allowance short x) rest xs ys m
-ToldAmong numbers d changes room allowance rest [] (y ∷ ys) n = ⊥
-ToldAmong numbers d changes room allowance rest (x ∷ xs) [] n = ⊥
+    × NotifiedAmong numbers d changes room (after_if (list_any (nat_eq x.number) numbers) changes room allowance short x) rest xs ys m
+NotifiedAmong numbers d changes room allowance rest [] (y ∷ ys) n = ⊥
+NotifiedAmong numbers d changes room allowance rest (x ∷ xs) [] n = ⊥

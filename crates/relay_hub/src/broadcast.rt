@@ -8,8 +8,8 @@ ghost use Rattle.relay_room.specs.Room.{IsRoom, revision, trimmed};
 ghost use Rattle.relay_tree.specs.Document.{Document};
 ghost use Rattle.relay_hub.specs.State.{IsRising};
 ghost use Rattle.relay_hub.specs.CachedUpdate.{IsKept, allowance_of};
-ghost use Rattle.relay_hub.specs.Step.{Told, after_told, ToldFrom, AllTold};
-ghost use Rattle.relay_hub.specs.Watched.{IsIndexed, ToldAmong};
+ghost use Rattle.relay_hub.specs.Step.{Notified, after_notified, NotifiedFrom, AllNotified};
+ghost use Rattle.relay_hub.specs.Watched.{IsIndexed, NotifiedAmong};
 
 use crate::cached_update::{UpdateCache, update_for};
 use crate::caller::position_of;
@@ -33,8 +33,8 @@ pub fn broadcast_and_trim(
     requires edited { 0 < revision room.old }
     requires reaches { Reaches room.old.history (revision room.old - 1) }
     requires indexed { IsIndexed watches.now sessions.old }
-    ensures told { (d : Document) (changes : List Change) → changes ≡ changes_since (revision room.old - 1) room.old.history
-        → Leads d changes room.old.document → AllTold d changes room.old made.telling_weight sessions.old sessions.new result }
+    ensures notified { (d : Document) (changes : List Change) → changes ≡ changes_since (revision room.old - 1) room.old.history
+        → Leads d changes room.old.document → AllNotified d changes room.old made.telling_weight sessions.old sessions.new result }
     ensures trimmed { room.new ≡ trimmed made.history_weight room.old }
 {
     let mut cache = UpdateCache::new(made.telling_weight);
@@ -62,7 +62,7 @@ fn broadcast(
     requires indexed { IsIndexed watches.now sessions.old }
     requires kept { IsKept room.now cache.old }
     ensures { (d : Document) (changes : List Change) → changes ≡ changes_since (revision room.now - 1) room.now.history
-        → Leads d changes room.now.document → ToldFrom d changes room.now (allowance_of cache.old) (allowance_of cache.new) sessions.old sessions.new result }
+        → Leads d changes room.now.document → NotifiedFrom d changes room.now (allowance_of cache.old) (allowance_of cache.new) sessions.old sessions.new result }
 {
     match room.touched(alloc, watches) {
         Ok(numbers) => notify_those(alloc, room, sessions, numbers.as_slice(), cache),
@@ -85,7 +85,7 @@ fn notify_those(
     requires rising { IsStrictlyIncreasing numbers.now }
     requires kept { IsKept room.now cache.old }
     ensures { (d : Document) (changes : List Change) → changes ≡ changes_since (revision room.now - 1) room.now.history
-        → Leads d changes room.now.document → ToldAmong numbers.now d changes room.now (allowance_of cache.old) (allowance_of cache.new) sessions.old sessions.new result }
+        → Leads d changes room.now.document → NotifiedAmong numbers.now d changes room.now (allowance_of cache.old) (allowance_of cache.new) sessions.old sessions.new result }
 {
     let mut short: u64 = 0;
     for number in numbers {
@@ -111,9 +111,9 @@ fn notify_one(
     requires kept { IsKept room.now cache.old }
     ensures kept { IsKept room.now cache.new }
     ensures ordered { IsRising sessions.new }
-    ensures told { (d : Document) (changes : List Change) → changes ≡ changes_since (revision room.now - 1) room.now.history
+    ensures notified { (d : Document) (changes : List Change) → changes ≡ changes_since (revision room.now - 1) room.now.history
         → Leads d changes room.now.document
-        → ToldAmong (number ∷ []) d changes room.now (allowance_of cache.old) (allowance_of cache.new) sessions.old sessions.new (if is_err result then 1 else 0) }
+        → NotifiedAmong (number ∷ []) d changes room.now (allowance_of cache.old) (allowance_of cache.new) sessions.old sessions.new (if is_err result then 1 else 0) }
 {
     match position_of(sessions, number) {
         Some(place) => notify(alloc, room, &mut sessions[place], cache),
@@ -128,7 +128,7 @@ fn notify_all(alloc: Global, room: &Room, sessions: &mut [Session], cache: &mut 
     requires reaches { Reaches room.now.history (revision room.now - 1) }
     requires kept { IsKept room.now cache.old }
     ensures { (d : Document) (changes : List Change) → changes ≡ changes_since (revision room.now - 1) room.now.history
-        → Leads d changes room.now.document → ToldFrom d changes room.now (allowance_of cache.old) (allowance_of cache.new) sessions.old sessions.new result }
+        → Leads d changes room.now.document → NotifiedFrom d changes room.now (allowance_of cache.old) (allowance_of cache.new) sessions.old sessions.new result }
 {
     let mut short: u64 = 0;
     for session in sessions.iter_mut() {
@@ -153,11 +153,11 @@ fn notify(
     requires kept { IsKept room.now cache.old }
     ensures kept { IsKept room.now cache.new }
     ensures number { session.new.number ≡ session.old.number }
-    ensures told { (d : Document) (changes : List Change) → changes ≡ changes_since (revision room.now - 1) room.now.history
-        → Leads d changes room.now.document → Told d changes room.now (allowance_of cache.old) (is_err result) session.old session.new }
+    ensures notified { (d : Document) (changes : List Change) → changes ≡ changes_since (revision room.now - 1) room.now.history
+        → Leads d changes room.now.document → Notified d changes room.now (allowance_of cache.old) (is_err result) session.old session.new }
     ensures left { (d : Document) (changes : List Change) → changes ≡ changes_since (revision room.now - 1) room.now.history
         → Leads d changes room.now.document
-        → allowance_of cache.new ≡ after_told changes room.now (allowance_of cache.old) session.old.view (is_err result) session.old }
+        → allowance_of cache.new ≡ after_notified changes room.now (allowance_of cache.old) session.old.view (is_err result) session.old }
 {
     if session.is_due() {
         return Ok(());

@@ -18,7 +18,7 @@ pub fn put(
     encoded_patch: EncodedPatch,
 )
     requires { IsLoad budget load.old outbox.old }
-    ensures line { outbox.new ≡ with_patch_within budget encoded_patch outbox.old }
+    ensures contents { outbox.new ≡ with_patch_within budget encoded_patch outbox.old }
     ensures load { IsLoad budget load.new outbox.new }
 {
     match budget {
@@ -36,7 +36,7 @@ fn put_within(
 )
     requires counted { load.old ≡ patches_weight outbox.old.patches }
     requires within { load.old ≤ most }
-    ensures line { outbox.new ≡ with_patch_within (Left most) encoded_patch outbox.old }
+    ensures contents { outbox.new ≡ with_patch_within (Left most) encoded_patch outbox.old }
     ensures counted { load.new ≡ patches_weight outbox.new.patches }
     ensures within { load.new ≤ most }
 {
@@ -58,7 +58,7 @@ fn put_within(
 
 /// Drops the patches and makes a snapshot due. Allocates nothing.
 pub fn fold(outbox: &mut Outbox<Reply, EncodedPatch>, load: &mut u64)
-    ensures line { outbox.new ≡ folded outbox.old }
+    ensures contents { outbox.new ≡ folded outbox.old }
     ensures load { load.new ≡ 0 }
 {
     outbox.fold();
@@ -67,7 +67,7 @@ pub fn fold(outbox: &mut Outbox<Reply, EncodedPatch>, load: &mut u64)
 
 /// Drops the patches and the due snapshot. Allocates nothing.
 pub fn clear(outbox: &mut Outbox<Reply, EncodedPatch>, load: &mut u64)
-    ensures line { outbox.new ≡ cleared outbox.old }
+    ensures contents { outbox.new ≡ cleared outbox.old }
     ensures load { load.new ≡ 0 }
 {
     outbox.clear();
@@ -77,7 +77,7 @@ pub fn clear(outbox: &mut Outbox<Reply, EncodedPatch>, load: &mut u64)
 /// Removes the message at the front. Allocates nothing.
 pub fn drop_front(outbox: &mut Outbox<Reply, EncodedPatch>, load: &mut u64, budget: Budget)
     requires { IsLoad budget load.old outbox.old }
-    ensures line { outbox.new ≡ without_front outbox.old }
+    ensures contents { outbox.new ≡ without_front outbox.old }
     ensures load { IsLoad budget load.new outbox.new }
 {
     match budget {
@@ -88,7 +88,7 @@ pub fn drop_front(outbox: &mut Outbox<Reply, EncodedPatch>, load: &mut u64, budg
 
 fn drop_counted(outbox: &mut Outbox<Reply, EncodedPatch>, load: &mut u64)
     requires counted { load.old ≡ patches_weight outbox.old.patches }
-    ensures line { outbox.new ≡ without_front outbox.old }
+    ensures contents { outbox.new ≡ without_front outbox.old }
     ensures counted { load.new ≡ patches_weight outbox.new.patches }
     ensures less { load.new ≤ load.old }
 {

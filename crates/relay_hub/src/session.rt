@@ -46,7 +46,7 @@ impl Session {
     ghost use Rattle.relay_room.specs.declared.catch_up.CatchUp.{CatchUp};
     ghost use Rattle.relay_hub.specs.Update.{update_of, heard};
     ghost use Rattle.relay_hub.specs.Shed.{shed_session};
-    ghost use Rattle.relay_hub.specs.Session.{with_line, replied, newcomer, watches, unwatches, resumes, front_message, message_text, ReadsBack, waiting, drawn};
+    ghost use Rattle.relay_hub.specs.Session.{with_outbox, replied, newcomer, watches, unwatches, resumes, front_message, message_text, ReadsBack, waiting, drawn};
 
     /// Makes a session in a room at revision `rev`. It watches nothing, and a `Welcome` waits in its outbox.
     pub fn new(alloc: Global, made: HubConfig, rev: u64, number: u64) -> Result<Session, AllocError>
@@ -161,7 +161,7 @@ impl Session {
     /// also replaces them if they would weigh more than they may. Allocates nothing.
     pub fn take_update(&mut self, update: Update)
         requires { IsSome self.old.view }
-        ensures { self.new ≡ with_line (heard self.old.budget update self.old.outbox) self.old }
+        ensures { self.new ≡ with_outbox (heard self.old.budget update self.old.outbox) self.old }
     {
         match update {
             Update::Nothing => {}

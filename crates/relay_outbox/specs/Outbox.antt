@@ -4,7 +4,7 @@ use Rattle.std.specs.Coded.{Coded, code_by, coded×, coded_list, coded_ℕ, code
 use Rattle.relay_outbox.specs.declared.outbox.TheConstants.{MAX_REPLIES, MAX_PATCHES}
 
 -- the replies, the patches, whether a snapshot is due, and the most patches that may wait
-pub record Line (R P : Type 0) : Type 0 where
+pub record Contents (R P : Type 0) : Type 0 where
   pub replies : List R
   pub patches : List P
   pub due : Bool
@@ -19,37 +19,37 @@ pub data Foremost (R P : Type 0) : Type 0 where
 
 module _ {R P : Type 0} where
   -- the outbox with these parts
-  abbrev pub line : List R → List P → Bool → ℕ → Line R P
-  line replies patches due max_waiting_patches = record { replies = replies; patches = patches; due = due; max_waiting_patches = max_waiting_patches }
+  abbrev pub contents : List R → List P → Bool → ℕ → Contents R P
+  contents replies patches due max_waiting_patches = record { replies = replies; patches = patches; due = due; max_waiting_patches = max_waiting_patches }
 
   -- the invariant of an outbox: replies and patches are within their limits, and no patch waits while a snapshot is due
-  pub record IsOutbox (o : Line R P) : Type 0 where
+  pub record IsOutbox (o : Contents R P) : Type 0 where
     pub replies : length o.replies ≤ MAX_REPLIES
     pub patches : length o.patches ≤ o.max_waiting_patches
     pub limited : (1 ≤ o.max_waiting_patches) × (o.max_waiting_patches ≤ MAX_PATCHES)
     pub either : o.due ≡ true → o.patches ≡ []
 
   -- the empty outbox
-  abbrev pub empty : ℕ → Line R P
-  empty max_waiting_patches = line [] [] false max_waiting_patches
+  abbrev pub empty : ℕ → Contents R P
+  empty max_waiting_patches = contents [] [] false max_waiting_patches
 
   -- the outbox with a reply after the others
-  abbrev pub with_reply : R → Line R P → Line R P
-  with_reply r o = line (o.replies ++ r ∷ []) o.patches o.due o.max_waiting_patches
+  abbrev pub with_reply : R → Contents R P → Contents R P
+  with_reply r o = contents (o.replies ++ r ∷ []) o.patches o.due o.max_waiting_patches
 
   -- the outbox folded: no patches, and a snapshot is due
-  abbrev pub folded : Line R P → Line R P
-  folded o = line o.replies [] true o.max_waiting_patches
+  abbrev pub folded : Contents R P → Contents R P
+  folded o = contents o.replies [] true o.max_waiting_patches
 
   -- the outbox without patches and without a due snapshot
-  abbrev pub cleared : Line R P → Line R P
-  cleared o = line o.replies [] false o.max_waiting_patches
+  abbrev pub cleared : Contents R P → Contents R P
+  cleared o = contents o.replies [] false o.max_waiting_patches
 
   -- if a snapshot is due, nothing changes; else the patch is added after the others, or the outbox folds if the limit is reached
-  abbrev pub with_patch : P → Line R P → Line R P
+  abbrev pub with_patch : P → Contents R P → Contents R P
   with_patch p o =
       if o.due then o else
-      (if nat_lt (length o.patches) o.max_waiting_patches then line o.replies (o.patches ++ p ∷ []) o.due o.max_waiting_patches else folded o)
+      (if nat_lt (length o.patches) o.max_waiting_patches then contents o.replies (o.patches ++ p ∷ []) o.due o.max_waiting_patches else folded o)
 
   -- the first message of these replies, these patches and a snapshot that may be due
   abbrev pub first_of : List R → List P → Bool → Foremost R P
@@ -59,23 +59,23 @@ module _ {R P : Type 0} where
   first_of [] [] false = nothing
 
   -- the next message: the first reply, else the first patch, else the due snapshot
-  abbrev pub front_of : Line R P → Foremost R P
+  abbrev pub front_of : Contents R P → Foremost R P
   front_of o = first_of o.replies o.patches o.due
 
   -- the outbox without that first message
-  abbrev pub rest_of : List R → List P → Bool → ℕ → Line R P
-  rest_of (r ∷ replies) patches due max_waiting_patches = line replies patches due max_waiting_patches
-  rest_of [] (p ∷ patches) due max_waiting_patches = line [] patches due max_waiting_patches
-  rest_of [] [] due max_waiting_patches = line [] [] false max_waiting_patches
+  abbrev pub rest_of : List R → List P → Bool → ℕ → Contents R P
+  rest_of (r ∷ replies) patches due max_waiting_patches = contents replies patches due max_waiting_patches
+  rest_of [] (p ∷ patches) due max_waiting_patches = contents [] patches due max_waiting_patches
+  rest_of [] [] due max_waiting_patches = contents [] [] false max_waiting_patches
 
   -- the outbox without its front
-  abbrev pub without_front : Line R P → Line R P
+  abbrev pub without_front : Contents R P → Contents R P
   without_front o = rest_of o.replies o.patches o.due o.max_waiting_patches
 
   -- how the logic encodes an outbox
-  abbrev pub line_code : Coded R → Coded P → Coded (Line R P)
-  line_code r p = code_by (List R × (List P × (Bool × ℕ)))
+  abbrev pub contents_code : Coded R → Coded P → Coded (Contents R P)
+  contents_code r p = code_by (List R × (List P × (Bool × ℕ)))
       (coded× (coded_list r) (coded× (coded_list p) (coded× coded_bool coded_ℕ)))
       (λ o. (o.replies, (o.patches, (o.due, o.max_waiting_patches))))
-      (λ p. line p.0 p.1.0 p.1.1.0 p.1.1.1)
+      (λ p. contents p.0 p.1.0 p.1.1.0 p.1.1.1)
       (λ _. refl)

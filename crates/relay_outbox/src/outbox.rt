@@ -14,7 +14,7 @@ pub const MAX_REPLIES: u64 = 32;
 pub const MAX_PATCHES: u64 = 256;
 
 /// The messages that wait for one session: replies `R` and patches `P`, in the form in which the hub stores patches. Contracts see it
-/// as a `Line`: its replies, its patches, whether a snapshot is due, and the most patches that may wait.
+/// as `Contents`: its replies, its patches, whether a snapshot is due, and the most patches that may wait.
 #[derive(Drop)]
 pub struct Outbox<R, P> {
     replies: HeapCircularBuffer<R>,
@@ -24,18 +24,18 @@ pub struct Outbox<R, P> {
 
 impl<R, P> Model for Outbox<R, P> {
     ghost use Rattle.std.specs.Prelude.{◌≡◌};
-    ghost use Rattle.relay_outbox.specs.Outbox.{Line, IsOutbox, line_code};
+    ghost use Rattle.relay_outbox.specs.Outbox.{Contents, IsOutbox, contents_code};
     ghost use Rattle.relay_outbox.specs.declared.outbox.TheConstants.{MAX_REPLIES};
 
-    ghost Value = { Line R P };
+    ghost Value = { Contents R P };
 
-    ghost coded = { line_code R.code P.code };
+    ghost coded = { contents_code R.code P.code };
 
-    ghost use Rattle.relay_outbox.specs.Representation.{line_of};
+    ghost use Rattle.relay_outbox.specs.Representation.{contents_of};
 
-    ghost view = { line_of };
+    ghost view = { contents_of };
 
-    ghost invariant = { λ o. (o.replies.capacity ≡ MAX_REPLIES) × IsOutbox (line_of o) };
+    ghost invariant = { λ o. (o.replies.capacity ≡ MAX_REPLIES) × IsOutbox (contents_of o) };
 }
 
 impl<R: Drop, P: Drop> Outbox<R, P> {

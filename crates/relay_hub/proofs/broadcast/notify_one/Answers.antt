@@ -11,16 +11,16 @@ returns-in-Some-clause-ordered c =
     let z = c.index-sessions-place.result in
     same_rises xs (slice_set xs c.in-Some.place c.notify.new.session) (numbers_set xs c.in-Some.place c.notify.new.session z c.notify.ensures.number) c.requires.ordered
 
-pub returns-in-Some-clause-told : goal.returns-in-Some-clause-told
-returns-in-Some-clause-told c = λ d changes since leads.
+pub returns-in-Some-clause-notified : goal.returns-in-Some-clause-notified
+returns-in-Some-clause-notified c = λ d changes since leads.
     let xs = c.args.sessions.now in
     let z = c.index-sessions-place.result in
     let a = allowance_of c.args.cache.now in
     rw (c.notify.ensures.left d changes since leads)
     (place_among d changes c.args.room.now c.args.number a xs c.in-Some.place z c.notify.new.session (is_err c.notify.result) (sym c.position_of.ensures ∙ c.in-Some.is)
-    (once_rising xs c.requires.ordered) (c.notify.ensures.told d changes since leads))
+    (once_rising xs c.requires.ordered) (c.notify.ensures.notified d changes since leads))
 
-pub returns-in-None-clause-told : goal.returns-in-None-clause-told
-returns-in-None-clause-told c = λ d changes since leads.
+pub returns-in-None-clause-notified : goal.returns-in-None-clause-notified
+returns-in-None-clause-notified c = λ d changes since leads.
     absent_among d changes c.args.room.now c.args.number (allowance_of c.args.cache.now) c.args.sessions.now
     (not_found c.args.sessions.now c.args.number (sym c.position_of.ensures ∙ c.in-None.is))

@@ -6,7 +6,7 @@ use Rattle.relay_hub.proofs.broadcast.notify_those.Goals.{then-is_err, else-is_e
 
 pub loop-number-init : goal.loop-number-init
 loop-number-init c = record {
-  told = λ d changes since leads. none_among d changes c.args.room.now (allowance_of c.args.cache.now) c.args.sessions.now;
+  notified = λ d changes since leads. none_among d changes c.args.room.now (allowance_of c.args.cache.now) c.args.sessions.now;
   ordered = c.requires.ordered;
   kept = c.requires.kept;
   count = omega arith;
@@ -20,12 +20,12 @@ loop-number-preserved c =
     let short : c.if-is_err.short ≡ l.short + more =
     elim c.if-is_err.branch [
       | then-is_err w ↦ let short : is_err c.notify_one.result ≡ true = search rules in rw short (omega (arith, w.short-is))
-      | else-is_err w ↦ let told : is_err c.notify_one.result ≡ false = search rules in rw told (omega (arith, w.short-is))
+      | else-is_err w ↦ let notified : is_err c.notify_one.result ≡ false = search rules in rw notified (omega (arith, w.short-is))
     ] in
     record {
-      told = λ d changes since leads. rw short (next_among d changes c.args.room.now c.args.numbers.now l.number-index 0 (allowance_of c.args.cache.now) (allowance_of l.cache)
+      notified = λ d changes since leads. rw short (next_among d changes c.args.room.now c.args.numbers.now l.number-index 0 (allowance_of c.args.cache.now) (allowance_of l.cache)
           (allowance_of c.notify_one.new.cache) c.args.sessions.now l.sessions c.notify_one.new.sessions l.short more c.requires.ordered
-          c.requires.rising within (l.invariant.told d changes since leads) (c.notify_one.ensures.told d changes since leads));
+          c.requires.rising within (l.invariant.notified d changes since leads) (c.notify_one.ensures.notified d changes since leads));
       ordered = c.notify_one.ensures.ordered;
       kept = c.notify_one.ensures.kept;
       count = elim c.if-is_err.branch [ then-is_err w ↦ omega (arith, w.short-is, l.invariant.count) | else-is_err w ↦ omega (arith, w.short-is, l.invariant.count) ];

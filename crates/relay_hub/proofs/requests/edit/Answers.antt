@@ -6,7 +6,7 @@ use Rattle.relay_hub.specs.Session.{Session, replied}
 use Rattle.relay_hub.specs.Step.{GoesOn}
 use Rattle.relay_hub.proofs.Callers.{written_by, written_same}
 use Rattle.relay_hub.proofs.Documents.{newest_changes}
-use Rattle.relay_hub.proofs.Indexed.{told_indexed}
+use Rattle.relay_hub.proofs.Indexed.{notified_indexed}
 use Rattle.relay_hub.proofs.requests.edit.Goals as goal
 
 pub reply-requires : goal.reply-requires
@@ -26,10 +26,10 @@ broadcast_and_trim-requires-clause-indexed c =
 pub returns-in-Ok-clause-indexed : goal.returns-in-Ok-clause-indexed
 returns-in-Ok-clause-indexed c =
     let old = c.args.room.now in
-    let told : Room = c.edit.new.self in
+    let notified : Room = c.edit.new.self in
     let changes = all_changes old.document c.args.request.now.patch in
-    let since = newest_changes old.history told.history changes c.in-Ok.ensures.kept.history c.in-Ok.ensures.history in
-    let all_told = c.broadcast_and_trim.ensures.told old.document changes since c.in-Ok.ensures.led in
+    let since = newest_changes old.history notified.history changes c.in-Ok.ensures.kept.history c.in-Ok.ensures.history in
+    let all_notified = c.broadcast_and_trim.ensures.notified old.document changes since c.in-Ok.ensures.led in
     let xs = c.args.sessions.now in
     let ys = slice_set xs c.args.caller.place c.reply.new.self in
     let x = c.session_mut.result.now in
@@ -37,7 +37,7 @@ returns-in-Ok-clause-indexed c =
     let number = ap (λ (y : Session). y.number) c.reply.ensures in
     let view = ap (λ (y : Session). y.view) c.reply.ensures in
     let replied = written_same xs c.args.caller c.requires.caller x there c.reply.new.self number c.args.watches.now c.requires.indexed view in
-    told_indexed old.document changes told c.args.made.telling_weight ys c.broadcast_and_trim.new.sessions c.broadcast_and_trim.result all_told c.args.watches.now replied
+    notified_indexed old.document changes notified c.args.made.telling_weight ys c.broadcast_and_trim.new.sessions c.broadcast_and_trim.result all_notified c.args.watches.now replied
 
 pub returns-in-Some-clause-indexed : goal.returns-in-Some-clause-indexed
 returns-in-Some-clause-indexed c =
@@ -50,12 +50,12 @@ returns-in-Some-clause-indexed c =
 pub returns-in-Ok-clause-ok : goal.returns-in-Ok-clause-ok
 returns-in-Ok-clause-ok c = λ x e.
     let old = c.args.room.now in
-    let told : Room = c.edit.new.self in
+    let notified : Room = c.edit.new.self in
     let patch = c.args.request.now.patch in
     let changes = all_changes old.document patch in
-    let since = newest_changes old.history told.history changes c.in-Ok.ensures.kept.history c.in-Ok.ensures.history in
-    let all_told = c.broadcast_and_trim.ensures.told old.document changes since c.in-Ok.ensures.led in
-    let goes_on : GoesOn old patch told.document told = record {
+    let since = newest_changes old.history notified.history changes c.in-Ok.ensures.kept.history c.in-Ok.ensures.history in
+    let all_notified = c.broadcast_and_trim.ensures.notified old.document changes since c.in-Ok.ensures.led in
+    let goes_on : GoesOn old patch notified.document notified = record {
       document = refl;
       history = c.in-Ok.ensures.history;
       leads = c.in-Ok.ensures.led;
@@ -69,7 +69,7 @@ returns-in-Ok-clause-ok c = λ x e.
     let only = written_by xs c.args.caller c.requires.caller was there c.reply.new.self number done c.reply.ensures x e in
     let ys = slice_set xs c.args.caller.place c.reply.new.self in
     rw c.in-Ok.ensures.document
-    (told, goes_on, ys, rw c.in-Ok.ensures.revision.1 at only, all_told, c.broadcast_and_trim.ensures.trimmed)
+    (notified, goes_on, ys, rw c.in-Ok.ensures.revision.1 at only, all_notified, c.broadcast_and_trim.ensures.trimmed)
 
 pub returns-in-Some-clause-ok : goal.returns-in-Some-clause-ok
 returns-in-Some-clause-ok c = λ x e.
