@@ -26,6 +26,10 @@ pub room_at : {A : Type 0} (es : List (String A × RoomSessions)) (i : ℕ) (key
     → slice_get (map named es) i ≡ Some (string_bytes key, g)
 room_at es i key g h = slice_get-map named es i ∙ ap (option_map named) h
 
+-- no room behind the last place
+pub no_room_at : {A : Type 0} (es : List (String A × RoomSessions)) (i : ℕ) → slice_get es i ≡ None → slice_get (map named es) i ≡ None
+no_room_at es i h = slice_get-map named es i ∙ ap (option_map named) h
+
 -- the room and the session of a number, once its place is known
 pub found_home : (hub : State) (s place : ℕ) (home : List ℕ × RoomSessions) → place_of hub s ≡ Some place → slice_get hub.rooms place ≡ Some home
     → room_and_session hub s ≡ option_map (λ x. (home.1.room, x)) (session_in home.1.sessions s)

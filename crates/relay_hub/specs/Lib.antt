@@ -13,6 +13,7 @@ pub mod Step
 pub mod CachedUpdate
 pub mod Watched
 pub mod Queries
+pub mod Summary
 pub mod Call
 pub mod Stands
 pub mod Shed

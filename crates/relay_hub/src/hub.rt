@@ -3,7 +3,7 @@
 //! Each call is a step (`specs/Step`). A hub agrees with the log of the calls that it answered (`specs/Stands`): it has the documents,
 //! sessions and views of the log, and every client that watches, and applies what was drawn for it and what waits, in order, holds exactly
 //! its view of the present document. A call that runs out of memory changes nothing.
-ghost use Rattle.std.specs.Prelude.{◌≡◌, ◌≢◌, ◌<◌, ◌⊎◌, ◌↔◌, [], ◌∷◌, ℕ, Some, None, Ok, IfOk, IfErr, IsErrOf, IsSomeAnd, IsTrue, OnOk, OnErr, length, option_map};
+ghost use Rattle.std.specs.Prelude.{◌≡◌, ◌≢◌, ◌<◌, ◌⊎◌, ◌↔◌, [], ◌∷◌, ℕ, Some, None, Ok, IfOk, IfErr, IsErrOf, IsSomeAnd, IsTrue, OnOk, OnErr, length, option_map, slice_get};
 ghost use Rattle.relay_hub.specs.Call.{StepIf, opening, receiving, drawing, closing, logged, done, followed, Runs};
 ghost use Rattle.relay_hub.specs.Log.{Log, entry};
 ghost use Rattle.relay_hub.specs.State.{config, place_named, is_crowded, session_of, made_with, new_hub};
@@ -11,6 +11,7 @@ ghost use Rattle.relay_hub.specs.Session.{waiting};
 ghost use Rattle.relay_hub.specs.Shed.{shed};
 ghost use Rattle.relay_hub.specs.Stands.{StandsFor, EachHoldsPresent, EachIsAtNamed};
 ghost use Rattle.relay_hub.specs.Step.{Step, open_fault};
+ghost use Rattle.relay_hub.specs.Summary.{shown_by, summary_of};
 ghost use Rattle.relay_hub.specs.Queries.{BadLimits, room_and_session, may_hear, truth, RefusesEdits};
 ghost use Rattle.relay_hub.specs.declared.config.HubConfig.{HubConfig};
 ghost use Rattle.relay_hub.specs.declared.event.Event.TheVariants.{Open, Receive, Draw, Close};
@@ -24,6 +25,7 @@ use crate::fault::{HubFault, HubNewFault, NoSession, OpenFault, RunFault};
 use crate::room_sessions::RoomSessions;
 use crate::session::Session;
 use crate::shed::{shed_budget, shed_rooms};
+use crate::summary::{RoomSummary, summary_of};
 use crate::text::Text;
 use indexmap::IndexMap;
 use relay_proto::is_room_name;
@@ -269,6 +271,16 @@ impl Hub {
             Ok(shown) => Ok(Some((room.revision(), shown))),
             Err(_) => Err(HubFault::NoMemory),
         }
+    }
+
+    /// The name and the size of the room at a place, from 0, in the order in which the rooms were first opened. `None` if there are no
+    /// more. Allocates nothing.
+    #[tactic(auto, using(crate::proofs::Representation::room_at, crate::proofs::Representation::no_room_at))]
+    pub fn room_at(&self, place: usize) -> Option<RoomSummary<'_>>
+        ensures { option_map shown_by result ≡ option_map summary_of (slice_get self.now.rooms place) }
+    {
+        let (name, room_sessions) = self.rooms.get_index(place)?;
+        Some(summary_of(name, room_sessions))
     }
 
     /// Carries out events, in order. The space for all answers is allocated before the first event. If memory runs out the run stops: the

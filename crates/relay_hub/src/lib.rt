@@ -19,6 +19,7 @@ mod room_sessions;
 mod session;
 mod shared_view;
 mod shed;
+mod summary;
 mod text;
 mod update;
 
@@ -26,4 +27,5 @@ pub use config::{DEFAULT_ROOMS, DEFAULT_SESSIONS, HubConfig, MAX_ROOMS, MAX_SESS
 pub use event::{Answer, Event, Heard};
 pub use fault::{HubFault, HubNewFault, NoSession, OpenFault, RunFault};
 pub use hub::Hub;
+pub use summary::RoomSummary;
 pub use text::Text;

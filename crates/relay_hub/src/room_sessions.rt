@@ -37,7 +37,7 @@ impl Model for RoomSessions {
 }
 
 impl RoomSessions {
-    ghost use Rattle.std.specs.Prelude.{◌≡◌, ◌<◌, [], ◌∷◌, Some, None, IfOk, OnOk, OnErr, IsErrOf, IsSome, IsSomeAnd, option_map};
+    ghost use Rattle.std.specs.Prelude.{◌≡◌, ◌<◌, [], ◌∷◌, Some, None, IfOk, OnOk, OnErr, IsErrOf, IsSome, IsSomeAnd, length, option_map};
     ghost use Rattle.relay_hub.specs.Call.{receiving, drawing, ReceivesIf, DrawsIf, HasSpace, IsAbove};
     ghost use Rattle.relay_hub.specs.Session.{waiting};
     ghost use Rattle.relay_hub.specs.Shed.{shed_room};
@@ -64,6 +64,13 @@ impl RoomSessions {
         ensures { result.now ≡ self.now.room }
     {
         &self.room
+    }
+
+    /// The number of its sessions. Allocates nothing.
+    pub fn len(&self) -> usize
+        ensures { result ≡ length self.now.sessions }
+    {
+        self.sessions.len()
     }
 
     /// Whether it has no session and no edit was ever accepted, so that it is as if it had never been opened. Allocates nothing.

@@ -1,5 +1,5 @@
 //! Tests of a hub's calls with their answers, and of its limits. What sessions send and receive is data in `tests/scripts`.
-use crate::hub::Call::{Close, Draw, MayHear, Open, Say, Shed, Truth, Waiting};
+use crate::hub::Call::{Close, Draw, MayHear, Open, RoomAt, Say, Shed, Truth, Waiting};
 use crate::shared::{at_revision, gives, owned, words};
 use relay_history::MAX_REVISIONS;
 use relay_hub::{Hub, HubFault, HubNewFault};
@@ -27,6 +27,8 @@ pub(crate) enum Call {
     Waiting(u64),
     MayHear(u64),
     Truth(u64),
+    /// The summary of the room at a place.
+    RoomAt(usize),
     /// Gives memory back.
     Shed,
 }
@@ -65,6 +67,7 @@ fn answer(rt: &(impl Abort + AllocGlobal), hub: &mut Hub, call: Call) -> String 
         Waiting(session) => words(rt, hub.waiting(session)),
         MayHear(session) => words(rt, hub.may_hear(session)),
         Truth(session) => seen(rt, hub.truth(rt.alloc(), session)),
+        RoomAt(place) => words(rt, hub.room_at(place)),
         Shed => give_memory_back(rt, hub),
     }
 }
@@ -117,6 +120,31 @@ fn answers_the_first_script_call_by_call(rt: HostRuntime) {
             (Draw(1), "NoSession"),
             (Say(1, "x"), "Err(NoSession)"),
             (Truth(1), "NoSession"),
+        ],
+    );
+}
+
+#[test]
+fn shows_each_room_in_the_order_of_opening(rt: HostRuntime) {
+    tells(
+        &rt,
+        &mut hub_from(&rt, 1),
+        &[
+            (RoomAt(0), "None"),
+            (Open("r"), "Ok(1)"),
+            (Open("q"), "Ok(2)"),
+            (Open("r"), "Ok(3)"),
+            (Say(3, EDIT), "Ok(Answered { short: 0 })"),
+            (Close(1), "Ok(())"),
+            (
+                RoomAt(0),
+                r#"Some(RoomSummary { name: "r", revision: 1, sessions: 1, weight: 17 })"#,
+            ),
+            (
+                RoomAt(1),
+                r#"Some(RoomSummary { name: "q", revision: 0, sessions: 1, weight: 8 })"#,
+            ),
+            (RoomAt(2), "None"),
         ],
     );
 }
