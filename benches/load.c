@@ -270,7 +270,7 @@ static void answer(int links, int edits) {
         all += took[n] = now() - begin;
     }
     qsort(took, edits, sizeof *took, by_size);
-    printf("%.1f microseconds from an edit to its own patch in the middle, %.1f on average, %d links beside\n", took[edits / 2] * 1e6, all / edits * 1e6, links);
+    printf("%.1f microseconds from an edit to its own patch in the middle, %.1f on average, 99 of 100 within %.1f, %d links beside\n", took[edits / 2] * 1e6, all / edits * 1e6, took[edits * 99 / 100] * 1e6, links);
 }
 
 static void single(int watchers, int edits) {
