@@ -1,5 +1,4 @@
--- Lemmas on lists, routes, replies and heads.
-pub mod Lists
+-- Lemmas on routes, replies and heads.
 pub mod Routes
 pub mod Refusals
 pub mod Heads

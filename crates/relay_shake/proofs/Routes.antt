@@ -13,7 +13,7 @@ use Rattle.matchit.specs.Params.{walk, wild_from, wild_stop, next_at, part_of, n
 use Rattle.matchit.specs.Router.{RouteOf, Refused}
 use Rattle.matchit.specs.declared.error.InsertError.{InsertError}
 use Rattle.matchit.specs.declared.error.InsertError.TheVariants.{Conflict, OutOfMemory}
-use Rattle.relay_shake.specs.Head.{kept}
+use Rattle.relay_head.specs.Head.{kept}
 use Rattle.relay_shake.specs.Route.{behind, is_segment, routed}
 
 -- each byte of a literal is below the tokens

@@ -1,7 +1,7 @@
 -- Worked heads, by computation.
 use Rattle.std.proofs.Common.{◌≡◌, ℕ, List, [], ◌∷◌, codes, true, Some, None, refl}
 use Rattle.httparse.specs.Grammar.{RequestHead, crlf, Field, trim_ows}
-use Rattle.relay_shake.specs.Head.{has_element, only_value}
+use Rattle.relay_head.specs.Head.{has_element, only_value}
 use Rattle.relay_shake.specs.Key.{key_of}
 use Rattle.relay_shake.specs.Route.{room_of}
 use Rattle.relay_shake.specs.Handshake.{accept, refuse, verdict_of}

@@ -3,7 +3,8 @@ use Rattle.std.specs.Prelude.{ℕ, Bool, not, ◌==◌, nat_lt, nat_le, if◌the
 use Rattle.httparse.specs.Grammar.{RequestHead}
 use Rattle.relay_shake.specs.declared.reading.TheConstants.{MAX_HEAD}
 use Rattle.relay_shake.specs.declared.checks.TheConstants.{MAX_FIELDS}
-use Rattle.relay_shake.specs.Head.{Parts, parts_of, only_value, kept, has_element}
+use Rattle.relay_head.specs.Head.{only_value, kept, has_element}
+use Rattle.relay_shake.specs.Head.{Parts, parts_of}
 use Rattle.relay_shake.specs.Key.{key_of}
 use Rattle.relay_shake.specs.Route.{room_of}
 

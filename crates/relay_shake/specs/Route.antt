@@ -2,7 +2,7 @@
 use Rattle.std.specs.Prelude.{ℕ, Bool, false, not, ◌==◌, if◌then◌else◌, List, [], ◌∷◌, codes, Option, Some, None}
 use Rattle.std.specs.List.{list_all}
 use Rattle.relay_proto.specs.RoomName.{is_room_name}
-use Rattle.relay_shake.specs.Head.{kept}
+use Rattle.relay_head.specs.Head.{kept}
 
 -- the rest of the text after a prefix, if it begins with it
 abbrev pub behind : List ℕ → List ℕ → Option (List ℕ)

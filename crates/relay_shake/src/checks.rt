@@ -4,10 +4,10 @@ ghost use Rattle.relay_shake.specs.Judged.{parts, Judges, HasReply};
 ghost use Rattle.relay_shake.specs.Handshake.{verdict_on};
 
 use crate::fault::Fault;
-use crate::fields::{has_element, only_value};
 use crate::head::Head;
 use crate::key::key_of;
 use crate::route::room_of;
+use relay_head::{has_element, only_value};
 use std::alloc::Global;
 
 /// The most header fields of a head.

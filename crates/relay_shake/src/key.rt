@@ -4,8 +4,8 @@ ghost use Rattle.std.specs.List.{list_all};
 ghost use Rattle.httparse.specs.Borrowed.{header_parts};
 ghost use Rattle.relay_shake.specs.Key.{is_base64_byte, is_key, key_of};
 
-use crate::fields::only_value;
 use httparse::Header;
+use relay_head::only_value;
 
 /// The number of base64 characters before the `==` in the encoding of 16 bytes.
 const DIGITS: usize = 22;

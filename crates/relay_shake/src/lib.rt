@@ -11,7 +11,6 @@
 mod answer;
 mod checks;
 mod fault;
-mod fields;
 mod head;
 mod key;
 mod reading;

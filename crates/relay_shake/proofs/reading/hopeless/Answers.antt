@@ -1,6 +1,6 @@
 -- No head can come, so none is there.
 use Rattle.std.proofs.lemmas.Result.{IfOk-weaker}
-use Rattle.relay_shake.proofs.Heads.{none_from_never}
+use Rattle.relay_head.proofs.Heads.{none_from_never}
 use Rattle.relay_shake.proofs.reading.hopeless.Goals as goal
 
 pub returns-clause-head : goal.returns-clause-head

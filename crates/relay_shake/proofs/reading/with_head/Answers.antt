@@ -6,7 +6,8 @@ use Rattle.httparse.specs.Grammar.{print_request}
 use Rattle.relay_shake.specs.declared.reading.TheConstants.{MAX_HEAD}
 use Rattle.relay_shake.specs.Handshake.{window}
 use Rattle.relay_shake.specs.Shaken.{Shows}
-use Rattle.relay_shake.proofs.Heads.{every_head, same_verdict, some-from_copied, now-from_copied, nat_lt-behind}
+use Rattle.relay_head.proofs.Heads.{some-from_copied, now-from_copied}
+use Rattle.relay_shake.proofs.Heads.{every_head, same_verdict, nat_lt-behind}
 use Rattle.relay_shake.proofs.reading.with_head.Goals as goal
 
 pub unwrap-requires : goal.unwrap-requires

@@ -6,12 +6,12 @@ ghost use Rattle.std.specs.Prelude.{◌≡◌, map, reverse, option_map};
 ghost use Rattle.std.specs.Str.{str_eq_ignore_ascii_case};
 ghost use Rattle.httparse.specs.Borrowed.{header_parts};
 ghost use Rattle.httparse.specs.Grammar.{skip_ows, trim_ows};
-ghost use Rattle.relay_shake.specs.Head.{count_of, first_value, only_value, lists, has_element};
+ghost use Rattle.relay_head.specs.Head.{count_of, first_value, only_value, has_field, lists, has_element};
 
 use httparse::Header;
 
 /// Returns the value of the field with this name, if there is exactly one.
-pub(crate) fn only_value<'b>(fields: &[Header<'b>], name: &str) -> Option<&'b [u8]>
+pub fn only_value<'b>(fields: &[Header<'b>], name: &str) -> Option<&'b [u8]>
     ensures { option_map (λ value. value.now) result ≡ only_value name.now (map header_parts fields.now) }
 {
     if count(fields, name) == 1 {
@@ -21,8 +21,15 @@ pub(crate) fn only_value<'b>(fields: &[Header<'b>], name: &str) -> Option<&'b [u
     }
 }
 
+/// Returns whether there is a field with this name.
+pub fn has_field(fields: &[Header<'_>], name: &str) -> bool
+    ensures { result ≡ has_field name.now (map header_parts fields.now) }
+{
+    count(fields, name) != 0
+}
+
 /// Returns whether a field with this name lists the element.
-pub(crate) fn has_element(fields: &[Header<'_>], name: &str, element: &str) -> bool
+pub fn has_element(fields: &[Header<'_>], name: &str, element: &str) -> bool
     ensures { result ≡ has_element name.now element.now (map header_parts fields.now) }
 {
     fields.iter().any(|field| is_named(field, name) && lists(field.value, element))

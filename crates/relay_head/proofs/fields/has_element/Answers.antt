@@ -4,9 +4,9 @@ use Rattle.std.specs.Str.{str_eq_ignore_ascii_case}
 use Rattle.std.proofs.lemmas.Iterator.{YieldsList-from_slice}
 use Rattle.std.proofs.lemmas.Iterator.Search.{any_from_yields_List}
 use Rattle.httparse.specs.Borrowed.{header_parts}
-use Rattle.relay_shake.specs.Head.{lists}
-use Rattle.relay_shake.proofs.Lists.{list_any_map}
-use Rattle.relay_shake.proofs.fields.has_element.Goals as goal
+use Rattle.relay_head.specs.Head.{lists}
+use Rattle.relay_head.proofs.Lists.{list_any_map}
+use Rattle.relay_head.proofs.fields.has_element.Goals as goal
 
 pub returns : goal.returns
 returns c =

@@ -4,7 +4,7 @@ use Rattle.std.specs.Str.{str_eq_ignore_ascii_case}
 use Rattle.std.proofs.lemmas.Iterator.Search.{any_from_yields_List}
 use Rattle.std.proofs.lemmas.Iterator.Splits.{YieldsList-from_slice_split}
 use Rattle.httparse.specs.Grammar.{trim_ows}
-use Rattle.relay_shake.proofs.fields.lists.Goals as goal
+use Rattle.relay_head.proofs.fields.lists.Goals as goal
 
 pub returns : goal.returns
 returns c =

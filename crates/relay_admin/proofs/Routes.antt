@@ -1,0 +1,113 @@
+-- Lookups in a router of literal routes.
+use Rattle.std.proofs.Common.{◌≡◌, ℕ, zero, suc, ◌-◌, ◌<◌, ◌≤◌, ◌&&◌, Bool, true, false, cond, List, [], ◌∷◌, length, codes, Option, Some, None, refl, sym, ◌∙◌, ap, ne_eqb, arith, lit<, ◌==◌, bytes_eq, if◌then◌else◌, option_map, nat_lt}
+use Rattle.std.specs.List.{list_all}
+use Rattle.std.proofs.lemmas.Bool.Decides.{nat_tests}
+use Rattle.matchit.specs.Rows.{RowsOf}
+use Rattle.matchit.specs.Seek.{seek, param_step, step, own, or_else, has_slash}
+
+-- each byte of a literal is below the tokens
+abbrev pub IsPlain : List ℕ → Type 0
+IsPlain [] = Unit {0}
+IsPlain (x ∷ xs) = (x < 256) × IsPlain xs
+
+abbrev pub ArePlain : {K : Type 0} → RowsOf K → Type 0
+ArePlain [] = Unit {0}
+ArePlain (row ∷ rows) = IsPlain row.0 × ArePlain rows
+
+-- a test of equality the other way round
+eqb-sym : (m n : ℕ) → (m == n) ≡ (n == m)
+eqb-sym m n = grind (arith, nat_tests)
+
+module _ {K : Type 0} where
+  -- the first row whose pattern is the whole path
+  abbrev pub row_of : RowsOf K → List ℕ → Option K
+  row_of [] path = None
+  row_of (row ∷ rows) path = if bytes_eq path row.0 then Some row.1 else row_of rows path
+
+  or-none : (o : Option K) → or_else o None ≡ o
+  or-none None = refl
+  or-none (Some x) = refl
+
+  abbrev after : Bool → ℕ → RowsOf K → ℕ × RowsOf K
+  after slash n rows = cond {A = ℕ × RowsOf K} slash (0, []) (n, rows)
+
+  nil-step : (slash : Bool) (n : ℕ) (path : List ℕ) → ((m : ℕ) → seek {K = K} m [] path ≡ None)
+      → or_else (seek ((after slash n []).0 - 1) (after slash n []).1 path) None ≡ None
+  nil-step true n path none = ap (λ o. or_else o None) (none (0 - 1))
+  nil-step false n path none = ap (λ o. or_else o None) (none (n - 1))
+
+  seek-nil : (n : ℕ) (path : List ℕ) → seek {K = K} n [] path ≡ None
+  unfolding seek param_step
+  seek-nil n [] = refl
+  seek-nil (suc n) (b ∷ path) = seek-nil n path
+  seek-nil zero (b ∷ path) =
+      rw (seek-nil 0 path) (nil-step (cond (b == 47) true (has_slash path)) (suc (length path)) path (λ m. seek-nil m path))
+
+  -- no literal goes on with a token
+  no_token : (token : ℕ) (rows : RowsOf K) → 256 ≤ token → ArePlain rows → step token rows ≡ []
+  no_token token [] high plain = refl
+  no_token token (([], key) ∷ rows) high plain = no_token token rows high plain.1
+  no_token token ((x ∷ t, key) ∷ rows) high plain =
+      let other : x == token ≡ false = ne_eqb x token (λ e. omega (arith, e, plain.0.0, high)) in
+      rw other (no_token token rows high plain.1)
+
+  -- what goes on with a byte is plain too
+  step-plain : (b : ℕ) (rows : RowsOf K) → ArePlain rows → ArePlain (step b rows)
+  step-plain b [] plain = tt
+  step-plain b (([], key) ∷ rows) plain = step-plain b rows plain.1
+  step-plain b ((x ∷ t, key) ∷ rows) plain = by_test (x == b) (step-plain b rows plain.1)
+    where
+      by_test : (test : Bool) → ArePlain (step b rows) → ArePlain (cond {A = RowsOf K} test ((t, key) ∷ step b rows) (step b rows))
+      by_test true later = (plain.0.1, later)
+      by_test false later = later
+
+  -- a byte of the path leaves the rows that go on with it
+  row_of-step : (b : ℕ) (path : List ℕ) (rows : RowsOf K) → row_of (step b rows) path ≡ row_of rows (b ∷ path)
+  row_of-step b path [] = refl
+  row_of-step b path (([], key) ∷ rows) = row_of-step b path rows
+  row_of-step b path ((x ∷ t, key) ∷ rows) = by_test (x == b) (row_of-step b path rows) ∙ ap (λ test. if test && bytes_eq path t then Some key else row_of rows (b ∷ path)) (eqb-sym x b)
+    where
+      by_test : (test : Bool) → row_of (step b rows) path ≡ row_of rows (b ∷ path)
+          → row_of (cond {A = RowsOf K} test ((t, key) ∷ step b rows) (step b rows)) path ≡ (if test && bytes_eq path t then Some key else row_of rows (b ∷ path))
+      by_test true later = ap (λ o. if bytes_eq path t then Some key else o) later
+      by_test false later = later
+
+  row_of-nil : (rows : RowsOf K) → own rows ≡ row_of rows []
+  row_of-nil [] = refl
+  row_of-nil (([], key) ∷ rows) = refl
+  row_of-nil ((x ∷ t, key) ∷ rows) = row_of-nil rows
+
+  -- a path finds the row that it is
+  pub seek-plain : (rows : RowsOf K) (path : List ℕ) → ArePlain rows → seek 0 rows path ≡ row_of rows path
+  unfolding seek param_step
+  seek-plain rows [] plain = row_of-nil rows
+  seek-plain rows (b ∷ path) plain =
+      let none = nil-step (cond (b == 47) true (has_slash path)) (suc (length path)) path (λ m. seek-nil m path) in
+      let first : seek 0 (step b rows) path ≡ row_of rows (b ∷ path) = seek-plain (step b rows) path (step-plain b rows plain) ∙ row_of-step b path rows in
+      rw (no_token 256 rows (omega arith) plain, no_token 257 rows (omega arith) plain, none, or-none (seek 0 (step b rows) path)) first
+
+-- the same as a test, which computes on literals
+abbrev pub are_plain : {K : Type 0} → RowsOf K → Bool
+are_plain rows = list_all (λ row. list_all (λ x. nat_lt x 256) row.0) rows
+
+plain-from : (bytes : List ℕ) → list_all (λ x. nat_lt x 256) bytes ≡ true → IsPlain bytes
+plain-from [] e = tt
+plain-from (x ∷ bytes) e = by_test (nat_lt x 256) (λ t. grind (arith, nat_tests, t)) (λ later. plain-from bytes later) e
+  where
+    by_test : (t : Bool) → (t ≡ true → x < 256) → (list_all (λ y. nat_lt y 256) bytes ≡ true → IsPlain bytes) → (t && list_all (λ y. nat_lt y 256) bytes) ≡ true → IsPlain (x ∷ bytes)
+    by_test true small later e = (small refl, later e)
+    by_test false small later e = absurd (cc)
+
+pub plains-from : {K : Type 0} (rows : RowsOf K) → are_plain rows ≡ true → ArePlain rows
+plains-from [] e = tt
+plains-from (row ∷ rows) e = by_test (list_all (λ x. nat_lt x 256) row.0) (λ t. plain-from row.0 t) (λ later. plains-from rows later) e
+  where
+    by_test : (t : Bool) → (t ≡ true → IsPlain row.0) → (are_plain rows ≡ true → ArePlain rows) → (t && are_plain rows) ≡ true → ArePlain (row ∷ rows)
+    by_test true here later e = (here refl, later e)
+    by_test false here later e = absurd (cc)
+
+-- the value of what one of several tests finds
+pub value_of : {K V : Type 0} (f : K → V) (test : Bool) (x : K) (o : Option K) (later : Option V) → option_map f o ≡ later
+    → option_map f (if test then Some x else o) ≡ (if test then Some (f x) else later)
+value_of f true x o later e = refl
+value_of f false x o later e = e

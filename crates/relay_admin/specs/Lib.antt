@@ -1,0 +1,10 @@
+pub mod Host
+pub mod Route
+pub mod Verdict
+pub mod Admitted
+pub mod Asked
+pub mod Judged
+pub mod Refusals
+pub mod Replies
+pub mod Rooms
+pub mod Metrics

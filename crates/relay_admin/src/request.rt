@@ -1,0 +1,28 @@
+//! What an operator may ask.
+ghost use Rattle.std.specs.Prelude.{◌≡◌};
+ghost use Rattle.relay_admin.specs.Route.{method_of};
+
+/// A request of an operator.
+#[derive(Clone, Copy, Debug, PartialEq, Eq)]
+pub enum AdminRequest {
+    /// `GET /health`: whether the relay serves its clients.
+    Health,
+    /// `GET /metrics`: its numbers, for Prometheus.
+    Metrics,
+    /// `GET /rooms`: its rooms, as JSON.
+    Rooms,
+    /// `POST /stop`: that it ends.
+    Stop,
+}
+
+impl AdminRequest {
+    /// The one method of the request's path.
+    pub(crate) fn method(self) -> &'static str
+        ensures { result.now ≡ method_of self }
+    {
+        match self {
+            AdminRequest::Stop => "POST",
+            AdminRequest::Health | AdminRequest::Metrics | AdminRequest::Rooms => "GET",
+        }
+    }
+}

@@ -1,0 +1,3 @@
+-- Lemmas on lists, and on the heads that bytes begin with.
+pub mod Lists
+pub mod Heads
