@@ -21,6 +21,25 @@ pub(crate) enum Output {
     Waiting,
 }
 
+/// How much of a round a connection takes.
+#[derive(Clone, Copy, Debug, PartialEq, Eq)]
+pub(crate) enum Weight {
+    /// It sends short texts.
+    Light,
+    /// It sends long ones.
+    Heavy,
+}
+
+/// The turns that would do something for a connection.
+#[derive(Clone, Copy, Debug, PartialEq, Eq)]
+pub(crate) struct Wants {
+    /// A read turn, and of which weight it would be.
+    pub read: Option<Weight>,
+    /// A write turn for corked output, and one for that or for messages that wait.
+    pub corked: bool,
+    pub waiting: bool,
+}
+
 /// A link, and what the server knows about it.
 #[derive(Drop)]
 pub(crate) struct Connection<S: Write + Drop> {
@@ -82,6 +101,28 @@ impl<S: Read + Write + Drop> Connection<S> {
         match self.link.session() {
             Some(session) => hub.may_hear(session),
             None => true,
+        }
+    }
+
+    /// The weight of its read turns.
+    pub(crate) fn weight(&self) -> Weight {
+        if self.known.is_heavy() {
+            Weight::Heavy
+        } else {
+            Weight::Light
+        }
+    }
+
+    /// The turns that would do something now.
+    pub(crate) fn wants(&self, hub: &Hub) -> Wants {
+        Wants {
+            read: if self.may_read(hub) {
+                Some(self.weight())
+            } else {
+                None
+            },
+            corked: self.has_output(hub, Output::Corked),
+            waiting: self.has_output(hub, Output::Waiting),
         }
     }
 

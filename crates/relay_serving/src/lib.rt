@@ -3,6 +3,8 @@
 
 mod connection;
 mod connection_log;
+mod key_queue;
+mod queues;
 mod read_share;
 mod readiness;
 mod ready;

@@ -1,4 +1,4 @@
-//! A stream, together with its readiness as the system last reported it.
+//! A stream, together with its readiness as the system last reported it, and with how much of an unfinished text was read.
 ghost use Rattle.relay_serving.specs.Ready.{left_of};
 
 use crate::readiness::StreamReady;
@@ -8,15 +8,30 @@ use std::io;
 use std::io::{Error, ErrorKind, Read, Write};
 use std::rc::Rc;
 
-/// The known readiness of a stream, shared by the stream and the rounds that receive its events.
+/// A text of so many bytes is long, and so is one of which as much was read before its end.
+const LONG: u64 = 8_192;
+
+/// What is known of a stream, shared by the stream and the rounds that receive its events.
 #[derive(Drop)]
 pub(crate) struct Known {
-    ready: Rc<Cell<StreamReady>>,
+    state: Rc<Cell<StreamState>>,
+}
+
+#[derive(Clone, Copy, Debug, PartialEq, Eq)]
+struct StreamState {
+    ready: StreamReady,
+    /// How many bytes were read since the last whole text.
+    unfinished: u64,
+    /// Whether that, or the last text, is long.
+    is_heavy: bool,
 }
 
 /// A stream that returns `WouldBlock` without a system call while it is known not to be ready. It is readable until a read returns
 /// `WouldBlock` or fewer bytes than it was asked for, since then nothing is left (epoll(7)), and writable until a write returns
 /// `WouldBlock`. A later event makes it ready again.
+///
+/// It also returns `WouldBlock` where a text becomes long, until the turn ends and the stream counts as heavy. So the end of a long text
+/// is read in a turn of a heavy stream alone, and no other turn takes longer than a short text.
 #[derive(Drop)]
 pub(crate) struct Watched<S> {
     stream: S,
@@ -26,61 +41,86 @@ pub(crate) struct Watched<S> {
 impl Known {
     /// Adds what the stream is ready for now. It stays ready for what it was ready for before.
     pub(crate) fn add(&self, now: StreamReady) {
-        let before = self.ready.get();
-        self.ready.set(StreamReady {
-            readable: before.readable || now.readable,
-            writable: before.writable || now.writable,
-            is_over: before.is_over || now.is_over,
-        });
+        let mut state = self.state.get();
+        state.ready = StreamReady {
+            readable: state.ready.readable || now.readable,
+            writable: state.ready.writable || now.writable,
+            is_over: state.ready.is_over || now.is_over,
+        };
+        self.state.set(state);
     }
 
-    pub(crate) fn is_readable(&self) -> bool {
-        self.ready.get().readable
+    /// Whether a read may give bytes in this turn.
+    fn is_readable(&self) -> bool {
+        let state = self.state.get();
+        state.ready.readable && (state.is_heavy || state.unfinished < LONG)
     }
 
     pub(crate) fn is_writable(&self) -> bool {
-        self.ready.get().writable
+        self.state.get().ready.writable
+    }
+
+    /// Whether the last text was long, or one is long already of which the end was not read.
+    pub(crate) fn is_heavy(&self) -> bool {
+        self.state.get().is_heavy
+    }
+
+    /// Ends a read turn, in which a text of so many bytes was received, or none.
+    pub(crate) fn end_turn(&self, received: Option<u64>) {
+        let mut state = self.state.get();
+        if received.is_some() {
+            state.unfinished = 0;
+        }
+        state.is_heavy = received.unwrap_or(state.unfinished) >= LONG;
+        self.state.set(state);
     }
 
     /// Notes what a read of at most `most` bytes returned.
-    fn end_reads(&self, read: &io::Result<usize>, most: usize) {
-        let mut ready = self.ready.get();
-        ready.readable = match read {
-            Ok(len) => *len == most || ready.is_over,
-            Err(error) => error.kind() != ErrorKind::WouldBlock,
-        };
-        self.ready.set(ready);
+    fn end_read(&self, read: &io::Result<usize>, most: usize) {
+        let mut state = self.state.get();
+        match read {
+            Ok(len) => {
+                state.ready.readable = *len == most || state.ready.is_over;
+                state.unfinished = state.unfinished.saturating_add(*len as u64);
+            }
+            Err(error) => state.ready.readable = error.kind() != ErrorKind::WouldBlock,
+        }
+        self.state.set(state);
     }
 
     /// Notes what a write returned.
-    fn end_writes(&self, written: &io::Result<usize>) {
-        let mut ready = self.ready.get();
-        ready.writable = match written {
+    fn end_write(&self, written: &io::Result<usize>) {
+        let mut state = self.state.get();
+        state.ready.writable = match written {
             Ok(_) => true,
             Err(error) => error.kind() != ErrorKind::WouldBlock,
         };
-        self.ready.set(ready);
+        self.state.set(state);
     }
 }
 
 impl<S> Watched<S> {
-    /// A stream that counts as ready until it returns `WouldBlock`, and its known readiness.
+    /// A stream that counts as ready until it returns `WouldBlock`, and what is known of it.
     pub(crate) fn new(alloc: Global, stream: S) -> Result<(Watched<S>, Known), AllocError>
     where
         S: Drop,
     {
-        let ready = Rc::new(
+        let state = Rc::new(
             alloc,
-            Cell::new(StreamReady {
-                readable: true,
-                writable: true,
-                is_over: false,
+            Cell::new(StreamState {
+                ready: StreamReady {
+                    readable: true,
+                    writable: true,
+                    is_over: false,
+                },
+                unfinished: 0,
+                is_heavy: false,
             }),
         )?;
         let known = Known {
-            ready: ready.clone()?,
+            state: state.clone()?,
         };
-        Ok((Watched { stream, known }, Known { ready }))
+        Ok((Watched { stream, known }, Known { state }))
     }
 }
 
@@ -92,7 +132,7 @@ impl<S: Read> Read for Watched<S> {
             return Err(nothing_now());
         }
         let read = self.stream.read(buf);
-        self.known.end_reads(&read, buf.len());
+        self.known.end_read(&read, buf.len());
         read
     }
 }
@@ -103,7 +143,7 @@ impl<S: Write> Write for Watched<S> {
             return Err(nothing_now());
         }
         let written = self.stream.write(buf);
-        self.known.end_writes(&written);
+        self.known.end_write(&written);
         written
     }
 

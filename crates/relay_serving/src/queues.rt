@@ -1,0 +1,100 @@
+//! The queues of a server's connections that may have a turn.
+use crate::connection::{Output, Wants, Weight};
+use crate::key_queue::KeyQueue;
+use std::alloc::{AllocError, Global};
+
+/// The keys of the connections that may be read, and of those that may be written. A key stays where it is if its connection is dropped or
+/// no longer wants the turn, so whoever takes it out looks first.
+#[derive(Drop)]
+pub(crate) struct Queues {
+    light: KeyQueue,
+    heavy: KeyQueue,
+    corked: KeyQueue,
+    waiting: KeyQueue,
+}
+
+impl Queues {
+    pub(crate) fn new(alloc: Global) -> Queues {
+        Queues {
+            light: KeyQueue::new(alloc),
+            heavy: KeyQueue::new(alloc),
+            corked: KeyQueue::new(alloc),
+            waiting: KeyQueue::new(alloc),
+        }
+    }
+
+    /// Takes the memory for a key in each queue. `AllocError` leaves the keys that are queued.
+    pub(crate) fn admit(&mut self, key: usize) -> Result<(), AllocError> {
+        self.light.admit(key)?;
+        self.heavy.admit(key)?;
+        self.corked.admit(key)?;
+        self.waiting.admit(key)
+    }
+
+    /// Queues a key behind the others for each turn that its connection wants. Allocates nothing.
+    pub(crate) fn push(&mut self, key: usize, wants: Wants) {
+        match wants.read {
+            Some(Weight::Light) => self.light.push(key),
+            Some(Weight::Heavy) => self.heavy.push(key),
+            None => {}
+        }
+        if wants.corked {
+            self.corked.push(key);
+        }
+        if wants.waiting {
+            self.waiting.push(key);
+        }
+    }
+
+    /// Takes out the first key of the connections of this weight that may be read.
+    pub(crate) fn pop_reader(&mut self, weight: Weight) -> Option<usize> {
+        match weight {
+            Weight::Light => self.light.pop(),
+            Weight::Heavy => self.heavy.pop(),
+        }
+    }
+
+    /// Takes out the first key of the connections that may be written, for such output.
+    pub(crate) fn pop_writer(&mut self, output: Output) -> Option<usize> {
+        match output {
+            Output::Corked => self.corked.pop(),
+            Output::Waiting => self.waiting.pop(),
+        }
+    }
+
+    /// How many keys wait for a read turn.
+    pub(crate) fn readers(&self, weight: Weight) -> usize {
+        match weight {
+            Weight::Light => self.light.len(),
+            Weight::Heavy => self.heavy.len(),
+        }
+    }
+
+    /// How many keys wait for a write turn.
+    pub(crate) fn writers(&self, output: Output) -> usize {
+        match output {
+            Output::Corked => self.corked.len(),
+            Output::Waiting => self.waiting.len(),
+        }
+    }
+
+    /// Whether no key waits.
+    pub(crate) fn is_empty(&self) -> bool {
+        self.light.is_empty()
+            && self.heavy.is_empty()
+            && self.corked.is_empty()
+            && self.waiting.is_empty()
+    }
+
+    /// Whether a key waits for each turn that its connection wants.
+    pub(crate) fn has(&self, key: usize, wants: Wants) -> bool {
+        let is_read = match wants.read {
+            Some(Weight::Light) => self.light.contains(key),
+            Some(Weight::Heavy) => self.heavy.contains(key),
+            None => true,
+        };
+        is_read
+            && (!wants.corked || self.corked.contains(key))
+            && (!wants.waiting || self.waiting.contains(key))
+    }
+}

@@ -1,0 +1,103 @@
+//! How connections come: who is accepted, and who makes room.
+ghost use Rattle.relay_serving.specs.Advances.{KeepsFewer, KeepsWithin};
+
+use super::Server;
+use crate::connection::Connection;
+use crate::connection_log::ConnectionLog;
+use crate::readiness::Readiness;
+use std::alloc::{AllocError, Global};
+use std::io::{ErrorKind, Read, Write};
+use std::net::{OpenListener, OpenStream};
+
+/// The maximum number of connections that a round accepts.
+const MAX_ACCEPTS: u32 = 8;
+
+impl<S: Read + Write + OpenStream + Drop, R: Readiness<S>> Server<S, R> {
+    /// Accepts waiting connections.
+    #[tactic(auto, using(crate::proofs::Rules::advances))]
+    pub(super) fn accept<L: OpenListener<Stream = S>, J: ConnectionLog>(
+        &mut self,
+        alloc: Global,
+        listener: &L,
+        log: &mut J,
+    )
+        ensures { KeepsWithin S.remaining self.old self.new }
+    {
+        for _ in 0..MAX_ACCEPTS {
+            if !self.accept_ready {
+                return;
+            }
+            match listener.accept() {
+                Ok((stream, _)) => {
+                    self.evict(alloc, log);
+                    self.enter(alloc, stream, log);
+                }
+                Err(error) => {
+                    self.accept_ready = false;
+                    self.failed = error.kind() != ErrorKind::WouldBlock;
+                }
+            }
+        }
+    }
+
+    /// If the maximum number of connections is held, ends the oldest one without a session.
+    #[tactic(auto, using(crate::proofs::Rules::advances))]
+    fn evict<J: ConnectionLog>(&mut self, alloc: Global, log: &mut J)
+        ensures { KeepsFewer S.remaining self.old self.new }
+    {
+        if self.connections.len() < self.most {
+            return;
+        }
+        if let Some(key) = self.first_unserved() {
+            self.end_link(alloc, key, log);
+        }
+    }
+
+    /// The key of the oldest connection without a session.
+    fn first_unserved(&self) -> Option<usize> {
+        let mut first = None;
+        let mut least = u64::MAX;
+        for key in 0..self.keys() {
+            if let Some(connection) = self.connections.get(key) {
+                if connection.is_unserved() && connection.place < least {
+                    first = Some(key);
+                    least = connection.place;
+                }
+            }
+        }
+        first
+    }
+
+    /// Holds a new connection, if it can be held, and queues it.
+    #[tactic(auto, using(crate::proofs::Rules::advances))]
+    fn enter<J: ConnectionLog>(&mut self, alloc: Global, stream: S, log: &mut J)
+        ensures { KeepsWithin S.remaining self.old self.new }
+    {
+        let key = self.connections.vacant_key();
+        if self.add(alloc, stream).is_err() {
+            self.shed(log);
+        }
+        self.queue(key);
+    }
+
+    /// Holds a new connection. It is dropped if there is no capacity, or if its stream cannot be made non-blocking or watched.
+    #[tactic(auto, using(crate::proofs::Rules::advances))]
+    fn add(&mut self, alloc: Global, stream: S) -> Result<(), AllocError>
+        ensures { KeepsWithin S.remaining self.old self.new }
+    {
+        if self.connections.len() >= self.most || stream.set_nonblocking(true).is_err() {
+            return Ok(());
+        }
+        let _ = stream.set_nodelay(true);
+        let key = self.connections.vacant_key();
+        if self.readiness.watch(key, &stream).is_err() {
+            return Ok(());
+        }
+        self.queues.admit(key)?;
+        let place = self.accepted;
+        self.accepted = self.accepted.saturating_add(1);
+        let connection = Connection::new(alloc, stream, place, self.rounds)?;
+        self.connections.insert(connection)?;
+        Ok(())
+    }
+}
