@@ -16,3 +16,7 @@ mod nets;
 mod pair;
 #[cfg(test)]
 mod rounds;
+#[cfg(test)]
+mod senders;
+#[cfg(test)]
+mod weights;

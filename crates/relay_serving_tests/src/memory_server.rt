@@ -158,6 +158,11 @@ impl<'a> MemoryServer<'a> {
         self.server.connections()
     }
 
+    /// The first connection that wants a turn for which it is not queued.
+    pub fn unqueued(&self) -> Option<usize> {
+        self.server.unqueued()
+    }
+
     /// Runs `count` rounds.
     pub fn rounds(&mut self, rt: &(impl Abort + AllocGlobal), count: u64) {
         for _ in 0..count {
