@@ -7,6 +7,8 @@
 #[cfg(test)]
 mod crowd;
 #[cfg(test)]
+mod forgotten;
+#[cfg(test)]
 mod loopback_fixture;
 #[cfg(test)]
 mod memory_server;

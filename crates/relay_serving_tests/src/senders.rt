@@ -31,7 +31,7 @@ impl<'a> Senders<'a> {
         wires: &'a [RefCell<Wire>],
     ) -> Senders<'a> {
         Senders {
-            server: MemoryServer::new(rt, script, HubConfig::new(1, 1, 64, 32)),
+            server: MemoryServer::new(rt, script, HubConfig::new(1, 1, 64, 256)),
             wires,
         }
     }
