@@ -1,4 +1,5 @@
 pub mod Advancing
+mod Flags
 pub mod Held
 pub mod Owners
 pub mod Rules
