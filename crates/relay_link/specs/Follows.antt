@@ -1,9 +1,9 @@
 -- The changes of the hub by a link: its events, one step after another.
-use Rattle.std.specs.Prelude.{◌≡◌, ⊤, ℕ, List, [], ◌∷◌, ◌++◌, Option, Some, None}
+use Rattle.std.specs.Prelude.{◌≡◌, ℕ, List, [], ◌∷◌, ◌++◌, Option, Some, None}
 use Rattle.relay_hub.specs.State.{State}
 use Rattle.relay_hub.specs.Step.{Step}
 use Rattle.relay_hub.specs.declared.event.Answer.{Answer}
-use Rattle.relay_hub.specs.declared.event.Answer.TheVariants.{Opened}
+use Rattle.relay_hub.specs.declared.event.Answer.TheVariants.{Opened, Drawn}
 use Rattle.relay_hub.specs.declared.event.Event.{Event}
 use Rattle.relay_hub.specs.declared.event.Event.TheVariants.{Open, Receive, Draw, Close}
 
@@ -16,10 +16,7 @@ pub record Point : Type 0 where
 abbrev pub at : State → Option ℕ → List Event → Point
 at hub session made = record { hub = hub; session = session; made = made }
 
--- rooms, by name: any, none, and one
-abbrev pub any_room : List ℕ → Type 0
-any_room room = ⊤
-
+-- rooms, by name: none, and one
 abbrev pub no_room : List ℕ → Type 0
 no_room room = ⊥
 
@@ -45,6 +42,20 @@ pub data Follows (rooms : List ℕ → Type 0) : Point → Point → Type 0 wher
   stays : {p : Point} → Follows rooms p p
   makes : {p q : Point} {hub : State} (event : Event) (answer : Answer) → Follows rooms p q → IsOwn rooms q.session event → Step q.hub event answer hub
       → Follows rooms p (at hub (session_after q.session event answer) (q.made ++ event ∷ []))
+
+-- the text that an event drew, if it drew one
+abbrev pub given : Option (List ℕ) → List (List ℕ)
+given None = []
+given (Some text) = text ∷ []
+
+abbrev pub drawn_by : Event → Answer → List (List ℕ)
+drawn_by (Draw s) (Drawn text) = given text
+drawn_by event answer = []
+
+-- the texts that the events between two points drew, in order
+abbrev pub drawn : {rooms : List ℕ → Type 0} {p q : Point} → Follows rooms p q → List (List ℕ)
+drawn stays = []
+drawn (makes event answer before own step) = drawn before ++ drawn_by event answer
 
 -- the one event that closes a session, if there is one
 abbrev pub closing_of : Option ℕ → List Event

@@ -6,3 +6,5 @@ pub mod Stage
 pub mod SocketError
 pub mod Turns
 pub mod Ends
+pub mod Frames
+pub mod Tells

@@ -1,6 +1,12 @@
 -- The stream of a link, below its output buffer.
-use Rattle.std.specs.Io.Buffered.{writer_inner}
+use Rattle.std.specs.Prelude.{ℕ, List, Option}
+use Rattle.std.specs.Io.Buffered.{writer_contents, writer_inner}
 use Rattle.relay_link.specs.declared.corked_writer.CorkedWriter.{CorkedWriter}
 
-abbrev pub stream_of : {S : Type 0} → CorkedWriter S → S
-stream_of w = (writer_inner w.writer).stream
+module _ {S : Type 0} where
+  abbrev pub stream_of : CorkedWriter S → S
+  stream_of w = (writer_inner w.writer).stream
+
+  -- the bytes that the stream holds, where those are known, and then the output that is buffered for it
+  abbrev pub written : (S → Option (List ℕ)) → CorkedWriter S → Option (List ℕ)
+  written contents w = writer_contents (λ n. contents n.stream) w.writer

@@ -2,6 +2,7 @@
 ghost use Rattle.std.specs.Prelude.{◌≡◌, ◌+◌, ◌≤◌, is_some, Some, None, IfErr};
 ghost use Rattle.relay_link.specs.Ends.{IsPrompt, turns_left};
 ghost use Rattle.relay_link.specs.Stage.{leaves, stage_of, session_of, IsForward};
+ghost use Rattle.relay_link.specs.Tells.{IsServing};
 ghost use Rattle.relay_link.specs.declared.cause.Cause.TheVariants.{Silent};
 ghost use Rattle.relay_link.specs.declared.stage.Stage.TheVariants.{Closing};
 
@@ -19,10 +20,11 @@ pub(crate) fn turn<S: Read + Write + Drop>(mut socket: Socket<S>, turns: u64) ->
     ensures session { session_of result.state ≡ None }
     ensures cause { is_some result.cause ≡ leaves Closing (stage_of result.state) }
     ensures forward { IsForward Closing (stage_of result.state) }
+    ensures serving { IsServing result.state }
     ensures silent { result.cause ≡ Some Silent → turns ≤ 1 }
     ensures patient { stage_of result.state ≡ Closing → turns ≤ turns_left result.state + 1 }
 {
-    socket.get_mut().begin_poll();
+    socket.get_ref().begin_poll();
     if let Err(cause) = let_go(&mut socket) {
         return Transition::gone(cause);
     }
@@ -36,13 +38,16 @@ pub(crate) fn turn<S: Read + Write + Drop>(mut socket: Socket<S>, turns: u64) ->
     }
 }
 
-/// Sends pending output, then reads one message and drops it.
+/// Sends pending output, then reads one message and drops it. The flush behind a message lets the stream know that another turn was
+/// asked for.
 fn let_go<S: Read + Write + Drop>(socket: &mut Socket<S>) -> Result<(), Cause>
     ensures { IfErr result IsPrompt }
 {
     if socket.get_ref().has_output() {
         flush(socket)?;
     }
-    read(socket)?;
+    if read(socket)?.is_some() {
+        flush(socket)?;
+    }
     Ok(())
 }

@@ -1,21 +1,34 @@
 //! A stream with buffered output that can be corked.
 ghost use Rattle.std.specs.Prelude.{◌≡◌, IfOk, ◌&&◌, ◌==◌, not, length};
 ghost use Rattle.std.specs.Io.Buffered.{writer_buffer, writer_inner};
-ghost use Rattle.relay_link.specs.Stream.{stream_of};
+ghost use Rattle.relay_link.specs.Stream.{stream_of, written};
 
 use crate::non_blocking::NonBlocking;
 use std::alloc::{AllocError, Global};
+use std::cell::Cell;
 use std::io::{BufWriter, Read, Result, Write};
 
 /// The size of an output buffer, in bytes: enough for a reply and a few patches that are written together.
 const OUTPUT_BUFFER: usize = 1_536;
 
+/// What a link has asked of its stream since the stream's last call.
+#[derive(Clone, Copy)]
+struct Orders {
+    begins_poll: bool,
+    requests_poll: bool,
+    holds: bool,
+}
+
 /// A non-blocking stream behind an output buffer. While it is corked, a flush leaves the output in the buffer; output that exceeds
 /// the buffer is written all the same.
+///
+/// What the link asks of it takes effect at its next call, a flush at the latest. A link can ask while a WebSocket owns the writer, by
+/// a shared reference: a `&mut` out of the socket (`get_mut`) has no contract, and what is known of the connection would be lost.
 #[derive(Drop)]
 pub(crate) struct CorkedWriter<S: Write + Drop> {
     writer: BufWriter<NonBlocking<S>>,
     holds: bool,
+    orders: Cell<Orders>,
 }
 
 impl<S: Write + Drop> CorkedWriter<S> {
@@ -26,14 +39,56 @@ impl<S: Write + Drop> CorkedWriter<S> {
             Ok(writer) => Ok(CorkedWriter {
                 writer,
                 holds: false,
+                orders: Cell::new(Orders {
+                    begins_poll: false,
+                    requests_poll: false,
+                    holds: false,
+                }),
             }),
             Err(_) => Err(AllocError),
         }
     }
 
     /// Corks or uncorks the output: while `holds`, flushes write nothing.
-    pub(crate) fn hold(&mut self, holds: bool) {
-        self.holds = holds;
+    pub(crate) fn hold(&self, holds: bool) {
+        let mut orders = self.orders.get();
+        orders.holds = holds;
+        self.orders.set(orders);
+    }
+
+    /// Begins a read turn.
+    pub(crate) fn begin_poll(&self) {
+        let mut orders = self.orders.get();
+        orders.begins_poll = true;
+        orders.requests_poll = false;
+        self.orders.set(orders);
+    }
+
+    /// Asks for another turn.
+    pub(crate) fn request_poll(&self) {
+        let mut orders = self.orders.get();
+        orders.requests_poll = true;
+        self.orders.set(orders);
+    }
+
+    /// Does what the link has asked for.
+    fn obey(&mut self)
+        ensures stream { stream_of self.new ≡ stream_of self.old }
+        ensures buffer { writer_buffer self.new.writer ≡ writer_buffer self.old.writer }
+    {
+        let orders = self.orders.get();
+        if orders.begins_poll {
+            self.writer.get_mut().begin_poll();
+        }
+        if orders.requests_poll {
+            self.writer.get_mut().request_poll();
+        }
+        self.holds = orders.holds;
+        self.orders.set(Orders {
+            begins_poll: false,
+            requests_poll: false,
+            holds: orders.holds,
+        });
     }
 
     /// Whether the buffer has output.
@@ -50,18 +105,6 @@ impl<S: Write + Drop> CorkedWriter<S> {
         self.holds && self.has_output()
     }
 
-    /// Begins a read turn.
-    pub(crate) fn begin_poll(&mut self)
-        ensures { stream_of self.new ≡ stream_of self.old }
-    {
-        self.writer.get_mut().begin_poll();
-    }
-
-    /// Asks for another turn.
-    pub(crate) fn request_poll(&mut self) {
-        self.writer.get_mut().request_poll();
-    }
-
     /// Whether nothing has asked for another turn.
     pub(crate) fn is_idle(&self) -> bool
         ensures { result ≡ not (writer_inner self.now.writer).wants_poll }
@@ -74,16 +117,21 @@ impl<S: Read + Write + Drop> Read for CorkedWriter<S> {
     ghost remaining = { λ w. S.remaining (stream_of w) };
 
     fn read(&mut self, buf: &mut [u8]) -> Result<usize> {
+        self.obey();
         self.writer.get_mut().read(buf)
     }
 }
 
 impl<S: Write + Drop> Write for CorkedWriter<S> {
+    ghost contents = { written S.contents };
+
     fn write(&mut self, buf: &[u8]) -> Result<usize> {
+        self.obey();
         self.writer.write(buf)
     }
 
     fn flush(&mut self) -> Result<()> {
+        self.obey();
         if self.holds {
             return Ok(());
         }

@@ -1,7 +1,8 @@
 //! The hub calls that a link makes, each recorded as an event.
-ghost use Rattle.std.specs.Prelude.{◌≡◌, ◌<◌, [], ◌∷◌, ◌++◌, length, is_some, Some, None, string_bytes};
+ghost use Rattle.std.specs.Prelude.{◌≡◌, ◌<◌, [], ◌∷◌, ◌++◌, length, is_some, Some, None, option_map, string_bytes, IfOk, OnErr};
 ghost use Rattle.relay_hub.specs.Call.{not_opened};
-ghost use Rattle.relay_link.specs.Follows.{Follows, no_room, is_room, at, closing_of};
+ghost use Rattle.relay_link.specs.Follows.{Follows, no_room, is_room, at, given, closing_of};
+ghost use Rattle.relay_link.specs.Tells.{Drew};
 ghost use Rattle.relay_hub.specs.declared.event.Event.TheVariants.{Close};
 ghost use Rattle.relay_link.specs.Adds.{Adds};
 ghost use Rattle.relay_link.specs.declared.event_log.TheConstants.{MAX_EVENTS};
@@ -53,6 +54,7 @@ pub(crate) fn receive(
 ) -> Result<(), AllocError>
     requires { length made.old < MAX_EVENTS }
     ensures follows { Follows no_room (at hub.old (Some session) made.old) (at hub.new (Some session) made.new) }
+    ensures drew { Drew [] (at hub.old (Some session) made.old) (at hub.new (Some session) made.new) }
     ensures adds { Adds 1 1 0 made.old made.new }
 {
     let text = Text::of(text);
@@ -74,6 +76,8 @@ pub(crate) fn draw(
 ) -> Result<Option<String>, AllocError>
     requires { length made.old < MAX_EVENTS }
     ensures follows { Follows no_room (at hub.old (Some session) made.old) (at hub.new (Some session) made.new) }
+    ensures drew { IfOk result (λ text. Drew (given (option_map string_bytes text)) (at hub.old (Some session) made.old) (at hub.new (Some session) made.new)) }
+    ensures drew_none { OnErr result (Drew [] (at hub.old (Some session) made.old) (at hub.new (Some session) made.new)) }
     ensures adds { Adds 1 0 1 made.old made.new }
 {
     let text = match hub.draw(alloc, session) {

@@ -6,6 +6,7 @@ ghost use Rattle.relay_link.specs.Ends.{turns_left};
 ghost use Rattle.relay_link.specs.Follows.{Follows, no_room, is_room, at};
 ghost use Rattle.relay_link.specs.Stage.{entered, leaves, stage_of, session_of};
 ghost use Rattle.relay_link.specs.Stream.{stream_of};
+ghost use Rattle.relay_link.specs.Tells.{IsServing};
 ghost use Rattle.relay_link.specs.declared.cause.Cause.TheVariants.{Silent};
 ghost use Rattle.relay_link.specs.declared.closing.TheConstants.{MAX_TURNS};
 ghost use Rattle.relay_link.specs.declared.event_log.TheConstants.{MAX_EVENTS};
@@ -41,6 +42,7 @@ pub(crate) fn listen<S: Read + Write + Drop>(
     ensures follows { Follows (Asks bytes.items (S.remaining (stream_of stream))) (at hub.old None made.old) (at hub.new (session_of result.state) made.new) }
     ensures received { Receives S.remaining (State.Head stream bytes) result.state }
     ensures adds { Adds 2 0 0 made.old made.new }
+    ensures serving { IsServing result.state }
     ensures cause { is_some result.cause ≡ leaves Head (stage_of result.state) }
     ensures prompt { result.cause ≢ Some Silent }
     ensures patient { MAX_TURNS ≤ turns_left result.state }
@@ -84,6 +86,7 @@ fn admit<S: Read + Write + Drop>(
     ensures follows { Follows (is_room (string_bytes room)) (at hub.old None made.old) (at hub.new (session_of result.state) made.new) }
     ensures past { awaits_head result.state ≡ false }
     ensures adds { Adds 2 0 0 made.old made.new }
+    ensures serving { IsServing result.state }
     ensures cause { is_some result.cause ≡ leaves Head (stage_of result.state) }
     ensures prompt { result.cause ≢ Some Silent }
     ensures patient { MAX_TURNS ≤ turns_left result.state }
@@ -117,6 +120,7 @@ fn answer<S: Read + Write + Drop>(
     ensures follows { Follows no_room (at hub.old (entered verdict) made.old) (at hub.new (session_of result.state) made.new) }
     ensures past { awaits_head result.state ≡ false }
     ensures adds { Adds 1 0 0 made.old made.new }
+    ensures serving { IsServing result.state }
     ensures cause { is_some result.cause ≡ leaves Head (stage_of result.state) }
     ensures prompt { result.cause ≢ Some Silent }
     ensures patient { MAX_TURNS ≤ turns_left result.state }
@@ -138,6 +142,7 @@ pub(crate) fn reply<S: Read + Write + Drop>(
     ensures follows { Follows no_room (at hub.old (entered reply.verdict) made.old) (at hub.new (session_of result.state) made.new) }
     ensures past { awaits_head result.state ≡ false }
     ensures adds { Adds 1 0 0 made.old made.new }
+    ensures serving { IsServing result.state }
     ensures cause { is_some result.cause ≡ leaves Head (stage_of result.state) }
     ensures prompt { result.cause ≢ Some Silent }
     ensures patient { MAX_TURNS ≤ turns_left result.state }

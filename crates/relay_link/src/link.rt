@@ -5,6 +5,7 @@ ghost use Rattle.relay_link.specs.Asks.{asked_by, IsFresh, Receives};
 ghost use Rattle.relay_link.specs.Ends.{turns_left};
 ghost use Rattle.relay_link.specs.Follows.{Follows, no_room, at, closing_of};
 ghost use Rattle.relay_link.specs.Stage.{stage_of, session_of, has_corked_output, is_idle, leaves, ended, IsForward};
+ghost use Rattle.relay_link.specs.Tells.{IsServing, Talks, WhileOpen, Told, Answered};
 ghost use Rattle.relay_link.specs.Turns.{Turns};
 ghost use Rattle.relay_link.specs.declared.cause.Cause.TheVariants.{Silent};
 ghost use Rattle.relay_link.specs.declared.event_log.TheConstants.{MAX_EVENTS};
@@ -40,11 +41,14 @@ pub struct Link<S: Write + Drop> {
 }
 
 impl<S: Write + Drop> Model for Link<S> {
+    ghost use Rattle.relay_link.specs.Tells.{IsServing};
     ghost use Rattle.relay_link.specs.declared.state.State.{State};
 
     ghost Value = { State S };
 
     ghost view = { λ link. link.state };
+
+    ghost invariant = { λ link. IsServing link.state };
 }
 
 impl<S: Read + Write + Drop> Link<S> {
@@ -108,8 +112,10 @@ impl<S: Read + Write + Drop> Link<S> {
     ///
     /// The turn has a cause exactly if it ended Head without Open, left Open, or ended Closing. [`Cause::Stream`] comes only if
     /// in this very turn a call on the stream failed or a write accepted no byte.
+    #[tactic(auto, using(crate::proofs::Telling::answers_if))]
     pub fn turn(&mut self, alloc: Global, hub: &mut Hub, draws: u64) -> Result<Turn, AllocError>
         ensures turns { IfOk result (Turns S.remaining 1 draws hub.old self.old hub.new self.new) }
+        ensures frames { IfOk result (λ turn. WhileOpen (Answered S.remaining S.contents) hub.old [] self.old hub.new turn.made.items self.new) }
         ensures forward { IsForward (stage_of self.old) (stage_of self.new) }
         ensures unchanged { OnErr result (self.new ≡ self.old) }
         ensures hub_unchanged { OnErr result (hub.new ≡ hub.old) }
@@ -119,6 +125,7 @@ impl<S: Read + Write + Drop> Link<S> {
 
     /// Runs the read part of a turn, for a link that reads more than once before it writes. As [`Link::turn`], but up to 1.5 KiB of
     /// an open link's output are corked until [`Link::write_turn`]. A link that ends sends its output first.
+    #[tactic(auto, using(crate::proofs::Telling::answers_if))]
     pub fn read_turn(
         &mut self,
         alloc: Global,
@@ -126,6 +133,7 @@ impl<S: Read + Write + Drop> Link<S> {
         draws: u64,
     ) -> Result<Turn, AllocError>
         ensures turns { IfOk result (Turns S.remaining 1 draws hub.old self.old hub.new self.new) }
+        ensures frames { IfOk result (λ turn. WhileOpen (Answered S.remaining S.contents) hub.old [] self.old hub.new turn.made.items self.new) }
         ensures forward { IsForward (stage_of self.old) (stage_of self.new) }
         ensures unchanged { OnErr result (self.new ≡ self.old) }
         ensures hub_unchanged { OnErr result (hub.new ≡ hub.old) }
@@ -136,6 +144,7 @@ impl<S: Read + Write + Drop> Link<S> {
     /// Runs the write part of a turn, which reads nothing: it writes the rest of an unfinished reply, and an open link draws
     /// messages, and sends them and its corked output as in [`Link::turn`]. A link in any other state is unchanged. `AllocError`
     /// comes before anything is written or changed.
+    #[tactic(auto, using(crate::proofs::Telling::tells_if))]
     pub fn write_turn(
         &mut self,
         alloc: Global,
@@ -143,6 +152,7 @@ impl<S: Read + Write + Drop> Link<S> {
         draws: u64,
     ) -> Result<Turn, AllocError>
         ensures turns { IfOk result (Turns S.remaining 0 draws hub.old self.old hub.new self.new) }
+        ensures frames { IfOk result (λ turn. WhileOpen (Told S.contents) hub.old [] self.old hub.new turn.made.items self.new) }
         ensures forward { IsForward (stage_of self.old) (stage_of self.new) }
         ensures unchanged { OnErr result (self.new ≡ self.old) }
         ensures hub_unchanged { OnErr result (hub.new ≡ hub.old) }
@@ -168,7 +178,7 @@ impl<S: Read + Write + Drop> Link<S> {
         let cause = match mem::replace(&mut self.state, State::Gone) {
             State::Gone => None,
             State::Open { mut socket, .. } => {
-                socket.get_mut().hold(false);
+                socket.get_ref().hold(false);
                 let _ = close(&mut socket, CloseCode::Away);
                 Some(Cause::Ended)
             }
@@ -193,6 +203,8 @@ impl<S: Read + Write + Drop> Link<S> {
         draws: u64,
     ) -> Result<Turn, AllocError>
         ensures turns { IfOk result (Turns S.remaining (texts_of phase) draws hub.old self.old hub.new self.new) }
+        ensures talks { IfOk result (λ turn. WhileOpen (Talks S.remaining S.contents (texts_of phase)) hub.old [] self.old hub.new turn.made.items self.new) }
+        ensures serving { OnOk result (IsServing self.old) }
         ensures forward { IsForward (stage_of self.old) (stage_of self.new) }
         ensures unchanged { OnErr result (self.new ≡ self.old) }
         ensures hub_unchanged { OnErr result (hub.new ≡ hub.old) }
@@ -224,6 +236,8 @@ fn advance<S: Read + Write + Drop>(
     requires { length made.old + draws + 2 ≤ MAX_EVENTS }
     ensures follows { Follows (asked_by S.remaining state) (at hub.old (session_of state) made.old) (at hub.new (session_of result.state) made.new) }
     ensures received { Receives S.remaining state result.state }
+    ensures talks { WhileOpen (Talks S.remaining S.contents (texts_of phase)) hub.old made.old state hub.new made.new result.state }
+    ensures serving { IsServing state → IsServing result.state }
     ensures adds { Adds (draws + 2) (texts_of phase) draws made.old made.new }
     ensures cause { is_some result.cause ≡ leaves (stage_of state) (stage_of result.state) }
     ensures forward { IsForward (stage_of state) (stage_of result.state) }

@@ -92,6 +92,8 @@ impl<S: Read> Read for NonBlocking<S> {
 }
 
 impl<S: Write> Write for NonBlocking<S> {
+    ghost contents = { λ n. S.contents n.stream };
+
     fn write(&mut self, buf: &[u8]) -> io::Result<usize> {
         if self.broken {
             return Err(Error::from(ErrorKind::BrokenPipe));

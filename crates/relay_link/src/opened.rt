@@ -1,12 +1,14 @@
 //! The turn of an open link: it sends pending output, reads a message, then draws and sends messages.
-ghost use Rattle.std.specs.Prelude.{◌≡◌, ◌≢◌, ◌+◌, ◌≤◌, length, is_some, Some, None, IfErr};
+ghost use Rattle.std.specs.Prelude.{◌≡◌, ◌≢◌, ◌+◌, ◌≤◌, length, is_some, true, [], Some, None, OnOk, OnErr, IfErr};
 ghost use Rattle.relay_link.specs.Adds.{Adds, texts_of};
 ghost use Rattle.relay_link.specs.Ends.{IsPrompt, cause_of, turns_left};
 ghost use Rattle.relay_link.specs.Follows.{Follows, no_room, at};
-ghost use Rattle.relay_link.specs.Stage.{leaves, stage_of, session_of, IsForward};
+ghost use Rattle.relay_link.specs.Stage.{leaves, stage_of, session_of, is_over, IsForward};
+ghost use Rattle.relay_link.specs.Tells.{Drew, IsRead, Hears, Tells, Exchanges, Talks, IfOpen, IsServing};
 ghost use Rattle.relay_link.specs.declared.cause.Cause.TheVariants.{Silent};
 ghost use Rattle.relay_link.specs.declared.closing.TheConstants.{MAX_TURNS};
 ghost use Rattle.relay_link.specs.declared.event_log.TheConstants.{MAX_EVENTS};
+ghost use Rattle.websocket.specs.declared.protocol.config.Role.TheVariants.{Server};
 ghost use Rattle.relay_link.specs.declared.stage.Stage.TheVariants.{Open};
 
 use crate::cause::Cause;
@@ -40,7 +42,7 @@ impl From<Cause> for Ending {
 }
 
 /// A turn of an open link.
-#[tactic(auto, using(crate::proofs::Following::follows_same, crate::proofs::Following::follows_then))]
+#[tactic(auto, using(crate::proofs::Following::follows_same, crate::proofs::Following::follows_then, crate::proofs::Telling::talked_into, crate::proofs::Telling::serves_on))]
 pub(crate) fn turn<S: Read + Write + Drop>(
     alloc: Global,
     mut socket: Socket<S>,
@@ -52,6 +54,8 @@ pub(crate) fn turn<S: Read + Write + Drop>(
 ) -> Transition<S>
     requires { length made.old + draws + 2 ≤ MAX_EVENTS }
     ensures follows { Follows no_room (at hub.old (Some session) made.old) (at hub.new (session_of result.state) made.new) }
+    ensures talks { IfOpen (Talks S.remaining S.contents (texts_of phase)) (at hub.old (Some session) made.old) socket hub.new made.new result.state }
+    ensures serving { socket.conn.role ≡ Server → IsServing result.state }
     ensures adds { Adds (draws + 2) (texts_of phase) draws made.old made.new }
     ensures cause { is_some result.cause ≡ leaves Open (stage_of result.state) }
     ensures forward { IsForward Open (stage_of result.state) }
@@ -59,7 +63,7 @@ pub(crate) fn turn<S: Read + Write + Drop>(
     ensures patient { MAX_TURNS ≤ turns_left result.state }
 {
     if phase != TurnPhase::Write {
-        socket.get_mut().begin_poll();
+        socket.get_ref().begin_poll();
     }
     let talked = talk(alloc, &mut socket, session, phase, draws, hub, made);
     settle(talked, socket, session, hub, made)
@@ -77,6 +81,8 @@ fn settle<S: Read + Write + Drop>(
     requires space { length made.old + 1 ≤ MAX_EVENTS }
     requires prompt { IfErr turned (λ ending. IsPrompt (cause_of ending)) }
     ensures follows { Follows no_room (at hub.old (Some session) made.old) (at hub.new (session_of result.state) made.new) }
+    ensures stays { OnOk turned ((result.state ≡ State.Open socket session) × (hub.new ≡ hub.old) × (made.new ≡ made.old)) }
+    ensures over { OnErr turned (is_over (stage_of result.state) ≡ true) }
     ensures adds { Adds 1 0 0 made.old made.new }
     ensures cause { is_some result.cause ≡ leaves Open (stage_of result.state) }
     ensures forward { IsForward Open (stage_of result.state) }
@@ -97,7 +103,7 @@ fn settle<S: Read + Write + Drop>(
 
 /// Sends pending output that is not corked. When none is left, the link may read a message and draws messages; its output is sent,
 /// or corked until a write turn.
-#[tactic(auto, using(crate::proofs::Following::follows_same, crate::proofs::Following::follows_then))]
+#[tactic(auto, using(crate::proofs::Following::follows_same, crate::proofs::Following::follows_then, crate::proofs::Telling::talked_none, crate::proofs::Telling::talked))]
 fn talk<S: Read + Write + Drop>(
     alloc: Global,
     socket: &mut Socket<S>,
@@ -109,6 +115,7 @@ fn talk<S: Read + Write + Drop>(
 ) -> Result<(), Ending>
     requires { length made.old + draws + 1 ≤ MAX_EVENTS }
     ensures follows { Follows no_room (at hub.old (Some session) made.old) (at hub.new (Some session) made.new) }
+    ensures talks { OnOk result (Talks S.remaining S.contents (texts_of phase) (at hub.old (Some session) made.old) (at hub.new (Some session) made.new) socket.old socket.new) }
     ensures adds { Adds (draws + 1) (texts_of phase) draws made.old made.new }
     ensures prompt { IfErr result (λ ending. IsPrompt (cause_of ending)) }
 {
@@ -118,7 +125,7 @@ fn talk<S: Read + Write + Drop>(
     let exchanged = exchange(alloc, socket, session, phase, draws, hub, made);
     // A link that ends still sends the messages that were framed before.
     socket
-        .get_mut()
+        .get_ref()
         .hold(phase == TurnPhase::Read && exchanged.is_ok());
     let sent = flush(socket);
     if !matches!(exchanged, Err(Ending::Gone(_))) {
@@ -127,8 +134,8 @@ fn talk<S: Read + Write + Drop>(
     exchanged
 }
 
-/// Reads a message, if the phase reads and the hub has space for a reply, then draws messages and frames them.
-#[tactic(auto, using(crate::proofs::Following::follows_same, crate::proofs::Following::follows_then))]
+/// Reads a message, if it may, then draws messages and frames them.
+#[tactic(auto, using(crate::proofs::Following::follows_same, crate::proofs::Following::follows_then, crate::proofs::Telling::exchanged))]
 fn exchange<S: Read + Write + Drop>(
     alloc: Global,
     socket: &mut Socket<S>,
@@ -140,18 +147,41 @@ fn exchange<S: Read + Write + Drop>(
 ) -> Result<(), Ending>
     requires { length made.old + draws + 1 ≤ MAX_EVENTS }
     ensures follows { Follows no_room (at hub.old (Some session) made.old) (at hub.new (Some session) made.new) }
+    ensures exchanges { OnOk result (Exchanges S.remaining S.contents (texts_of phase) (at hub.old (Some session) made.old) (at hub.new (Some session) made.new) socket.old socket.new) }
     ensures adds { Adds (draws + 1) (texts_of phase) draws made.old made.new }
     ensures prompt { IfErr result (λ ending. IsPrompt (cause_of ending)) }
 {
-    if phase != TurnPhase::Write && hub.may_hear(session) {
-        receive_message(alloc, socket, session, hub, made)?;
-    }
+    hear(alloc, socket, session, phase, hub, made)?;
     gather(alloc, socket, session, draws, hub, made)?;
     Ok(())
 }
 
+/// Reads a message, if the phase reads and the hub has space for a reply.
+#[tactic(auto, using(crate::proofs::Following::follows_same, crate::proofs::Telling::drew_same, crate::proofs::Telling::hears_nothing, crate::proofs::Telling::hears_read))]
+fn hear<S: Read + Write + Drop>(
+    alloc: Global,
+    socket: &mut Socket<S>,
+    session: u64,
+    phase: TurnPhase,
+    hub: &mut Hub,
+    made: &mut EventLog,
+) -> Result<(), Ending>
+    requires { length made.old + 1 ≤ MAX_EVENTS }
+    ensures follows { Follows no_room (at hub.old (Some session) made.old) (at hub.new (Some session) made.new) }
+    ensures drew { OnOk result (Drew [] (at hub.old (Some session) made.old) (at hub.new (Some session) made.new)) }
+    ensures hears { OnOk result (Hears S.remaining (texts_of phase) socket.old socket.new) }
+    ensures role { OnOk result (socket.new.conn.role ≡ socket.old.conn.role) }
+    ensures adds { Adds 1 (texts_of phase) 0 made.old made.new }
+    ensures prompt { IfErr result (λ ending. IsPrompt (cause_of ending)) }
+{
+    if phase == TurnPhase::Write || !hub.may_hear(session) {
+        return Ok(());
+    }
+    receive_message(alloc, socket, session, hub, made)
+}
+
 /// Reads one message. A text is passed to the hub.
-#[tactic(auto, using(crate::proofs::Following::follows_same))]
+#[tactic(auto, using(crate::proofs::Following::follows_same, crate::proofs::Telling::drew_same))]
 fn receive_message<S: Read + Write + Drop>(
     alloc: Global,
     socket: &mut Socket<S>,
@@ -161,6 +191,9 @@ fn receive_message<S: Read + Write + Drop>(
 ) -> Result<(), Ending>
     requires { length made.old + 1 ≤ MAX_EVENTS }
     ensures follows { Follows no_room (at hub.old (Some session) made.old) (at hub.new (Some session) made.new) }
+    ensures drew { OnOk result (Drew [] (at hub.old (Some session) made.old) (at hub.new (Some session) made.new)) }
+    ensures reads { OnOk result (IsRead S.remaining socket.old socket.new) }
+    ensures role { OnOk result (socket.new.conn.role ≡ socket.old.conn.role) }
     ensures adds { Adds 1 1 0 made.old made.new }
     ensures prompt { IfErr result (λ ending. IsPrompt (cause_of ending)) }
 {
@@ -188,7 +221,7 @@ fn receive_message<S: Read + Write + Drop>(
 
 /// Draws up to `draws` messages and frames each, until output is pending. A draw that is out of memory ends the turn, and asks for
 /// another.
-#[tactic(auto, using(crate::proofs::Following::follows_same, crate::proofs::Following::follows_then))]
+#[tactic(auto, using(crate::proofs::Following::follows_same, crate::proofs::Following::follows_then, crate::proofs::Telling::tells_start, crate::proofs::Telling::tells_on, crate::proofs::Telling::tells_text))]
 fn gather<S: Read + Write + Drop>(
     alloc: Global,
     socket: &mut Socket<S>,
@@ -199,6 +232,7 @@ fn gather<S: Read + Write + Drop>(
 ) -> Result<(), Cause>
     requires { length made.old + draws ≤ MAX_EVENTS }
     ensures follows { Follows no_room (at hub.old (Some session) made.old) (at hub.new (Some session) made.new) }
+    ensures tells { OnOk result (Tells S.contents (at hub.old (Some session) made.old) (at hub.new (Some session) made.new) socket.old socket.new) }
     ensures adds { Adds draws 0 draws made.old made.new }
     ensures prompt { IfErr result IsPrompt }
 {
@@ -207,7 +241,7 @@ fn gather<S: Read + Write + Drop>(
             Ok(Some(text)) => text,
             Ok(None) => return Ok(()),
             Err(_) => {
-                socket.get_mut().request_poll();
+                socket.get_ref().request_poll();
                 return Ok(());
             }
         };

@@ -1,6 +1,11 @@
 //! The WebSocket of a link. No call blocks.
-ghost use Rattle.std.specs.Prelude.{IfErr};
+ghost use Rattle.std.specs.Prelude.{◌≡◌, [], OnOk, IfErr};
+ghost use Rattle.tungstenite.specs.Failure.{IsIo};
+ghost use Rattle.websocket.specs.declared.protocol.config.Role.TheVariants.{Server};
+ghost use Rattle.relay_link.specs.declared.cause.Cause.TheVariants.{Stream};
+ghost use Rattle.relay_link.specs.Frames.{Frames, text_frame};
 ghost use Rattle.relay_link.specs.Ends.{IsPrompt};
+ghost use Rattle.relay_link.specs.Tells.{IsRead};
 ghost use Rattle.relay_link.specs.SocketError.{IsOfSocket};
 
 use crate::cause::Cause;
@@ -27,10 +32,9 @@ const MAX_MESSAGE: usize = 1_056_768;
 const MAX_GATHERED: usize = 65_536;
 
 /// A socket on a stream whose handshake is done.
-pub(crate) fn socket_on<S: Read + Write + Drop>(
-    alloc: Global,
-    stream: CorkedWriter<S>,
-) -> Socket<S> {
+pub(crate) fn socket_on<S: Read + Write + Drop>(alloc: Global, stream: CorkedWriter<S>) -> Socket<S>
+    ensures { result.conn.role ≡ Server }
+{
     let config = WebSocketConfig::default()
         .read_buffer_size(READ_BUFFER)
         .write_buffer_size(MAX_GATHERED)
@@ -41,13 +45,15 @@ pub(crate) fn socket_on<S: Read + Write + Drop>(
 
 /// Reads one message. `None` if no complete message is available now. After a message the socket asks for another turn, since the
 /// next one may already be buffered.
-#[tactic(auto, using(crate::proofs::SocketErrors::read_error))]
+#[tactic(auto, using(crate::proofs::SocketErrors::read_error, crate::proofs::Telling::is_read))]
 pub(crate) fn read<S: Read + Write + Drop>(socket: &mut Socket<S>) -> Result<Option<Message>, Cause>
-    ensures { IfErr result IsPrompt }
+    ensures prompt { IfErr result IsPrompt }
+    ensures role { OnOk result (socket.new.conn.role ≡ socket.old.conn.role) }
+    ensures reads { IsRead S.remaining socket.old socket.new }
 {
     match socket.read() {
         Ok(message) => {
-            socket.get_mut().request_poll();
+            socket.get_ref().request_poll();
             Ok(Some(message))
         }
         Err(Error::Io(error)) if is_nothing_now(&error) => Ok(None),
@@ -56,20 +62,23 @@ pub(crate) fn read<S: Read + Write + Drop>(socket: &mut Socket<S>) -> Result<Opt
 }
 
 /// Sends pending output. `false` if output is still pending; so for `write` and `close`.
-#[tactic(auto, using(crate::proofs::SocketErrors::flush_error))]
+#[tactic(auto, using(crate::proofs::SocketErrors::flush_error, crate::proofs::Framing::flushed))]
 pub(crate) fn flush<S: Read + Write + Drop>(socket: &mut Socket<S>) -> Result<bool, Cause>
-    ensures { IfErr result IsPrompt }
+    ensures prompt { IfErr result IsPrompt }
+    ensures frames { Frames S.contents socket.old socket.new [] }
 {
     is_sent(socket.flush())
 }
 
 /// Appends a text frame to the collected output. At 64 KiB all of it is sent; `false` if output is still pending then.
-#[tactic(auto, using(crate::proofs::SocketErrors::write_error))]
+#[tactic(auto, using(crate::proofs::SocketErrors::write_error, crate::proofs::Framing::wrote_text))]
 pub(crate) fn write<S: Read + Write + Drop>(
     socket: &mut Socket<S>,
     words: Utf8Bytes,
 ) -> Result<bool, Cause>
-    ensures { IfErr result IsPrompt }
+    ensures prompt { IfErr result IsPrompt }
+    ensures frames { OnOk result (Frames S.contents socket.old socket.new (text_frame words)) }
+    ensures stopped { IfErr result (λ cause. cause ≡ Stream → Frames S.contents socket.old socket.new (text_frame words)) }
 {
     is_sent(socket.write(Message::Text(words)))
 }
@@ -89,7 +98,9 @@ pub(crate) fn close<S: Read + Write + Drop>(
 /// Whether a call has sent all pending output.
 fn is_sent(sent: Result<(), Error>) -> Result<bool, Cause>
     requires { IfErr sent IsOfSocket }
-    ensures { IfErr result IsPrompt }
+    ensures prompt { IfErr result IsPrompt }
+    ensures waits { OnOk result (IfErr sent IsIo) }
+    ensures stopped { IfErr result (λ cause. cause ≡ Stream → IfErr sent IsIo) }
 {
     match sent {
         Ok(()) => Ok(true),

@@ -1,8 +1,9 @@
--- A draw that has an answer is the one event.
+-- A draw that has an answer is the one event, and gives the text of that answer.
 use Rattle.std.proofs.Common.{refl, option_map}
 use Rattle.std.specs.String.{string_bytes}
 use Rattle.relay_hub.specs.declared.event.Answer.TheVariants.{Drawn, NoSession}
 use Rattle.relay_link.proofs.Following.{follows_same, follows_one}
+use Rattle.relay_link.proofs.Telling.{drew_same, drew_one}
 use Rattle.relay_link.proofs.events.draw.Goals as goal
 use Rattle.relay_link.proofs.events.draw.Goals.{in-Ok, in-Err-NoSession}
 
@@ -11,10 +12,23 @@ returns-in-Err-NoMemory-clause-follows c =
     let same = rw c.in-Err-NoMemory.field-0-is at c.in-Err-NoMemory.ensures.step in
     follows_same _ _ _ _ _ _ same refl refl
 
+pub returns-in-Err-NoMemory-clause-drew_none : goal.returns-in-Err-NoMemory-clause-drew_none
+returns-in-Err-NoMemory-clause-drew_none c =
+    let same = rw c.in-Err-NoMemory.field-0-is at c.in-Err-NoMemory.ensures.step in
+    drew_same _ _ _ _ _ same refl
+
 pub returns-clause-follows : goal.returns-clause-follows
 returns-clause-follows c = elim c.match-draw.branch [
   | in-Ok w ↦ follows_one _ _ _ _ _ _ (Drawn (option_map string_bytes w.in-Ok.text)) c.note_draw.ensures refl w.in-Ok.ensures.step
   | in-Err-NoSession w ↦
       let step = rw w.in-Err-NoSession.field-0-is at w.in-Err-NoSession.ensures.step in
       follows_one _ _ _ _ _ _ NoSession c.note_draw.ensures refl step
+]
+
+pub returns-clause-drew : goal.returns-clause-drew
+returns-clause-drew c = elim c.match-draw.branch [
+  | in-Ok w ↦ rw w.text-is (drew_one _ _ _ _ _ _ (Drawn (option_map string_bytes w.in-Ok.text)) c.note_draw.ensures refl w.in-Ok.ensures.step)
+  | in-Err-NoSession w ↦
+      let step = rw w.in-Err-NoSession.field-0-is at w.in-Err-NoSession.ensures.step in
+      rw w.text-is (drew_one _ _ _ _ _ _ NoSession c.note_draw.ensures refl step)
 ]

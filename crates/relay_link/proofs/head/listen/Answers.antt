@@ -18,7 +18,7 @@ returns-in-Ok-Accept-clause-follows g c = follows_wider asks c.admit.ensures.fol
         let whole = c.as_slice.ensures.value ∙ extended c.extend_from_slice.result c.args.bytes.items c.extend_from_slice.new.self.items _ fits c.extend_from_slice.ensures.items in
         let left = g.S.Read.remaining (stream_of c.read.new.self) in
         let taken = take c.in-Ok.len c.read.new.buf in
-        let first = subst (λ stream. Consumes (g.S.Read.remaining stream) left taken) c.begin_poll.ensures c.in-Ok.ensures.bytes.0 in
+        let first : Consumes (g.S.Read.remaining (stream_of c.args.stream)) left taken = c.in-Ok.ensures.bytes.0 in
         let within : c.in-Ok.len ≤ MAX_READ = search rules in
         let one_read : length taken ≤ MAX_READ = subst (λ n. n ≤ MAX_READ) c.in-Ok.ensures.bound.1 within in
         asks_with _ taken _ room _ left c.in-Ok-Accept.field-0 whole first one_read c.in-Ok-Accept.ensures.head c.in-Ok-Accept.ensures.no_head (rw c.in-Ok-Accept.field-0-is (ap Some (sym is)))
@@ -29,6 +29,6 @@ returns-in-Ok-More-clause-received g c =
     let fits : is_err c.extend_from_slice.result ≡ false = search rules in
     let taken = take c.in-Ok.len c.read.new.buf in
     let left = g.S.Read.remaining (stream_of c.read.new.self) in
-    let first = subst (λ stream. Consumes (g.S.Read.remaining stream) left taken) c.begin_poll.ensures c.in-Ok.ensures.bytes.0 in
+    let first : Consumes (g.S.Read.remaining (stream_of c.args.stream)) left taken = c.in-Ok.ensures.bytes.0 in
     let grown = extended c.extend_from_slice.result c.args.bytes.items c.extend_from_slice.new.self.items taken fits c.extend_from_slice.ensures.items in
     subst (λ t. Receives g.S.Read.remaining (Head c.args.stream c.args.bytes) t.state) (sym c.on-in-Ok-More.ensures) (taken, first, grown)

@@ -1,0 +1,215 @@
+-- How what a link draws and what it frames go on together.
+use Rattle.std.proofs.Common.{◌≡◌, inl, inr, ℕ, zero, suc, true, Result, Ok, Err, IfOk, OnOk, OnErr, arith, List, [], ◌∷◌, ◌++◌, Option, Some, refl, sym, subst, ap, ◌∙◌, append_assoc, append-nil}
+use Rattle.std.proofs.KnownBytes.{Appends-trans, Appends-nil}
+use Rattle.websocket.specs.declared.protocol.config.Role.TheVariants.{Server}
+use Rattle.tungstenite.specs.Socket.{Socket, Reads}
+use Rattle.tungstenite.specs.declared.error.Error.{Error}
+use Rattle.tungstenite.specs.declared.message.Message.{Message}
+use Rattle.relay_hub.specs.State.{State as Hub}
+use Rattle.relay_hub.specs.Step.{Step}
+use Rattle.relay_hub.specs.declared.event.Answer.{Answer}
+use Rattle.relay_hub.specs.declared.event.Event.{Event}
+use Rattle.relay_link.specs.Follows.{Point, at, IsOwn, no_room, session_after, Follows, stays, makes, drawn_by, drawn}
+use Rattle.relay_link.specs.Frames.{text_frame, text_frames, framed, Frames}
+use Rattle.relay_link.specs.Stage.{stage_of, is_over, IsForward}
+use Rattle.relay_link.specs.Stream.{stream_of}
+use Rattle.relay_link.specs.Tells.{Drew, Tells, IsRead, Hears, Exchanges, Talks, IsServing, IfOpen, WhileOpen, Told, Answered}
+use Rattle.relay_link.specs.declared.stage.Stage.TheVariants as stage
+use Rattle.relay_link.specs.declared.state.State.{State}
+use Rattle.relay_link.specs.declared.turn.Turn.{Turn}
+use Rattle.relay_link.specs.declared.state.State.TheVariants.{Head, Replying, Open, Closing, Gone}
+use Rattle.relay_link.specs.declared.corked_writer.CorkedWriter.{CorkedWriter}
+
+-- ---- what was drawn
+
+-- no event was made
+pub drew_same : (old new : Hub) (session : Option ℕ) (before after : List Event) → new ≡ old → after ≡ before → Drew [] (at old session before) (at new session after)
+drew_same old new session before after h m = rw (h, m) (record { follows = stays; texts_are = refl })
+
+-- one event was made
+pub drew_one : (old new : Hub) (session : Option ℕ) (before after : List Event) (event : Event) (answer : Answer)
+    → after ≡ before ++ event ∷ [] → IsOwn no_room session event → Step old event answer new
+    → Drew (drawn_by event answer) (at old session before) (at new (session_after session event answer) after)
+drew_one old new session before after event answer m own step =
+    subst (λ x. Drew (drawn_by event answer) (at old session before) (at new (session_after session event answer) x)) (sym m)
+    (record { follows = makes event answer stays own step; texts_are = refl })
+
+-- one run of events after another
+joined : {p q r : Point} (f : Follows no_room p q) (g : Follows no_room q r) → (h : Follows no_room p r) × (drawn h ≡ drawn f ++ drawn g)
+joined f stays = (f, sym (append-nil (drawn f)))
+joined f (makes event answer before own step) =
+    let most = joined f before in
+    (makes event answer most.0 own step, ap (λ l. l ++ drawn_by event answer) most.1 ∙ append_assoc (drawn f) (drawn before) (drawn_by event answer))
+
+frames_then : (texts more : List (List ℕ)) → text_frames (texts ++ more) ≡ text_frames texts ++ text_frames more
+frames_then [] more = refl
+frames_then (text ∷ texts) more = ap (λ l. text_frame text ++ l) (frames_then texts more) ∙ sym (append_assoc (text_frame text) (text_frames texts) (text_frames more))
+
+module _ {S : Type 0} {contents : S → Option (List ℕ)} where
+  -- ---- what was framed
+
+  frames_none : (a b : Socket (CorkedWriter S)) → b ≡ a → Frames contents a b []
+  frames_none a b same = rw same (record { role = refl; bytes = λ server. Appends-nil (framed contents a) })
+
+  frames_more : {a b c : Socket (CorkedWriter S)} (first second : List ℕ) → Frames contents a b first → Frames contents b c second → Frames contents a c (first ++ second)
+  frames_more {a = a} {b = b} {c = c} first second f g = record {
+    role = g.role ∙ f.role;
+    bytes = λ server. Appends-trans (framed contents a) (framed contents b) (framed contents c) first second (f.bytes server) (g.bytes (f.role ∙ server));
+  }
+
+  frames_as : {a b : Socket (CorkedWriter S)} {first second : List ℕ} → second ≡ first → Frames contents a b first → Frames contents a b second
+  frames_as {a = a} {b = b} same f = subst (Frames contents a b) (sym same) f
+
+  -- ---- both
+
+  -- one after another
+  tells_then : {p q r : Point} {a b c : Socket (CorkedWriter S)} → Tells contents p q a b → Tells contents q r b c → Tells contents p r a c
+  tells_then f g =
+      let both = joined f.follows g.follows in
+      record {
+        follows = both.0;
+        frames = frames_as (ap text_frames both.1 ∙ frames_then (drawn f.follows) (drawn g.follows)) (frames_more _ _ f.frames g.frames);
+      }
+
+  -- what was drawn was framed
+  tells_drawn : {p q : Point} {a b : Socket (CorkedWriter S)} (texts : List (List ℕ)) → Drew texts p q → Frames contents a b (text_frames texts) → Tells contents p q a b
+  tells_drawn texts drew f = record { follows = drew.follows; frames = frames_as (ap text_frames drew.texts_are) f }
+
+  -- nothing was drawn, and nothing framed
+  pub tells_none : (p q : Point) (a b : Socket (CorkedWriter S)) → Drew [] p q → b ≡ a → Tells contents p q a b
+  tells_none p q a b drew same = tells_drawn [] drew (frames_none a b same)
+
+  pub tells_start : (p : Point) (a : Socket (CorkedWriter S)) → Tells contents p p a a
+  tells_start p a = record { follows = stays; frames = frames_none a a refl }
+
+  -- then nothing more was drawn
+  pub tells_on : (p q r : Point) (a b c : Socket (CorkedWriter S)) → Tells contents p q a b → Drew [] q r → c ≡ b → Tells contents p r a c
+  tells_on p q r a b c f drew same = tells_then f (tells_none q r b c drew same)
+
+  -- then one more text was drawn, and framed
+  pub tells_text : (p q r : Point) (a b c : Socket (CorkedWriter S)) (text : List ℕ) → Tells contents p q a b → Drew (text ∷ []) q r → Frames contents b c (text_frame text) → Tells contents p r a c
+  tells_text p q r a b c text f drew framed = tells_then f (tells_drawn (text ∷ []) drew (frames_as (append-nil (text_frame text)) framed))
+
+  -- of a server's socket the frames are known
+  told : {p q : Point} {a b : Socket (CorkedWriter S)} → Tells contents p q a b → a.conn.role ≡ Server → Told contents p q a b
+  told tells server = record { follows = tells.follows; frames = tells.frames.bytes server }
+
+module _ {S : Type 0} (remaining : S → Option (List ℕ)) where
+  -- ---- what was heard
+
+  pub is_read : (old new : Socket (CorkedWriter S)) (outcome : Result Message Error) → Reads (λ w. remaining (stream_of w)) old new outcome → IsRead remaining old new
+  is_read old new outcome reads = (outcome, reads)
+
+  pub hears_nothing : (texts : ℕ) (a b : Socket (CorkedWriter S)) → b ≡ a → Hears remaining texts a b
+  hears_nothing zero a b same = same
+  hears_nothing (suc n) a b same = inl same
+
+  pub hears_read : {E : Type 0} (result : Result (Unit {0}) E) (texts : ℕ) (a b : Socket (CorkedWriter S)) → texts ≡ 1 → OnOk result (IsRead remaining a b) → OnOk result (Hears remaining texts a b)
+  hears_read (Ok u) texts a b one read = subst (λ n. Hears remaining n a b) (sym one) (inr read)
+  hears_read (Err e) texts a b one read = tt
+
+module _ {S : Type 0} (remaining contents : S → Option (List ℕ)) where
+  -- ---- a turn
+
+  -- what was heard comes before what was told
+  pub exchanged : (texts : ℕ) (p m q : Point) (a b c : Socket (CorkedWriter S)) → Drew [] p m → Hears remaining texts a b → b.conn.role ≡ a.conn.role → Tells contents m q b c
+      → Exchanges remaining contents texts p q a c
+  exchanged texts p m q a b c drew hears role tells = record { heard = b; hears = hears; role = role; tells = tells_then (tells_none p m b b drew refl) tells }
+
+  -- what waits has still to wait
+  pub talked_none : (texts : ℕ) (p : Point) (a b : Socket (CorkedWriter S)) → Frames contents a b [] → Talks remaining contents texts p p a b
+  talked_none texts p a b sent = record {
+    ready = b;
+    sent = sent;
+    exchanges = record { heard = b; hears = hears_nothing remaining texts b b refl; role = refl; tells = tells_start p b };
+  }
+
+  -- what waited was sent, and what was told was sent or has to wait
+  pub talked : {E : Type 0} (result : Result (Unit {0}) E) (texts : ℕ) (p q : Point) (a b c d : Socket (CorkedWriter S)) → Frames contents a b [] → OnOk result (Exchanges remaining contents texts p q b c)
+      → Frames contents c d [] → OnOk result (Talks remaining contents texts p q a d)
+  talked (Err e) texts p q a b c d sent exchanges last = tt
+  talked (Ok u) texts p q a b c d sent exchanges last = record {
+    ready = b;
+    sent = sent;
+    exchanges = record {
+      heard = exchanges.heard;
+      hears = exchanges.hears;
+      role = exchanges.role;
+      tells = record {
+        follows = exchanges.tells.follows;
+        frames = frames_as (sym (append-nil _)) (frames_more _ _ exchanges.tells.frames last);
+      };
+    };
+  }
+
+  -- ---- a turn of a link
+
+  pub talked_into : {E : Type 0} (turned : Result (Unit {0}) E) (texts : ℕ) (p : Point) (hub next : Hub) (made after : List Event) (s : ℕ) (a b : Socket (CorkedWriter S)) (state : State S)
+      → OnOk turned (Talks remaining contents texts p (at hub (Some s) made) a b) → OnOk turned ((state ≡ Open b s) × (next ≡ hub) × (after ≡ made)) → OnErr turned (is_over (stage_of state) ≡ true)
+      → IfOpen (Talks remaining contents texts) p a next after state
+  talked_into (Ok u) texts p hub next made after s a b state talks stayed over = rw (stayed.0, stayed.1, stayed.2) talks
+  talked_into (Err e) texts p hub next made after s a b (Open socket t) talks stayed over = absurd (cc over)
+  talked_into (Err e) texts p hub next made after s a b (Head stream bytes) talks stayed over = tt
+  talked_into (Err e) texts p hub next made after s a b (Replying stream reply) talks stayed over = tt
+  talked_into (Err e) texts p hub next made after s a b (Closing socket turns) talks stayed over = tt
+  talked_into (Err e) texts p hub next made after s a b Gone talks stayed over = tt
+
+  -- the role stays
+  pub serves_on : (texts : ℕ) (p : Point) (next : Hub) (made : List Event) (a : Socket (CorkedWriter S)) (state : State S) → IfOpen (Talks remaining contents texts) p a next made state
+      → a.conn.role ≡ Server → IsServing state
+  serves_on texts p next made a (Open b t) talks server = talks.exchanges.tells.frames.role ∙ talks.exchanges.role ∙ talks.sent.role ∙ server
+  serves_on texts p next made a (Head stream bytes) talks server = tt
+  serves_on texts p next made a (Replying stream reply) talks server = tt
+  serves_on texts p next made a (Closing socket turns) talks server = tt
+  serves_on texts p next made a Gone talks server = tt
+
+  told_alone : (p q : Point) (a b : Socket (CorkedWriter S)) → Talks remaining contents 0 p q a b → a.conn.role ≡ Server → Told contents p q a b
+  told_alone p q a b talks server =
+      let same = talks.exchanges.hears in
+      let tells = subst (λ x. Tells contents p q x b) same talks.exchanges.tells in
+      told (record { follows = tells.follows; frames = frames_more [] _ talks.sent tells.frames }) server
+
+  answered : (p q : Point) (a b : Socket (CorkedWriter S)) → Talks remaining contents 1 p q a b → a.conn.role ≡ Server → Answered remaining contents p q a b
+  answered p q a b talks server = record {
+    ready = talks.ready;
+    sent = talks.sent.bytes server;
+    heard = talks.exchanges.heard;
+    hears = talks.exchanges.hears;
+    told = told talks.exchanges.tells (talks.exchanges.role ∙ talks.sent.role ∙ server);
+  }
+
+module _ {S : Type 0} (P Q : Point → Point → Socket (CorkedWriter S) → Socket (CorkedWriter S) → Type 0) (told_of : (p q : Point) (a b : Socket (CorkedWriter S)) → P p q a b → a.conn.role ≡ Server → Q p q a b) where
+  if_open : (p : Point) (a : Socket (CorkedWriter S)) (next : Hub) (made : List Event) (new : State S) → IfOpen P p a next made new → a.conn.role ≡ Server → IfOpen Q p a next made new
+  if_open p a next made (Open b t) holds server = told_of p (at next (Some t) made) a b holds server
+  if_open p a next made (Head stream bytes) holds server = tt
+  if_open p a next made (Replying stream reply) holds server = tt
+  if_open p a next made (Closing socket turns) holds server = tt
+  if_open p a next made Gone holds server = tt
+
+  while_open : (hub : Hub) (before : List Event) (old : State S) (next : Hub) (made : List Event) (new : State S) → IsServing old → WhileOpen P hub before old next made new → WhileOpen Q hub before old next made new
+  while_open hub before (Open a s) next made new server holds = if_open (at hub (Some s) before) a next made new holds server
+  while_open hub before (Head stream bytes) next made new server holds = tt
+  while_open hub before (Replying stream reply) next made new server holds = tt
+  while_open hub before (Closing socket turns) next made new server holds = tt
+  while_open hub before Gone next made new server holds = tt
+
+module _ {S : Type 0} (remaining contents : S → Option (List ℕ)) where
+  -- what a turn returns says so of a link
+  pub tells_if : {E : Type 0} (result : Result Turn E) (hub : Hub) (old : State S) (next : Hub) (new : State S) → OnOk result (IsServing old)
+      → IfOk result (λ turn. WhileOpen (Talks remaining contents 0) hub [] old next turn.made.items new) → IfOk result (λ turn. WhileOpen (Told contents) hub [] old next turn.made.items new)
+  tells_if (Ok turn) hub old next new server talks = while_open (Talks remaining contents 0) (Told contents) (told_alone remaining contents) hub [] old next turn.made.items new server talks
+  tells_if (Err e) hub old next new server talks = tt
+
+  pub answers_if : {E : Type 0} (result : Result Turn E) (hub : Hub) (old : State S) (next : Hub) (new : State S) → OnOk result (IsServing old)
+      → IfOk result (λ turn. WhileOpen (Talks remaining contents 1) hub [] old next turn.made.items new) → IfOk result (λ turn. WhileOpen (Answered remaining contents) hub [] old next turn.made.items new)
+  answers_if (Ok turn) hub old next new server talks = while_open (Talks remaining contents 1) (Answered remaining contents) (answered remaining contents) hub [] old next turn.made.items new server talks
+  answers_if (Err e) hub old next new server talks = tt
+
+module _ {S : Type 0} where
+  -- a link that closes, or is gone, serves nobody
+  pub serves_over : (state : State S) → IsForward stage.Closing (stage_of state) → IsServing state
+  serves_over (Open socket s) is = absurd (omega (arith, is))
+  serves_over (Head stream bytes) is = tt
+  serves_over (Replying stream reply) is = tt
+  serves_over (Closing socket turns) is = tt
+  serves_over Gone is = tt
