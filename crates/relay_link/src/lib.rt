@@ -1,8 +1,8 @@
 //! The link between one socket and the hub, as turns: a handshake, then messages, then a closing handshake (RFC 6455).
 //!
 //! The promise: a turn changes the hub by exactly the events that it reports, in their order, and each of them names the
-//! link's own session or opens it. A link that is closing or gone has no session. What the other side does can end no link
-//! but its own.
+//! link's own session or opens it. Each text that it draws is framed whole and in order, and a turn that writes frames nothing
+//! else. A link that is closing or gone has no session. What the other side does can end no link but its own.
 //!
 //! No call blocks. A stream that returns `WouldBlock`, or is interrupted, ends the turn early and is tried again in the next.
 //!

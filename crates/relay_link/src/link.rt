@@ -143,7 +143,7 @@ impl<S: Read + Write + Drop> Link<S> {
 
     /// Runs the write part of a turn, which reads nothing: it writes the rest of an unfinished reply, and an open link draws
     /// messages, and sends them and its corked output as in [`Link::turn`]. A link in any other state is unchanged. `AllocError`
-    /// comes before anything is written or changed.
+    /// comes before anything is written or changed. A link that stays open has framed the drawn texts, in order, and nothing else.
     #[tactic(auto, using(crate::proofs::Telling::tells_if))]
     pub fn write_turn(
         &mut self,
