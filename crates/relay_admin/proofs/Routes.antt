@@ -3,6 +3,10 @@ use Rattle.std.proofs.Common.{◌≡◌, ℕ, zero, suc, ◌-◌, ◌<◌, ◌�
 use Rattle.std.specs.List.{list_all}
 use Rattle.std.proofs.lemmas.Bool.Decides.{nat_tests}
 use Rattle.matchit.specs.Rows.{RowsOf}
+use Rattle.matchit.specs.Router.{RouteOf}
+use Rattle.relay_admin.specs.Route.{target_of, request_at}
+use Rattle.relay_admin.specs.declared.request.AdminRequest.{AdminRequest}
+use Rattle.relay_admin.specs.declared.request.AdminRequest.TheVariants.{Health, Metrics, Rooms, Stop}
 use Rattle.matchit.specs.Seek.{seek, param_step, step, own, or_else, has_slash}
 
 -- each byte of a literal is below the tokens
@@ -111,3 +115,28 @@ pub value_of : {K V : Type 0} (f : K → V) (test : Bool) (x : K) (o : Option K)
     → option_map f (if test then Some x else o) ≡ (if test then Some (f x) else later)
 value_of f true x o later e = refl
 value_of f false x o later e = e
+
+-- the routes of the requests
+
+abbrev pub Route : Type 0
+Route = RouteOf AdminRequest
+
+abbrev pub route_to : AdminRequest → Route
+route_to request = record { pattern = target_of request; text = target_of request; names = []; value = request }
+
+abbrev pub rows : RowsOf Route
+rows = (target_of Health, route_to Health) ∷ (target_of Metrics, route_to Metrics) ∷ (target_of Rooms, route_to Rooms) ∷ (target_of Stop, route_to Stop) ∷ []
+
+abbrev value : Route → AdminRequest
+value route = route.value
+
+values : (path : List ℕ) → option_map value (row_of rows path) ≡ request_at path
+values path =
+    value_of value (bytes_eq path (target_of Health)) (route_to Health) _ _
+    (value_of value (bytes_eq path (target_of Metrics)) (route_to Metrics) _ _
+    (value_of value (bytes_eq path (target_of Rooms)) (route_to Rooms) _ _
+    (value_of value (bytes_eq path (target_of Stop)) (route_to Stop) None None refl)))
+
+-- a path finds the request whose target it is
+pub routed : (path : List ℕ) → option_map (λ (route : Route). route.value) (seek 0 rows path) ≡ request_at path
+routed path = ap (option_map value) (seek-plain rows path (plains-from rows refl)) ∙ values path

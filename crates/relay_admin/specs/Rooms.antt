@@ -1,16 +1,21 @@
 -- The list of rooms, as the tokens of its JSON.
-use Rattle.std.specs.Prelude.{ℕ, List, [], ◌∷◌, codes, decimal}
+use Rattle.std.specs.Prelude.{ℕ, List, [], ◌∷◌, ◌++◌, codes, decimal}
 use Rattle.json.specs.Token.{Token, begin_array, begin_object, end_object, key, string, number}
 
+-- a list without rooms, before its end
 abbrev pub begun : List Token
 begun = begin_array ∷ []
 
--- a room with its name, its revision, how many sessions are open in it, and the weight of its document
-abbrev pub room_tokens : List ℕ → ℕ → ℕ → ℕ → List Token
-room_tokens name revision sessions weight =
-    begin_object
-    ∷ key (codes "name") ∷ string name
-    ∷ key (codes "revision") ∷ number (decimal revision)
-    ∷ key (codes "sessions") ∷ number (decimal sessions)
-    ∷ key (codes "weight") ∷ number (decimal weight)
-    ∷ end_object ∷ []
+-- tokens, and behind them a member that is a number
+abbrev pub with_number : List ℕ → ℕ → List Token → List Token
+with_number name value tokens = tokens ++ key name ∷ number (decimal value) ∷ []
+
+-- tokens, and behind them a room's revision, how many sessions are open in it, and the weight of its document
+abbrev pub with_numbers : ℕ → ℕ → ℕ → List Token → List Token
+with_numbers revision sessions weight tokens =
+    with_number (codes "weight") weight (with_number (codes "sessions") sessions (with_number (codes "revision") revision tokens))
+
+-- tokens, and behind them a room with its name and these numbers
+abbrev pub with_room : List ℕ → ℕ → ℕ → ℕ → List Token → List Token
+with_room name revision sessions weight tokens =
+    with_numbers revision sessions weight (tokens ++ begin_object ∷ key (codes "name") ∷ string name ∷ []) ++ end_object ∷ []

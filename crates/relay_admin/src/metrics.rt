@@ -1,7 +1,6 @@
 //! The numbers of a relay in the text format of Prometheus, version 0.0.4.
 ghost use Rattle.std.specs.Prelude.{◌≡◌, ◌++◌, IfOk, OnOk, string_bytes};
-ghost use Rattle.relay_admin.specs.declared.metrics.Kind.TheVariants as Kind;
-ghost use Rattle.relay_admin.specs.Metrics.{kind_name, family_text, labelled_text, metric_text, hub_text, connections_text, refused_text, ended_text, rounds_text, metrics_text};
+ghost use Rattle.relay_admin.specs.Metrics.{kind_name, family_text, labelled_text, with_metric, with_hub, with_connections, with_refused, with_ended_here, with_ended_there, with_longest, with_rounds, metrics_text};
 
 use std::alloc::{AllocError, Global};
 
@@ -81,7 +80,6 @@ impl Kind {
 }
 
 /// Returns the text of all numbers.
-#[tactic(auto, using(std::proofs::Common::append_assoc))]
 pub fn metrics_text(alloc: Global, metrics: &Metrics) -> Result<String, AllocError>
     ensures { IfOk result (λ text. string_bytes text ≡ metrics_text metrics.now) }
 {
@@ -89,77 +87,108 @@ pub fn metrics_text(alloc: Global, metrics: &Metrics) -> Result<String, AllocErr
     write_hub(alloc, &mut text, metrics)?;
     write_connections(alloc, &mut text, metrics)?;
     write_refused(alloc, &mut text, &metrics.refused)?;
-    write_ended(alloc, &mut text, &metrics.ended)?;
+    write_ended_there(alloc, &mut text, &metrics.ended)?;
+    write_ended_here(alloc, &mut text, &metrics.ended)?;
     write_rounds(alloc, &mut text, metrics)?;
     Ok(text)
 }
 
-/// What there is of a metric but its values.
-#[derive(Clone, Copy)]
-struct Family {
-    name: &'static str,
-    kind: Kind,
-    help: &'static str,
-}
-
-fn counter(name: &'static str, help: &'static str) -> Family
-    ensures kind { result.kind ≡ Kind.Counter }
-    ensures name { result.name.now ≡ name.now }
-    ensures help { result.help.now ≡ help.now }
-{
-    Family {
-        name,
-        kind: Kind::Counter,
-        help,
-    }
-}
-
-fn gauge(name: &'static str, help: &'static str) -> Family
-    ensures kind { result.kind ≡ Kind.Gauge }
-    ensures name { result.name.now ≡ name.now }
-    ensures help { result.help.now ≡ help.now }
-{
-    Family {
-        name,
-        kind: Kind::Gauge,
-        help,
-    }
-}
-
 /// The rooms, the sessions, and what was edited.
-#[tactic(auto, using(std::proofs::Common::append_assoc))]
 fn write_hub(alloc: Global, text: &mut String, metrics: &Metrics) -> Result<(), AllocError>
-    ensures { OnOk result (string_bytes text.new ≡ string_bytes text.old ++ hub_text metrics.now) }
+    ensures { OnOk result (string_bytes text.new ≡ with_hub metrics.now (string_bytes text.old)) }
 {
-    write_metric(alloc, text, gauge("relay_rooms", "Rooms that there are."), metrics.rooms)?;
-    write_metric(alloc, text, gauge("relay_rooms_limit", "Rooms that there may be."), metrics.max_rooms)?;
-    write_metric(alloc, text, gauge("relay_sessions", "Sessions that are open."), metrics.sessions)?;
-    write_metric(alloc, text, gauge("relay_sessions_limit", "Sessions that may be open."), metrics.max_sessions)?;
-    write_metric(alloc, text, counter("relay_edits_total", "Edits accepted, the sum of the revisions of all rooms."), metrics.edits)?;
-    write_metric(alloc, text, gauge("relay_document_weight", "Weight of all documents together."), metrics.weight)
+    write_metric(
+        alloc,
+        text,
+        "relay_rooms",
+        Kind::Gauge,
+        "Rooms that there are.",
+        metrics.rooms,
+    )?;
+    write_metric(
+        alloc,
+        text,
+        "relay_rooms_limit",
+        Kind::Gauge,
+        "Rooms that there may be.",
+        metrics.max_rooms,
+    )?;
+    write_metric(
+        alloc,
+        text,
+        "relay_sessions",
+        Kind::Gauge,
+        "Sessions that are open.",
+        metrics.sessions,
+    )?;
+    write_metric(
+        alloc,
+        text,
+        "relay_sessions_limit",
+        Kind::Gauge,
+        "Sessions that may be open.",
+        metrics.max_sessions,
+    )?;
+    write_metric(
+        alloc,
+        text,
+        "relay_edits_total",
+        Kind::Counter,
+        "Edits accepted, the sum of the revisions of all rooms.",
+        metrics.edits,
+    )?;
+    write_metric(
+        alloc,
+        text,
+        "relay_document_weight",
+        Kind::Gauge,
+        "Weight of all documents together.",
+        metrics.weight,
+    )
 }
 
 /// The connections, and the sessions that they opened.
-#[tactic(auto, using(std::proofs::Common::append_assoc))]
-fn write_connections(
-    alloc: Global,
-    text: &mut String,
-    metrics: &Metrics,
-) -> Result<(), AllocError>
-    ensures { OnOk result (string_bytes text.new ≡ string_bytes text.old ++ connections_text metrics.now) }
+fn write_connections(alloc: Global, text: &mut String, metrics: &Metrics) -> Result<(), AllocError>
+    ensures { OnOk result (string_bytes text.new ≡ with_connections metrics.now (string_bytes text.old)) }
 {
-    write_metric(alloc, text, gauge("relay_connections", "Connections that are held, with and without a session."), metrics.connections)?;
-    write_metric(alloc, text, gauge("relay_connections_limit", "Connections that may be held."), metrics.max_connections)?;
-    write_metric(alloc, text, counter("relay_sessions_opened_total", "Sessions that were opened."), metrics.opened)
+    write_metric(
+        alloc,
+        text,
+        "relay_connections",
+        Kind::Gauge,
+        "Connections that are held, with and without a session.",
+        metrics.connections,
+    )?;
+    write_metric(
+        alloc,
+        text,
+        "relay_connections_limit",
+        Kind::Gauge,
+        "Connections that may be held.",
+        metrics.max_connections,
+    )?;
+    write_metric(
+        alloc,
+        text,
+        "relay_sessions_opened_total",
+        Kind::Counter,
+        "Sessions that were opened.",
+        metrics.opened,
+    )
 }
 
 /// The handshakes that were refused.
-#[tactic(auto, using(std::proofs::Common::append_assoc))]
 fn write_refused(alloc: Global, text: &mut String, refused: &RefusedBy) -> Result<(), AllocError>
-    ensures { OnOk result (string_bytes text.new ≡ string_bytes text.old ++ refused_text refused.now) }
+    ensures { OnOk result (string_bytes text.new ≡ with_refused refused.now (string_bytes text.old)) }
 {
     let name = "relay_handshakes_refused_total";
-    write_family(alloc, text, counter(name, "Handshakes refused, by the status."))?;
+    write_family(
+        alloc,
+        text,
+        name,
+        Kind::Counter,
+        "Handshakes refused, by the status.",
+    )?;
     write_labelled(alloc, text, name, "status", "400", refused.bad_request)?;
     write_labelled(alloc, text, name, "status", "404", refused.not_found)?;
     write_labelled(alloc, text, name, "status", "405", refused.method)?;
@@ -168,37 +197,61 @@ fn write_refused(alloc: Global, text: &mut String, refused: &RefusedBy) -> Resul
     write_labelled(alloc, text, name, "status", "503", refused.unavailable)
 }
 
-/// The connections that ended.
-#[tactic(auto, using(std::proofs::Common::append_assoc))]
-fn write_ended(alloc: Global, text: &mut String, ended: &EndedBy) -> Result<(), AllocError>
-    ensures { OnOk result (string_bytes text.new ≡ string_bytes text.old ++ ended_text ended.now) }
+/// The name of the metric of connections that ended.
+const ENDED: &str = "relay_connections_ended_total";
+
+/// The connections that the other side or its stream ended.
+fn write_ended_there(alloc: Global, text: &mut String, ended: &EndedBy) -> Result<(), AllocError>
+    ensures { OnOk result (string_bytes text.new ≡ with_ended_there ended.now (string_bytes text.old)) }
 {
-    let name = "relay_connections_ended_total";
-    write_family(alloc, text, counter(name, "Connections ended, by the cause."))?;
-    write_labelled(alloc, text, name, "cause", "peer", ended.peer)?;
-    write_labelled(alloc, text, name, "cause", "binary", ended.binary)?;
-    write_labelled(alloc, text, name, "cause", "broken", ended.broken)?;
-    write_labelled(alloc, text, name, "cause", "stream", ended.stream)?;
-    write_labelled(alloc, text, name, "cause", "memory", ended.memory)?;
-    write_labelled(alloc, text, name, "cause", "full", ended.full)?;
-    write_labelled(alloc, text, name, "cause", "silent", ended.silent)?;
-    write_labelled(alloc, text, name, "cause", "relay", ended.relay)
+    let help = "Connections ended, by the cause.";
+    write_family(alloc, text, ENDED, Kind::Counter, help)?;
+    write_labelled(alloc, text, ENDED, "cause", "peer", ended.peer)?;
+    write_labelled(alloc, text, ENDED, "cause", "binary", ended.binary)?;
+    write_labelled(alloc, text, ENDED, "cause", "broken", ended.broken)?;
+    write_labelled(alloc, text, ENDED, "cause", "stream", ended.stream)
+}
+
+/// The connections that this side ended.
+fn write_ended_here(alloc: Global, text: &mut String, ended: &EndedBy) -> Result<(), AllocError>
+    ensures { OnOk result (string_bytes text.new ≡ with_ended_here ended.now (string_bytes text.old)) }
+{
+    write_labelled(alloc, text, ENDED, "cause", "memory", ended.memory)?;
+    write_labelled(alloc, text, ENDED, "cause", "full", ended.full)?;
+    write_labelled(alloc, text, ENDED, "cause", "silent", ended.silent)?;
+    write_labelled(alloc, text, ENDED, "cause", "relay", ended.relay)
 }
 
 /// The rounds, and what went wrong in them.
-#[tactic(auto, using(std::proofs::Common::append_assoc))]
 fn write_rounds(alloc: Global, text: &mut String, metrics: &Metrics) -> Result<(), AllocError>
-    ensures { OnOk result (string_bytes text.new ≡ string_bytes text.old ++ rounds_text metrics.now) }
+    ensures { OnOk result (string_bytes text.new ≡ with_rounds metrics.now (string_bytes text.old)) }
 {
-    write_metric(alloc, text, counter("relay_out_of_memory_total", "Entries of the log that memory was refused, at most one in 1024 rounds."), metrics.shed)?;
-    write_metric(alloc, text, counter("relay_rounds_total", "Rounds of the server."), metrics.rounds)?;
-    let longest = gauge(
-        "relay_longest_round_seconds",
-        "How long the longest round of the last minute worked.",
-    );
-    write_family(alloc, text, longest)?;
-    let micros = metrics.longest_round;
-    let line = format!(in alloc; "relay_longest_round_seconds {micros}e-6\n")?;
+    write_metric(
+        alloc,
+        text,
+        "relay_out_of_memory_total",
+        Kind::Counter,
+        "Entries of the log that memory was refused, at most one in 1024 rounds.",
+        metrics.shed,
+    )?;
+    write_metric(
+        alloc,
+        text,
+        "relay_rounds_total",
+        Kind::Counter,
+        "Rounds of the server.",
+        metrics.rounds,
+    )?;
+    write_longest(alloc, text, metrics.longest_round)
+}
+
+fn write_longest(alloc: Global, text: &mut String, micros: u64) -> Result<(), AllocError>
+    ensures { OnOk result (string_bytes text.new ≡ with_longest micros (string_bytes text.old)) }
+{
+    let name = "relay_longest_round_seconds";
+    let help = "How long the longest round of the last minute worked.";
+    write_family(alloc, text, name, Kind::Gauge, help)?;
+    let line = format!(in alloc; "{name} {micros}e-6\n")?;
     text.push_str(line.as_str())
 }
 
@@ -206,22 +259,29 @@ fn write_rounds(alloc: Global, text: &mut String, metrics: &Metrics) -> Result<(
 fn write_metric(
     alloc: Global,
     text: &mut String,
-    family: Family,
+    name: &str,
+    kind: Kind,
+    help: &str,
     value: u64,
 ) -> Result<(), AllocError>
-    ensures { OnOk result (string_bytes text.new ≡ string_bytes text.old ++ metric_text family.name.now family.kind family.help.now value) }
+    ensures { OnOk result (string_bytes text.new ≡ with_metric name.now kind help.now value (string_bytes text.old)) }
 {
-    write_family(alloc, text, family)?;
-    let name = family.name;
+    write_family(alloc, text, name, kind, help)?;
     let line = format!(in alloc; "{name} {value}\n")?;
     text.push_str(line.as_str())
 }
 
 /// The lines of a metric before its values.
-fn write_family(alloc: Global, text: &mut String, family: Family) -> Result<(), AllocError>
-    ensures { OnOk result (string_bytes text.new ≡ string_bytes text.old ++ family_text family.name.now family.kind family.help.now) }
+fn write_family(
+    alloc: Global,
+    text: &mut String,
+    name: &str,
+    kind: Kind,
+    help: &str,
+) -> Result<(), AllocError>
+    ensures { OnOk result (string_bytes text.new ≡ string_bytes text.old ++ family_text name.now kind help.now) }
 {
-    let (name, kind, help) = (family.name, family.kind.name(), family.help);
+    let kind = kind.name();
     let lines = format!(in alloc; "# HELP {name} {help}\n# TYPE {name} {kind}\n")?;
     text.push_str(lines.as_str())
 }

@@ -33,7 +33,6 @@ pub(crate) const MAX_HEAD_FIELDS: usize = 1_365;
 ///
 /// Each call reads from the first byte and allocates about 45 KB, which it frees before it returns. If memory runs out, it returns
 /// `AllocError` and leaves nothing behind.
-#[tactic(auto, using(crate::proofs::Admitting::admits_exactly))]
 pub fn ask(alloc: Global, bytes: &[u8]) -> Result<Ask, AllocError>
     // Which requests are accepted.
     ensures admits { IfOk result (AdmitsExactly bytes.now) }

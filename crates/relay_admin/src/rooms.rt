@@ -1,9 +1,9 @@
 //! The list of rooms, as JSON.
-ghost use Rattle.std.specs.Prelude.{◌≡◌, ◌∷◌, ◌++◌, [], IfOk, OnOk, string_bytes};
+ghost use Rattle.std.specs.Prelude.{◌≡◌, ◌∷◌, ◌++◌, [], IfOk, OnOk, codes, string_bytes};
 ghost use Rattle.json.specs.Lex.{tokens};
 ghost use Rattle.json.specs.Print.{print};
-ghost use Rattle.json.specs.Token.{end_array};
-ghost use Rattle.relay_admin.specs.Rooms.{begun, room_tokens};
+ghost use Rattle.json.specs.Token.{begin_object, end_array, key, string};
+ghost use Rattle.relay_admin.specs.Rooms.{begun, with_number, with_numbers, with_room};
 
 use json::Writer;
 use std::alloc::{AllocError, Global};
@@ -28,21 +28,39 @@ pub fn begin_rooms(alloc: Global) -> Result<Writer, AllocError>
 }
 
 /// Adds a room to a list. If memory runs out, some of the room's tokens may already be written.
-#[tactic(auto, using(std::proofs::Common::append_assoc))]
 pub fn write_room(out: &mut Writer, room: &RoomRow<'_>) -> Result<(), AllocError>
-    ensures tokens { OnOk result (out.new.tokens ≡ out.old.tokens ++ room_tokens room.now.name.now room.now.revision room.now.sessions room.now.weight) }
+    ensures tokens { OnOk result (out.new.tokens ≡ with_room room.now.name.now room.now.revision room.now.sessions room.now.weight out.old.tokens) }
+    ensures before { out.new.before ≡ out.old.before }
+{
+    begin_room(out, room.name)?;
+    write_numbers(out, room)?;
+    out.end_object()
+}
+
+fn begin_room(out: &mut Writer, name: &str) -> Result<(), AllocError>
+    ensures tokens { OnOk result (out.new.tokens ≡ out.old.tokens ++ begin_object ∷ key (codes "name") ∷ string name.now ∷ []) }
     ensures before { out.new.before ≡ out.old.before }
 {
     out.begin_object()?;
     out.key("name")?;
-    out.string(room.name)?;
-    out.key("revision")?;
-    out.u64(room.revision)?;
-    out.key("sessions")?;
-    out.u64(room.sessions)?;
-    out.key("weight")?;
-    out.u64(room.weight)?;
-    out.end_object()
+    out.string(name)
+}
+
+fn write_numbers(out: &mut Writer, room: &RoomRow<'_>) -> Result<(), AllocError>
+    ensures tokens { OnOk result (out.new.tokens ≡ with_numbers room.now.revision room.now.sessions room.now.weight out.old.tokens) }
+    ensures before { out.new.before ≡ out.old.before }
+{
+    write_number(out, "revision", room.revision)?;
+    write_number(out, "sessions", room.sessions)?;
+    write_number(out, "weight", room.weight)
+}
+
+fn write_number(out: &mut Writer, name: &str, value: u64) -> Result<(), AllocError>
+    ensures tokens { OnOk result (out.new.tokens ≡ with_number name.now value out.old.tokens) }
+    ensures before { out.new.before ≡ out.old.before }
+{
+    out.key(name)?;
+    out.u64(value)
 }
 
 /// Ends a list, and returns its text, which reads back as the tokens written.

@@ -4,5 +4,5 @@ use Rattle.relay_loopback.specs.declared.fault.ServeFault.{ServeFault}
 use Rattle.relay_loopback.specs.declared.fault.ServeFault.TheVariants.{Listen}
 
 abbrev pub IsListen : ServeFault → Type 0
-IsListen (Listen code) = ⊤
+IsListen (Listen port code) = ⊤
 IsListen _ = ⊥

@@ -10,7 +10,7 @@ use thiserror::Error;
 pub enum ServeFault {
     /// The port cannot be opened for listening. `code` is the number of the system's error, if it gave one.
     #[error("cannot listen")]
-    Listen { code: Option<i32> },
+    Listen { port: u16, code: Option<i32> },
     /// The system's poll for ready sockets cannot be set up.
     #[error("cannot wait for sockets")]
     Wait,
@@ -23,10 +23,11 @@ impl ServeFault {
     ghost use Rattle.relay_loopback.specs.Faults.{IsListen};
 
     /// The fault of a port that cannot be opened for this reason.
-    pub fn listen(error: &io::Error) -> ServeFault
+    pub fn listen(port: u16, error: &io::Error) -> ServeFault
         ensures { IsListen result }
     {
         ServeFault::Listen {
+            port,
             code: error.raw_os_error(),
         }
     }

@@ -41,7 +41,7 @@ impl<'n, N: Net> LoopbackListener<'n, N> {
                 listener,
                 address,
             }),
-            Err(error) => Err(ServeFault::listen(&error)),
+            Err(error) => Err(ServeFault::listen(0, &error)),
         }
     }
 

@@ -11,10 +11,10 @@ pub fn listen<N: Net>(net: &N, port: u16) -> Result<N::Listener, ServeFault>
 {
     let listener = match net.bind(SocketAddr::from((Ipv4Addr::LOCALHOST, port))) {
         Ok(listener) => listener,
-        Err(error) => return Err(ServeFault::listen(&error)),
+        Err(error) => return Err(ServeFault::listen(port, &error)),
     };
     match listener.set_nonblocking(true) {
         Ok(()) => Ok(listener),
-        Err(error) => Err(ServeFault::listen(&error)),
+        Err(error) => Err(ServeFault::listen(port, &error)),
     }
 }

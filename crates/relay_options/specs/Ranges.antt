@@ -1,5 +1,5 @@
 -- The ranges of the options' numbers.
-use Rattle.std.specs.Prelude.{◌≤◌, ⊤}
+use Rattle.std.specs.Prelude.{ℕ, ◌≤◌, ◌≢◌, ⊤, Option, Some, None}
 use Rattle.relay_options.specs.declared.job.Job.{Job}
 use Rattle.relay_options.specs.declared.job.Job.TheVariants.{Script, Loop, Follow, Serve}
 use Rattle.relay_options.specs.declared.settings.Settings.{Settings}
@@ -17,9 +17,14 @@ pub record AreSettings (settings : Settings) : Type 0 where
   pub sessions : settings.sessions ≤ MAX_SESSIONS
   pub epoch : settings.epoch ≤ MAX_EPOCH
 
+-- the port of an operator, if there is one, is a port of its own
+abbrev pub IsAdmin : ℕ → Option ℕ → Type 0
+IsAdmin port None = ⊤
+IsAdmin port (Some admin) = (1 ≤ admin) × (admin ≤ MAX_PORT) × (admin ≢ port)
+
 -- a job whose numbers are all in range
 abbrev pub IsPossible : Job → Type 0
 IsPossible (Script settings) = AreSettings settings
 IsPossible (Loop settings) = AreSettings settings
 IsPossible Follow = ⊤
-IsPossible (Serve port turns log settings) = (port ≤ MAX_PORT) × (1 ≤ turns) × (turns ≤ MAX_TURNS) × AreSettings settings
+IsPossible (Serve port admin turns log settings) = (port ≤ MAX_PORT) × IsAdmin port admin × (1 ≤ turns) × (turns ≤ MAX_TURNS) × AreSettings settings

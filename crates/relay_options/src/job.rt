@@ -15,7 +15,9 @@ pub enum Job {
     Serve {
         /// The port. For 0 the system chooses one.
         port: u16,
-        /// The number of rounds, 1 to 10^12.
+        /// The port of the operator, if there is one: another one than `port`, and not 0.
+        admin: Option<u16>,
+        /// The number of rounds, 1 to 10^12; a stop at the operator's port may end them before.
         turns: u64,
         /// Whether the server logs its connections.
         log: bool,

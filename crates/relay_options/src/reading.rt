@@ -1,6 +1,6 @@
 //! The parser of the command line, by `clap`.
 ghost use Rattle.std.specs.Prelude.{IfOk, ◌≤◌};
-ghost use Rattle.relay_options.specs.Ranges.{AreSettings, IsPossible};
+ghost use Rattle.relay_options.specs.Ranges.{AreSettings, IsAdmin, IsPossible};
 
 use crate::job::{Job, Stop};
 use crate::settings::{
@@ -111,6 +111,8 @@ fn serve<'a>(alloc: Global) -> Result<Command<'a>, AllocError> {
     let port = number(alloc, "port", ValueParser::unsigned(0, MAX_PORT))
         .help("The port, 0 to 65535; 0 lets the system choose")
         .required(true);
+    let admin = number(alloc, "admin", ValueParser::unsigned(1, MAX_PORT))
+        .help("The port for an operator on this machine, 1 to 65535: health, metrics, rooms, and the stop; none without it");
     let turns = number(alloc, "turns", ValueParser::unsigned(1, MAX_TURNS))
         .help("How many rounds to make, 1 to 1000000000000; a round sleeps while nothing happens")
         .default_value(TURNS);
@@ -126,6 +128,7 @@ fn serve<'a>(alloc: Global) -> Result<Command<'a>, AllocError> {
         .arg(waiting_weight(alloc).default_value(WAITING_WEIGHT))?
         .arg(telling_weight(alloc).default_value(TELLING_WEIGHT))?
         .arg(port)?
+        .arg(admin)?
         .arg(turns)?
         .arg(log)
 }
@@ -217,14 +220,38 @@ fn chosen(alloc: Global, matches: &ArgMatches<'_>) -> Result<Job, Stop>
         Some(("script", given)) => Ok(Job::Script(settings_of(alloc, given)?)),
         Some(("loop", given)) => Ok(Job::Loop(settings_of(alloc, given)?)),
         Some(("follow", _)) => Ok(Job::Follow),
-        Some(("serve", given)) => Ok(Job::Serve {
-            port: number_of(alloc, given, "port", 0, MAX_PORT)? as u16,
-            turns: number_of(alloc, given, "turns", 1, MAX_TURNS)?,
-            log: given.get_flag("log"),
-            settings: settings_of(alloc, given)?,
-        }),
+        Some(("serve", given)) => serve_of(alloc, given),
         Some((other, _)) => Err(Stop::Misuse(format!(in alloc;
             "error: unrecognized subcommand '{other}'\n"
+        )?)),
+    }
+}
+
+/// The job of `relay serve`.
+fn serve_of(alloc: Global, given: &ArgMatches<'_>) -> Result<Job, Stop>
+    ensures { IfOk result IsPossible }
+{
+    let port = number_of(alloc, given, "port", 0, MAX_PORT)? as u16;
+    Ok(Job::Serve {
+        port,
+        admin: admin_of(alloc, given, port)?,
+        turns: number_of(alloc, given, "turns", 1, MAX_TURNS)?,
+        log: given.get_flag("log"),
+        settings: settings_of(alloc, given)?,
+    })
+}
+
+/// The port of the operator, if one is given. It is refused if it is the port of the clients.
+fn admin_of(alloc: Global, given: &ArgMatches<'_>, port: u16) -> Result<Option<u16>, Stop>
+    ensures { IfOk result (IsAdmin port) }
+{
+    match given.get_one::<u64>("admin") {
+        None => Ok(None),
+        Some(admin) if 1 <= admin && admin <= MAX_PORT && admin != u64::from(port) => {
+            Ok(Some(admin as u16))
+        }
+        Some(_) => Err(Stop::Misuse(format!(in alloc;
+            "error: --admin takes a port from 1 to {MAX_PORT}, another one than --port\n"
         )?)),
     }
 }

@@ -53,7 +53,7 @@ untouched (Err fault) remaining contents input left old new same = λ bad. (ap r
 -- the end of a loop without a hub or sockets
 pub LoopEnds-none : (fault : ServeFault) (input old : Option (List ℕ)) → IsListen fault ⊎ (fault ≡ Ended NoMemory) ⊎ (fault ≡ Ended BadLimit)
     → LoopEnds (Err fault) input input old old
-LoopEnds-none (Listen code) input old (inl is) = (refl, refl)
+LoopEnds-none (Listen port code) input old (inl is) = (refl, refl)
 LoopEnds-none Wait input old (inl is) = absurd is
 LoopEnds-none (Ended fault) input old (inl is) = absurd is
 LoopEnds-none fault input old (inr (inl e)) = subst (λ f. LoopEnds (Err f) input input old old) (sym e) (AnswersSome-none LoopbackAnswers unopened input old)

@@ -1,5 +1,5 @@
 -- The ends of the program's jobs, and their statuses.
-use Rattle.std.specs.Prelude.{◌≡◌, ◌↔◌, ℕ, ◌⊎◌, List, Option, None, Result, Ok, Err, IsErrOf, string_bytes}
+use Rattle.std.specs.Prelude.{◌≡◌, ◌≤◌, ◌↔◌, ℕ, ◌⊎◌, List, Option, Some, None, Result, Ok, Err, IsErrOf, string_bytes}
 use Rattle.std.specs.Io.KnownBytes.{IsAtEnd, Appends, Keeps}
 use Rattle.std.specs.declared.io.ErrorKind.{ErrorKind}
 use Rattle.std.specs.declared.io.ErrorKind.TheVariants as kind
@@ -65,7 +65,7 @@ LoopEnds (Err _) input left old new = (left ≡ input) × (new ≡ old)
 abbrev pub Listens : ℕ → Option (List ℕ) → Option (List ℕ) → Type 0
 Listens port old new = Keeps old new ⊎ Appends old new (listening_text port)
 
--- How a server that should run `turns` rounds ends, by what was written before and after. On success it wrote both of its lines, for
+-- How a server that made `turns` rounds ends, by what was written before and after. On success it wrote both of its lines, for
 -- some port. At `BadLimit`, or without sockets, it wrote nothing; at `NoMemory`, nothing or the first line; at another fault, a
 -- prefix of both lines.
 abbrev pub ServeEnds : ℕ → Result (Unit {0}) ServeFault → Option (List ℕ) → Option (List ℕ) → Type 0
@@ -74,6 +74,15 @@ ServeEnds turns (Err (serve.Ended BadLimit)) old new = new ≡ old
 ServeEnds turns (Err (serve.Ended NoMemory)) old new = (port : ℕ) × Listens port old new
 ServeEnds turns (Err (serve.Ended fault)) old new = (port : ℕ) × AppendsPart old new (served_text port turns)
 ServeEnds turns (Err _) old new = new ≡ old
+
+-- How many rounds a server made that should run `turns`: all of them, or, if it has an operator's port, no more.
+abbrev pub HasMade : Option ℕ → ℕ → ℕ → Type 0
+HasMade None turns made = made ≡ turns
+HasMade (Some admin) turns made = made ≤ turns
+
+-- how a server ends that should run `turns` rounds, and may have an operator's port
+abbrev pub ServesUpTo : Option ℕ → ℕ → Result (Unit {0}) ServeFault → Option (List ℕ) → Option (List ℕ) → Type 0
+ServesUpTo admin turns ended old new = (made : ℕ) × HasMade admin turns made × ServeEnds made ended old new
 
 -- the same for a job that ends with this status, and at `BadLimit` exactly if a limit is out of range
 abbrev pub EndsBy : (Result (Unit {0}) ServeFault → Type 0) → Settings → Status → Type 0
@@ -86,7 +95,7 @@ JobEnds (job.Script settings) status input left old new =
     EndsAs HubAnswers (new_stage (config_of settings)) (BadLimits (config_of settings)) status input left old new
 JobEnds job.Follow status input left old new = EndsAs follow.Answers None ⊥ status input left old new
 JobEnds (job.Loop settings) status input left old new = EndsBy (λ ended. LoopEnds ended input left old new) settings status
-JobEnds (job.Serve port turns log settings) status input left old new = (left ≡ input) × EndsBy (λ ended. ServeEnds turns ended old new) settings status
+JobEnds (job.Serve port admin turns log settings) status input left old new = (left ≡ input) × EndsBy (λ ended. ServesUpTo admin turns ended old new) settings status
 
 -- the text was written, or a prefix of it if the writer failed
 abbrev pub Shows : List ℕ → Status → Option (List ℕ) → Option (List ℕ) → Type 0

@@ -15,6 +15,7 @@ use relay_options::{Job, Settings, Stop, job_of};
 use std::alloc::{AllocGlobal, Global};
 use std::io::{self, ErrorKind, Read, Write};
 use std::net::Net;
+use std::time::Clock;
 
 /// The warning for a server in the default epoch, which all runs without `--epoch` share.
 const SHARED_EPOCH: &str =
@@ -23,7 +24,7 @@ const SHARED_EPOCH: &str =
 /// Runs the job that the arguments `words` ask for, over a reader and a writer, and reports faults on `errors`. The first word is the
 /// program's name. Returns the exit status: 0 if all was done, 1 for a fault of input, output or a line, 2 for a fault of the
 /// arguments, 3 if out of memory. Requested help goes to the writer. If the arguments ask for no job, nothing is read.
-pub fn start<H: AllocGlobal + Net, R: Read, W: Write, E: Write>(
+pub fn start<H: AllocGlobal + Clock + Net, R: Read, W: Write, E: Write>(
     rt: &H,
     words: &[String],
     reader: &mut R,
@@ -59,7 +60,7 @@ pub fn refuse_words<E: Write>(why: ErrorKind, errors: &mut E) -> u8
 }
 
 /// Runs a job over a reader and a writer, with sockets from `net`, and reports faults on `errors`.
-pub fn carry_out<N: Net, R: Read, W: Write, E: Write>(
+pub fn carry_out<N: Clock + Net, R: Read, W: Write, E: Write>(
     alloc: Global,
     net: &N,
     job: Job,
@@ -77,18 +78,24 @@ pub fn carry_out<N: Net, R: Read, W: Write, E: Write>(
         Job::Follow => report(run_follow(alloc, reader, writer), errors),
         Job::Loop(settings) => {
             let ended = run_loop(alloc, net, reader, writer, settings);
-            report_sockets(ended, 0, errors)
+            report_sockets(ended, errors)
         }
         Job::Serve {
             port,
+            admin,
             turns,
             log,
             settings,
         } => {
             say_epoch(settings.epoch, errors);
-            let served = Served { port, turns, log };
+            let served = Served {
+                port,
+                admin,
+                turns,
+                log,
+            };
             let ended = serve(alloc, net, writer, errors, served, settings);
-            report_sockets(ended, port, errors)
+            report_sockets(ended, errors)
         }
     }
 }
@@ -117,12 +124,12 @@ fn run_loop<N: Net, R: Read, W: Write>(
 }
 
 /// Reports on `errors` why a job with sockets ended early, and returns its status.
-fn report_sockets<E: Write>(ended: Result<(), ServeFault>, port: u16, errors: &mut E) -> Status
+fn report_sockets<E: Write>(ended: Result<(), ServeFault>, errors: &mut E) -> Status
     ensures { result ≡ sockets_status ended }
 {
     match ended {
         Ok(()) => Status::Done,
-        Err(ServeFault::Listen { code }) => {
+        Err(ServeFault::Listen { port, code }) => {
             let _ = writeln!(errors, "relay: cannot listen on port {port}");
             say_code(code, errors);
             Status::Failed

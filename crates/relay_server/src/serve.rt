@@ -1,9 +1,9 @@
 //! The job `relay serve`: it listens, runs its rounds, and ends.
-ghost use Rattle.std.specs.Prelude.{◌≡◌, ◌≢◌, ◌↔◌, ◌⊎◌, OnOk, OnErr, IfErr, IsErrOf};
+ghost use Rattle.std.specs.Prelude.{ℕ, ◌≡◌, ◌≢◌, ◌≤◌, ◌↔◌, ◌⊎◌, OnOk, OnErr, IfErr, IsErrOf};
 ghost use Rattle.std.specs.Io.KnownBytes.{Appends};
 ghost use Rattle.relay_hub.specs.Queries.{BadLimits};
 ghost use Rattle.relay_server.specs.Config.{config_of};
-ghost use Rattle.relay_server.specs.Jobs.{Listens, ServeEnds};
+ghost use Rattle.relay_server.specs.Jobs.{Listens, ServesUpTo};
 ghost use Rattle.relay_lines.specs.Lines.{AppendsPart};
 ghost use Rattle.relay_server.specs.Printed.{served_text};
 ghost use Rattle.relay_serving.specs.Rounds.{RoundsOf};
@@ -15,25 +15,30 @@ use relay_hub::Hub;
 use relay_lines::{ScriptFault, write_whole};
 use relay_loopback::{ServeFault, listen};
 use relay_options::Settings;
-use relay_serving::{ConnectionLog, LogLines, NoLog, Polling, Readiness, Server};
+use relay_serving::{
+    AdminPort, AdminReadiness, ConnectionLog, LogLines, NoLog, Polling, Readiness, Server,
+};
 use std::alloc::Global;
 use std::io::{Read, Write};
 use std::net::{Net, OpenListener, OpenStream};
+use std::time::Clock;
 
 /// Where a server listens, how long it runs, and whether it logs.
 #[derive(Clone, Copy, Debug, PartialEq, Eq)]
 pub struct Served {
     /// The port. For 0 the system chooses one.
     pub port: u16,
-    /// The number of rounds.
+    /// The port of the operator, if there is one.
+    pub admin: Option<u16>,
+    /// The number of rounds, which a stop at the operator's port may cut short.
     pub turns: u64,
     /// Whether it logs its connections.
     pub log: bool,
 }
 
-/// Listens on 127.0.0.1, prints `listening PORT`, runs the rounds, ends every connection, and prints `turns N`. The log goes to
-/// `errors`. At `BadLimit`, `Listen` and `Wait` nothing was printed. At `NoMemory` no line is cut; at `Output` one may be.
-pub fn serve<N: Net, W: Write, E: Write>(
+/// Listens on 127.0.0.1, prints `listening PORT`, runs the rounds, ends every connection, and prints `turns N` with how many rounds were
+/// run: all, unless an operator asked for the stop. The log goes to `errors`. At `BadLimit`, `Listen` and `Wait` nothing was printed. At `NoMemory` no line is cut; at `Output` one may be.
+pub fn serve<N: Clock + Net, W: Write, E: Write>(
     alloc: Global,
     net: &N,
     writer: &mut W,
@@ -41,7 +46,7 @@ pub fn serve<N: Net, W: Write, E: Write>(
     served: Served,
     settings: Settings,
 ) -> Result<(), ServeFault>
-    ensures ends { ServeEnds served.turns result (W.contents writer.old) (W.contents writer.new) }
+    ensures ends { ServesUpTo served.admin served.turns result (W.contents writer.old) (W.contents writer.new) }
     ensures bad_limit { IsErrOf result (Ended BadLimit) ↔ BadLimits (config_of settings) }
 {
     if served.log {
@@ -59,7 +64,7 @@ pub fn serve<N: Net, W: Write, E: Write>(
 }
 
 #[tactic(auto, using(crate::proofs::JobLemmas::limits_kept, crate::proofs::ServeLemmas::ends_unmade))]
-fn serve_logged<N: Net, W: Write, J: ConnectionLog>(
+fn serve_logged<N: Clock + Net, W: Write, J: ConnectionLog>(
     alloc: Global,
     net: &N,
     writer: &mut W,
@@ -67,7 +72,7 @@ fn serve_logged<N: Net, W: Write, J: ConnectionLog>(
     served: Served,
     settings: Settings,
 ) -> Result<(), ServeFault>
-    ensures ends { ServeEnds served.turns result (W.contents writer.old) (W.contents writer.new) }
+    ensures ends { ServesUpTo served.admin served.turns result (W.contents writer.old) (W.contents writer.new) }
     ensures bad_limit { IsErrOf result (Ended BadLimit) ↔ BadLimits (config_of settings) }
 {
     let hub = Hub::with_config(alloc, config_of(settings))?;
@@ -75,8 +80,8 @@ fn serve_logged<N: Net, W: Write, J: ConnectionLog>(
 }
 
 /// Serves a hub.
-#[tactic(auto, using(crate::proofs::ServeLemmas::ends_hosting))]
-fn serve_hub<N: Net, W: Write, J: ConnectionLog>(
+#[tactic(auto, using(crate::proofs::ServeLemmas::ends_hosting, crate::proofs::ServeLemmas::ends_hosting_all))]
+fn serve_hub<N: Clock + Net, W: Write, J: ConnectionLog>(
     alloc: Global,
     net: &N,
     writer: &mut W,
@@ -84,24 +89,41 @@ fn serve_hub<N: Net, W: Write, J: ConnectionLog>(
     hub: Hub,
     served: Served,
 ) -> Result<(), ServeFault>
-    ensures ends { ServeEnds served.turns result (W.contents writer.old) (W.contents writer.new) }
+    ensures ends { ServesUpTo served.admin served.turns result (W.contents writer.old) (W.contents writer.new) }
     ensures limits { IfErr result (λ fault. fault ≢ Ended BadLimit) }
 {
     let listener = listen(net, served.port)?;
     let address = match listener.local_addr() {
         Ok(address) => address,
-        Err(error) => return Err(ServeFault::listen(&error)),
+        Err(error) => return Err(ServeFault::listen(served.port, &error)),
     };
     let Ok(polling) = Polling::new(alloc, net, &listener) else {
         return Err(ServeFault::Wait);
     };
-    let mut server = Server::new(alloc, hub, polling);
-    host(
+    let Some(admin) = served.admin else {
+        let mut server = Server::new(alloc, hub, polling);
+        return host(
+            alloc,
+            writer,
+            log,
+            &mut server,
+            &listener,
+            address.port(),
+            served.turns,
+        );
+    };
+    let admin = listen(net, admin)?;
+    if polling.watch_admin(&admin).is_err() {
+        return Err(ServeFault::Wait);
+    }
+    let mut server = Server::new(alloc, hub, AdminReadiness::new(polling, net));
+    host_administered(
         alloc,
         writer,
         log,
         &mut server,
         &listener,
+        &mut AdminPort::new(alloc, admin),
         address.port(),
         served.turns,
     )
@@ -129,6 +151,31 @@ where
     print(writer, format!(in alloc; "listening {port}\n")?.as_str())?;
     server.run(alloc, listener, turns, log);
     print(writer, format!(in alloc; "turns {turns}\n")?.as_str())
+}
+
+/// The same for a server with an admin port, which prints how many rounds it ran before it was stopped.
+#[tactic(auto, using(crate::proofs::ServeLemmas::part_none, crate::proofs::ServeLemmas::then_all, relay_serving::proofs::Advancing::no_rounds))]
+fn host_administered<L: OpenListener, P: Readiness<L::Stream> + Drop, C: Clock, W: Write, J: ConnectionLog>(
+    alloc: Global,
+    writer: &mut W,
+    log: &mut J,
+    server: &mut Server<L::Stream, AdminReadiness<'_, P, C>>,
+    listener: &L,
+    admin: &mut AdminPort<L>,
+    port: u16,
+    turns: u64,
+) -> Result<(), ServeFault>
+where
+    L::Stream: Read + Write + OpenStream + Drop,
+    ensures rounds { RoundsOf L.Stream.remaining server.old server.new }
+    ensures done { OnOk result ((made : ℕ) × (made ≤ turns) × Appends (W.contents writer.old) (W.contents writer.new) (served_text port made)) }
+    ensures stopped { OnErr result ((made : ℕ) × (made ≤ turns) × AppendsPart (W.contents writer.old) (W.contents writer.new) (served_text port made)) }
+    ensures uncut { IfErr result (λ fault. fault ≡ Ended NoMemory → Listens port (W.contents writer.old) (W.contents writer.new)) }
+    ensures fault { IfErr result (λ fault. (fault ≡ Ended Output) ⊎ (fault ≡ Ended NoMemory)) }
+{
+    print(writer, format!(in alloc; "listening {port}\n")?.as_str())?;
+    let made = server.run_administered(alloc, listener, admin, turns, log);
+    print(writer, format!(in alloc; "turns {made}\n")?.as_str())
 }
 
 /// Writes a line and flushes it.

@@ -47,6 +47,7 @@ fn settings_for(rooms: u64, sessions: u64) -> Settings {
 fn serve_with(port: u16, turns: u64, log: bool, settings: Settings) -> Job {
     Job::Serve {
         port,
+        admin: None,
         turns,
         log,
         settings: Settings {
@@ -60,6 +61,26 @@ fn serve_with(port: u16, turns: u64, log: bool, settings: Settings) -> Job {
 
 fn serve(port: u16, turns: u64, log: bool) -> Job {
     serve_with(port, turns, log, Settings::DEFAULT)
+}
+
+/// The job of a server of one round with this operator's port.
+fn administered(port: u16, admin: u16) -> Job {
+    match serve(port, 1, false) {
+        Job::Serve {
+            port,
+            turns,
+            log,
+            settings,
+            ..
+        } => Job::Serve {
+            port,
+            admin: Some(admin),
+            turns,
+            log,
+            settings,
+        },
+        other => other,
+    }
 }
 
 #[test]
@@ -131,6 +152,14 @@ fn reads_serve_jobs(rt: HostRuntime) {
             (
                 "relay serve --port 7 --turns 1 --rooms 1000 --sessions 2000",
                 serve_with(7, 1, false, settings_for(1_000, 2_000)),
+            ),
+            (
+                "relay serve --port 7 --admin 65535 --turns 1",
+                administered(7, 65_535),
+            ),
+            (
+                "relay serve --port 0 --admin 1 --turns 1",
+                administered(0, 1),
             ),
         ],
     );

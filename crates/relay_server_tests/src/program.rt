@@ -6,6 +6,7 @@ use std::alloc::AllocGlobal;
 use std::io::ErrorKind;
 use std::net::Net;
 use std::process::Abort;
+use std::time::Clock;
 
 /// The error output, followed by the status.
 fn told(rt: &(impl Abort + AllocGlobal), errors: &[u8], status: u8) -> String {
@@ -89,7 +90,7 @@ pub struct Ran {
 }
 
 /// Runs a command line over an input.
-pub fn run(rt: &(impl Abort + AllocGlobal + Net), line: &str, text: &str) -> Ran {
+pub fn run(rt: &(impl Abort + AllocGlobal + Clock + Net), line: &str, text: &str) -> Ran {
     let words = words_of(rt, line);
     let mut input = text.as_bytes();
     let mut output = Vec::new(rt.alloc());
@@ -103,7 +104,7 @@ pub fn run(rt: &(impl Abort + AllocGlobal + Net), line: &str, text: &str) -> Ran
 }
 
 /// The output of the program, whether it wrote to standard error, and its status.
-fn done(rt: &(impl Abort + AllocGlobal + Net), line: &str, input: &str) -> String {
+fn done(rt: &(impl Abort + AllocGlobal + Clock + Net), line: &str, input: &str) -> String {
     let ran = run(rt, line, input);
     let complaint = if ran.errors.is_empty() {
         ""

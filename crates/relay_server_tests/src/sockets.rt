@@ -3,6 +3,7 @@ use crate::program::run;
 use std::alloc::AllocGlobal;
 use std::net::{Ipv4Addr, Net, OpenListener, SocketAddr};
 use std::process::Abort;
+use std::time::Clock;
 
 #[test]
 fn serve_prints_its_port_and_its_turns(rt: HostRuntime) {
@@ -22,7 +23,7 @@ fn serve_in_an_epoch_of_its_own_says_no_more(rt: HostRuntime) {
 }
 
 /// Asserts the error output and the status of `serve` at a port that is in use: what it could not do, and the system's reason.
-fn is_taken(rt: &(impl Abort + AllocGlobal + Net), port: u16) {
+fn is_taken(rt: &(impl Abort + AllocGlobal + Clock + Net), port: u16) {
     let refused = rt.bind(SocketAddr::from((Ipv4Addr::LOCALHOST, port)));
     let reason = refused.err().expect(rt, "a port in use");
     let line = format!(in rt.alloc(); "relay serve --port {port} --turns 1 --epoch 2");

@@ -137,6 +137,18 @@ impl<S: Read + Write + Drop> Connection<S> {
             }
     }
 
+    /// Whether anything waits to be written to the session, whether the stream is writable or not.
+    pub(crate) fn has_unsent(&self, hub: &Hub) -> bool {
+        match self.link.session() {
+            Some(session) => {
+                !self.known.is_writable()
+                    || self.link.has_corked_output()
+                    || matches!(hub.waiting(session), Some(1..))
+            }
+            None => false,
+        }
+    }
+
     /// Whether the link waits for the other side's close.
     pub(crate) fn is_closing(&self) -> bool
         ensures { IsTrue result ↔ (stage_of self.now.link ≡ Closing) }

@@ -1,4 +1,5 @@
 //! The readiness of sockets: the trait that a server's rounds use, and its implementation by the operating system's poll.
+use crate::admin_readiness::ADMIN_LISTENER;
 use mio::event::Event;
 use mio::unix::SourceFd;
 use mio::{Events, Interest, Poll, Token};
@@ -74,6 +75,16 @@ impl Polling {
             Interest::READABLE,
         )?;
         Ok(Polling { poll, events })
+    }
+
+    /// Watches the listener of the admin port too.
+    pub fn watch_admin<L: AsRawFd>(&self, listener: &L) -> io::Result<()> {
+        let listener = listener.as_raw_fd();
+        self.poll.registry().register(
+            &mut SourceFd(&listener),
+            Token(ADMIN_LISTENER),
+            Interest::READABLE,
+        )
     }
 }
 

@@ -6,6 +6,7 @@ ghost use Rattle.relay_serving.specs.Connections.{connections_of, limit_of, hub_
 ghost use Rattle.relay_serving.specs.Rounds.{RoundsOf, ConnectedOf};
 
 mod accepting;
+mod administering;
 mod ending;
 mod polling;
 mod queueing;

@@ -6,6 +6,7 @@ use std::io::ErrorKind;
 use std::net::{Ipv4Addr, Net, OpenListener, SocketAddr, TcpStream};
 use std::os::fd::{AsRawFd, RawFd};
 use std::process::Abort;
+use std::time::{Clock, Duration};
 use std::{io, str};
 
 /// What a listener fault.
@@ -69,6 +70,16 @@ impl OpenListener for FaultyNet {
     }
 }
 
+impl Clock for FaultyNet {
+    fn monotonic(&self) -> io::Result<Duration> {
+        Ok(Duration::ZERO)
+    }
+
+    fn since_1970(&self) -> io::Result<Duration> {
+        Ok(Duration::ZERO)
+    }
+}
+
 impl AsRawFd for FaultyNet {
     fn as_raw_fd(&self) -> RawFd {
         -1
@@ -101,6 +112,7 @@ fn says(rt: &(impl Abort + AllocGlobal), job: Job, rows: &[(NetFault, &str)]) {
 fn serve_says_what_its_network_lacks(rt: HostRuntime) {
     let job = Job::Serve {
         port: 7,
+        admin: None,
         turns: 1,
         log: false,
         settings: Settings {

@@ -1,0 +1,134 @@
+//! The port of a server at which an operator asks how it is, and stops it.
+use crate::admin_connection::{AdminConnection, Found};
+use crate::admin_readiness::ADMIN_STREAM;
+use crate::admin_view::AdminView;
+use crate::counters::Counters;
+use crate::readiness::Readiness;
+use relay_admin::{AdminRequest, Ask, Reply, reply_text};
+use std::alloc::{AllocError, Global};
+use std::io::{Read, Write};
+use std::net::{OpenListener, OpenStream};
+
+/// How many connections are held at most. A further one takes the place of the oldest.
+const MAX_CONNECTIONS: usize = 8;
+
+/// A listener, and the connections to it, the oldest first. They never wait for each other, nor does a client of the relay wait for one.
+#[derive(Drop)]
+pub struct AdminPort<L: OpenListener> {
+    listener: L,
+    connections: Vec<AdminConnection<L::Stream>>,
+    pub(crate) counters: Counters,
+}
+
+/// What a turn of the admin port came to.
+#[derive(Clone, Copy, Debug, PartialEq, Eq)]
+pub(crate) struct AdminTurn {
+    /// Whether it left work for the next round.
+    pub has_more: bool,
+    /// Whether a stop was asked.
+    pub is_stopping: bool,
+}
+
+impl<L: OpenListener> AdminPort<L>
+where
+    L::Stream: Read + Write + OpenStream + Drop,
+{
+    /// A port with no connection. The listener must be non-blocking.
+    pub fn new(alloc: Global, listener: L) -> AdminPort<L>
+    where
+        L: Drop,
+    {
+        AdminPort {
+            listener,
+            connections: Vec::new(alloc),
+            counters: Counters::new(),
+        }
+    }
+
+    /// Accepts connections that wait, at most as many as are held. Returns whether more may wait. A connection that cannot be held is
+    /// dropped.
+    pub(crate) fn accept<R: Readiness<L::Stream>>(
+        &mut self,
+        alloc: Global,
+        readiness: &mut R,
+    ) -> bool {
+        for _ in 0..MAX_CONNECTIONS {
+            let Ok((stream, _)) = self.listener.accept() else {
+                return false;
+            };
+            if stream.set_nonblocking(true).is_ok()
+                && readiness.watch(ADMIN_STREAM, &stream).is_ok()
+            {
+                self.hold(AdminConnection::new(alloc, stream));
+            }
+        }
+        true
+    }
+
+    /// Holds a connection, in place of the oldest if there are as many as may be. Without memory it is dropped.
+    fn hold(&mut self, connection: AdminConnection<L::Stream>) {
+        if self.connections.len() >= MAX_CONNECTIONS {
+            let _ = self.connections.remove(0);
+        }
+        let _ = self.connections.push(connection);
+    }
+
+    /// Gives each connection a turn.
+    pub(crate) fn turn(&mut self, alloc: Global, view: &AdminView<'_>) -> AdminTurn {
+        let mut turn = AdminTurn {
+            has_more: false,
+            is_stopping: false,
+        };
+        let mut place = 0;
+        for _ in 0..self.connections.len() {
+            let (found, is_stopping) = self.turn_at(alloc, place, view);
+            turn.has_more = turn.has_more || found == Found::More;
+            turn.is_stopping = turn.is_stopping || is_stopping;
+            if found == Found::Over && place < self.connections.len() {
+                let _ = self.connections.remove(place);
+            } else {
+                place += 1;
+            }
+        }
+        turn
+    }
+
+    /// Gives the connection at a place a turn. Returns what it found, and whether it asked for a stop. A connection for which there is no
+    /// memory is over.
+    fn turn_at(&mut self, alloc: Global, place: usize, view: &AdminView<'_>) -> (Found, bool) {
+        let Some(connection) = self.connections.get_mut(place) else {
+            return (Found::Over, false);
+        };
+        if connection.is_answered() {
+            return (connection.tell(), false);
+        }
+        let asked = match connection.hear(alloc) {
+            Ok(Some(asked)) => asked,
+            Ok(None) | Err(_) => return (Found::Over, false),
+        };
+        let reply = match reply(alloc, asked, view, &self.counters) {
+            Ok(Some(reply)) => reply,
+            Ok(None) => return (Found::Nothing, false),
+            Err(_) => return (Found::Over, false),
+        };
+        connection.answer(reply);
+        (
+            connection.tell(),
+            asked == Ask::Request(AdminRequest::Stop),
+        )
+    }
+}
+
+/// The reply to what was asked, if the head is complete.
+fn reply(
+    alloc: Global,
+    asked: Ask,
+    view: &AdminView<'_>,
+    counters: &Counters,
+) -> Result<Option<String>, AllocError> {
+    match asked {
+        Ask::More => Ok(None),
+        Ask::Request(request) => Ok(Some(view.reply(alloc, counters, request)?)),
+        Ask::Refused(refusal) => Ok(Some(reply_text(alloc, &Reply::Refused(refusal))?)),
+    }
+}

@@ -1,0 +1,100 @@
+//! Readiness for a server with an admin port. The admin port's events are kept from the server's rounds, and each round's work is timed.
+use crate::longest_round::LongestRound;
+use crate::readiness::{Readiness, ReadyEvent};
+use std::io;
+use std::time::{Clock, Duration};
+
+/// The key of the admin port's listener. No slab has this key, nor the next.
+pub const ADMIN_LISTENER: usize = usize::MAX - 1;
+
+/// The key of each connection to the admin port. They share one, since any event makes the port look at all of them.
+pub(crate) const ADMIN_STREAM: usize = usize::MAX - 2;
+
+/// The readiness of a server's streams, and whether something became ready at its admin port.
+#[derive(Drop)]
+pub struct AdminReadiness<'c, R, C> {
+    inner: R,
+    clock: &'c C,
+    /// Whether the admin port may have work.
+    is_ready: bool,
+    /// When the last wait ended, by the clock.
+    began: Duration,
+    longest: LongestRound,
+}
+
+impl<'c, R, C: Clock> AdminReadiness<'c, R, C> {
+    /// Watches over what `inner` reports. The admin port counts as ready at first.
+    pub fn new(inner: R, clock: &'c C) -> AdminReadiness<'c, R, C>
+    where
+        R: Drop,
+    {
+        AdminReadiness {
+            inner,
+            clock,
+            is_ready: true,
+            began: now(clock),
+            longest: LongestRound::new(),
+        }
+    }
+
+    /// Whether the admin port may have work. It has none afterwards, until the next event.
+    pub(crate) fn take_ready(&mut self) -> bool {
+        let was = self.is_ready;
+        self.is_ready = false;
+        was
+    }
+
+    /// Notes that the admin port left work for the next round.
+    pub(crate) fn ready_again(&mut self) {
+        self.is_ready = true;
+    }
+
+    /// The time by the clock.
+    pub(crate) fn now(&self) -> Duration {
+        now(self.clock)
+    }
+
+    /// How long the longest round of the last minute worked, in microseconds.
+    pub(crate) fn longest_round(&self) -> u64 {
+        self.longest.longest()
+    }
+
+    /// Notes how long the server worked since the last wait.
+    fn end_round(&mut self) {
+        let now = self.now();
+        self.longest.note(now, now.saturating_sub(self.began));
+    }
+}
+
+impl<S, R: Readiness<S>, C: Clock> Readiness<S> for AdminReadiness<'_, R, C> {
+    fn watch(&mut self, key: usize, stream: &S) -> io::Result<()> {
+        self.inner.watch(key, stream)
+    }
+
+    fn wait(&mut self, most: Duration, events: &mut Vec<ReadyEvent>) -> io::Result<()> {
+        self.end_round();
+        let most = if self.is_ready { Duration::ZERO } else { most };
+        let told = self.inner.wait(most, events);
+        self.began = self.now();
+        let all = events.len();
+        events.retain(|event| !is_admin(event));
+        self.is_ready = self.is_ready || told.is_err() || events.len() != all;
+        told
+    }
+}
+
+/// Whether an event is the admin port's.
+fn is_admin(event: &ReadyEvent) -> bool {
+    matches!(
+        event,
+        ReadyEvent::Stream {
+            key: ADMIN_LISTENER | ADMIN_STREAM,
+            ..
+        }
+    )
+}
+
+/// The time by a clock. A clock that fails stands still.
+fn now<C: Clock>(clock: &C) -> Duration {
+    clock.monotonic().unwrap_or(Duration::ZERO)
+}

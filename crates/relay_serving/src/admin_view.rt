@@ -1,0 +1,111 @@
+//! What an operator sees of a server.
+use crate::counters::Counters;
+use relay_admin::{
+    AdminRequest, Metrics, Reply, RoomRow, begin_rooms, end_rooms, metrics_text, reply_text,
+    write_room,
+};
+use relay_hub::{Hub, MAX_ROOMS};
+use std::alloc::{AllocError, Global};
+
+/// A hub, which no request changes, and the numbers of its server.
+#[derive(Clone, Copy)]
+pub(crate) struct AdminView<'v> {
+    pub hub: &'v Hub,
+    pub connections: u64,
+    pub max_connections: u64,
+    pub rounds: u64,
+    pub longest_round: u64,
+}
+
+/// The rooms of a hub together.
+#[derive(Clone, Copy, Debug)]
+struct Totals {
+    rooms: u64,
+    sessions: u64,
+    edits: u64,
+    weight: u64,
+}
+
+impl AdminView<'_> {
+    /// The reply to a request.
+    pub(crate) fn reply(
+        &self,
+        alloc: Global,
+        counters: &Counters,
+        request: AdminRequest,
+    ) -> Result<String, AllocError> {
+        match request {
+            AdminRequest::Health if counters.is_short_of_memory() => reply_text(
+                alloc,
+                &Reply::Unhealthy("memory was refused within the last minute\n"),
+            ),
+            AdminRequest::Health => reply_text(alloc, &Reply::Healthy),
+            AdminRequest::Stop => reply_text(alloc, &Reply::Stopping),
+            AdminRequest::Metrics => {
+                let text = metrics_text(alloc, &self.metrics(counters))?;
+                reply_text(alloc, &Reply::Metrics(text.as_str()))
+            }
+            AdminRequest::Rooms => {
+                let text = self.rooms(alloc)?;
+                reply_text(alloc, &Reply::Rooms(text.as_str()))
+            }
+        }
+    }
+
+    fn metrics(&self, counters: &Counters) -> Metrics {
+        let totals = self.totals();
+        let config = self.hub.config();
+        Metrics {
+            rooms: totals.rooms,
+            max_rooms: config.rooms,
+            sessions: totals.sessions,
+            max_sessions: config.sessions,
+            connections: self.connections,
+            max_connections: self.max_connections,
+            edits: totals.edits,
+            weight: totals.weight,
+            opened: counters.opened,
+            refused: counters.refused,
+            ended: counters.ended,
+            shed: counters.shed,
+            rounds: self.rounds,
+            longest_round: self.longest_round,
+        }
+    }
+
+    fn totals(&self) -> Totals {
+        let mut totals = Totals {
+            rooms: 0,
+            sessions: 0,
+            edits: 0,
+            weight: 0,
+        };
+        for place in 0..MAX_ROOMS as usize {
+            let Some(room) = self.hub.room_at(place) else {
+                return totals;
+            };
+            totals.rooms = totals.rooms.saturating_add(1);
+            totals.sessions = totals.sessions.saturating_add(room.sessions as u64);
+            totals.edits = totals.edits.saturating_add(room.revision);
+            totals.weight = totals.weight.saturating_add(room.weight);
+        }
+        totals
+    }
+
+    fn rooms(&self, alloc: Global) -> Result<String, AllocError> {
+        let mut out = begin_rooms(alloc)?;
+        for place in 0..MAX_ROOMS as usize {
+            let Some(room) = self.hub.room_at(place) else {
+                return end_rooms(out);
+            };
+            let row = RoomRow {
+                name: room.name,
+                revision: room.revision,
+                sessions: room.sessions as u64,
+                weight: room.weight,
+            };
+            write_room(&mut out, &row)?;
+        }
+        end_rooms(out)
+    }
+}

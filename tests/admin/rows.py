@@ -1,0 +1,58 @@
+"""What each request is answered by: its name, its bytes, and the status, with the methods that a 405 allows."""
+
+from asking import head
+
+HEALTH = "GET /health HTTP/1.1"
+STOP = "POST /stop HTTP/1.1"
+
+HERE = ["localhost", "LOCALHOST", "LocalHost:1", "127.0.0.1", "127.0.0.1:65535", "[::1]", "[::1]:8080"]
+ELSEWHERE = [
+    "evil.example",
+    "localhost.evil.example",
+    "evil.localhost",
+    "localhost.",
+    "localhost:",
+    "localhost:80x",
+    "localhost:80:80",
+    "127.0.0.2",
+    "127.0.0.1.evil.example",
+    "127.1",
+    "0.0.0.0",
+    "[::]",
+    "::1",
+    "",
+]
+ORIGINS = ["null", "http://localhost", "http://127.0.0.1:8081", "https://evil.example", ""]
+
+
+def rows():
+    """(name, bytes, status, allowed), none of which stops the relay."""
+    for host in HERE:
+        yield f"Host {host}", head(HEALTH, host=host), 200, None
+    for host in ELSEWHERE:
+        yield f"Host {host}", head(HEALTH, host=host), 403, None
+        yield f"stop, Host {host}", head(STOP, host=host), 403, None
+    for origin in ORIGINS:
+        for line in (HEALTH, STOP, "GET /metrics HTTP/1.1", "GET /rooms HTTP/1.1"):
+            yield f"Origin {origin}: {line}", head(line, f"Origin: {origin}"), 403, None
+    yield "oRiGiN", head(STOP, "oRiGiN: http://localhost"), 403, None
+    yield "no Host", head(STOP, host=None), 400, None
+    yield "two Hosts", head(STOP, "Host: localhost"), 400, None
+    yield "another Host behind", head(STOP, "host: evil.example"), 400, None
+    yield "HTTP/1.0", head("GET /health HTTP/1.0"), 200, None
+    yield "HTTP/2.0", head("GET /health HTTP/2.0"), 400, None
+    yield "no request", b"\x16\x03\x01\x02\x00\x01\x00\r\n\r\n", 400, None
+    for path in ("/", "/healthy", "/health/", "/health?x=1", "//health", "/HEALTH", "*", "http://localhost/health"):
+        yield path, head(f"GET {path} HTTP/1.1"), 404, None
+    for path in ("/health", "/metrics", "/rooms"):
+        for method in ("POST", "HEAD", "PUT", "get"):
+            yield f"{method} {path}", head(f"{method} {path} HTTP/1.1"), 405, "GET"
+    for method in ("GET", "HEAD", "OPTIONS", "DELETE"):
+        yield f"{method} /stop", head(f"{method} /stop HTTP/1.1"), 405, "POST"
+    yield "32 fields", head(HEALTH, *["X: x"] * 31), 200, None
+    yield "33 fields", head(HEALTH, *["X: x"] * 32), 431, None
+    whole = head(HEALTH, "X: ")
+    yield "4,096 bytes", whole.replace(b"X: ", b"X: " + b"x" * (4_096 - len(whole))), 200, None
+    yield "4,097 bytes", whole.replace(b"X: ", b"X: " + b"x" * (4_097 - len(whole))), 431, None
+    yield "no end", HEALTH.encode() + b"\r\nX: " + b"x" * 8_000, 431, None
+    yield "a body", head(HEALTH, "Content-Length: 5") + b"hello", 200, None
