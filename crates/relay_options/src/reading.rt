@@ -111,8 +111,9 @@ fn serve<'a>(alloc: Global) -> Result<Command<'a>, AllocError> {
     let port = number(alloc, "port", ValueParser::unsigned(0, MAX_PORT))
         .help("The port, 0 to 65535; 0 lets the system choose")
         .required(true);
-    let admin = number(alloc, "admin", ValueParser::unsigned(1, MAX_PORT))
-        .help("The port for an operator on this machine, 1 to 65535: health, metrics, rooms, and the stop; none without it");
+    let admin = number(alloc, "admin", ValueParser::unsigned(1, MAX_PORT)).help(
+        "The port for an operator on this machine, 1 to 65535: health, metrics, rooms, and the stop; none without it",
+    );
     let turns = number(alloc, "turns", ValueParser::unsigned(1, MAX_TURNS))
         .help("How many rounds to make, 1 to 1000000000000; a round sleeps while nothing happens")
         .default_value(TURNS);

@@ -155,7 +155,13 @@ where
 
 /// The same for a server with an admin port, which prints how many rounds it ran before it was stopped.
 #[tactic(auto, using(crate::proofs::ServeLemmas::part_none, crate::proofs::ServeLemmas::then_all, relay_serving::proofs::Advancing::no_rounds))]
-fn host_administered<L: OpenListener, P: Readiness<L::Stream> + Drop, C: Clock, W: Write, J: ConnectionLog>(
+fn host_administered<
+    L: OpenListener,
+    P: Readiness<L::Stream> + Drop,
+    C: Clock,
+    W: Write,
+    J: ConnectionLog,
+>(
     alloc: Global,
     writer: &mut W,
     log: &mut J,

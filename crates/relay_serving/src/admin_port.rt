@@ -112,10 +112,7 @@ where
             Err(_) => return (Found::Over, false),
         };
         connection.answer(reply);
-        (
-            connection.tell(),
-            asked == Ask::Request(AdminRequest::Stop),
-        )
+        (connection.tell(), asked == Ask::Request(AdminRequest::Stop))
     }
 }
 

@@ -1,0 +1,9 @@
+//! Tests of the requests of an operator: what no contract states, that the definitions mean HTTP, and that the calls succeed.
+#![tactic(auto)]
+
+#[cfg(test)]
+mod asking;
+#[cfg(test)]
+mod replying;
+#[cfg(test)]
+mod shared;

@@ -1,0 +1,216 @@
+//! Tests of the replies, of the list of rooms, and of the metrics.
+use crate::shared::gives;
+use relay_admin::{
+    EndedBy, Metrics, Refusal, RefusedBy, Reply, RoomRow, begin_rooms, end_rooms, metrics_text,
+    reply_text, write_room,
+};
+use std::alloc::AllocGlobal;
+use std::process::Abort;
+
+/// What stands in every reply behind its `Content-Length` and, if it has one, its `Allow`.
+const COMMON: &str =
+    "Cache-Control: no-store\r\nX-Content-Type-Options: nosniff\r\nConnection: close\r\n\r\n";
+
+/// Asserts the bytes of a reply: those before the common fields, and the body.
+fn replies(rt: &(impl Abort + AllocGlobal), reply: Reply<'_>, front: &str, body: &str) {
+    let wanted = format!(in rt.alloc(); "HTTP/1.1 {front}\r\n{COMMON}{body}").expect(rt, "memory");
+    let found = reply_text(rt.alloc(), &reply).expect(rt, "memory");
+    gives(rt, found, wanted.as_str(), front);
+}
+
+const TEXT: &str = "Content-Type: text/plain; charset=utf-8\r\nContent-Length: ";
+
+/// Asserts the bytes of a reply with a plain text.
+fn says(rt: &(impl Abort + AllocGlobal), reply: Reply<'_>, status: &str, length: &str, body: &str) {
+    let front = format!(in rt.alloc(); "{status}\r\n{TEXT}{length}").expect(rt, "memory");
+    replies(rt, reply, front.as_str(), body);
+}
+
+#[test]
+fn replies_to_requests(rt: HostRuntime) {
+    says(&rt, Reply::Healthy, "200 OK", "3", "ok\n");
+    says(
+        &rt,
+        Reply::Unhealthy("tired\n"),
+        "503 Service Unavailable",
+        "6",
+        "tired\n",
+    );
+    says(&rt, Reply::Stopping, "202 Accepted", "9", "stopping\n");
+    replies(
+        &rt,
+        Reply::Metrics("a 1\n"),
+        "200 OK\r\nContent-Type: text/plain; version=0.0.4; charset=utf-8\r\nContent-Length: 4",
+        "a 1\n",
+    );
+    replies(
+        &rt,
+        Reply::Rooms("[]"),
+        "200 OK\r\nContent-Type: application/json\r\nContent-Length: 2",
+        "[]",
+    );
+}
+
+#[test]
+fn replies_to_refused_requests(rt: HostRuntime) {
+    for (refusal, status, length, body) in [
+        (
+            Refusal::NoHead,
+            "400 Bad Request",
+            "19",
+            "this is no request\n",
+        ),
+        (
+            Refusal::TooLong,
+            "431 Request Header Fields Too Large",
+            "21",
+            "the head is too long\n",
+        ),
+        (
+            Refusal::NoHost,
+            "400 Bad Request",
+            "22",
+            "there is not one Host\n",
+        ),
+        (
+            Refusal::OtherHost,
+            "403 Forbidden",
+            "29",
+            "the Host is not the loopback\n",
+        ),
+        (
+            Refusal::Origin,
+            "403 Forbidden",
+            "18",
+            "pages may not ask\n",
+        ),
+        (
+            Refusal::NoPath,
+            "404 Not Found",
+            "22",
+            "there is no such path\n",
+        ),
+        (
+            Refusal::OnlyGet,
+            "405 Method Not Allowed",
+            "9\r\nAllow: GET",
+            "only GET\n",
+        ),
+        (
+            Refusal::OnlyPost,
+            "405 Method Not Allowed",
+            "10\r\nAllow: POST",
+            "only POST\n",
+        ),
+    ] {
+        says(&rt, Reply::Refused(refusal), status, length, body);
+    }
+}
+
+#[test]
+fn lists_rooms(rt: HostRuntime) {
+    let mut out = begin_rooms(rt.alloc()).expect(&rt, "memory");
+    write_room(&mut out, &row("r", 0)).expect(&rt, "memory");
+    write_room(&mut out, &row("\"", u64::MAX)).expect(&rt, "memory");
+    gives(
+        &rt,
+        end_rooms(out).expect(&rt, "memory"),
+        r#"[{"name":"r","revision":0,"sessions":2,"weight":8},{"name":"\"","revision":18446744073709551615,"sessions":2,"weight":8}]"#,
+        "two rooms",
+    );
+}
+
+fn row(name: &str, revision: u64) -> RoomRow<'_> {
+    RoomRow {
+        name,
+        revision,
+        sessions: 2,
+        weight: 8,
+    }
+}
+
+/// A relay whose every number is another one.
+const NUMBERS: Metrics = Metrics {
+    rooms: 1,
+    max_rooms: 2,
+    sessions: 3,
+    max_sessions: 4,
+    connections: 5,
+    max_connections: 6,
+    edits: 7,
+    weight: 8,
+    opened: 9,
+    refused: RefusedBy {
+        bad_request: 10,
+        not_found: 11,
+        method: 12,
+        upgrade: 13,
+        too_long: 14,
+        unavailable: 15,
+    },
+    ended: EndedBy {
+        peer: 16,
+        binary: 17,
+        broken: 18,
+        stream: 19,
+        memory: 20,
+        full: 21,
+        silent: 22,
+        relay: 23,
+    },
+    shed: 24,
+    rounds: 25,
+    longest_round: 1_500_000,
+};
+
+/// Each line that has a value, without those that say what it is.
+fn values_of(rt: &(impl Abort + AllocGlobal), text: &str) -> String {
+    let mut values = String::new(rt.alloc());
+    for line in text.lines() {
+        if !line.starts_with("#") {
+            values.push_str(line).expect(rt, "memory");
+            values.push_str("\n").expect(rt, "memory");
+        }
+    }
+    values
+}
+
+#[test]
+fn tells_each_number(rt: HostRuntime) {
+    let text = metrics_text(rt.alloc(), &NUMBERS).expect(&rt, "memory");
+    let front =
+        "# HELP relay_rooms Rooms that there are.\n# TYPE relay_rooms gauge\nrelay_rooms 1\n# HELP relay_rooms_limit ";
+    assert!(&rt; text.as_str().starts_with(front));
+    gives(
+        &rt,
+        values_of(&rt, text.as_str()),
+        "relay_rooms 1
+relay_rooms_limit 2
+relay_sessions 3
+relay_sessions_limit 4
+relay_edits_total 7
+relay_document_weight 8
+relay_connections 5
+relay_connections_limit 6
+relay_sessions_opened_total 9
+relay_handshakes_refused_total{status=\"400\"} 10
+relay_handshakes_refused_total{status=\"404\"} 11
+relay_handshakes_refused_total{status=\"405\"} 12
+relay_handshakes_refused_total{status=\"426\"} 13
+relay_handshakes_refused_total{status=\"431\"} 14
+relay_handshakes_refused_total{status=\"503\"} 15
+relay_connections_ended_total{cause=\"peer\"} 16
+relay_connections_ended_total{cause=\"binary\"} 17
+relay_connections_ended_total{cause=\"broken\"} 18
+relay_connections_ended_total{cause=\"stream\"} 19
+relay_connections_ended_total{cause=\"memory\"} 20
+relay_connections_ended_total{cause=\"full\"} 21
+relay_connections_ended_total{cause=\"silent\"} 22
+relay_connections_ended_total{cause=\"relay\"} 23
+relay_out_of_memory_total 24
+relay_rounds_total 25
+relay_longest_round_seconds 1500000e-6
+",
+        "numbers",
+    );
+}
