@@ -1,5 +1,5 @@
 -- Lemmas about the output of a server.
-use Rattle.std.proofs.Common.{◌≡◌, ℕ, ◌+◌, List, ◌++◌, length, take, Option, Result, Ok, Err, OnOk, OnErr, IfErr, refl, sym, subst, arith, length-append, ◌⊎◌, inl, inr}
+use Rattle.std.proofs.Common.{◌≡◌, ℕ, ◌+◌, ◌≤◌, List, ◌++◌, length, take, Option, Some, None, Result, Ok, Err, OnOk, OnErr, IfErr, refl, sym, subst, arith, length-append, ◌⊎◌, inl, inr}
 use Rattle.std.proofs.lemmas.List.{take-append-le}
 use Rattle.std.proofs.Math.Seq.{take-append-add, take-length}
 use Rattle.std.specs.Io.KnownBytes.{Appends}
@@ -8,11 +8,12 @@ use Rattle.relay_hub.specs.declared.fault.HubNewFault.{HubNewFault}
 use Rattle.relay_hub.specs.declared.fault.HubNewFault.TheVariants as made
 use Rattle.relay_lines.specs.Faults.{not_made}
 use Rattle.relay_lines.specs.Lines.{AppendsPart}
-use Rattle.relay_server.specs.Printed.{served_text}
+use Rattle.relay_server.specs.Printed.{listening_text, served_text, turns_text}
 use Rattle.relay_lines.specs.declared.fault.ScriptFault.TheVariants.{Output, NoMemory}
 use Rattle.relay_loopback.specs.declared.fault.ServeFault.{ServeFault}
-use Rattle.relay_loopback.specs.declared.fault.ServeFault.TheVariants.{Ended}
-use Rattle.relay_server.specs.Jobs.{Listens, ServeEnds}
+use Rattle.relay_loopback.specs.declared.fault.ServeFault.TheVariants.{Ended, Listen, Wait}
+use Rattle.relay_loopback.specs.Faults.{IsListen}
+use Rattle.relay_server.specs.Jobs.{HasMade, Listens, ServeEnds, ServesUpTo}
 
 -- writing nothing writes a prefix
 pub part_none : (old : Option (List ℕ)) (bs : List ℕ) → AppendsPart old old bs
@@ -43,6 +44,41 @@ ends_hosting turns port (Ok u) old new all part uncut which = (port, all)
 ends_hosting turns port (Err fault) old new all part uncut (inl output) = subst (λ f. ServeEnds turns (Err f) old new) (sym output) (port, part)
 ends_hosting turns port (Err fault) old new all part uncut (inr memory) = subst (λ f. ServeEnds turns (Err f) old new) (sym memory) (port, uncut memory)
 
+-- all rounds are as many as a server may make
+made_all : (admin : Option ℕ) (turns : ℕ) → HasMade admin turns turns
+made_all None turns = refl
+made_all (Some admin) turns = omega arith
+
+-- the same of a server without an operator's port
+pub ends_all : (admin : Option ℕ) (turns port : ℕ) (ended : Result (Unit {0}) ServeFault) (old new : Option (List ℕ)) → admin ≡ None
+    → OnOk ended (Appends old new (served_text port turns)) → OnErr ended (AppendsPart old new (served_text port turns))
+    → IfErr ended (λ fault. fault ≡ Ended NoMemory → Listens port old new) → IfErr ended (λ fault. (fault ≡ Ended Output) ⊎ (fault ≡ Ended NoMemory))
+    → ServesUpTo admin turns ended old new
+ends_all None turns port ended old new e all part uncut which = (turns, refl, ends_hosting turns port ended old new all part uncut which)
+ends_all (Some admin) turns port ended old new e all part uncut which = absurd (cc)
+
+-- and of one with such a port, which may have made fewer rounds
+pub ends_stopped : (admin : Option ℕ) (operator turns port : ℕ) (ended : Result (Unit {0}) ServeFault) (old new : Option (List ℕ)) → admin ≡ Some operator
+    → OnOk ended ((made : ℕ) × (made ≤ turns) × Appends old new (served_text port made))
+    → OnErr ended ((made : ℕ) × (made ≤ turns) × AppendsPart old new (served_text port made))
+    → IfErr ended (λ fault. fault ≡ Ended NoMemory → Listens port old new) → IfErr ended (λ fault. (fault ≡ Ended Output) ⊎ (fault ≡ Ended NoMemory))
+    → ServesUpTo admin turns ended old new
+ends_stopped None operator turns port ended old new e all part uncut which = absurd (cc)
+ends_stopped (Some admin) operator turns port (Ok u) old new e (made, few, wrote) part uncut which = (made, few, (port, wrote))
+ends_stopped (Some admin) operator turns port (Err fault) old new e all (made, few, wrote) uncut (inl output) =
+    (made, few, subst (λ f. ServeEnds made (Err f) old new) (sym output) (port, wrote))
+ends_stopped (Some admin) operator turns port (Err fault) old new e all (made, few, wrote) uncut (inr memory) =
+    (made, few, subst (λ f. ServeEnds made (Err f) old new) (sym memory) (port, uncut memory))
+
+-- without sockets nothing is printed
+pub ends_unheard : (admin : Option ℕ) (turns : ℕ) (fault : ServeFault) (old : Option (List ℕ)) → IsListen fault → ServesUpTo admin turns (Err fault) old old
+ends_unheard admin turns (Listen port code) old is = (turns, made_all admin turns, refl)
+ends_unheard admin turns Wait old is = absurd is
+ends_unheard admin turns (Ended fault) old is = absurd is
+
+pub ends_blind : (admin : Option ℕ) (turns : ℕ) (old : Option (List ℕ)) → ServesUpTo admin turns (Err Wait) old old
+ends_blind admin turns old = (turns, made_all admin turns, refl)
+
 -- a last print, after what was printed
 pub then_all : {E : Type 0} (r : Result (Unit {0}) E) (old mid new : Option (List ℕ)) (bs more : List ℕ) → Appends old mid bs → OnOk r (Appends mid new more)
     → OnOk r (Appends old new (bs ++ more))
@@ -55,6 +91,31 @@ then_part (Ok u) old mid new bs more first last = tt
 then_part (Err fault) old mid new bs more first last = part_behind old mid new bs more first last
 
 -- a server whose hub cannot be created printed nothing
-pub ends_unmade : (turns : ℕ) (fault : HubNewFault) (old : Option (List ℕ)) → ServeEnds turns (Err (Ended (not_made fault))) old old
-ends_unmade turns made.BadLimit old = refl
-ends_unmade turns made.NoMemory old = (0, inl (Keeps-refl old))
+pub ends_unmade : (admin : Option ℕ) (turns : ℕ) (fault : HubNewFault) (old : Option (List ℕ)) → ServesUpTo admin turns (Err (Ended (not_made fault))) old old
+ends_unmade admin turns made.BadLimit old = (turns, made_all admin turns, refl)
+ends_unmade admin turns made.NoMemory old = (turns, made_all admin turns, (0, inl (Keeps-refl old)))
+
+-- The output of a server that may be stopped, for some number of rounds.
+
+-- the last line, behind the first
+pub then_all_made : {E : Type 0} (r : Result (Unit {0}) E) (old mid new : Option (List ℕ)) (port made turns : ℕ) → made ≤ turns
+    → Appends old mid (listening_text port) → OnOk r (Appends mid new (turns_text made))
+    → OnOk r ((count : ℕ) × (count ≤ turns) × Appends old new (served_text port count))
+then_all_made (Ok u) old mid new port made turns few first last = (made, few, Appends-trans old mid new (listening_text port) (turns_text made) first last)
+then_all_made (Err fault) old mid new port made turns few first last = tt
+
+-- or a part of it
+pub then_part_made : {E : Type 0} (r : Result (Unit {0}) E) (old mid new : Option (List ℕ)) (port made turns : ℕ) → made ≤ turns
+    → Appends old mid (listening_text port) → OnErr r (AppendsPart mid new (turns_text made))
+    → OnErr r ((count : ℕ) × (count ≤ turns) × AppendsPart old new (served_text port count))
+then_part_made (Ok u) old mid new port made turns few first last = tt
+then_part_made (Err fault) old mid new port made turns few first last = (made, few, part_behind old mid new (listening_text port) (turns_text made) first last)
+
+-- or a part of the first line
+pub front_made : (old new : Option (List ℕ)) (port turns : ℕ) → AppendsPart old new (listening_text port)
+    → (count : ℕ) × (count ≤ turns) × AppendsPart old new (served_text port count)
+front_made old new port turns part = (0, omega arith, part_front old new (listening_text port) (turns_text 0) part)
+
+-- or nothing
+pub none_made : (old : Option (List ℕ)) (port turns : ℕ) → (count : ℕ) × (count ≤ turns) × AppendsPart old old (served_text port count)
+none_made old port turns = front_made old old port turns (part_none old (listening_text port))

@@ -14,7 +14,7 @@ pub use relay_lines::{
 };
 pub use relay_loopback::{Client, ClientHandshake, ServeFault};
 pub use relay_serving::{
-    ConnectionLog, LogEntry, LogLines, NoLog, Polling, Readiness, ReadyEvent, Server, StreamReady,
-    connection_limit,
+    AdminPort, AdminReadiness, ConnectionLog, LogEntry, LogLines, NoLog, Polling, Readiness,
+    ReadyEvent, Server, StreamReady, connection_limit,
 };
 pub use status::{Status, report};

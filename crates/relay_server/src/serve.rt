@@ -80,7 +80,7 @@ fn serve_logged<N: Clock + Net, W: Write, J: ConnectionLog>(
 }
 
 /// Serves a hub.
-#[tactic(auto, using(crate::proofs::ServeLemmas::ends_hosting, crate::proofs::ServeLemmas::ends_hosting_all))]
+#[tactic(auto, using(crate::proofs::ServeLemmas::ends_unheard, crate::proofs::ServeLemmas::ends_blind))]
 fn serve_hub<N: Clock + Net, W: Write, J: ConnectionLog>(
     alloc: Global,
     net: &N,
@@ -154,7 +154,7 @@ where
 }
 
 /// The same for a server with an admin port, which prints how many rounds it ran before it was stopped.
-#[tactic(auto, using(crate::proofs::ServeLemmas::part_none, crate::proofs::ServeLemmas::then_all, relay_serving::proofs::Advancing::no_rounds))]
+#[tactic(auto, using(crate::proofs::ServeLemmas::none_made, crate::proofs::ServeLemmas::then_all_made, relay_serving::proofs::Advancing::no_rounds))]
 fn host_administered<
     L: OpenListener,
     P: Readiness<L::Stream> + Drop,

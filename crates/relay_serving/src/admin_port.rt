@@ -79,7 +79,7 @@ where
             has_more: false,
             is_stopping: false,
         };
-        let mut place = 0;
+        let mut place = 0usize;
         for _ in 0..self.connections.len() {
             let (found, is_stopping) = self.turn_at(alloc, place, view);
             turn.has_more = turn.has_more || found == Found::More;
@@ -87,7 +87,7 @@ where
             if found == Found::Over && place < self.connections.len() {
                 let _ = self.connections.remove(place);
             } else {
-                place += 1;
+                place = place.saturating_add(1);
             }
         }
         turn

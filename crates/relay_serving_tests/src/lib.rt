@@ -5,6 +5,8 @@
 #![tactic(auto)]
 
 #[cfg(test)]
+mod administered;
+#[cfg(test)]
 mod crowd;
 #[cfg(test)]
 mod forgotten;

@@ -20,6 +20,21 @@ pub(crate) struct MemoryListener<'a> {
     waiting: RefCell<Vec<&'a RefCell<Wire>>>,
 }
 
+impl<'a> MemoryListener<'a> {
+    /// A listener at which nobody waits.
+    pub fn new(alloc: Global) -> MemoryListener<'a> {
+        MemoryListener {
+            waiting: RefCell::new(Vec::new(alloc)),
+        }
+    }
+
+    /// Adds a waiting connection.
+    pub fn add(&self, rt: &impl Abort, wire: &'a RefCell<Wire>) {
+        let mut waiting = self.waiting.try_borrow_mut().expect(rt, "a listener");
+        waiting.push(wire).expect(rt, "memory");
+    }
+}
+
 impl<'a> OpenListener for MemoryListener<'a> {
     type Stream = End<'a>;
 
@@ -63,6 +78,11 @@ impl ReadinessScript {
         })
     }
 
+    /// Adds an event to the next wait.
+    pub fn add(&mut self, rt: &impl Abort, event: ReadyEvent) {
+        self.next.push(event).expect(rt, "memory");
+    }
+
     fn wait(&mut self, most: Duration, events: &mut Vec<ReadyEvent>) -> io::Result<()> {
         self.waited = most
             .as_secs()
@@ -78,6 +98,12 @@ impl ReadinessScript {
             return Err(busy());
         }
         Ok(())
+    }
+}
+
+impl<'a> ScriptedReadiness<'a> {
+    pub fn of(script: &'a RefCell<ReadinessScript>) -> ScriptedReadiness<'a> {
+        ScriptedReadiness { script }
     }
 }
 
@@ -113,23 +139,16 @@ impl<'a> MemoryServer<'a> {
     ) -> MemoryServer<'a> {
         let hub = Hub::with_config(rt.alloc(), config).expect(rt, "a hub");
         MemoryServer {
-            listener: MemoryListener {
-                waiting: RefCell::new(Vec::new(rt.alloc())),
-            },
+            listener: MemoryListener::new(rt.alloc()),
             script,
-            server: Server::new(rt.alloc(), hub, ScriptedReadiness { script }),
+            server: Server::new(rt.alloc(), hub, ScriptedReadiness::of(script)),
             log: Vec::new(rt.alloc()),
         }
     }
 
     /// Adds a waiting connection, and its event to the next round.
     pub fn connect(&self, rt: &impl Abort, wire: &'a RefCell<Wire>) {
-        let mut waiting = self
-            .listener
-            .waiting
-            .try_borrow_mut()
-            .expect(rt, "a listener");
-        waiting.push(wire).expect(rt, "memory");
+        self.listener.add(rt, wire);
         self.event(rt, ReadyEvent::Incoming);
     }
 
@@ -139,8 +158,7 @@ impl<'a> MemoryServer<'a> {
 
     /// Adds an event to the next round.
     pub fn event(&self, rt: &impl Abort, event: ReadyEvent) {
-        let mut script = self.script(rt);
-        script.next.push(event).expect(rt, "memory");
+        self.script(rt).add(rt, event);
     }
 
     /// Limits the next round to this number of events.

@@ -1,6 +1,6 @@
 //! A server that an operator may ask, and stop.
 ghost use Rattle.std.specs.Prelude.{◌≡◌, ◌≤◌};
-ghost use Rattle.relay_serving.specs.Advances.{KeepsFewer};
+ghost use Rattle.relay_serving.specs.Advances.{KeepsFewer, KeepsWithin};
 ghost use Rattle.relay_serving.specs.Connections.{connections_of, limit_of};
 ghost use Rattle.relay_serving.specs.Rounds.{RoundsOf};
 
@@ -62,9 +62,7 @@ where
         log: &mut J,
     ) -> u64
         ensures made { result ≤ rounds }
-        ensures rounds { RoundsOf S.remaining self.old self.new }
-        ensures limit { limit_of self.new ≡ limit_of self.old }
-        ensures within { connections_of self.old ≤ limit_of self.old → connections_of self.new ≤ limit_of self.old }
+        ensures kept { KeepsWithin S.remaining self.old self.new }
     {
         for before in 0..rounds {
             admin.counters.begin(self.readiness.now());

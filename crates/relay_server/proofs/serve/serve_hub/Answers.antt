@@ -1,0 +1,24 @@
+-- Without sockets nothing is printed; else a server ends as it is hosted.
+use Rattle.std.proofs.lemmas.Result.{err_from_is_err_and}
+use Rattle.relay_server.proofs.ServeLemmas.{ends_all, ends_stopped, ends_unheard}
+use Rattle.relay_server.proofs.serve.serve_hub.Goals as goal
+
+pub returns-in_err-listener-clause-ends : goal.returns-in_err-listener-clause-ends
+returns-in_err-listener-clause-ends g c =
+    let p = err_from_is_err_and c.from_residual.result c.from_residual.ensures.1 in
+    rw (p.1, p.2) (ends_unheard c.args.served.admin c.args.served.turns _ _ c.in_err-listener.ensures)
+
+pub returns-in_default-admin-clause-ends : goal.returns-in_default-admin-clause-ends
+returns-in_default-admin-clause-ends g c =
+    let host = c.host.ensures in
+    ends_all c.args.served.admin c.args.served.turns c.port.result c.host.result _ _ c.in_default-admin.is host.done host.stopped host.uncut host.fault
+
+pub returns-in_err-admin-clause-ends : goal.returns-in_err-admin-clause-ends
+returns-in_err-admin-clause-ends g c =
+    let p = err_from_is_err_and c.from_residual-in_err-admin.result c.from_residual-in_err-admin.ensures.1 in
+    rw (p.1, p.2) (ends_unheard c.args.served.admin c.args.served.turns _ _ c.in_err-admin.ensures)
+
+pub returns-clause-ends : goal.returns-clause-ends
+returns-clause-ends g c =
+    let host = c.host_administered.ensures in
+    ends_stopped c.args.served.admin c.in-Some.admin c.args.served.turns c.port-2.result c.host_administered.result _ _ c.in-Some.is host.done host.stopped host.uncut host.fault
