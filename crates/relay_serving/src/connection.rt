@@ -38,6 +38,8 @@ pub(crate) struct Wants {
     /// A write turn for corked output, and one for that or for messages that wait.
     pub corked: bool,
     pub waiting: bool,
+    /// A read turn, also if nothing happens, so that a link does not wait for ever for the other side's close.
+    pub closing: bool,
 }
 
 /// A link, and what the server knows about it.
@@ -123,6 +125,7 @@ impl<S: Read + Write + Drop> Connection<S> {
             },
             corked: self.has_output(hub, Output::Corked),
             waiting: self.has_output(hub, Output::Waiting),
+            closing: self.is_closing(),
         }
     }
 

@@ -14,6 +14,7 @@ mod queues;
 mod read_share;
 mod readiness;
 mod ready;
+mod room_index;
 mod server;
 
 pub use admin_port::AdminPort;

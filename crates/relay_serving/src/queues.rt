@@ -3,7 +3,7 @@ use crate::connection::{Output, Wants, Weight};
 use crate::key_queue::KeyQueue;
 use std::alloc::{AllocError, Global};
 
-/// The keys of the connections that may be read, and of those that may be written. A key stays where it is if its connection is dropped or
+/// The keys of the connections that may be read, of those that may be written, and of those that are closing. A key stays where it is if its connection is dropped or
 /// no longer wants the turn, so whoever takes it out looks first.
 #[derive(Drop)]
 pub(crate) struct Queues {
@@ -11,6 +11,7 @@ pub(crate) struct Queues {
     heavy: KeyQueue,
     corked: KeyQueue,
     waiting: KeyQueue,
+    closing: KeyQueue,
 }
 
 impl Queues {
@@ -20,6 +21,7 @@ impl Queues {
             heavy: KeyQueue::new(alloc),
             corked: KeyQueue::new(alloc),
             waiting: KeyQueue::new(alloc),
+            closing: KeyQueue::new(alloc),
         }
     }
 
@@ -28,7 +30,8 @@ impl Queues {
         self.light.admit(key)?;
         self.heavy.admit(key)?;
         self.corked.admit(key)?;
-        self.waiting.admit(key)
+        self.waiting.admit(key)?;
+        self.closing.admit(key)
     }
 
     /// Queues a key behind the others for each turn that its connection wants. Allocates nothing.
@@ -43,6 +46,9 @@ impl Queues {
         }
         if wants.waiting {
             self.waiting.push(key);
+        }
+        if wants.closing {
+            self.closing.push(key);
         }
     }
 
@@ -62,6 +68,16 @@ impl Queues {
         }
     }
 
+    /// Takes out the first key of the connections that are closing.
+    pub(crate) fn pop_closing(&mut self) -> Option<usize> {
+        self.closing.pop()
+    }
+
+    /// How many keys there are of connections that are closing.
+    pub(crate) fn closing(&self) -> usize {
+        self.closing.len()
+    }
+
     /// How many keys wait for a read turn.
     pub(crate) fn readers(&self, weight: Weight) -> usize {
         match weight {
@@ -78,7 +94,7 @@ impl Queues {
         }
     }
 
-    /// Whether no key waits.
+    /// Whether no key waits for a turn.
     pub(crate) fn is_empty(&self) -> bool {
         self.light.is_empty()
             && self.heavy.is_empty()
@@ -96,5 +112,6 @@ impl Queues {
         is_read
             && (!wants.corked || self.corked.contains(key))
             && (!wants.waiting || self.waiting.contains(key))
+            && (!wants.closing || self.closing.contains(key))
     }
 }

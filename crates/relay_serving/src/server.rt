@@ -18,6 +18,7 @@ use crate::connection_log::ConnectionLog;
 use crate::queues::Queues;
 use crate::read_share::ReadShare;
 use crate::readiness::{Readiness, ReadyEvent};
+use crate::room_index::RoomIndex;
 use relay_hub::Hub;
 use slab::Slab;
 use std::alloc::Global;
@@ -49,8 +50,8 @@ pub struct Server<S: Write + Drop, R> {
     share: ReadShare,
     /// The connections that may have a turn.
     queues: Queues,
-    /// Whether a text was received since all sessions were looked at for messages that wait.
-    has_heard: bool,
+    /// Who is in which room, and the rooms in which texts were heard since their sessions were looked at for messages that wait.
+    rooms: RoomIndex,
     rounds: u64,
     /// The first round in which the log may say again that memory was refused.
     next_shed_entry: u64,
@@ -79,7 +80,7 @@ impl<S: Read + Write + OpenStream + Drop, R: Readiness<S>> Server<S, R> {
             failed: false,
             share: ReadShare::of(config),
             queues: Queues::new(alloc),
-            has_heard: false,
+            rooms: RoomIndex::new(alloc),
             rounds: 0,
             next_shed_entry: 0,
             accepted: 0,

@@ -94,6 +94,7 @@ impl<S: Read + Write + OpenStream + Drop, R: Readiness<S>> Server<S, R> {
             return Ok(());
         }
         self.queues.admit(key)?;
+        self.rooms.admit(key)?;
         let place = self.accepted;
         self.accepted = self.accepted.saturating_add(1);
         let connection = Connection::new(alloc, stream, place, self.rounds)?;

@@ -62,8 +62,12 @@ impl<S: Read + Write + OpenStream + Drop, R: Readiness<S>> Server<S, R> {
         for event in turn.made.iter() {
             if let (Event::Open { room }, Some(session)) = (event, connection.link.session()) {
                 let room = room.as_str();
+                self.rooms.enter(key, room);
                 log.record(LogEntry::Opened { key, room, session });
             }
+        }
+        if turn.has_received() {
+            self.rooms.hear(key);
         }
         match turn.cause {
             Some(Cause::Refused(status)) => log.record(LogEntry::Refused { key, status }),
@@ -103,6 +107,7 @@ impl<S: Read + Write + OpenStream + Drop, R: Readiness<S>> Server<S, R> {
         };
         if connection.link.stage() == Stage::Gone {
             let _ = self.connections.try_remove(key);
+            self.rooms.leave(key);
         }
     }
 }

@@ -40,7 +40,7 @@ impl<S: Read + Write + OpenStream + Drop, R: Readiness<S>> Server<S, R> {
 
     /// Whether there is work without further events.
     fn has_work(&self) -> bool {
-        self.accept_ready || self.has_heard || !self.queues.is_empty()
+        self.accept_ready || self.rooms.heard() > 0 || !self.queues.is_empty()
     }
 
     /// The event at an index.
@@ -95,9 +95,11 @@ impl<S: Read + Write + OpenStream + Drop, R: Readiness<S>> Server<S, R> {
     fn mark_closing(&mut self)
         ensures { KeepsFewer S.remaining self.old self.new }
     {
-        for key in 0..self.keys() {
-            self.mark_closing_at(key);
-            self.queue(key);
+        for _ in 0..self.queues.closing() {
+            if let Some(key) = self.queues.pop_closing() {
+                self.mark_closing_at(key);
+                self.queue(key);
+            }
         }
     }
 

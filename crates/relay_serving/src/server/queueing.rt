@@ -40,12 +40,22 @@ impl<S: Read + Write + OpenStream + Drop, R: Readiness<S>> Server<S, R> {
     pub(super) fn queue_told(&mut self)
         ensures { KeepsFewer S.remaining self.old self.new }
     {
-        if !self.has_heard {
-            return;
+        for _ in 0..self.rooms.heard() {
+            if let Some(room) = self.rooms.pop_heard() {
+                self.queue_room(room);
+            }
         }
-        self.has_heard = false;
-        for key in 0..self.keys() {
-            self.queue(key);
+    }
+
+    /// Queues the connections of a room.
+    #[tactic(auto, using(crate::proofs::Rules::advances))]
+    fn queue_room(&mut self, room: u64)
+        ensures { KeepsFewer S.remaining self.old self.new }
+    {
+        for place in self.rooms.first(room)..self.rooms.end(room) {
+            if let Some(key) = self.rooms.key_at(place) {
+                self.queue(key);
+            }
         }
     }
 }

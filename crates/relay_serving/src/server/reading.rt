@@ -121,7 +121,6 @@ impl<S: Read + Write + OpenStream + Drop, R: Readiness<S>> Server<S, R> {
         connection.read_pending = false;
         let received = received(&turn);
         connection.known.end_turn(received);
-        self.has_heard = self.has_heard || received.is_some();
         self.settle(key, before, &turn, log);
         received
     }
