@@ -138,6 +138,8 @@ impl<S: Read> Read for Watched<S> {
 }
 
 impl<S: Write> Write for Watched<S> {
+    ghost contents = { λ w. S.contents w.stream };
+
     fn write(&mut self, buf: &[u8]) -> io::Result<usize> {
         if !self.known.is_writable() {
             return Err(nothing_now());

@@ -34,8 +34,10 @@ impl RoomIndex {
         if count <= self.rooms.len() {
             return Ok(());
         }
-        self.heard.reserve(MAX_HEARD.saturating_sub(self.heard.len()))?;
-        self.members.reserve(count.saturating_sub(self.members.len()))?;
+        self.heard
+            .reserve(MAX_HEARD.saturating_sub(self.heard.len()))?;
+        self.members
+            .reserve(count.saturating_sub(self.members.len()))?;
         self.rooms.resize(count, None)
     }
 
