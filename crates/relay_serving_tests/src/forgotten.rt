@@ -97,17 +97,23 @@ fn settle(rt: &(impl Abort + AllocGlobal), senders: &mut Senders<'_>) {
         senders.server.event(rt, ready(key, true));
     }
     senders.server.round(rt);
-    let mut rounds = 0u64;
-    while rounds < 10_000 && senders.server.round(rt) == 0 {
-        rounds += 1;
-    }
-    assert!(rt; rounds < 10_000, "the server never sleeps");
+    assert!(rt; falls_asleep(rt, senders), "the server never sleeps");
     for key in 0..STAYING {
         assert!(rt;
             lent(rt, senders.wire(rt, key)).is_read(),
             "client {key} is not read"
         );
     }
+}
+
+/// Runs rounds until the server sleeps. Whether it does so in time.
+fn falls_asleep(rt: &(impl Abort + AllocGlobal), senders: &mut Senders<'_>) -> bool {
+    for _ in 0..10_000 {
+        if senders.server.round(rt) != 0 {
+            return true;
+        }
+    }
+    false
 }
 
 /// Clients send short texts and long ones, pings and watches, more than may be answered; streams fill up and take more; the system loses
