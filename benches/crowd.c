@@ -46,7 +46,7 @@ static void fail(const char *what) {
 
 static void leave(Session *all, Session *s) {
     if (s->stage == RIGHT && right-- == count) lost = now();
-    if (s->stage == CONNECTING || s->stage == SHAKING || s->stage == WATCHING) opening--;
+    if (s->stage == CONNECTING || s->stage == SHAKING) opening--;
     if (s->fd >= 0) close(s->fd);
     s->fd = -1, s->stage = AWAY, s->len = 0;
     away[behind++] = s - all;
@@ -88,7 +88,7 @@ static int shake(Session *s) {
 
 static int watch(Session *s) {
     char text[256];
-    s->stage = WATCHING;
+    s->stage = WATCHING, opening--; // it may have to wait for the first of its room
     snprintf(text, sizeof text, "{\"do\":\"edit\",\"id\":1,\"patch\":[{\"op\":\"add\",\"path\":\"\",\"value\":{\"name\":\"room %d.\"}}]}", s->room);
     return (!s->first || say(s, text)) && say(s, "{\"do\":\"watch\",\"id\":2,\"view\":[\"/name\"]}");
 }
@@ -98,7 +98,7 @@ static void hear(Session *s, const char *text, size_t len) {
     char name[32];
     snprintf(name, sizeof name, "\"room %d.\"", s->room);
     if (s->stage == WATCHING && memmem(text, len, name, strlen(name))) {
-        s->stage = RIGHT, opening--;
+        s->stage = RIGHT;
         if (++right == count) {
             printf("all %.2f\n", now() - lost);
             fflush(stdout);
