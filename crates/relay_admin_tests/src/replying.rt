@@ -51,60 +51,77 @@ fn replies_to_requests(rt: HostRuntime) {
     );
 }
 
-#[test]
-fn replies_to_refused_requests(rt: HostRuntime) {
-    for (refusal, status, length, body) in [
-        (
-            Refusal::NoHead,
-            "400 Bad Request",
-            "19",
-            "this is no request\n",
-        ),
-        (
-            Refusal::TooLong,
-            "431 Request Header Fields Too Large",
-            "21",
-            "the head is too long\n",
-        ),
-        (
-            Refusal::NoHost,
-            "400 Bad Request",
-            "22",
-            "there is not one Host\n",
-        ),
-        (
-            Refusal::OtherHost,
-            "403 Forbidden",
-            "29",
-            "the Host is not the loopback\n",
-        ),
-        (
-            Refusal::Origin,
-            "403 Forbidden",
-            "18",
-            "pages may not ask\n",
-        ),
-        (
-            Refusal::NoPath,
-            "404 Not Found",
-            "22",
-            "there is no such path\n",
-        ),
-        (
-            Refusal::OnlyGet,
-            "405 Method Not Allowed",
-            "9\r\nAllow: GET",
-            "only GET\n",
-        ),
-        (
-            Refusal::OnlyPost,
-            "405 Method Not Allowed",
-            "10\r\nAllow: POST",
-            "only POST\n",
-        ),
-    ] {
-        says(&rt, Reply::Refused(refusal), status, length, body);
+/// Asserts the bytes of the reply to a refused request.
+fn refuses(rt: &(impl Abort + AllocGlobal), rows: &[(Refusal, &str, &str, &str)]) {
+    for (refusal, status, length, body) in rows {
+        says(rt, Reply::Refused(*refusal), status, length, body);
     }
+}
+
+#[test]
+fn replies_to_refused_heads(rt: HostRuntime) {
+    refuses(
+        &rt,
+        &[
+            (
+                Refusal::NoHead,
+                "400 Bad Request",
+                "19",
+                "this is no request\n",
+            ),
+            (
+                Refusal::TooLong,
+                "431 Request Header Fields Too Large",
+                "21",
+                "the head is too long\n",
+            ),
+            (
+                Refusal::NoHost,
+                "400 Bad Request",
+                "22",
+                "there is not one Host\n",
+            ),
+            (
+                Refusal::OtherHost,
+                "403 Forbidden",
+                "29",
+                "the Host is not the loopback\n",
+            ),
+            (
+                Refusal::Origin,
+                "403 Forbidden",
+                "18",
+                "pages may not ask\n",
+            ),
+        ],
+    );
+}
+
+#[test]
+fn replies_to_other_paths_and_methods(rt: HostRuntime) {
+    refuses(
+        &rt,
+        &[
+            (
+                Refusal::NoPath,
+                "404 Not Found",
+                "22",
+                "there is no such path\n",
+            ),
+            (
+                Refusal::OnlyGet,
+                "405 Method Not Allowed",
+                "9\r\nAllow: GET",
+                "only GET\n",
+            ),
+            (
+                Refusal::OnlyPost,
+                "405 Method Not Allowed",
+                "10\r\nAllow: POST",
+                "only POST\n",
+            ),
+        ],
+    );
 }
 
 #[test]
