@@ -1,10 +1,16 @@
 -- Lemmas on the heads that bytes begin with.
-use Rattle.std.proofs.Common.{◌≡◌, ℕ, ◌+◌, ◌*◌, ◌<◌, ◌≤◌, List, [], ◌∷◌, ◌++◌, length, take, sym, ◌∙◌, ap, subst, arith, append-nil, length-append, length-take, All, Option, None, Some, refl, option_copied, IsSome}
+use Rattle.std.proofs.Common.{◌≡◌, ℕ, ◌+◌, ◌*◌, ◌<◌, ◌≤◌, List, [], ◌∷◌, ◌++◌, length, take, drop, sym, ◌∙◌, ap, subst, arith, append-nil, append_assoc, length-append, length-take, All, Option, None, Some, refl, option_copied, IsSome}
 use denote.Ref.{Bor}
 use Rattle.std.specs.List.{flat_map}
-use Rattle.httparse.specs.Grammar.{RequestHead, Field, IsField, LineEnd, crlf, lf, print_end, print_field, print_request, HasNoRequest, NeverHasRequest}
+use Rattle.httparse.specs.Borrowed.{HoldsSomeRequest}
+use Rattle.httparse.specs.Grammar.{RequestHead, ReadsRequest, Field, IsField, LineEnd, crlf, lf, print_end, print_field, print_request, HasNoRequest, NeverHasRequest}
 use Rattle.httparse.specs.Spans.{RequestExceeds}
+use Rattle.httparse.specs.declared.borrowed.Request.{Request}
+use Rattle.httparse.proofs.GrammarLemmas.{request_unique}
+use Rattle.std.proofs.lemmas.List.{take-append-drop, drop-append-le}
 use Rattle.std.proofs.lemmas.List.Elements.{All-head, All-tail}
+use Rattle.relay_head.specs.Parsing.{parts, parts_of, IsHead}
+use Rattle.relay_head.specs.declared.head.Head.{Head}
 
 -- bytes that never have a head have none
 pub none_from_never : (bytes : List ℕ) → NeverHasRequest bytes → HasNoRequest bytes
@@ -44,3 +50,24 @@ some-from_copied (Some r) x e = refl
 
 pub now-from_copied : (o : Option (Bor (List ℕ))) (r : Bor (List ℕ)) (x : List ℕ) → o ≡ Some r → option_copied o ≡ Some x → r.now ≡ x
 now-from_copied o r x is e = let both : Some r.now ≡ Some x = ap option_copied (sym is) ∙ e in cc
+
+-- a head that the first `most` bytes begin with is one that all of them begin with
+reads-whole : (most : ℕ) (bytes : List ℕ) (head : RequestHead) (rest : List ℕ) → ReadsRequest (take most bytes) head rest → ReadsRequest bytes head (rest ++ drop most bytes)
+reads-whole most bytes head rest (fits, is) =
+    (fits, sym (take-append-drop most bytes) ∙ ap (λ b. b ++ drop most bytes) is ∙ append_assoc (print_request head) rest (drop most bytes))
+
+-- what is held of the first `most` bytes is held of all of them
+pub holds-whole : (most : ℕ) (bytes : List ℕ) (request : Request) (len : ℕ) → HoldsSomeRequest (take most bytes) request len → HoldsSomeRequest bytes request len
+holds-whole most bytes request len (head, holds) =
+    let rest = drop len (take most bytes) in
+    let within : len ≤ length (take most bytes) = omega (arith, holds.len_is, ap length holds.reads.1, length-append (print_request head) rest) in
+    let behind : rest ++ drop most bytes ≡ drop len bytes = sym (drop-append-le len (take most bytes) (drop most bytes) within) ∙ ap (drop len) (take-append-drop most bytes) in
+    let reads : ReadsRequest bytes head (drop len bytes) = subst (ReadsRequest bytes head) behind (reads-whole most bytes head rest holds.reads) in
+    (head, record { reads = reads; len_is = holds.len_is; method = holds.method; path = holds.path; version = holds.version; fields = holds.fields })
+
+-- the head found is each head that the first `most` bytes begin with
+pub the_head : (most : ℕ) (bytes : List ℕ) (found : Head) → IsHead bytes found
+    → (head : RequestHead) (rest : List ℕ) → ReadsRequest (take most bytes) head rest → parts found ≡ parts_of head (rest ++ drop most bytes)
+the_head most bytes found (first, behind, at, is) head rest reads =
+    let same = request_unique bytes first head behind (rest ++ drop most bytes) at (reads-whole most bytes head rest reads) in
+    is ∙ ap (λ h. parts_of h behind) same.0 ∙ ap (parts_of head) same.1

@@ -1,3 +1,4 @@
--- Lemmas on lists, and on the heads that bytes begin with.
+-- Lemmas on lists, on the heads that bytes begin with, and on routes.
 pub mod Lists
 pub mod Heads
+pub mod Routes
