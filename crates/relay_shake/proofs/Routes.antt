@@ -1,5 +1,5 @@
 -- Lookups in a router with one route: a prefix and then a parameter.
-use Rattle.std.proofs.Common.{◌≡◌, ℕ, zero, suc, ◌+◌, ◌-◌, ◌<◌, ◌≤◌, Bool, true, false, not, cond, List, [], ◌∷◌, ◌++◌, length, take, drop, get_or, ltb, leb, codes, All, Option, Some, None, refl, sym, ◌∙◌, ap, subst, ne_eqb, eqb-true, add-zero, arith, lit<, ◌==◌, ◌&&◌, option_copied, MatchOption, IsUtf8, IsAscii}
+use Rattle.std.proofs.Common.{◌≡◌, ℕ, suc, ◌+◌, ◌-◌, ◌<◌, ◌≤◌, Bool, true, false, not, cond, List, [], ◌∷◌, ◌++◌, length, take, drop, get_or, ltb, leb, codes, All, Option, Some, None, refl, sym, ◌∙◌, ap, subst, ne_eqb, eqb-true, add-zero, arith, lit<, ◌==◌, ◌&&◌, option_copied, MatchOption, IsUtf8, IsAscii}
 use denote.Ref.{Bor}
 use Rattle.std.proofs.lemmas.Bool.Decides.{nat_tests}
 use Rattle.std.proofs.lemmas.List.{take_all, length-drop}
@@ -13,13 +13,9 @@ use Rattle.matchit.specs.Params.{walk, wild_from, wild_stop, next_at, part_of, n
 use Rattle.matchit.specs.Router.{RouteOf, Refused}
 use Rattle.matchit.specs.declared.error.InsertError.{InsertError}
 use Rattle.matchit.specs.declared.error.InsertError.TheVariants.{Conflict, OutOfMemory}
+use Rattle.relay_head.proofs.Routes.{IsPlain, after, or-none, nil-step, seek-nil}
 use Rattle.relay_head.specs.Head.{kept}
 use Rattle.relay_shake.specs.Route.{behind, is_segment, routed}
-
--- each byte of a literal is below the tokens
-abbrev pub IsPlain : List ℕ → Type 0
-IsPlain [] = Unit {0}
-IsPlain (x ∷ xs) = (x < 256) × IsPlain xs
 
 -- the prefix, followed by at least one byte and no slash
 abbrev pub has_segment_after : List ℕ → List ℕ → Bool
@@ -29,28 +25,9 @@ has_segment_after (x ∷ prefix) [] = false
 has_segment_after (x ∷ prefix) (b ∷ target) = cond (x == b) (has_segment_after prefix target) false
 
 module _ {K : Type 0} (k : K) where
-  abbrev after : Bool → ℕ → RowsOf K → ℕ × RowsOf K
-  after slash n rows = cond {A = ℕ × RowsOf K} slash (0, []) (n, rows)
-
   -- the route if a test holds, else none
   abbrev pub found : Bool → Option K
   found test = cond test (Some k) None
-
-  or-none : (o : Option K) → or_else o None ≡ o
-  or-none None = refl
-  or-none (Some x) = refl
-
-  nil-step : (slash : Bool) (n : ℕ) (path : List ℕ) → ((m : ℕ) → seek {K = K} m [] path ≡ None)
-      → or_else (seek ((after slash n []).0 - 1) (after slash n []).1 path) None ≡ None
-  nil-step true n path none = ap (λ o. or_else o None) (none (0 - 1))
-  nil-step false n path none = ap (λ o. or_else o None) (none (n - 1))
-
-  seek-nil : (n : ℕ) (path : List ℕ) → seek {K = K} n [] path ≡ None
-  unfolding seek param_step
-  seek-nil n [] = refl
-  seek-nil (suc n) (b ∷ path) = seek-nil n path
-  seek-nil zero (b ∷ path) =
-      rw (seek-nil 0 path) (nil-step (cond (b == 47) true (has_slash path)) (suc (length path)) path (λ m. seek-nil m path))
 
   seek-over : (path : List ℕ) → seek (length path) (([], k) ∷ []) path ≡ Some k
   unfolding seek param_step
@@ -59,7 +36,7 @@ module _ {K : Type 0} (k : K) where
 
   param-end : (slash : Bool) (path : List ℕ)
       → or_else (seek ((after slash (suc (length path)) (([], k) ∷ [])).0 - 1) (after slash (suc (length path)) (([], k) ∷ [])).1 path) None ≡ found (not slash)
-  param-end true path = ap (λ o. or_else o None) (seek-nil (0 - 1) path)
+  param-end true path = ap (λ o. or_else o None) (seek-nil {K = K} (0 - 1) path)
   param-end false path =
       let less : suc (length path) - 1 ≡ length path = omega arith in
       ap (λ n. or_else (seek n (([], k) ∷ []) path) None) less ∙ ap (λ o. or_else o None) (seek-over path)
@@ -68,12 +45,12 @@ module _ {K : Type 0} (k : K) where
   unfolding seek param_step
   seek-param b path small =
       let other : 256 == b ≡ false = ne_eqb 256 b (λ e. omega arith) in
-      rw (other, seek-nil 0 path) (param-end (cond (b == 47) true (has_slash path)) path)
+      rw (other, seek-nil {K = K} 0 path) (param-end (cond (b == 47) true (has_slash path)) path)
 
   row-end : (same : Bool) (rows : RowsOf K) (path : List ℕ) (test : Bool) (other : Option K) → other ≡ None → seek 0 rows path ≡ found test
       → or_else (seek 0 (cond {A = RowsOf K} same rows []) path) other ≡ found (cond same test false)
   row-end true rows path test other none e = ap (λ o. or_else (seek 0 rows path) o) none ∙ or-none (seek 0 rows path) ∙ e
-  row-end false rows path test other none e = ap (λ o. or_else (seek 0 [] path) o) none ∙ or-none (seek 0 [] path) ∙ seek-nil 0 path
+  row-end false rows path test other none e = ap (λ o. or_else (seek 0 [] path) o) none ∙ or-none (seek 0 [] path) ∙ seek-nil {K = K} 0 path
 
   -- the route is found exactly at the targets of its form
   pub seek-row : (prefix path : List ℕ) → IsPlain prefix → All (λ x. x < 256) path
@@ -87,7 +64,7 @@ module _ {K : Type 0} (k : K) where
       let no_param : x == 256 ≡ false = ne_eqb x 256 (λ e. omega arith) in
       let no_catch_all : x == 257 ≡ false = ne_eqb x 257 (λ e. omega arith) in
       let rest = seek-row prefix path h.1 (All-tail (λ y. y < 256) b path t) in
-      let none = nil-step (cond (b == 47) true (has_slash path)) (suc (length path)) path (λ m. seek-nil m path) in
+      let none = nil-step {K = K} (cond (b == 47) true (has_slash path)) (suc (length path)) path (λ m. seek-nil {K = K} m path) in
       rw (no_param, no_catch_all) (row-end (x == b) ((prefix ++ 256 ∷ [], k) ∷ []) path (has_segment_after prefix path) _ none rest)
 
 not-slash : (b : ℕ) (path : List ℕ) → not (has_slash (b ∷ path)) ≡ (not (b == 47) && not (has_slash path))

@@ -3,8 +3,9 @@ use Rattle.std.specs.Prelude.{ℕ, Bool, not, ◌==◌, nat_lt, nat_le, if◌the
 use Rattle.httparse.specs.Grammar.{RequestHead}
 use Rattle.relay_shake.specs.declared.reading.TheConstants.{MAX_HEAD}
 use Rattle.relay_shake.specs.declared.checks.TheConstants.{MAX_FIELDS}
+use Rattle.relay_head.specs.Checks.{first_failed}
 use Rattle.relay_head.specs.Head.{only_value, kept, has_element}
-use Rattle.relay_shake.specs.Head.{Parts, parts_of}
+use Rattle.relay_head.specs.Parsing.{Parts, parts_of}
 use Rattle.relay_shake.specs.Key.{key_of}
 use Rattle.relay_shake.specs.Route.{room_of}
 
@@ -23,11 +24,6 @@ checks head =
     ∷ (is_some (key_of head.fields), 400)
     ∷ (not head.has_surplus, 400)
     ∷ []
-
--- the status of the first check that fails
-abbrev pub first_failed : List (Bool × ℕ) → Option ℕ
-first_failed [] = None
-first_failed (check ∷ later) = if check.0 then first_failed later else Some check.1
 
 -- wait for more bytes, accept a room and a key, or refuse with a status
 pub data Verdict : Type 0 where

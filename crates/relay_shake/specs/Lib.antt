@@ -1,4 +1,3 @@
-pub mod Head
 pub mod Key
 pub mod Route
 pub mod Replies

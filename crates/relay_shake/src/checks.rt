@@ -1,13 +1,12 @@
 //! The checks of a head, in their order (RFC 6455, section 4.2.1).
-ghost use Rattle.std.specs.Prelude.{◌≡◌, OnOk, OnErr, IfErr, true, false};
-ghost use Rattle.relay_shake.specs.Judged.{parts, Judges, HasReply};
+ghost use Rattle.std.specs.Prelude.{IfErr};
+ghost use Rattle.relay_head.specs.Parsing.{parts};
+ghost use Rattle.relay_shake.specs.Judged.{Judges, HasReply};
 ghost use Rattle.relay_shake.specs.Handshake.{verdict_on};
 
-use crate::fault::Fault;
-use crate::head::Head;
 use crate::key::key_of;
 use crate::route::room_of;
-use relay_head::{has_element, only_value};
+use relay_head::{Fault, Head, demand, has_element, only_value};
 use std::alloc::Global;
 
 /// The most header fields of a head.
@@ -21,7 +20,7 @@ pub(crate) struct Accepted<'b> {
 }
 
 /// Returns the room and the key of a head that passes all checks, or the status of the first check that fails.
-pub(crate) fn judge<'b>(alloc: Global, head: &Head<'_, 'b>) -> Result<Accepted<'b>, Fault>
+pub(crate) fn judge<'b>(alloc: Global, head: &Head<'_, 'b>) -> Result<Accepted<'b>, Fault<u16>>
     ensures verdict { Judges result (verdict_on (parts head.now)) }
     ensures status { IfErr result HasReply }
 {
@@ -38,17 +37,4 @@ pub(crate) fn judge<'b>(alloc: Global, head: &Head<'_, 'b>) -> Result<Accepted<'
     // A client must wait for the reply before it sends anything else.
     demand(!head.has_surplus, 400)?;
     Ok(Accepted { room, key })
-}
-
-// Refuses with the status unless the condition holds.
-fn demand(holds: bool, status: u16) -> Result<(), Fault>
-    ensures passed { OnOk result (holds ≡ true) }
-    ensures failed { OnErr result (holds ≡ false) }
-    ensures status { IfErr result (λ fault. fault ≡ Fault.Refused status) }
-{
-    if holds {
-        Ok(())
-    } else {
-        Err(Fault::Refused(status))
-    }
 }

@@ -10,8 +10,6 @@
 
 mod answer;
 mod checks;
-mod fault;
-mod head;
 mod key;
 mod reading;
 mod reply;

@@ -1,18 +1,15 @@
 //! The path from bytes to a head, and from the head to the answer.
-ghost use Rattle.std.specs.Prelude.{◌≡◌, ◌<◌, ◌≤◌, IfOk, IsTrue};
-ghost use Rattle.httparse.specs.Borrowed.{HoldsSomeRequest};
-ghost use Rattle.httparse.specs.Grammar.{HasNoRequest, NeverHasRequest, MayBecomeRequest};
-ghost use Rattle.relay_shake.specs.Handshake.{verdict_on, refuse, window};
-ghost use Rattle.relay_shake.specs.Judged.{parts};
+ghost use Rattle.std.specs.Prelude.{IfOk, IsTrue};
+ghost use Rattle.relay_head.specs.Parsing.{parts};
+ghost use Rattle.relay_shake.specs.Handshake.{verdict_on, refuse};
 ghost use Rattle.relay_shake.specs.Replies.{is_refusal};
 ghost use Rattle.relay_shake.specs.Shaken.{Shows, AnswersHead, AnswersNoHead};
 
 use crate::answer::Shake;
 use crate::checks::judge;
-use crate::fault::Fault;
-use crate::head::Head;
 use crate::reply::{accept_reply, refusal};
-use httparse::{EMPTY_HEADER, Error, Request, Status};
+use httparse::{EMPTY_HEADER, Request};
+use relay_head::{Fault, Head, Parsed, head_of, parse_head};
 use std::alloc::{AllocError, Global};
 
 /// The most bytes of a head.
@@ -52,44 +49,12 @@ pub fn shake(alloc: Global, bytes: &[u8]) -> Result<Shake, AllocError>
 {
     let mut fields = vec![in alloc; EMPTY_HEADER; MAX_HEAD_FIELDS]?;
     let mut request = Request::new(&mut fields);
-    match request.parse(window(bytes)) {
-        Ok(Status::Complete(len)) => with_head(alloc, bytes, &request, len),
-        Ok(Status::Partial) => without_head(alloc, bytes),
-        // `MAX_HEAD_FIELDS` is enough for every field that the window can hold.
-        Err(Error::TooManyHeaders) => unreachable!(),
-        Err(_) => hopeless(alloc, bytes),
+    match parse_head(&mut request, bytes, MAX_HEAD) {
+        Parsed::Complete(len) => answer(alloc, &head_of(request, bytes, len)),
+        Parsed::Partial => Ok(Shake::More),
+        Parsed::TooLong => refused(alloc, 431),
+        Parsed::Invalid => refused(alloc, 400),
     }
-}
-
-// The bytes in which the head must be.
-fn window(bytes: &[u8]) -> &[u8]
-    ensures { result.now ≡ window bytes.now }
-{
-    if bytes.len() > MAX_HEAD {
-        &bytes[..MAX_HEAD]
-    } else {
-        bytes
-    }
-}
-
-fn with_head(
-    alloc: Global,
-    bytes: &[u8],
-    request: &Request<'_, '_>,
-    len: usize,
-) -> Result<Shake, AllocError>
-    requires { HoldsSomeRequest (window bytes.now) request.now len }
-    ensures head { IfOk result (AnswersHead bytes.now) }
-    ensures no_head { IfOk result (AnswersNoHead bytes.now) }
-{
-    let head = Head {
-        method: request.method.unwrap(),
-        target: request.path.unwrap(),
-        minor: request.version.unwrap(),
-        fields: &*request.headers,
-        has_surplus: len < bytes.len(),
-    };
-    answer(alloc, &head)
 }
 
 fn answer(alloc: Global, head: &Head<'_, '_>) -> Result<Shake, AllocError>
@@ -103,28 +68,6 @@ fn answer(alloc: Global, head: &Head<'_, '_>) -> Result<Shake, AllocError>
         Err(Fault::Refused(status)) => refused(alloc, status),
         Err(Fault::NoMemory) => Err(AllocError),
     }
-}
-
-fn without_head(alloc: Global, bytes: &[u8]) -> Result<Shake, AllocError>
-    requires none { HasNoRequest (window bytes.now) }
-    requires unfinished { MayBecomeRequest (window bytes.now) }
-    ensures head { IfOk result (AnswersHead bytes.now) }
-    ensures no_head { IfOk result (AnswersNoHead bytes.now) }
-{
-    if bytes.len() > MAX_HEAD {
-        refused(alloc, 431)
-    } else {
-        Ok(Shake::More)
-    }
-}
-
-// No further bytes can complete these to a head.
-fn hopeless(alloc: Global, bytes: &[u8]) -> Result<Shake, AllocError>
-    requires { NeverHasRequest (window bytes.now) }
-    ensures head { IfOk result (AnswersHead bytes.now) }
-    ensures no_head { IfOk result (AnswersNoHead bytes.now) }
-{
-    refused(alloc, 400)
 }
 
 fn refused(alloc: Global, status: u16) -> Result<Shake, AllocError>
