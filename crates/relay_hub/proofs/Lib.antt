@@ -4,6 +4,7 @@ pub mod Sessions
 pub mod Serving
 pub mod Queries
 pub mod Views
+pub mod CachedUpdates
 pub mod Notified
 pub mod Rising
 pub mod Indexed

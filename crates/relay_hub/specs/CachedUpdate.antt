@@ -1,5 +1,6 @@
 -- The update of the newest edit for one view.
-use Rattle.std.specs.Prelude.{ℕ, ◌≡◌, ◌-◌, Bool, true, false, List, option_map, is_some, IfSome, if◌then◌else◌}
+use Rattle.std.specs.Prelude.{ℕ, ◌≡◌, ◌-◌, Bool, true, false, List, map, is_some, if◌then◌else◌}
+use Rattle.std.specs.List.{AllByRecursion}
 use Rattle.relay_history.specs.History.{changes_since}
 use Rattle.relay_patch.specs.Change.{Leads}
 use Rattle.relay_patch.specs.Weight.{ops_weight}
@@ -16,6 +17,8 @@ use Rattle.relay_hub.specs.Update.{update_of}
 use Rattle.relay_hub.specs.Step.{telling}
 use Rattle.relay_hub.specs.declared.update.Update.{Update}
 use Rattle.relay_hub.specs.declared.update.Update.TheVariants.{Nothing, Patch, Snapshot}
+use Rattle.relay_hub.specs.declared.cached_update.CachedPatch.{CachedPatch}
+use Rattle.relay_hub.specs.declared.cached_update.CachedUpdate.{CachedUpdate}
 use Rattle.relay_hub.specs.declared.cached_update.UpdateCache.{UpdateCache}
 
 -- the update is what an edit from the document d by some changes means to a view, within a budget
@@ -42,14 +45,25 @@ is_patch Nothing = false
 is_patch (Patch p) = true
 is_patch Snapshot = false
 
--- the cached updates, if there are any, are what the newest edit means to their views, and the one kept as no patch is none
-pub record IsKept (room : Room) (cache : UpdateCache) : Type 0 where
-  pub patch : IfSome cache.patch (λ last. IsPatch room last.view last.patch)
-  pub other : IfSome cache.other (λ last. IsUpdate last.budget room last.view last.update × (is_patch last.update ≡ false))
+-- a kept patch is what the newest edit means to its view
+abbrev pub IsKeptPatch : Room → CachedPatch → Type 0
+IsKeptPatch room kept = IsPatch room kept.view kept.patch
 
--- what the patches still to be made may weigh, and the view of the last one
+-- a kept update is what the newest edit means to its view, and is no patch
+abbrev pub IsKeptOther : Room → CachedUpdate → Type 0
+IsKeptOther room kept = IsUpdate kept.budget room kept.view kept.update × (is_patch kept.update ≡ false)
+
+-- the kept patches and the other updates are what the newest edit means to their views
+pub record IsKept (room : Room) (cache : UpdateCache) : Type 0 where
+  pub patches : AllByRecursion (IsKeptPatch room) cache.patches.items
+  pub others : AllByRecursion (IsKeptOther room) cache.others.items
+
+abbrev pub views_of : List CachedPatch → List View
+views_of patches = map (λ kept. kept.view) patches
+
+-- what the patches still to be made may weigh, and the views of those that are kept
 abbrev pub allowance_of : UpdateCache → Allowance
-allowance_of cache = record { left = cache.left; last = option_map (λ last. last.view) cache.patch }
+allowance_of cache = record { left = cache.left; made = views_of cache.patches.items }
 
 -- the allowance after an update for a view
 abbrev pub spent : Allowance → View → Update → Allowance

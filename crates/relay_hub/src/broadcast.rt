@@ -37,7 +37,7 @@ pub fn broadcast_and_trim(
         → Leads d changes room.old.document → AllNotified d changes room.old made.telling_weight sessions.old sessions.new result }
     ensures trimmed { room.new ≡ trimmed made.history_weight room.old }
 {
-    let mut cache = UpdateCache::new(made.telling_weight);
+    let mut cache = UpdateCache::new(alloc, made.telling_weight);
     let short = broadcast(alloc, room, watches, sessions, &mut cache);
     room.trim(made.history_weight);
     short
@@ -46,9 +46,10 @@ pub fn broadcast_and_trim(
 /// Notifies the watchers of the newest edit. The index finds the sessions that the edit touches, and no other is visited. If the look-up
 /// runs out of memory, every session is visited. Returns how many outboxes folded because memory ran out.
 ///
-/// Costs the look-up ([`Room::touched`]); for each session found, a binary search and a comparison of two views; and for each whose view
-/// differs from that of the one before, what the edit means to it ([`Room::catch_up_within`]) and the text of that. So an update is made
-/// and written once for all sessions in a row that watch the same view. No patch is made that what is left does not pay for.
+/// Costs the look-up ([`Room::touched`]); for each session found, a binary search and a comparison of its view with at most 16 others; and
+/// for each whose view is none of these, what the edit means to it ([`Room::catch_up_within`]) and the text of that. So an update is made
+/// and written once for all sessions that watch the same view, if they watch at most 16 views. No patch is made that what is left does not
+/// pay for.
 fn broadcast(
     alloc: Global,
     room: &Room,

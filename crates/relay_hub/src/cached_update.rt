@@ -1,12 +1,13 @@
-//! The update of the newest edit for one view. It is made for the first watcher of the view and shared with the next ones. The patches that
-//! are made for one edit weigh no more together than a budget.
-ghost use Rattle.std.specs.Prelude.{◌≡◌, ◌<◌, ◌-◌, ◌↔◌, Some, None, false, is_some, option_map, IfOk, IfSome, OnErr};
+//! The updates of the newest edit, each for one view. One is made for the first watcher of the view and shared with the next ones, wherever
+//! they stand among the sessions. The patches that are made for one edit weigh no more together than a budget.
+ghost use Rattle.std.specs.Prelude.{◌≡◌, ◌<◌, ◌-◌, ◌↔◌, ◌⊎◌, [], ◌∷◌, false, is_some, take, IfOk, IfSome, OnOk, OnErr};
 ghost use Rattle.std.specs.Bool.{IsTrue};
+ghost use Rattle.std.specs.List.{Contains};
 ghost use Rattle.relay_history.specs.History.{Reaches};
 ghost use Rattle.relay_patch.specs.Weight.{ops_weight};
 ghost use Rattle.relay_room.specs.Room.{revision};
-ghost use Rattle.relay_hub.specs.Allowance.{whole, smaller, less, same_view, is_last, within};
-ghost use Rattle.relay_hub.specs.CachedUpdate.{IsUpdate, IsKept, allowance_of, shared_within, spent};
+ghost use Rattle.relay_hub.specs.Allowance.{whole, smaller, less, same_view, is_made, within};
+ghost use Rattle.relay_hub.specs.CachedUpdate.{IsUpdate, IsKept, views_of, allowance_of, shared_within, spent};
 
 use crate::encoded_patch::EncodedPatch;
 use crate::shared_view::SharedView;
@@ -16,15 +17,18 @@ use relay_tree::Budget;
 use relay_view::View;
 use std::alloc::{AllocError, Global};
 
+/// The most patches of one edit that are kept to be shared; and as many other updates.
+pub(crate) const MAX_SHARED: usize = 16;
+
 /// The updates of one edit that were made last, and what the patches that are still to be made may weigh.
 #[derive(Drop)]
 pub struct UpdateCache {
     /// What the patches that are still to be made may weigh together.
     pub left: Budget,
-    /// The patch that was made last.
-    pub patch: Option<CachedPatch>,
-    /// The update that was made last and is no patch.
-    pub other: Option<CachedUpdate>,
+    /// The patches that were made last, the newest first.
+    pub patches: Vec<CachedPatch>,
+    /// The updates that were made last and are no patches, the newest first.
+    pub others: Vec<CachedUpdate>,
 }
 
 /// A view, and the patch that the newest edit means to it.
@@ -44,42 +48,63 @@ pub struct CachedUpdate {
 }
 
 impl UpdateCache {
-    /// An empty cache, whose patches may weigh as much together as the budget pays for.
-    pub fn new(budget: Budget) -> UpdateCache
+    /// An empty cache, whose patches may weigh as much together as the budget pays for. Allocates nothing.
+    pub fn new(alloc: Global, budget: Budget) -> UpdateCache
         ensures allowance { allowance_of result ≡ whole budget }
-        ensures patch { result.patch ≡ None }
-        ensures other { result.other ≡ None }
+        ensures patches { result.patches.items ≡ [] }
+        ensures others { result.others.items ≡ [] }
     {
         UpdateCache {
             left: budget,
-            patch: None,
-            other: None,
+            patches: Vec::new(alloc),
+            others: Vec::new(alloc),
         }
     }
 
-    /// Keeps a patch that was made for the view, and pays for it.
-    fn keep_patch(&mut self, view: SharedView, patch: EncodedPatch)
-        ensures { self.new ≡ record { left = less (ops_weight patch.1) self.old.left; patch = Some (record { view = view; patch = patch }); other = self.old.other } }
+    /// Keeps a patch that was made for the view, and pays for it. Out of memory changes nothing.
+    fn keep_patch(&mut self, view: SharedView, patch: EncodedPatch) -> Result<(), AllocError>
+        ensures left { OnOk result (self.new.left ≡ less (ops_weight patch.1) self.old.left) }
+        ensures patches { OnOk result (self.new.patches.items ≡ take MAX_SHARED (record { view = view; patch = patch } ∷ self.old.patches.items)) }
+        ensures others { self.new.others ≡ self.old.others }
+        ensures err { OnErr result ((self.new.left ≡ self.old.left) × (self.new.patches.items ≡ self.old.patches.items)) }
     {
-        self.left = less(self.left, &patch);
-        self.patch = Some(CachedPatch { view, patch });
+        let left = less(self.left, &patch);
+        keep(&mut self.patches, CachedPatch { view, patch })?;
+        self.left = left;
+        Ok(())
     }
 
-    /// Keeps an update that is no patch.
+    /// Keeps an update that is no patch, if there is memory for it.
     fn keep_other(&mut self, view: SharedView, budget: Budget, update: Update)
-        ensures { self.new ≡ record { left = self.old.left; patch = self.old.patch; other = Some (record { view = view; budget = budget; update = update }) } }
+        ensures left { self.new.left ≡ self.old.left }
+        ensures patches { self.new.patches ≡ self.old.patches }
+        ensures others { (self.new.others.items ≡ self.old.others.items) ⊎ (self.new.others.items ≡ take MAX_SHARED (record { view = view; budget = budget; update = update } ∷ self.old.others.items)) }
     {
-        self.other = Some(CachedUpdate {
-            view,
-            budget,
-            update,
-        });
+        let _ = keep(
+            &mut self.others,
+            CachedUpdate {
+                view,
+                budget,
+                update,
+            },
+        );
     }
 }
 
-/// Returns the update of the newest edit for a view that a session with this budget watches. If the last patch is for an equal view, it is
-/// shared, if the session's budget pays for it. Otherwise the update is made within that budget and what is left, and cached; a patch is
-/// paid from what is left. Out of memory leaves the cache unchanged.
+/// Puts an item in front of the others, of which the last one goes if there are too many. Out of memory changes nothing.
+fn keep<T: Drop>(kept: &mut Vec<T>, item: T) -> Result<(), AllocError>
+    ensures ok { OnOk result (kept.new.items ≡ take MAX_SHARED (item ∷ kept.old.items)) }
+    ensures err { OnErr result (kept.new.items ≡ kept.old.items) }
+{
+    kept.insert(0, item)?;
+    kept.truncate(MAX_SHARED);
+    Ok(())
+}
+
+/// Returns the update of the newest edit for a view that a session with this budget watches. If one of the kept patches is for an equal
+/// view, it is shared, if the session's budget pays for it. Otherwise the update is made within that budget and what is left, and kept; a
+/// patch is paid from what is left. Out of memory leaves what may be made, and the views of the kept patches.
+#[tactic(auto, using(crate::proofs::CachedUpdates::patch_found, crate::proofs::CachedUpdates::other_found))]
 pub fn update_for(
     alloc: Global,
     room: &Room,
@@ -95,25 +120,28 @@ pub fn update_for(
     ensures spent { IfOk result (λ update. allowance_of cache.new ≡ spent (allowance_of cache.old) view.now update) }
     ensures err { OnErr result (allowance_of cache.new ≡ allowance_of cache.old) }
 {
-    if let Some(patch) = patch_for(&cache.patch, view) {
+    if let Some(patch) = patch_for(cache.patches.as_slice(), view) {
         return share_within(patch, budget);
     }
     let within = smaller(budget, cache.left);
-    if let Some(update) = other_for(&cache.other, view, within) {
+    if let Some(update) = other_for(cache.others.as_slice(), view, within) {
         return update.share();
     }
     make_and_cache(alloc, room, view, within, cache)
 }
 
-/// The last patch, if it is for an equal view. Compares the views token by token.
-fn patch_for<'a>(last: &'a Option<CachedPatch>, view: &SharedView) -> Option<&'a EncodedPatch>
-    ensures some { IfSome result (λ patch. last.now ≡ Some (record { view = view.now; patch = patch.now })) }
-    ensures found { is_some result ≡ is_last (option_map (λ last. last.view) last.now) view.now }
+/// The kept patch for an equal view, if there is one. Compares the views token by token.
+#[tactic(auto, using(crate::proofs::CachedUpdates::made_at, crate::proofs::CachedUpdates::not_made_next))]
+fn patch_for<'a>(patches: &'a [CachedPatch], view: &SharedView) -> Option<&'a EncodedPatch>
+    ensures some { IfSome result (λ patch. Contains patches.now (record { view = view.now; patch = patch.now })) }
+    ensures found { is_some result ≡ is_made (views_of patches.now) view.now }
 {
-    match last {
-        Some(last) if same(last.view.get(), view.get()) => Some(&last.patch),
-        _ => None,
+    for kept in patches {
+        if same(kept.view.get(), view.get()) {
+            return Some(&kept.patch);
+        }
     }
+    None
 }
 
 /// Whether two views have the same slots in the same order.
@@ -124,20 +152,20 @@ fn same(one: &View, other: &View) -> bool
     one.same(other)
 }
 
-/// The last update that is no patch, if it is for an equal view and the same budget. Compares the views token by token.
+/// The kept update that is no patch, for an equal view and the same budget, if there is one. Compares the views token by token.
 fn other_for<'a>(
-    last: &'a Option<CachedUpdate>,
+    others: &'a [CachedUpdate],
     view: &SharedView,
     budget: Budget,
 ) -> Option<&'a Update>
-    ensures { IfSome result (λ update. last.now ≡ Some (record { view = view.now; budget = budget; update = update.now })) }
+    ensures { IfSome result (λ update. Contains others.now (record { view = view.now; budget = budget; update = update.now })) }
 {
-    match last {
-        Some(last) if last.budget == budget && last.view.get().same(view.get()) => Some(
-            &last.update,
-        ),
-        _ => None,
+    for kept in others {
+        if kept.budget == budget && same(kept.view.get(), view.get()) {
+            return Some(&kept.update);
+        }
     }
+    None
 }
 
 /// The patch, shared, if the budget pays for it; otherwise a snapshot.
@@ -151,7 +179,8 @@ fn share_within(patch: &EncodedPatch, budget: Budget) -> Result<Update, AllocErr
     }
 }
 
-/// Makes the update of the newest edit for a view, and caches it.
+/// Makes the update of the newest edit for a view, and keeps it to be shared.
+#[tactic(auto, using(crate::proofs::CachedUpdates::kept_patch, crate::proofs::CachedUpdates::kept_other, crate::proofs::CachedUpdates::spent_patch))]
 fn make_and_cache(
     alloc: Global,
     room: &Room,
@@ -162,7 +191,7 @@ fn make_and_cache(
     requires edited { 0 < revision room.now }
     requires reaches { Reaches room.now.history (revision room.now - 1) }
     requires kept { IsKept room.now cache.old }
-    requires fresh { is_last (allowance_of cache.old).last view.now ≡ false }
+    requires fresh { is_made (views_of cache.old.patches.items) view.now ≡ false }
     ensures kept { IsKept room.now cache.new }
     ensures update { IfOk result (λ update. IsUpdate budget room.now view.now update) }
     ensures spent { IfOk result (λ update. allowance_of cache.new ≡ spent (allowance_of cache.old) view.now update) }
@@ -172,7 +201,7 @@ fn make_and_cache(
     let share = update.share()?;
     let view = view.share()?;
     match update {
-        Update::Patch(patch) => cache.keep_patch(view, patch),
+        Update::Patch(patch) => cache.keep_patch(view, patch)?,
         update => cache.keep_other(view, budget, update),
     }
     Ok(share)

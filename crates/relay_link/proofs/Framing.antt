@@ -26,7 +26,7 @@ joined (Some x) None sent old new frame took all = absurd took
 joined (Some x) (Some y) sent old new frame took all =
     ap (λ l. l ++ new) took ∙ append_assoc x sent new ∙ ap (λ l. x ++ l) all ∙ sym (append_assoc x old frame)
 
-appends_kept : (a b : Option (List ℕ)) → Keeps a b → Appends a b []
+pub appends_kept : (a b : Option (List ℕ)) → Keeps a b → Appends a b []
 appends_kept None b kept = tt
 appends_kept (Some x) None kept = absurd kept
 appends_kept (Some x) (Some y) kept = kept ∙ sym (append-nil x)
@@ -52,7 +52,7 @@ module _ {S : Type 0} (contents : S → Option (List ℕ)) (old new : Socket (Co
   text_written payload wrote =
       let left = left_as (check_can_write old.conn.state) old.conn new.conn payload old.output (wrote.0 ++ new.output) wrote.1 in
       record {
-        role = ap (λ (c : Connection). c.role) left.0;
+        reads_on = record { conn = left.0; input = wrote.3 };
         bytes = λ server. joined (written contents old.stream) (written contents new.stream) wrote.0 old.output new.output (text_frame payload) wrote.2 (left.1 server);
       }
 
@@ -65,6 +65,6 @@ module _ {S : Type 0} (contents : S → Option (List ℕ)) (old new : Socket (Co
   -- what waits goes out, and nothing else is framed
   pub flushed : Flushed (written contents) old new → Frames contents old new []
   flushed went = record {
-    role = ap (λ (c : Connection). c.role) went.3;
+    reads_on = record { conn = went.3; input = went.4 };
     bytes = λ server. appends_kept _ _ (append_known-moved (written contents old.stream) (written contents new.stream) went.0 new.output old.output went.2 went.1);
   }

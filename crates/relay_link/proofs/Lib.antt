@@ -3,5 +3,7 @@ pub mod Following
 pub mod Heads
 pub mod SocketErrors
 pub mod Framing
+pub mod Hearing
+pub mod Replying
 pub mod Roles
 pub mod Telling

@@ -1,10 +1,8 @@
 -- How what a link draws and what it frames go on together.
-use Rattle.std.proofs.Common.{◌≡◌, inl, inr, ℕ, zero, suc, true, Result, Ok, Err, IfOk, OnOk, OnErr, arith, List, [], ◌∷◌, ◌++◌, Option, Some, refl, sym, subst, ap, ◌∙◌, append_assoc, append-nil}
+use Rattle.std.proofs.Common.{◌≡◌, ℕ, true, Result, Ok, Err, IfOk, OnOk, OnErr, arith, List, [], ◌∷◌, ◌++◌, Option, Some, refl, sym, subst, ap, ◌∙◌, append_assoc, append-nil}
 use Rattle.std.proofs.KnownBytes.{Appends-trans, Appends-nil}
 use Rattle.websocket.specs.declared.protocol.config.Role.TheVariants.{Server}
-use Rattle.tungstenite.specs.Socket.{Socket, Reads}
-use Rattle.tungstenite.specs.declared.error.Error.{Error}
-use Rattle.tungstenite.specs.declared.message.Message.{Message}
+use Rattle.tungstenite.specs.Socket.{Socket}
 use Rattle.relay_hub.specs.State.{State as Hub}
 use Rattle.relay_hub.specs.Step.{Step}
 use Rattle.relay_hub.specs.declared.event.Answer.{Answer}
@@ -12,13 +10,14 @@ use Rattle.relay_hub.specs.declared.event.Event.{Event}
 use Rattle.relay_link.specs.Follows.{Point, at, IsOwn, no_room, session_after, Follows, stays, makes, drawn_by, drawn}
 use Rattle.relay_link.specs.Frames.{text_frame, text_frames, framed, Frames}
 use Rattle.relay_link.specs.Stage.{stage_of, is_over, IsForward}
-use Rattle.relay_link.specs.Stream.{stream_of}
-use Rattle.relay_link.specs.Tells.{Drew, Tells, IsRead, Hears, Exchanges, Talks, IsServing, IfOpen, WhileOpen, Told, Answered}
+use Rattle.relay_link.specs.Hears.{Passes, SendsAndPassesOn, GoesOn, ReadsTexts}
+use Rattle.relay_link.specs.Tells.{Drew, Tells, Hearing, Exchanges, Talks, IsServing, IfOpen, WhileOpen, Told, Answered}
 use Rattle.relay_link.specs.declared.stage.Stage.TheVariants as stage
 use Rattle.relay_link.specs.declared.state.State.{State}
 use Rattle.relay_link.specs.declared.turn.Turn.{Turn}
 use Rattle.relay_link.specs.declared.state.State.TheVariants.{Head, Replying, Open, Closing, Gone}
 use Rattle.relay_link.specs.declared.corked_writer.CorkedWriter.{CorkedWriter}
+use Rattle.relay_link.proofs.Hearing.{reads_on_same, reads_on_then, role_kept, hearing_none, hearing_then, passes_then}
 
 -- ---- what was drawn
 
@@ -49,12 +48,12 @@ module _ {S : Type 0} {contents : S → Option (List ℕ)} where
   -- ---- what was framed
 
   frames_none : (a b : Socket (CorkedWriter S)) → b ≡ a → Frames contents a b []
-  frames_none a b same = rw same (record { role = refl; bytes = λ server. Appends-nil (framed contents a) })
+  frames_none a b same = rw same (record { reads_on = reads_on_same a; bytes = λ server. Appends-nil (framed contents a) })
 
   frames_more : {a b c : Socket (CorkedWriter S)} (first second : List ℕ) → Frames contents a b first → Frames contents b c second → Frames contents a c (first ++ second)
   frames_more {a = a} {b = b} {c = c} first second f g = record {
-    role = g.role ∙ f.role;
-    bytes = λ server. Appends-trans (framed contents a) (framed contents b) (framed contents c) first second (f.bytes server) (g.bytes (f.role ∙ server));
+    reads_on = reads_on_then f.reads_on g.reads_on;
+    bytes = λ server. Appends-trans (framed contents a) (framed contents b) (framed contents c) first second (f.bytes server) (g.bytes (role_kept f.reads_on ∙ server));
   }
 
   frames_as : {a b : Socket (CorkedWriter S)} {first second : List ℕ} → second ≡ first → Frames contents a b first → Frames contents a b second
@@ -92,49 +91,45 @@ module _ {S : Type 0} {contents : S → Option (List ℕ)} where
 
   -- of a server's socket the frames are known
   told : {p q : Point} {a b : Socket (CorkedWriter S)} → Tells contents p q a b → a.conn.role ≡ Server → Told contents p q a b
-  told tells server = record { follows = tells.follows; frames = tells.frames.bytes server }
+  told tells server = record { follows = tells.follows; frames = tells.frames.bytes server; reads_on = tells.frames.reads_on }
 
-module _ {S : Type 0} (remaining : S → Option (List ℕ)) where
-  -- ---- what was heard
-
-  pub is_read : (old new : Socket (CorkedWriter S)) (outcome : Result Message Error) → Reads (λ w. remaining (stream_of w)) old new outcome → IsRead remaining old new
-  is_read old new outcome reads = (outcome, reads)
-
-  pub hears_nothing : (texts : ℕ) (a b : Socket (CorkedWriter S)) → b ≡ a → Hears remaining texts a b
-  hears_nothing zero a b same = same
-  hears_nothing (suc n) a b same = inl same
-
-  pub hears_read : {E : Type 0} (result : Result (Unit {0}) E) (texts : ℕ) (a b : Socket (CorkedWriter S)) → texts ≡ 1 → OnOk result (IsRead remaining a b) → OnOk result (Hears remaining texts a b)
-  hears_read (Ok u) texts a b one read = subst (λ n. Hears remaining n a b) (sym one) (inr read)
-  hears_read (Err e) texts a b one read = tt
+over_goes : {S : Type 0} (a : Socket (CorkedWriter S)) (state : State S) → is_over (stage_of state) ≡ true → GoesOn a state
+over_goes a (Open socket s) over = absurd (cc over)
+over_goes a (Head stream bytes) over = tt
+over_goes a (Replying stream reply) over = tt
+over_goes a (Closing socket turns) over = tt
+over_goes a Gone over = tt
 
 module _ {S : Type 0} (remaining contents : S → Option (List ℕ)) where
   -- ---- a turn
 
   -- what was heard comes before what was told
-  pub exchanged : (texts : ℕ) (p m q : Point) (a b c : Socket (CorkedWriter S)) → Drew [] p m → Hears remaining texts a b → b.conn.role ≡ a.conn.role → Tells contents m q b c
-      → Exchanges remaining contents texts p q a c
-  exchanged texts p m q a b c drew hears role tells = record { heard = b; hears = hears; role = role; tells = tells_then (tells_none p m b b drew refl) tells }
+  pub exchanged : (most : ℕ) (p m q : Point) (a b c : Socket (CorkedWriter S)) → Drew [] p m → Hearing remaining most p.made m.made a b → Passes m.made q.made [] → Tells contents m q b c
+      → Exchanges remaining contents most p q a c
+  exchanged most p m q a b c drew hearing quiet tells = record {
+    heard = b;
+    hearing = hearing_then most p.made m.made q.made a b hearing quiet;
+    tells = tells_then (tells_none p m b b drew refl) tells;
+  }
 
   -- what waits has still to wait
-  pub talked_none : (texts : ℕ) (p : Point) (a b : Socket (CorkedWriter S)) → Frames contents a b [] → Talks remaining contents texts p p a b
-  talked_none texts p a b sent = record {
+  pub talked_none : (most : ℕ) (p : Point) (a b : Socket (CorkedWriter S)) → Frames contents a b [] → Talks remaining contents most p p a b
+  talked_none most p a b sent = record {
     ready = b;
     sent = sent;
-    exchanges = record { heard = b; hears = hears_nothing remaining texts b b refl; role = refl; tells = tells_start p b };
+    exchanges = record { heard = b; hearing = hearing_none remaining most p.made p.made b b refl refl; tells = tells_start p b };
   }
 
   -- what waited was sent, and what was told was sent or has to wait
-  pub talked : {E : Type 0} (result : Result (Unit {0}) E) (texts : ℕ) (p q : Point) (a b c d : Socket (CorkedWriter S)) → Frames contents a b [] → OnOk result (Exchanges remaining contents texts p q b c)
-      → Frames contents c d [] → OnOk result (Talks remaining contents texts p q a d)
-  talked (Err e) texts p q a b c d sent exchanges last = tt
-  talked (Ok u) texts p q a b c d sent exchanges last = record {
+  pub talked : {E : Type 0} (result : Result (Unit {0}) E) (most : ℕ) (p q : Point) (a b c d : Socket (CorkedWriter S)) → Frames contents a b [] → OnOk result (Exchanges remaining contents most p q b c)
+      → Frames contents c d [] → OnOk result (Talks remaining contents most p q a d)
+  talked (Err e) most p q a b c d sent exchanges last = tt
+  talked (Ok u) most p q a b c d sent exchanges last = record {
     ready = b;
     sent = sent;
     exchanges = record {
       heard = exchanges.heard;
-      hears = exchanges.hears;
-      role = exchanges.role;
+      hearing = exchanges.hearing;
       tells = record {
         follows = exchanges.tells.follows;
         frames = frames_as (sym (append-nil _)) (frames_more _ _ exchanges.tells.frames last);
@@ -154,10 +149,42 @@ module _ {S : Type 0} (remaining contents : S → Option (List ℕ)) where
   talked_into (Err e) texts p hub next made after s a b (Closing socket turns) talks stayed over = tt
   talked_into (Err e) texts p hub next made after s a b Gone talks stayed over = tt
 
+  -- what was read and passed on: if the link is still open, its next turn reads on
+  pub reads_into : {E : Type 0} (turned : Result (Unit {0}) E) (most : ℕ) (p : Point) (hub next : Hub) (made after : List Event) (s : ℕ) (a b : Socket (CorkedWriter S)) (state : State S)
+      → OnOk turned (Talks remaining contents most p (at hub (Some s) made) a b) → SendsAndPassesOn remaining most a p.made made
+      → OnOk turned ((state ≡ Open b s) × (next ≡ hub) × (after ≡ made)) → OnErr turned (is_over (stage_of state) ≡ true) → Passes made after []
+      → ReadsTexts remaining most a state p.made after
+  reads_into (Ok u) most p hub next made after s a b state talks sends stayed over quiet = rw (stayed.0, stayed.2) (record {
+    sends = record {
+      ready = talks.ready;
+      same = talks.sent.reads_on;
+      passes_on = record {
+        texts = talks.exchanges.hearing.texts;
+        passes = talks.exchanges.hearing.passes;
+        heard = talks.exchanges.heard;
+        hears = talks.exchanges.hearing.hears;
+      };
+    };
+    goes_on = talks.exchanges.tells.frames.reads_on;
+  })
+  reads_into (Err e) most p hub next made after s a b state talks sends stayed over quiet = record {
+    sends = record {
+      ready = sends.ready;
+      same = sends.same;
+      passes_on = record {
+        texts = sends.passes_on.texts;
+        passes = passes_then sends.passes_on.texts p.made made after sends.passes_on.passes quiet;
+        heard = sends.passes_on.heard;
+        hears = sends.passes_on.hears;
+      };
+    };
+    goes_on = over_goes sends.passes_on.heard state over;
+  }
+
   -- the role stays
   pub serves_on : (texts : ℕ) (p : Point) (next : Hub) (made : List Event) (a : Socket (CorkedWriter S)) (state : State S) → IfOpen (Talks remaining contents texts) p a next made state
       → a.conn.role ≡ Server → IsServing state
-  serves_on texts p next made a (Open b t) talks server = talks.exchanges.tells.frames.role ∙ talks.exchanges.role ∙ talks.sent.role ∙ server
+  serves_on texts p next made a (Open b t) talks server = role_kept talks.exchanges.tells.frames.reads_on ∙ talks.exchanges.hearing.role ∙ role_kept talks.sent.reads_on ∙ server
   serves_on texts p next made a (Head stream bytes) talks server = tt
   serves_on texts p next made a (Replying stream reply) talks server = tt
   serves_on texts p next made a (Closing socket turns) talks server = tt
@@ -165,7 +192,7 @@ module _ {S : Type 0} (remaining contents : S → Option (List ℕ)) where
 
   told_alone : (p q : Point) (a b : Socket (CorkedWriter S)) → Talks remaining contents 0 p q a b → a.conn.role ≡ Server → Told contents p q a b
   told_alone p q a b talks server =
-      let same = talks.exchanges.hears in
+      let same = talks.exchanges.hearing.hears.0 in
       let tells = subst (λ x. Tells contents p q x b) same talks.exchanges.tells in
       told (record { follows = tells.follows; frames = frames_more [] _ talks.sent tells.frames }) server
 
@@ -173,9 +200,12 @@ module _ {S : Type 0} (remaining contents : S → Option (List ℕ)) where
   answered p q a b talks server = record {
     ready = talks.ready;
     sent = talks.sent.bytes server;
+    reads_on = talks.sent.reads_on;
+    texts = talks.exchanges.hearing.texts;
+    passes = talks.exchanges.hearing.passes;
     heard = talks.exchanges.heard;
-    hears = talks.exchanges.hears;
-    told = told talks.exchanges.tells (talks.exchanges.role ∙ talks.sent.role ∙ server);
+    hears = talks.exchanges.hearing.hears;
+    told = told talks.exchanges.tells (talks.exchanges.hearing.role ∙ role_kept talks.sent.reads_on ∙ server);
   }
 
 module _ {S : Type 0} (P Q : Point → Point → Socket (CorkedWriter S) → Socket (CorkedWriter S) → Type 0) (told_of : (p q : Point) (a b : Socket (CorkedWriter S)) → P p q a b → a.conn.role ≡ Server → Q p q a b) where

@@ -7,6 +7,7 @@ use Rattle.websocket.specs.Frame.{encode_frame}
 use Rattle.websocket.specs.declared.protocol.config.Role.TheVariants.{Server}
 use Rattle.websocket.specs.declared.protocol.frame.coding.Data.TheVariants.{Text}
 use Rattle.websocket.specs.declared.protocol.frame.coding.OpCode.TheVariants.{Data}
+use Rattle.relay_link.specs.Hears.{ReadsOn}
 use Rattle.relay_link.specs.Stream.{written}
 use Rattle.relay_link.specs.declared.corked_writer.CorkedWriter.{CorkedWriter}
 
@@ -24,7 +25,7 @@ module _ {S : Type 0} where
   abbrev pub framed : (S → Option (List ℕ)) → Socket (CorkedWriter S) → Option (List ℕ)
   framed contents socket = append_known (written contents socket.stream) socket.output
 
-  -- A call framed these bytes on the socket: all of them, and nothing else, behind what was framed before.
+  -- A call framed these bytes on the socket: all of them, and nothing else, behind what was framed before. It read nothing.
   pub record Frames (contents : S → Option (List ℕ)) (old new : Socket (CorkedWriter S)) (frames : List ℕ) : Type 0 where
-    pub role : new.conn.role ≡ old.conn.role
+    pub reads_on : ReadsOn old new
     pub bytes : old.conn.role ≡ Server → Appends (framed contents old) (framed contents new) frames

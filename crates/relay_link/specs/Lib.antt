@@ -6,5 +6,7 @@ pub mod Stage
 pub mod SocketError
 pub mod Turns
 pub mod Ends
+pub mod Hears
 pub mod Frames
 pub mod Tells
+pub mod Replies

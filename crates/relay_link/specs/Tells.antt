@@ -1,15 +1,13 @@
 -- What an open link sends in a turn: the frames of the texts that it draws.
-use Rattle.std.specs.Prelude.{◌≡◌, ◌⊎◌, ⊤, ℕ, zero, suc, List, [], Option, Some, Result}
+use Rattle.std.specs.Prelude.{◌≡◌, ⊤, ℕ, List, [], Option, Some}
 use Rattle.std.specs.Io.KnownBytes.{Appends}
 use Rattle.relay_hub.specs.State.{State as Hub}
 use Rattle.relay_hub.specs.declared.event.Event.{Event}
-use Rattle.tungstenite.specs.Socket.{Socket, Reads}
-use Rattle.tungstenite.specs.declared.error.Error.{Error}
-use Rattle.tungstenite.specs.declared.message.Message.{Message}
+use Rattle.tungstenite.specs.Socket.{Socket}
 use Rattle.websocket.specs.declared.protocol.config.Role.TheVariants.{Server}
 use Rattle.relay_link.specs.Follows.{Point, at, no_room, Follows, drawn}
 use Rattle.relay_link.specs.Frames.{text_frames, framed, Frames}
-use Rattle.relay_link.specs.Stream.{stream_of}
+use Rattle.relay_link.specs.Hears.{Hears, Passes, ReadsOn}
 use Rattle.relay_link.specs.declared.corked_writer.CorkedWriter.{CorkedWriter}
 use Rattle.relay_link.specs.declared.state.State.{State}
 use Rattle.relay_link.specs.declared.state.State.TheVariants.{Open}
@@ -26,27 +24,24 @@ module _ {S : Type 0} where
     pub follows : Follows no_room p q
     pub frames : Frames contents old new (text_frames (drawn follows))
 
-  -- the socket read once, with whatever outcome
-  abbrev pub IsRead : (S → Option (List ℕ)) → Socket (CorkedWriter S) → Socket (CorkedWriter S) → Type 0
-  IsRead remaining old new = (outcome : Result Message Error) × Reads (λ w. remaining (stream_of w)) old new outcome
-
-  -- it read at most so many messages
-  abbrev pub Hears : (S → Option (List ℕ)) → ℕ → Socket (CorkedWriter S) → Socket (CorkedWriter S) → Type 0
-  Hears remaining zero old new = new ≡ old
-  Hears remaining (suc n) old new = (new ≡ old) ⊎ IsRead remaining old new
+  -- the link hears at most so many messages, and passes their texts on
+  pub record Hearing (remaining : S → Option (List ℕ)) (most : ℕ) (before after : List Event) (old new : Socket (CorkedWriter S)) : Type 0 where
+    pub texts : List (List ℕ)
+    pub passes : Passes before after texts
+    pub hears : Hears remaining most old new texts
+    pub role : new.conn.role ≡ old.conn.role
 
   -- a link that has nothing to send hears, and then tells
-  pub record Exchanges (remaining contents : S → Option (List ℕ)) (texts : ℕ) (p q : Point) (old new : Socket (CorkedWriter S)) : Type 0 where
+  pub record Exchanges (remaining contents : S → Option (List ℕ)) (most : ℕ) (p q : Point) (old new : Socket (CorkedWriter S)) : Type 0 where
     pub heard : Socket (CorkedWriter S)
-    pub hears : Hears remaining texts old heard
-    pub role : heard.conn.role ≡ old.conn.role
+    pub hearing : Hearing remaining most p.made q.made old heard
     pub tells : Tells contents p q heard new
 
   -- the same of a link that may have something to send, which goes first
-  pub record Talks (remaining contents : S → Option (List ℕ)) (texts : ℕ) (p q : Point) (old new : Socket (CorkedWriter S)) : Type 0 where
+  pub record Talks (remaining contents : S → Option (List ℕ)) (most : ℕ) (p q : Point) (old new : Socket (CorkedWriter S)) : Type 0 where
     pub ready : Socket (CorkedWriter S)
     pub sent : Frames contents old ready []
-    pub exchanges : Exchanges remaining contents texts p q ready new
+    pub exchanges : Exchanges remaining contents most p q ready new
 
   -- an open link speaks as a server, whose frames are not masked
   abbrev pub IsServing : State S → Type 0
@@ -66,15 +61,20 @@ module _ {S : Type 0} where
   -- ---- what a public turn says
 
   -- The bytes that were framed before, and the frames of the texts that the events drew, each whole and in order: these, and nothing else,
-  -- are what is framed now.
+  -- are what is framed now. Nothing was read.
   pub record Told (contents : S → Option (List ℕ)) (p q : Point) (old new : Socket (CorkedWriter S)) : Type 0 where
     pub follows : Follows no_room p q
     pub frames : Appends (framed contents old) (framed contents new) (text_frames (drawn follows))
+    pub reads_on : ReadsOn old new
 
-  -- The same of a turn that may hear: what was framed before it reads stays, and what the read itself sends is as the WebSocket says of it.
+  -- The same of a turn that may hear. What was framed before it reads stays, and what the read itself sends is as the WebSocket says of it.
+  -- The text that the read finds is what the events pass to the hub, and the next turn reads on behind it.
   pub record Answered (remaining contents : S → Option (List ℕ)) (p q : Point) (old new : Socket (CorkedWriter S)) : Type 0 where
     pub ready : Socket (CorkedWriter S)
     pub sent : Appends (framed contents old) (framed contents ready) []
+    pub reads_on : ReadsOn old ready
+    pub texts : List (List ℕ)
+    pub passes : Passes p.made q.made texts
     pub heard : Socket (CorkedWriter S)
-    pub hears : Hears remaining 1 ready heard
+    pub hears : Hears remaining 1 ready heard texts
     pub told : Told contents p q heard new

@@ -7,6 +7,7 @@ use Rattle.relay_link.specs.Adds.{receives, draws}
 use Rattle.relay_link.specs.Asks.{asked_by, Receives}
 use Rattle.relay_link.specs.Ends.{turns_left}
 use Rattle.relay_link.specs.Follows.{Follows, at}
+use Rattle.relay_link.specs.Hears.{PassesTexts}
 use Rattle.relay_link.specs.Stage.{stage_of, session_of, leaves, is_over}
 use Rattle.relay_link.specs.declared.cause.Cause.TheVariants.{Silent}
 use Rattle.relay_link.specs.declared.link.TheConstants.{MAX_DRAWS}
@@ -24,6 +25,8 @@ pub record Turns {S : Type 0} (remaining : S → Option (List ℕ)) (texts most 
   pub received : Receives remaining old new
   pub few : length turn.made.items ≤ MAX_EVENTS
   pub heard : receives turn.made.items ≤ texts
+  -- the texts that the events pass to the hub are those that the link read, and the next turn reads on where this one stopped
+  pub passes : PassesTexts remaining texts old new [] turn.made.items
   pub drew : draws turn.made.items ≤ min most MAX_DRAWS
   -- a session that the link no longer has was closed
   pub closed : (s : ℕ) → session_of old ≡ Some s → session_of new ≡ None → Contains turn.made.items (Close s)

@@ -1,7 +1,8 @@
 //! The hub calls that a link makes, each recorded as an event.
-ghost use Rattle.std.specs.Prelude.{◌≡◌, ◌<◌, [], ◌∷◌, ◌++◌, length, is_some, Some, None, option_map, string_bytes, IfOk, OnErr};
+ghost use Rattle.std.specs.Prelude.{◌≡◌, ◌<◌, [], ◌∷◌, ◌++◌, length, is_some, Some, None, option_map, string_bytes, IfOk, OnOk, OnErr};
 ghost use Rattle.relay_hub.specs.Call.{not_opened};
 ghost use Rattle.relay_link.specs.Follows.{Follows, no_room, is_room, at, given, closing_of};
+ghost use Rattle.relay_link.specs.Hears.{Passes};
 ghost use Rattle.relay_link.specs.Tells.{Drew};
 ghost use Rattle.relay_hub.specs.declared.event.Event.TheVariants.{Close};
 ghost use Rattle.relay_link.specs.Adds.{Adds};
@@ -12,9 +13,11 @@ use relay_hub::{Event, Hub, HubFault, NoSession, OpenFault, Text};
 use std::alloc::{AllocError, Global};
 
 /// Opens the link's session in a room. `None` if the hub refuses it or is out of memory; only the refusal is recorded as an event.
+#[tactic(auto, using(crate::proofs::Hearing::passes_same, crate::proofs::Hearing::passes_none))]
 pub(crate) fn open(alloc: Global, hub: &mut Hub, room: String, made: &mut EventLog) -> Option<u64>
     requires { length made.old < MAX_EVENTS }
     ensures follows { Follows (is_room (string_bytes room)) (at hub.old None made.old) (at hub.new result made.new) }
+    ensures passes { Passes made.old made.new [] }
     ensures adds { Adds 1 0 0 made.old made.new }
 {
     let room = Text::of(room);
@@ -45,6 +48,7 @@ fn is_answer(fault: OpenFault) -> bool
 }
 
 /// Passes a text of the link's session to the hub. After `AllocError` nothing has changed.
+#[tactic(auto, using(crate::proofs::Hearing::passes_same, crate::proofs::Hearing::passes_text))]
 pub(crate) fn receive(
     alloc: Global,
     hub: &mut Hub,
@@ -55,6 +59,8 @@ pub(crate) fn receive(
     requires { length made.old < MAX_EVENTS }
     ensures follows { Follows no_room (at hub.old (Some session) made.old) (at hub.new (Some session) made.new) }
     ensures drew { Drew [] (at hub.old (Some session) made.old) (at hub.new (Some session) made.new) }
+    ensures passes { OnOk result (Passes made.old made.new (string_bytes text ∷ [])) }
+    ensures passes_none { OnErr result (Passes made.old made.new []) }
     ensures adds { Adds 1 1 0 made.old made.new }
 {
     let text = Text::of(text);
@@ -68,6 +74,7 @@ pub(crate) fn receive(
 }
 
 /// Draws a text from the outbox of the link's session. `None` if there is none. After `AllocError` nothing has changed.
+#[tactic(auto, using(crate::proofs::Hearing::passes_same, crate::proofs::Hearing::passes_none))]
 pub(crate) fn draw(
     alloc: Global,
     hub: &mut Hub,
@@ -78,6 +85,7 @@ pub(crate) fn draw(
     ensures follows { Follows no_room (at hub.old (Some session) made.old) (at hub.new (Some session) made.new) }
     ensures drew { IfOk result (λ text. Drew (given (option_map string_bytes text)) (at hub.old (Some session) made.old) (at hub.new (Some session) made.new)) }
     ensures drew_none { OnErr result (Drew [] (at hub.old (Some session) made.old) (at hub.new (Some session) made.new)) }
+    ensures passes { Passes made.old made.new [] }
     ensures adds { Adds 1 0 1 made.old made.new }
 {
     let text = match hub.draw(alloc, session) {
@@ -90,10 +98,12 @@ pub(crate) fn draw(
 }
 
 /// Closes the link's session. Allocates nothing.
+#[tactic(auto, using(crate::proofs::Hearing::passes_none))]
 pub(crate) fn close(hub: &mut Hub, session: u64, made: &mut EventLog)
     requires { length made.old < MAX_EVENTS }
     ensures follows { Follows no_room (at hub.old (Some session) made.old) (at hub.new None made.new) }
     ensures adds { Adds 1 0 0 made.old made.new }
+    ensures passes { Passes made.old made.new [] }
     ensures made { made.new ≡ made.old ++ Close session ∷ [] }
 {
     match hub.close(session) {

@@ -1,11 +1,14 @@
 //! The handshake of a link: its request head, then the reply.
-ghost use Rattle.std.specs.Prelude.{◌≡◌, ◌≢◌, ◌+◌, ◌≤◌, length, is_some, Some, None, string_bytes, false};
+ghost use Rattle.std.specs.Prelude.{◌≡◌, ◌≢◌, ◌+◌, ◌≤◌, length, [], is_some, Some, None, string_bytes, false};
 ghost use Rattle.relay_link.specs.Adds.{Adds};
 ghost use Rattle.relay_link.specs.Asks.{Asks, Receives, awaits_head};
 ghost use Rattle.relay_link.specs.Ends.{turns_left};
 ghost use Rattle.relay_link.specs.Follows.{Follows, no_room, is_room, at};
 ghost use Rattle.relay_link.specs.Stage.{entered, leaves, stage_of, session_of};
-ghost use Rattle.relay_link.specs.Stream.{stream_of};
+ghost use Rattle.relay_link.specs.Hears.{Passes};
+ghost use Rattle.relay_link.specs.Replies.{Replies, RepliesTo, WritesReply};
+ghost use Rattle.relay_link.specs.Stream.{stream_of, written};
+ghost use Rattle.relay_shake.specs.declared.answer.Shake.TheVariants.{Accept};
 ghost use Rattle.relay_link.specs.Tells.{IsServing};
 ghost use Rattle.relay_link.specs.declared.cause.Cause.TheVariants.{Silent};
 ghost use Rattle.relay_link.specs.declared.closing.TheConstants.{MAX_TURNS};
@@ -30,7 +33,7 @@ use std::io::{Read, Write};
 pub(crate) const MAX_READ: usize = 4_096;
 
 /// Reads once, and checks the bytes received so far as a handshake.
-#[tactic(auto, using(crate::proofs::Following::follows_same, crate::proofs::Following::follows_none, crate::proofs::Heads::received_past))]
+#[tactic(auto, using(crate::proofs::Following::follows_same, crate::proofs::Following::follows_none, crate::proofs::Heads::received_past, crate::proofs::Hearing::passes_same))]
 pub(crate) fn listen<S: Read + Write + Drop>(
     alloc: Global,
     mut stream: CorkedWriter<S>,
@@ -41,6 +44,8 @@ pub(crate) fn listen<S: Read + Write + Drop>(
     requires { length made.old + 2 ≤ MAX_EVENTS }
     ensures follows { Follows (Asks bytes.items (S.remaining (stream_of stream))) (at hub.old None made.old) (at hub.new (session_of result.state) made.new) }
     ensures received { Receives S.remaining (State.Head stream bytes) result.state }
+    ensures replies { Replies S.remaining S.contents (State.Head stream bytes) result.state }
+    ensures passes { Passes made.old made.new [] }
     ensures adds { Adds 2 0 0 made.old made.new }
     ensures serving { IsServing result.state }
     ensures cause { is_some result.cause ≡ leaves Head (stage_of result.state) }
@@ -73,7 +78,7 @@ pub(crate) fn listen<S: Read + Write + Drop>(
 }
 
 /// Opens a session, and begins to write the reply. If the hub opens none, the handshake is refused with 503.
-#[tactic(auto, using(crate::proofs::Following::follows_same, crate::proofs::Following::follows_then, crate::proofs::Following::follows_none))]
+#[tactic(auto, using(crate::proofs::Following::follows_same, crate::proofs::Following::follows_then, crate::proofs::Following::follows_none, crate::proofs::Hearing::passes_then, crate::proofs::Replying::replies_open, crate::proofs::Replying::replies_refused, crate::proofs::Replying::replies_gone))]
 fn admit<S: Read + Write + Drop>(
     alloc: Global,
     stream: CorkedWriter<S>,
@@ -85,6 +90,8 @@ fn admit<S: Read + Write + Drop>(
     requires { length made.old + 2 ≤ MAX_EVENTS }
     ensures follows { Follows (is_room (string_bytes room)) (at hub.old None made.old) (at hub.new (session_of result.state) made.new) }
     ensures past { awaits_head result.state ≡ false }
+    ensures replies { RepliesTo S.contents (written S.contents stream) (Accept room accepted) result.state }
+    ensures passes { Passes made.old made.new [] }
     ensures adds { Adds 2 0 0 made.old made.new }
     ensures serving { IsServing result.state }
     ensures cause { is_some result.cause ≡ leaves Head (stage_of result.state) }
@@ -119,6 +126,8 @@ fn answer<S: Read + Write + Drop>(
     requires { length made.old + 1 ≤ MAX_EVENTS }
     ensures follows { Follows no_room (at hub.old (entered verdict) made.old) (at hub.new (session_of result.state) made.new) }
     ensures past { awaits_head result.state ≡ false }
+    ensures writes { WritesReply S.contents (written S.contents stream) verdict rest.items result.state }
+    ensures passes { Passes made.old made.new [] }
     ensures adds { Adds 1 0 0 made.old made.new }
     ensures serving { IsServing result.state }
     ensures cause { is_some result.cause ≡ leaves Head (stage_of result.state) }
@@ -130,7 +139,7 @@ fn answer<S: Read + Write + Drop>(
 
 /// Writes the rest of a reply. Once it is written the link is open, or gone if the reply is a refusal. If the stream fails, the
 /// session that was opened is closed.
-#[tactic(auto, using(crate::proofs::Following::follows_same))]
+#[tactic(auto, using(crate::proofs::Following::follows_same, crate::proofs::Hearing::passes_same, crate::proofs::Replying::writes_all))]
 pub(crate) fn reply<S: Read + Write + Drop>(
     alloc: Global,
     mut stream: CorkedWriter<S>,
@@ -141,6 +150,8 @@ pub(crate) fn reply<S: Read + Write + Drop>(
     requires { length made.old + 1 ≤ MAX_EVENTS }
     ensures follows { Follows no_room (at hub.old (entered reply.verdict) made.old) (at hub.new (session_of result.state) made.new) }
     ensures past { awaits_head result.state ≡ false }
+    ensures writes { WritesReply S.contents (written S.contents stream) reply.verdict reply.rest.items result.state }
+    ensures passes { Passes made.old made.new [] }
     ensures adds { Adds 1 0 0 made.old made.new }
     ensures serving { IsServing result.state }
     ensures cause { is_some result.cause ≡ leaves Head (stage_of result.state) }

@@ -4,6 +4,8 @@ ghost use Rattle.relay_link.specs.Adds.{Adds, texts_of};
 ghost use Rattle.relay_link.specs.Asks.{asked_by, IsFresh, Receives};
 ghost use Rattle.relay_link.specs.Ends.{turns_left};
 ghost use Rattle.relay_link.specs.Follows.{Follows, no_room, at, closing_of};
+ghost use Rattle.relay_link.specs.Hears.{PassesTexts};
+ghost use Rattle.relay_link.specs.Replies.{Replies};
 ghost use Rattle.relay_link.specs.Stage.{stage_of, session_of, has_corked_output, is_idle, leaves, ended, IsForward};
 ghost use Rattle.relay_link.specs.Tells.{IsServing, Talks, WhileOpen, Told, Answered};
 ghost use Rattle.relay_link.specs.Turns.{Turns};
@@ -116,6 +118,7 @@ impl<S: Read + Write + Drop> Link<S> {
     pub fn turn(&mut self, alloc: Global, hub: &mut Hub, draws: u64) -> Result<Turn, AllocError>
         ensures turns { IfOk result (Turns S.remaining 1 draws hub.old self.old hub.new self.new) }
         ensures frames { IfOk result (λ turn. WhileOpen (Answered S.remaining S.contents) hub.old [] self.old hub.new turn.made.items self.new) }
+        ensures replies { OnOk result (Replies S.remaining S.contents self.old self.new) }
         ensures forward { IsForward (stage_of self.old) (stage_of self.new) }
         ensures unchanged { OnErr result (self.new ≡ self.old) }
         ensures hub_unchanged { OnErr result (hub.new ≡ hub.old) }
@@ -134,6 +137,7 @@ impl<S: Read + Write + Drop> Link<S> {
     ) -> Result<Turn, AllocError>
         ensures turns { IfOk result (Turns S.remaining 1 draws hub.old self.old hub.new self.new) }
         ensures frames { IfOk result (λ turn. WhileOpen (Answered S.remaining S.contents) hub.old [] self.old hub.new turn.made.items self.new) }
+        ensures replies { OnOk result (Replies S.remaining S.contents self.old self.new) }
         ensures forward { IsForward (stage_of self.old) (stage_of self.new) }
         ensures unchanged { OnErr result (self.new ≡ self.old) }
         ensures hub_unchanged { OnErr result (hub.new ≡ hub.old) }
@@ -153,6 +157,7 @@ impl<S: Read + Write + Drop> Link<S> {
     ) -> Result<Turn, AllocError>
         ensures turns { IfOk result (Turns S.remaining 0 draws hub.old self.old hub.new self.new) }
         ensures frames { IfOk result (λ turn. WhileOpen (Told S.contents) hub.old [] self.old hub.new turn.made.items self.new) }
+        ensures replies { OnOk result (Replies S.remaining S.contents self.old self.new) }
         ensures forward { IsForward (stage_of self.old) (stage_of self.new) }
         ensures unchanged { OnErr result (self.new ≡ self.old) }
         ensures hub_unchanged { OnErr result (hub.new ≡ hub.old) }
@@ -205,6 +210,7 @@ impl<S: Read + Write + Drop> Link<S> {
         ensures turns { IfOk result (Turns S.remaining (texts_of phase) draws hub.old self.old hub.new self.new) }
         ensures talks { IfOk result (λ turn. WhileOpen (Talks S.remaining S.contents (texts_of phase)) hub.old [] self.old hub.new turn.made.items self.new) }
         ensures serving { OnOk result (IsServing self.old) }
+        ensures replies { OnOk result (Replies S.remaining S.contents self.old self.new) }
         ensures forward { IsForward (stage_of self.old) (stage_of self.new) }
         ensures unchanged { OnErr result (self.new ≡ self.old) }
         ensures hub_unchanged { OnErr result (hub.new ≡ hub.old) }
@@ -224,7 +230,7 @@ impl<S: Read + Write + Drop> Link<S> {
 }
 
 /// Runs a turn by the state of the link. In a write turn a link that waits for a head or a close is unchanged.
-#[tactic(auto, using(crate::proofs::Following::follows_same, crate::proofs::Heads::received_none, crate::proofs::Heads::received_past, crate::proofs::Heads::received_open, crate::proofs::Heads::received_closing))]
+#[tactic(auto, using(crate::proofs::Following::follows_same, crate::proofs::Heads::received_none, crate::proofs::Heads::received_past, crate::proofs::Heads::received_open, crate::proofs::Heads::received_closing, crate::proofs::Hearing::passes_closing, crate::proofs::Hearing::passes_unchanged, crate::proofs::Replying::passes_replying, crate::proofs::Replying::passes_listening, crate::proofs::Replying::replies_unchanged))]
 fn advance<S: Read + Write + Drop>(
     alloc: Global,
     state: State<S>,
@@ -238,6 +244,8 @@ fn advance<S: Read + Write + Drop>(
     ensures received { Receives S.remaining state result.state }
     ensures talks { WhileOpen (Talks S.remaining S.contents (texts_of phase)) hub.old made.old state hub.new made.new result.state }
     ensures serving { IsServing state → IsServing result.state }
+    ensures replies { Replies S.remaining S.contents state result.state }
+    ensures passes { PassesTexts S.remaining (texts_of phase) state result.state made.old made.new }
     ensures adds { Adds (draws + 2) (texts_of phase) draws made.old made.new }
     ensures cause { is_some result.cause ≡ leaves (stage_of state) (stage_of result.state) }
     ensures forward { IsForward (stage_of state) (stage_of result.state) }

@@ -4,7 +4,8 @@ ghost use Rattle.relay_link.specs.Adds.{Adds, texts_of};
 ghost use Rattle.relay_link.specs.Ends.{IsPrompt, cause_of, turns_left};
 ghost use Rattle.relay_link.specs.Follows.{Follows, no_room, at};
 ghost use Rattle.relay_link.specs.Stage.{leaves, stage_of, session_of, is_over, IsForward};
-ghost use Rattle.relay_link.specs.Tells.{Drew, IsRead, Hears, Tells, Exchanges, Talks, IfOpen, IsServing};
+ghost use Rattle.relay_link.specs.Hears.{Passes, PassesOn, SendsAndPassesOn, ReadsTexts};
+ghost use Rattle.relay_link.specs.Tells.{Drew, Hearing, Tells, Exchanges, Talks, IfOpen, IsServing};
 ghost use Rattle.relay_link.specs.declared.cause.Cause.TheVariants.{Silent};
 ghost use Rattle.relay_link.specs.declared.closing.TheConstants.{MAX_TURNS};
 ghost use Rattle.relay_link.specs.declared.event_log.TheConstants.{MAX_EVENTS};
@@ -42,7 +43,7 @@ impl From<Cause> for Ending {
 }
 
 /// A turn of an open link.
-#[tactic(auto, using(crate::proofs::Following::follows_same, crate::proofs::Following::follows_then, crate::proofs::Telling::talked_into, crate::proofs::Telling::serves_on))]
+#[tactic(auto, using(crate::proofs::Following::follows_same, crate::proofs::Following::follows_then, crate::proofs::Telling::reads_into, crate::proofs::Telling::talked_into, crate::proofs::Telling::serves_on))]
 pub(crate) fn turn<S: Read + Write + Drop>(
     alloc: Global,
     mut socket: Socket<S>,
@@ -56,6 +57,7 @@ pub(crate) fn turn<S: Read + Write + Drop>(
     ensures follows { Follows no_room (at hub.old (Some session) made.old) (at hub.new (session_of result.state) made.new) }
     ensures talks { IfOpen (Talks S.remaining S.contents (texts_of phase)) (at hub.old (Some session) made.old) socket hub.new made.new result.state }
     ensures serving { socket.conn.role ≡ Server → IsServing result.state }
+    ensures passes { ReadsTexts S.remaining (texts_of phase) socket result.state made.old made.new }
     ensures adds { Adds (draws + 2) (texts_of phase) draws made.old made.new }
     ensures cause { is_some result.cause ≡ leaves Open (stage_of result.state) }
     ensures forward { IsForward Open (stage_of result.state) }
@@ -70,7 +72,7 @@ pub(crate) fn turn<S: Read + Write + Drop>(
 }
 
 /// The link after a turn: still open, or its session is closed.
-#[tactic(auto, using(crate::proofs::Following::follows_same, crate::proofs::Following::follows_then))]
+#[tactic(auto, using(crate::proofs::Following::follows_same, crate::proofs::Following::follows_then, crate::proofs::Hearing::passes_same))]
 fn settle<S: Read + Write + Drop>(
     turned: Result<(), Ending>,
     socket: Socket<S>,
@@ -83,6 +85,7 @@ fn settle<S: Read + Write + Drop>(
     ensures follows { Follows no_room (at hub.old (Some session) made.old) (at hub.new (session_of result.state) made.new) }
     ensures stays { OnOk turned ((result.state ≡ State.Open socket session) × (hub.new ≡ hub.old) × (made.new ≡ made.old)) }
     ensures over { OnErr turned (is_over (stage_of result.state) ≡ true) }
+    ensures passes { Passes made.old made.new [] }
     ensures adds { Adds 1 0 0 made.old made.new }
     ensures cause { is_some result.cause ≡ leaves Open (stage_of result.state) }
     ensures forward { IsForward Open (stage_of result.state) }
@@ -103,7 +106,7 @@ fn settle<S: Read + Write + Drop>(
 
 /// Sends pending output that is not corked. When none is left, the link may read a message and draws messages; its output is sent,
 /// or corked until a write turn.
-#[tactic(auto, using(crate::proofs::Following::follows_same, crate::proofs::Following::follows_then, crate::proofs::Telling::talked_none, crate::proofs::Telling::talked))]
+#[tactic(auto, using(crate::proofs::Following::follows_same, crate::proofs::Following::follows_then, crate::proofs::Hearing::sends_none, crate::proofs::Hearing::sends_and_passes, crate::proofs::Telling::talked_none, crate::proofs::Telling::talked))]
 fn talk<S: Read + Write + Drop>(
     alloc: Global,
     socket: &mut Socket<S>,
@@ -116,6 +119,7 @@ fn talk<S: Read + Write + Drop>(
     requires { length made.old + draws + 1 ≤ MAX_EVENTS }
     ensures follows { Follows no_room (at hub.old (Some session) made.old) (at hub.new (Some session) made.new) }
     ensures talks { OnOk result (Talks S.remaining S.contents (texts_of phase) (at hub.old (Some session) made.old) (at hub.new (Some session) made.new) socket.old socket.new) }
+    ensures passes { SendsAndPassesOn S.remaining (texts_of phase) socket.old made.old made.new }
     ensures adds { Adds (draws + 1) (texts_of phase) draws made.old made.new }
     ensures prompt { IfErr result (λ ending. IsPrompt (cause_of ending)) }
 {
@@ -135,7 +139,7 @@ fn talk<S: Read + Write + Drop>(
 }
 
 /// Reads a message, if it may, then draws messages and frames them.
-#[tactic(auto, using(crate::proofs::Following::follows_same, crate::proofs::Following::follows_then, crate::proofs::Telling::exchanged))]
+#[tactic(auto, using(crate::proofs::Following::follows_same, crate::proofs::Following::follows_then, crate::proofs::Hearing::passes_on_then, crate::proofs::Telling::exchanged))]
 fn exchange<S: Read + Write + Drop>(
     alloc: Global,
     socket: &mut Socket<S>,
@@ -148,6 +152,7 @@ fn exchange<S: Read + Write + Drop>(
     requires { length made.old + draws + 1 ≤ MAX_EVENTS }
     ensures follows { Follows no_room (at hub.old (Some session) made.old) (at hub.new (Some session) made.new) }
     ensures exchanges { OnOk result (Exchanges S.remaining S.contents (texts_of phase) (at hub.old (Some session) made.old) (at hub.new (Some session) made.new) socket.old socket.new) }
+    ensures passes { PassesOn S.remaining (texts_of phase) socket.old made.old made.new }
     ensures adds { Adds (draws + 1) (texts_of phase) draws made.old made.new }
     ensures prompt { IfErr result (λ ending. IsPrompt (cause_of ending)) }
 {
@@ -157,7 +162,7 @@ fn exchange<S: Read + Write + Drop>(
 }
 
 /// Reads a message, if the phase reads and the hub has space for a reply.
-#[tactic(auto, using(crate::proofs::Following::follows_same, crate::proofs::Telling::drew_same, crate::proofs::Telling::hears_nothing, crate::proofs::Telling::hears_read))]
+#[tactic(auto, using(crate::proofs::Following::follows_same, crate::proofs::Telling::drew_same, crate::proofs::Hearing::passes_same, crate::proofs::Hearing::passes_on_none, crate::proofs::Hearing::passes_on_most, crate::proofs::Hearing::hearing_none, crate::proofs::Hearing::hearing_most))]
 fn hear<S: Read + Write + Drop>(
     alloc: Global,
     socket: &mut Socket<S>,
@@ -169,8 +174,8 @@ fn hear<S: Read + Write + Drop>(
     requires { length made.old + 1 ≤ MAX_EVENTS }
     ensures follows { Follows no_room (at hub.old (Some session) made.old) (at hub.new (Some session) made.new) }
     ensures drew { OnOk result (Drew [] (at hub.old (Some session) made.old) (at hub.new (Some session) made.new)) }
-    ensures hears { OnOk result (Hears S.remaining (texts_of phase) socket.old socket.new) }
-    ensures role { OnOk result (socket.new.conn.role ≡ socket.old.conn.role) }
+    ensures hears { OnOk result (Hearing S.remaining (texts_of phase) made.old made.new socket.old socket.new) }
+    ensures passes { PassesOn S.remaining (texts_of phase) socket.old made.old made.new }
     ensures adds { Adds 1 (texts_of phase) 0 made.old made.new }
     ensures prompt { IfErr result (λ ending. IsPrompt (cause_of ending)) }
 {
@@ -181,7 +186,7 @@ fn hear<S: Read + Write + Drop>(
 }
 
 /// Reads one message. A text is passed to the hub.
-#[tactic(auto, using(crate::proofs::Following::follows_same, crate::proofs::Telling::drew_same))]
+#[tactic(auto, using(crate::proofs::Following::follows_same, crate::proofs::Telling::drew_same, crate::proofs::Hearing::passes_same, crate::proofs::Hearing::passes_on_none, crate::proofs::Hearing::passes_on_read, crate::proofs::Hearing::hearing_read))]
 fn receive_message<S: Read + Write + Drop>(
     alloc: Global,
     socket: &mut Socket<S>,
@@ -192,8 +197,8 @@ fn receive_message<S: Read + Write + Drop>(
     requires { length made.old + 1 ≤ MAX_EVENTS }
     ensures follows { Follows no_room (at hub.old (Some session) made.old) (at hub.new (Some session) made.new) }
     ensures drew { OnOk result (Drew [] (at hub.old (Some session) made.old) (at hub.new (Some session) made.new)) }
-    ensures reads { OnOk result (IsRead S.remaining socket.old socket.new) }
-    ensures role { OnOk result (socket.new.conn.role ≡ socket.old.conn.role) }
+    ensures hears { OnOk result (Hearing S.remaining 1 made.old made.new socket.old socket.new) }
+    ensures passes { PassesOn S.remaining 1 socket.old made.old made.new }
     ensures adds { Adds 1 1 0 made.old made.new }
     ensures prompt { IfErr result (λ ending. IsPrompt (cause_of ending)) }
 {
@@ -221,7 +226,7 @@ fn receive_message<S: Read + Write + Drop>(
 
 /// Draws up to `draws` messages and frames each, until output is pending. A draw that is out of memory ends the turn, and asks for
 /// another.
-#[tactic(auto, using(crate::proofs::Following::follows_same, crate::proofs::Following::follows_then, crate::proofs::Telling::tells_start, crate::proofs::Telling::tells_on, crate::proofs::Telling::tells_text))]
+#[tactic(auto, using(crate::proofs::Following::follows_same, crate::proofs::Following::follows_then, crate::proofs::Hearing::passes_same, crate::proofs::Hearing::passes_then, crate::proofs::Telling::tells_start, crate::proofs::Telling::tells_on, crate::proofs::Telling::tells_text))]
 fn gather<S: Read + Write + Drop>(
     alloc: Global,
     socket: &mut Socket<S>,
@@ -233,6 +238,7 @@ fn gather<S: Read + Write + Drop>(
     requires { length made.old + draws ≤ MAX_EVENTS }
     ensures follows { Follows no_room (at hub.old (Some session) made.old) (at hub.new (Some session) made.new) }
     ensures tells { OnOk result (Tells S.contents (at hub.old (Some session) made.old) (at hub.new (Some session) made.new) socket.old socket.new) }
+    ensures passes { Passes made.old made.new [] }
     ensures adds { Adds draws 0 draws made.old made.new }
     ensures prompt { IfErr result IsPrompt }
 {

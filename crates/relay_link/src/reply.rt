@@ -18,11 +18,14 @@ pub(crate) struct Reply {
 }
 
 impl Reply {
-    ghost use Rattle.std.specs.Prelude.{◌≡◌};
+    ghost use Rattle.std.specs.Prelude.{◌≡◌, ◌++◌, ℕ, List, [], OnOk};
+    ghost use Rattle.std.specs.Io.KnownBytes.{Appends};
 
     /// Writes the rest of the reply, and flushes. After an error `rest` is what was not written yet.
     pub(crate) fn send<W: Write>(&mut self, stream: &mut W) -> Result<()>
-        ensures { self.new.verdict ≡ self.old.verdict }
+        ensures verdict { self.new.verdict ≡ self.old.verdict }
+        ensures sent { (sent : List ℕ) × (self.old.rest.items ≡ sent ++ self.new.rest.items) × Appends (W.contents stream.old) (W.contents stream.new) sent }
+        ensures all { OnOk result (self.new.rest.items ≡ []) }
     {
         while !self.rest.is_empty() {
             let len = stream.write(self.rest.as_slice())?;

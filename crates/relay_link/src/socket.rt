@@ -1,11 +1,12 @@
 //! The WebSocket of a link. No call blocks.
-ghost use Rattle.std.specs.Prelude.{◌≡◌, [], OnOk, IfErr};
+ghost use Rattle.std.specs.Prelude.{◌≡◌, [], IfOk, OnOk, IfErr};
 ghost use Rattle.tungstenite.specs.Failure.{IsIo};
+ghost use Rattle.tungstenite.specs.Socket.{IsFresh};
 ghost use Rattle.websocket.specs.declared.protocol.config.Role.TheVariants.{Server};
 ghost use Rattle.relay_link.specs.declared.cause.Cause.TheVariants.{Stream};
 ghost use Rattle.relay_link.specs.Frames.{Frames, text_frame};
 ghost use Rattle.relay_link.specs.Ends.{IsPrompt};
-ghost use Rattle.relay_link.specs.Tells.{IsRead};
+ghost use Rattle.relay_link.specs.Hears.{Finds, text_of};
 ghost use Rattle.relay_link.specs.SocketError.{IsOfSocket};
 
 use crate::cause::Cause;
@@ -33,7 +34,7 @@ const MAX_GATHERED: usize = 65_536;
 
 /// A socket on a stream whose handshake is done.
 pub(crate) fn socket_on<S: Read + Write + Drop>(alloc: Global, stream: CorkedWriter<S>) -> Socket<S>
-    ensures { result.conn.role ≡ Server }
+    ensures { IsFresh result stream Server }
 {
     let config = WebSocketConfig::default()
         .read_buffer_size(READ_BUFFER)
@@ -45,11 +46,11 @@ pub(crate) fn socket_on<S: Read + Write + Drop>(alloc: Global, stream: CorkedWri
 
 /// Reads one message. `None` if no complete message is available now. After a message the socket asks for another turn, since the
 /// next one may already be buffered.
-#[tactic(auto, using(crate::proofs::SocketErrors::read_error, crate::proofs::Telling::is_read))]
+#[tactic(auto, using(crate::proofs::SocketErrors::read_error, crate::proofs::Hearing::finds_message, crate::proofs::Hearing::finds_none))]
 pub(crate) fn read<S: Read + Write + Drop>(socket: &mut Socket<S>) -> Result<Option<Message>, Cause>
     ensures prompt { IfErr result IsPrompt }
     ensures role { OnOk result (socket.new.conn.role ≡ socket.old.conn.role) }
-    ensures reads { IsRead S.remaining socket.old socket.new }
+    ensures finds { IfOk result (λ found. Finds S.remaining socket.old socket.new (text_of found)) }
 {
     match socket.read() {
         Ok(message) => {

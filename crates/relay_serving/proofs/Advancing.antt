@@ -16,7 +16,7 @@ module _ {S : Type 0} {remaining : S → Option (List ℕ)} where
   -- links are the same if each key's is
   pub advances_same : {hub next : State} {old held new : Links S} → Advances remaining hub old next held → ((key : ℕ) → new key ≡ held key) → Advances remaining hub old next new
   advances_same (stays was) same = stays (λ key. same key ∙ was key)
-  advances_same (turns before key made had has others follows received) same = turns before key made had (same key ∙ has) (λ other apart. same other ∙ others other apart) follows received
+  advances_same (turns before key made had has others follows received passes) same = turns before key made had (same key ∙ has) (λ other apart. same other ∙ others other apart) follows received passes
   advances_same (adds before key had has others fresh) same = adds before key had (same key ∙ has) (λ other apart. same other ∙ others other apart) fresh
   advances_same (removes before key had has others bare) same = removes before key had (same key ∙ has) (λ other apart. same other ∙ others other apart) bare
   advances_same (sheds before) same = sheds (advances_same before same)
@@ -24,7 +24,7 @@ module _ {S : Type 0} {remaining : S → Option (List ℕ)} where
   -- one after the other
   pub advances_then : {hub mid next : State} {old held new : Links S} → Advances remaining hub old mid held → Advances remaining mid held next new → Advances remaining hub old next new
   advances_then before (stays same) = advances_same before same
-  advances_then before (turns after key made had has others follows received) = turns (advances_then before after) key made had has others follows received
+  advances_then before (turns after key made had has others follows received passes) = turns (advances_then before after) key made had has others follows received passes
   advances_then before (adds after key had has others fresh) = adds (advances_then before after) key had has others fresh
   advances_then before (removes after key had has others bare) = removes (advances_then before after) key had has others bare
   advances_then before (sheds after) = sheds (advances_then before after)
@@ -38,7 +38,7 @@ module _ {S : Type 0} {remaining : S → Option (List ℕ)} where
   -- the same after several links' events
   pub advances_stand : (b : HubConfig) (E : Log) {hub next : State} {old new : Links S} → StandsFor b E hub → (advances : Advances remaining hub old next new) → StandsFor b (with_turns advances E) next
   advances_stand b E stands (stays same) = stands
-  advances_stand b E stands (turns before key made had has others follows received) = follows_stand b (with_turns before E) (advances_stand b E stands before) follows
+  advances_stand b E stands (turns before key made had has others follows received passes) = follows_stand b (with_turns before E) (advances_stand b E stands before) follows
   advances_stand b E stands (adds before key had has others fresh) = advances_stand b E stands before
   advances_stand b E stands (removes before key had has others bare) = advances_stand b E stands before
   advances_stand b E stands (sheds {mid = mid} before) = shed_stands b (with_turns before E) mid (advances_stand b E stands before)

@@ -8,8 +8,10 @@ use Rattle.relay_hub.specs.Shed.{shed}
 use Rattle.relay_hub.specs.State.{State}
 use Rattle.relay_hub.specs.declared.event.Event.{Event}
 use Rattle.relay_link.specs.Asks.{asked_by, IsFresh, Receives}
-use Rattle.relay_link.specs.Follows.{Follows, at, no_room}
+use Rattle.relay_link.specs.Follows.{Follows, at, no_room, closing_of}
+use Rattle.relay_link.specs.Hears.{PassesTexts}
 use Rattle.relay_link.proofs.Following.{follows_none}
+use Rattle.relay_link.proofs.Hearing.{passes_ended}
 use Rattle.relay_link.specs.Stage.{stage_of, session_of}
 use Rattle.relay_link.specs.declared.stage.Stage.TheVariants as stage
 use Rattle.relay_link.specs.declared.state.State.{State as Link}
@@ -90,14 +92,14 @@ module _ {S : Type 0} (held : Slab (Connection S)) (key : ℕ) (was is : Connect
 
     -- Its link made a turn.
     pub turned : (hub next : State) (made : List Event) → Follows (asked_by remaining was.link) (at hub (session_of was.link) []) (at next (session_of is.link) made)
-        → Receives remaining was.link is.link → Advances remaining hub (links_of held) next (links_of (with_value held key is))
-    turned hub next made follows received =
-        turns (stays (λ other. refl)) key made (ap of there) (ap of written.changed) (updated_others held (with_value held key is) key (Some is) written) follows received
+        → Receives remaining was.link is.link → PassesTexts remaining 1 was.link is.link [] made → Advances remaining hub (links_of held) next (links_of (with_value held key is))
+    turned hub next made follows received passes =
+        turns (stays (λ other. refl)) key made (ap of there) (ap of written.changed) (updated_others held (with_value held key is) key (Some is) written) follows received passes
 
     -- Its link ended.
     pub ended : (hub next : State) (made : List Event) → Follows no_room (at hub (session_of was.link) []) (at next (session_of is.link) made)
-        → stage_of is.link ≡ stage.Gone → Advances remaining hub (links_of held) next (links_of (with_value held key is))
-    ended hub next made follows gone = turned hub next made (follows_none follows) (gone_receives remaining was.link is.link gone)
+        → made ≡ closing_of (session_of was.link) → stage_of is.link ≡ stage.Gone → Advances remaining hub (links_of held) next (links_of (with_value held key is))
+    ended hub next made follows closes gone = turned hub next made (follows_none follows) (gone_receives remaining was.link is.link gone) (passes_ended remaining was.link is.link made closes gone)
 
 -- A new connection was added.
 pub added : {S : Type 0} {remaining : Watched S → Option (List ℕ)} (held new : Slab (Connection S)) (key : ℕ) (connection : Connection S) (hub : State) → get held key ≡ None

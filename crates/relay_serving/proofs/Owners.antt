@@ -211,7 +211,7 @@ module _ {S : Type 0} {remaining : S → Option (List ℕ)} where
   advance_each : {hub next : State} {old new : Links S} → Advances remaining hub old next new → IsHub hub → OneEach hub (sessions_in old)
       → IsHub next × OneEach next (sessions_in new)
   advance_each (stays same) is each = (is, one_each_same (λ t. refl) (λ k. ap (option_and_then session_of) (same k)) each)
-  advance_each (turns {held = held} {new = new} {was = was} {is = now} before key made had has others follows received) is each =
+  advance_each (turns {held = held} {new = new} {was = was} {is = now} before key made had has others follows received passes) is each =
       let earlier = advance_each before is each in
       let mine = one_each_same (λ t. refl) (λ k. sym (set_back key (session_of was) (sessions_in held) (sessions_in held) (ap (option_and_then session_of) had) (λ other apart. refl) k)) earlier.1 in
       let done = one_link key (sessions_in held) follows earlier.0 mine in

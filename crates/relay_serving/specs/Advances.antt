@@ -8,6 +8,7 @@ use Rattle.relay_hub.specs.State.{State}
 use Rattle.relay_hub.specs.declared.event.Event.{Event}
 use Rattle.relay_link.specs.Asks.{asked_by, Receives}
 use Rattle.relay_link.specs.Follows.{Point, Follows, stays as none, makes, at}
+use Rattle.relay_link.specs.Hears.{PassesTexts}
 use Rattle.relay_link.specs.Stage.{session_of}
 use Rattle.relay_link.specs.declared.state.State.{State as Link}
 use Rattle.relay_link.specs.declared.state.State.TheVariants.{Head}
@@ -43,12 +44,13 @@ Others key old new = (other : ℕ) → other ≢ key → new other ≡ old other
 module _ {S : Type 0} (remaining : S → Option (List ℕ)) where
   -- The second hub, with its links, is reached from the first. The hub changes by turns of links alone, whose events are each the link's
   -- own, and by giving memory back. A session is opened only in the room that the link's head asks for. The head is what the link has
-  -- received since it was added, and then what the turn reads.
+  -- received since it was added, and then what the turn reads. A text of a session is one that its link read from its WebSocket, which
+  -- reads on from turn to turn.
   pub data Advances : State → Links S → State → Links S → Type 0 where
     stays : {hub : State} {old new : Links S} → ((key : ℕ) → new key ≡ old key) → Advances hub old hub new
     turns : {hub mid next : State} {old held new : Links S} {was is : Link S} → Advances hub old mid held → (key : ℕ) (made : List Event)
         → held key ≡ Some was → new key ≡ Some is → Others key held new
-        → Follows (asked_by remaining was) (at mid (session_of was) []) (at next (session_of is) made) → Receives remaining was is → Advances hub old next new
+        → Follows (asked_by remaining was) (at mid (session_of was) []) (at next (session_of is) made) → Receives remaining was is → PassesTexts remaining 1 was is [] made → Advances hub old next new
     adds : {hub mid : State} {old held new : Links S} {is : Link S} → Advances hub old mid held → (key : ℕ)
         → held key ≡ None → new key ≡ Some is → Others key held new → IsNew is → Advances hub old mid new
     removes : {hub mid : State} {old held new : Links S} {was : Link S} → Advances hub old mid held → (key : ℕ)
@@ -64,7 +66,7 @@ module _ {S : Type 0} {remaining : S → Option (List ℕ)} where
   -- a log with the entries of all events
   abbrev pub with_turns : {hub next : State} {old new : Links S} → Advances remaining hub old next new → Log → Log
   with_turns (stays same) E = E
-  with_turns (turns before key made had has others follows received) E = with_events follows (with_turns before E)
+  with_turns (turns before key made had has others follows received passes) E = with_events follows (with_turns before E)
   with_turns (adds before key had has others fresh) E = with_turns before E
   with_turns (removes before key had has others bare) E = with_turns before E
   with_turns (sheds before) E = with_turns before E

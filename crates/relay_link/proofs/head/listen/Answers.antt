@@ -7,6 +7,7 @@ use Rattle.relay_link.specs.declared.head.TheConstants.{MAX_READ}
 use Rattle.relay_link.specs.declared.state.State.TheVariants.{Head}
 use Rattle.relay_link.proofs.Following.{follows_wider}
 use Rattle.relay_link.proofs.Heads.{extended, asks_with}
+use Rattle.relay_link.proofs.Replying.{replies_head, replies_refuse}
 use Rattle.relay_link.proofs.head.listen.Goals as goal
 
 pub returns-in-Ok-Accept-clause-follows : goal.returns-in-Ok-Accept-clause-follows
@@ -32,3 +33,22 @@ returns-in-Ok-More-clause-received g c =
     let first : Consumes (g.S.Read.remaining (stream_of c.args.stream)) left taken = c.in-Ok.ensures.bytes.0 in
     let grown = extended c.extend_from_slice.result c.args.bytes.items c.extend_from_slice.new.self.items taken fits c.extend_from_slice.ensures.items in
     subst (λ t. Receives g.S.Read.remaining (Head c.args.stream c.args.bytes) t.state) (sym c.on-in-Ok-More.ensures) (taken, first, grown)
+
+-- The head is whole: the reply is the answer to those bytes.
+pub returns-in-Ok-Accept-clause-replies : goal.returns-in-Ok-Accept-clause-replies
+returns-in-Ok-Accept-clause-replies g c =
+    let fits : is_err c.extend_from_slice.result ≡ false = search rules in
+    let whole = c.as_slice.ensures.value ∙ extended c.extend_from_slice.result c.args.bytes.items c.extend_from_slice.new.self.items _ fits c.extend_from_slice.ensures.items in
+    let taken = take c.in-Ok.len c.read.new.buf in
+    let first : Consumes (g.S.Read.remaining (stream_of c.args.stream)) (g.S.Read.remaining (stream_of c.read.new.self)) taken = c.in-Ok.ensures.bytes.0 in
+    replies_head g.S.Read.remaining g.S.Write.contents c.args.stream c.read.new.self c.args.bytes _ taken c.in-Ok-Accept.field-0 _ whole first c.in-Ok-Accept.ensures.head c.in-Ok-Accept.ensures.no_head
+    (rw c.in-Ok-Accept.field-0-is c.admit.ensures.replies)
+
+pub returns-in-Ok-Refuse-clause-replies : goal.returns-in-Ok-Refuse-clause-replies
+returns-in-Ok-Refuse-clause-replies g c =
+    let fits : is_err c.extend_from_slice.result ≡ false = search rules in
+    let whole = c.as_slice.ensures.value ∙ extended c.extend_from_slice.result c.args.bytes.items c.extend_from_slice.new.self.items _ fits c.extend_from_slice.ensures.items in
+    let taken = take c.in-Ok.len c.read.new.buf in
+    let first : Consumes (g.S.Read.remaining (stream_of c.args.stream)) (g.S.Read.remaining (stream_of c.read.new.self)) taken = c.in-Ok.ensures.bytes.0 in
+    replies_head g.S.Read.remaining g.S.Write.contents c.args.stream c.read.new.self c.args.bytes _ taken c.in-Ok-Refuse.field-0 _ whole first c.in-Ok-Refuse.ensures.head c.in-Ok-Refuse.ensures.no_head
+    (rw c.in-Ok-Refuse.field-0-is (replies_refuse g.S.Write.contents _ _ _ _ c.answer.ensures.writes))

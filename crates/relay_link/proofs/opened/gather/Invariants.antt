@@ -1,7 +1,8 @@
 -- Each pass so far added at most one event, a draw, and framed what it drew.
-use Rattle.std.proofs.Common.{Some}
+use Rattle.std.proofs.Common.{Some, []}
 use Rattle.relay_link.specs.Adds.{Adds}
 use Rattle.relay_link.specs.Follows.{Follows, no_room, at}
+use Rattle.relay_link.specs.Hears.{Passes}
 use Rattle.relay_link.specs.Tells.{Tells}
 use Rattle.relay_link.proofs.opened.gather.Given as goal
 
@@ -9,5 +10,6 @@ abbrev pub invariant-loop : goal.invariant-loop
 invariant-loop g l = record {
   follows : Follows no_room (at l.initial.hub (Some l.session) l.initial.made) (at l.hub (Some l.session) l.made);
   tells : Tells g.S.Write.contents (at l.initial.hub (Some l.session) l.initial.made) (at l.hub (Some l.session) l.made) l.initial.socket l.socket;
+  passes : Passes l.initial.made l.made [];
   adds : Adds l.counter 0 l.counter l.initial.made l.made;
 }

@@ -1,6 +1,14 @@
 -- While output is pending, a link only sends.
+use Rattle.std.proofs.Common.{refl}
+use Rattle.relay_link.proofs.Hearing.{sends_none}
 use Rattle.relay_link.proofs.Telling.{talked_none}
 use Rattle.relay_link.proofs.opened.talk.Goals as goal
 
 pub returns-then-not-branch-clause-talks : goal.returns-then-not-branch-clause-talks
 returns-then-not-branch-clause-talks g c = talked_none g.S.Read.remaining g.S.Write.contents _ _ _ _ c.flush.ensures.frames
+
+pub returns-then-not-branch-clause-passes : goal.returns-then-not-branch-clause-passes
+returns-then-not-branch-clause-passes g c = sends_none g.S.Read.remaining _ _ _ _ refl
+
+pub returns-in_err-flush-clause-passes : goal.returns-in_err-flush-clause-passes
+returns-in_err-flush-clause-passes g c = sends_none g.S.Read.remaining _ _ _ _ refl

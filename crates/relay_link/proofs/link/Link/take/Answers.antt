@@ -1,6 +1,9 @@
 -- If the link no longer has its session, one of the events closed it.
-use Rattle.std.proofs.Common.{◌≡◌, ◌∙◌, Some, ap, rules, subst}
+use Rattle.std.proofs.Common.{◌≡◌, ◌∙◌, Some, ap, rules, subst, subst₂}
 use Rattle.relay_link.specs.Asks.{Receives}
+use Rattle.relay_link.specs.Adds.{texts_of}
+use Rattle.relay_link.specs.Hears.{PassesTexts}
+use Rattle.relay_link.specs.Replies.{Replies}
 use Rattle.relay_link.specs.Stage.{session_of}
 use Rattle.relay_link.proofs.Closed.{closed}
 use Rattle.relay_link.proofs.Following.{follows_from}
@@ -12,6 +15,7 @@ returns-clause-turns g c = record {
   received = subst (λ state. Receives g.S.Read.remaining state c.advance-next.result.state) (c.replace-state.ensures.value ∙ c.self.view_is) c.advance-next.ensures.received;
   few = search rules;
   heard = search rules;
+  passes = rw c.into_events.ensures (subst₂ (λ state made. PassesTexts g.S.Read.remaining (texts_of c.args.phase) state c.advance-next.result.state made c.advance-next.new.made) (c.replace-state.ensures.value ∙ c.self.view_is) c.in_ok-made.ensures c.advance-next.ensures.passes);
   drew = search rules;
   closed = λ s had gone.
       let was : session_of c.replace-state.result ≡ Some s = ap session_of (c.replace-state.ensures.value ∙ c.self.view_is) ∙ had in
@@ -23,3 +27,6 @@ returns-clause-turns g c = record {
   silent = search rules;
   gone = search rules;
 }
+
+pub returns-clause-replies : goal.returns-clause-replies
+returns-clause-replies g c = subst (λ state. Replies g.S.Read.remaining g.S.Write.contents state c.advance-next.result.state) (c.replace-state.ensures.value ∙ c.self.view_is) c.advance-next.ensures.replies

@@ -1,0 +1,193 @@
+-- How what a link reads and what it passes to the hub go on together.
+use Rattle.std.proofs.Common.{◌≡◌, inl, inr, ℕ, zero, suc, List, [], ◌∷◌, ◌++◌, Option, None, Some, Result, Ok, Err, IfOk, OnOk, OnErr, refl, sym, subst, ap, ◌∙◌, append_assoc, append-nil, arith}
+use Rattle.websocket.specs.Connection.{Connection}
+use Rattle.tungstenite.specs.Socket.{Socket, Reads}
+use Rattle.tungstenite.specs.declared.error.Error.{Error}
+use Rattle.tungstenite.specs.declared.message.Message.{Message}
+use Rattle.relay_hub.specs.declared.event.Event.{Event}
+use Rattle.relay_hub.specs.declared.event.Event.TheVariants.{Receive}
+use Rattle.relay_link.specs.Follows.{closing_of}
+use Rattle.relay_link.specs.Hears.{received_by, received, Passes, text_of, ReadsOn, Finds, Hears, PassesOn, SendsAndPassesOn, GoesOn, BeginsFresh, ReadsTexts, PassesTexts}
+use Rattle.relay_link.specs.Stage.{stage_of, session_of, entered, IsForward}
+use Rattle.relay_link.specs.Stream.{stream_of}
+use Rattle.relay_link.specs.Tells.{Hearing}
+use Rattle.relay_link.specs.declared.corked_writer.CorkedWriter.{CorkedWriter}
+use Rattle.relay_link.specs.declared.stage.Stage.TheVariants as stage
+use Rattle.relay_link.specs.declared.state.State.{State}
+use Rattle.relay_link.specs.declared.state.State.TheVariants.{Head, Replying, Open, Closing, Gone}
+
+-- ---- the texts of events
+
+received_both : (made more : List Event) → received (made ++ more) ≡ received made ++ received more
+received_both [] more = refl
+received_both (event ∷ made) more = ap (λ l. received_by event ++ l) (received_both made more) ∙ sym (append_assoc (received_by event) (received made) (received more))
+
+-- one more event passes the text that it has
+passes_event : (before after : List Event) (event : Event) → after ≡ before ++ event ∷ [] → Passes before after (received_by event)
+passes_event before after event made = ap received made ∙ received_both before (event ∷ []) ∙ ap (λ l. received before ++ l) (append-nil (received_by event))
+
+-- no event was made
+pub passes_same : (before after : List Event) → after ≡ before → Passes before after []
+passes_same before after same = ap received same ∙ sym (append-nil (received before))
+
+-- one was made that passes nothing
+pub passes_none : (before after : List Event) (event : Event) → after ≡ before ++ event ∷ [] → received_by event ≡ [] → Passes before after []
+passes_none before after event made none = subst (Passes before after) none (passes_event before after event made)
+
+pub passes_text : (before after : List Event) (s : ℕ) (text : List ℕ) → after ≡ before ++ Receive s text ∷ [] → Passes before after (text ∷ [])
+passes_text before after s text made = passes_event before after (Receive s text) made
+
+-- then no more
+pub passes_then : (texts : List (List ℕ)) (a b c : List Event) → Passes a b texts → Passes b c [] → Passes a c texts
+passes_then texts a b c some none = none ∙ append-nil (received b) ∙ some
+
+module _ {S : Type 0} where
+  -- ---- reading on
+
+  pub reads_on_same : (a : Socket (CorkedWriter S)) → ReadsOn a a
+  reads_on_same a = record { conn = refl; input = refl }
+
+  pub reads_on_then : {a b c : Socket (CorkedWriter S)} → ReadsOn a b → ReadsOn b c → ReadsOn a c
+  reads_on_then f g = record { conn = g.conn ∙ f.conn; input = g.input ∙ f.input }
+
+  pub role_kept : {a b : Socket (CorkedWriter S)} → ReadsOn a b → b.conn.role ≡ a.conn.role
+  role_kept f = ap (λ (c : Connection). c.role) f.conn
+
+module _ {S : Type 0} (remaining : S → Option (List ℕ)) where
+  -- ---- what a read found
+
+  pub finds_message : (a b : Socket (CorkedWriter S)) (message : Message) → Reads (λ w. remaining (stream_of w)) a b (Ok message) → Finds remaining a b (text_of (Some message))
+  finds_message a b message reads = (Ok message, reads, refl)
+
+  pub finds_none : (a b : Socket (CorkedWriter S)) (error : Error) → Reads (λ w. remaining (stream_of w)) a b (Err error) → Finds remaining a b (text_of None)
+  finds_none a b error reads = (Err error, reads, refl)
+
+  -- ---- what was heard
+
+  hears_nothing : (most : ℕ) (a : Socket (CorkedWriter S)) → Hears remaining most a a []
+  hears_nothing zero a = (refl, refl)
+  hears_nothing (suc n) a = inl (refl, refl)
+
+  -- nothing was read, and no text was passed on
+  pub hearing_none : (most : ℕ) (before after : List Event) (a b : Socket (CorkedWriter S)) → b ≡ a → after ≡ before → Hearing remaining most before after a b
+  hearing_none most before after a b same none = rw same (record { texts = []; passes = passes_same before after none; hears = hears_nothing most a; role = refl })
+
+  -- one read, and its text was passed on
+  pub hearing_read : (before after : List Event) (a b : Socket (CorkedWriter S)) (found : Option Message) → Finds remaining a b (text_of found) → b.conn.role ≡ a.conn.role
+      → Passes before after (text_of found) → Hearing remaining 1 before after a b
+  hearing_read before after a b found finds role passes = record { texts = text_of found; passes = passes; hears = inr finds; role = role }
+
+  pub hearing_most : {E : Type 0} (result : Result (Unit {0}) E) (most : ℕ) (before after : List Event) (a b : Socket (CorkedWriter S)) → most ≡ 1
+      → OnOk result (Hearing remaining 1 before after a b) → OnOk result (Hearing remaining most before after a b)
+  hearing_most (Ok u) most before after a b one hearing = subst (λ n. Hearing remaining n before after a b) (sym one) hearing
+  hearing_most (Err e) most before after a b one hearing = tt
+
+  -- ---- what was passed on, whatever comes of it
+
+  pub passes_on_none : (most : ℕ) (a : Socket (CorkedWriter S)) (before after : List Event) → Passes before after [] → PassesOn remaining most a before after
+  passes_on_none most a before after none = record { texts = []; passes = none; heard = a; hears = hears_nothing most a }
+
+  pub passes_on_read : (a b : Socket (CorkedWriter S)) (before after : List Event) (found : Option Message) → Finds remaining a b (text_of found) → Passes before after (text_of found)
+      → PassesOn remaining 1 a before after
+  passes_on_read a b before after found finds passes = record { texts = text_of found; passes = passes; heard = b; hears = inr finds }
+
+  pub passes_on_most : (most : ℕ) (a : Socket (CorkedWriter S)) (before after : List Event) → most ≡ 1 → PassesOn remaining 1 a before after → PassesOn remaining most a before after
+  passes_on_most most a before after one passes = subst (λ n. PassesOn remaining n a before after) (sym one) passes
+
+  pub passes_on_then : (most : ℕ) (a : Socket (CorkedWriter S)) (before middle after : List Event) → PassesOn remaining most a before middle → Passes middle after [] → PassesOn remaining most a before after
+  passes_on_then most a before middle after some none = record { texts = some.texts; passes = passes_then some.texts before middle after some.passes none; heard = some.heard; hears = some.hears }
+
+  -- the same of a socket that sends first
+  pub sends_none : (most : ℕ) (a : Socket (CorkedWriter S)) (before after : List Event) → after ≡ before → SendsAndPassesOn remaining most a before after
+  sends_none most a before after none = record { ready = a; same = reads_on_same a; passes_on = passes_on_none most a before after (passes_same before after none) }
+
+  pub sends_and_passes : (most : ℕ) (a b : Socket (CorkedWriter S)) (before after : List Event) → ReadsOn a b → PassesOn remaining most b before after → SendsAndPassesOn remaining most a before after
+  sends_and_passes most a b before after same passes = record { ready = b; same = same; passes_on = passes }
+
+  -- ---- a turn of a link
+
+  fresh_closing : (state : State S) → IsForward stage.Closing (stage_of state) → BeginsFresh state
+  fresh_closing (Head stream bytes) is = tt
+  fresh_closing (Replying stream reply) is = tt
+  fresh_closing (Open socket s) is = absurd (omega (arith, is))
+  fresh_closing (Closing socket left) is = tt
+  fresh_closing Gone is = tt
+
+  pub passes_closing : (most : ℕ) (socket : Socket (CorkedWriter S)) (left : ℕ) (new : State S) (before after : List Event) → IsForward stage.Closing (stage_of new) → after ≡ before
+      → PassesTexts remaining most (Closing socket left) new before after
+  passes_closing most socket left new before after over same = (passes_same before after same, fresh_closing new over)
+
+  -- one that changes nothing
+  unchanged : (most : ℕ) (state : State S) (before : List Event) → PassesTexts remaining most state state before before
+  unfolding sends_none passes_on_none
+  unchanged most (Open socket s) before = record { sends = sends_none most socket before before refl; goes_on = reads_on_same socket }
+  unchanged most (Head stream bytes) before = (passes_same before before refl, tt)
+  unchanged most (Replying stream reply) before = (passes_same before before refl, tt)
+  unchanged most (Closing socket left) before = (passes_same before before refl, tt)
+  unchanged most Gone before = (passes_same before before refl, tt)
+
+  pub passes_unchanged : (most : ℕ) (old new : State S) (before after : List Event) → new ≡ old → after ≡ before → PassesTexts remaining most old new before after
+  passes_unchanged most old new before after same none = rw (same, none) (unchanged most old before)
+
+  -- a turn that reads nothing is one that reads at most once
+  hears_wider : (a b : Socket (CorkedWriter S)) (texts : List (List ℕ)) → Hears remaining 0 a b texts → Hears remaining 1 a b texts
+  hears_wider a b texts nothing = inl nothing
+
+  reads_wider : (a : Socket (CorkedWriter S)) (new : State S) (before after : List Event) → ReadsTexts remaining 0 a new before after → ReadsTexts remaining 1 a new before after
+  reads_wider a new before after reads =
+      let on = reads.sends.passes_on in
+      record {
+        sends = record {
+          ready = reads.sends.ready;
+          same = reads.sends.same;
+          passes_on = record { texts = on.texts; passes = on.passes; heard = on.heard; hears = hears_wider reads.sends.ready on.heard on.texts on.hears };
+        };
+        goes_on = reads.goes_on;
+      }
+
+  pub passes_wider : (old new : State S) (before after : List Event) → PassesTexts remaining 0 old new before after → PassesTexts remaining 1 old new before after
+  passes_wider (Open socket s) new before after passes = reads_wider socket new before after passes
+  passes_wider (Head stream bytes) new before after passes = passes
+  passes_wider (Replying stream reply) new before after passes = passes
+  passes_wider (Closing socket left) new before after passes = passes
+  passes_wider Gone new before after passes = passes
+
+  -- a link that ends passes nothing
+  closing_passes : (session : Option ℕ) → Passes [] (closing_of session) []
+  closing_passes None = refl
+  closing_passes (Some s) = refl
+
+  ended_goes : (a : Socket (CorkedWriter S)) (new : State S) → stage_of new ≡ stage.Gone → GoesOn a new
+  ended_goes a (Head stream bytes) gone = tt
+  ended_goes a (Replying stream reply) gone = tt
+  ended_goes a (Open socket s) gone = absurd (cc gone)
+  ended_goes a (Closing socket left) gone = tt
+  ended_goes a Gone gone = tt
+
+  ended_fresh : (new : State S) → stage_of new ≡ stage.Gone → BeginsFresh new
+  ended_fresh (Head stream bytes) gone = tt
+  ended_fresh (Replying stream reply) gone = tt
+  ended_fresh (Open socket s) gone = absurd (cc gone)
+  ended_fresh (Closing socket left) gone = tt
+  ended_fresh Gone gone = tt
+
+  pub passes_ended : (old new : State S) (made : List Event) → made ≡ closing_of (session_of old) → stage_of new ≡ stage.Gone → PassesTexts remaining 1 old new [] made
+  unfolding passes_on_none
+  passes_ended (Open socket s) new made is gone = record {
+    sends = record { ready = socket; same = reads_on_same socket; passes_on = passes_on_none 1 socket [] made (subst (λ m. Passes [] m []) (sym is) (closing_passes (Some s))) };
+    goes_on = ended_goes socket new gone;
+  }
+  passes_ended (Head stream bytes) new made is gone = (subst (λ m. Passes [] m []) (sym is) refl, ended_fresh new gone)
+  passes_ended (Replying stream reply) new made is gone = (subst (λ m. Passes [] m []) (sym is) (closing_passes (entered reply.verdict)), ended_fresh new gone)
+  passes_ended (Closing socket left) new made is gone = (subst (λ m. Passes [] m []) (sym is) refl, ended_fresh new gone)
+  passes_ended Gone new made is gone = (subst (λ m. Passes [] m []) (sym is) refl, ended_fresh new gone)
+
+module _ {S : Type 0} {remaining : S → Option (List ℕ)} where
+  -- then no more was passed on
+  pub hearing_then : (most : ℕ) (before middle after : List Event) (a b : Socket (CorkedWriter S)) → Hearing remaining most before middle a b → Passes middle after [] → Hearing remaining most before after a b
+  hearing_then most before middle after a b hearing none = record {
+    texts = hearing.texts;
+    passes = passes_then hearing.texts before middle after hearing.passes none;
+    hears = hearing.hears;
+    role = hearing.role;
+  }

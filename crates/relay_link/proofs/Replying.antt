@@ -1,0 +1,143 @@
+-- What a link wrote of a reply, and what it keeps.
+use Rattle.std.proofs.Common.{◌≡◌, ℕ, List, [], ◌++◌, take, drop, Option, None, Some, refl, sym, subst, ap, ◌∙◌, append_assoc, append-nil, Vec, Global, String}
+use Rattle.std.proofs.KnownBytes.{Appends-trans, Appends-nil}
+use Rattle.std.proofs.lemmas.List.{take-append-drop}
+use Rattle.std.specs.Io.KnownBytes.{Appends, Keeps, Consumes}
+use Rattle.tungstenite.specs.Socket.{Socket, IsFresh}
+use Rattle.websocket.specs.declared.protocol.config.Role.TheVariants.{Server}
+use Rattle.relay_shake.specs.Shaken.{AnswersHead, AnswersNoHead}
+use Rattle.relay_shake.specs.Replies.{refusal_of}
+use Rattle.relay_shake.specs.declared.answer.Shake.{Shake}
+use Rattle.relay_shake.specs.declared.answer.Shake.TheVariants.{Accept, Refuse}
+use Rattle.relay_hub.specs.declared.event.Event.{Event}
+use Rattle.relay_link.specs.Hears.{Passes, BeginsFresh, PassesTexts}
+use Rattle.relay_link.specs.Replies.{IsReply, WritesReply, RepliesTo, RepliesToHead, IfReplies, Replies}
+use Rattle.relay_link.specs.Stream.{stream_of, written}
+use Rattle.relay_link.specs.declared.corked_writer.CorkedWriter.{CorkedWriter}
+use Rattle.relay_link.specs.declared.reply.Reply.{Reply}
+use Rattle.relay_link.specs.declared.reply.Verdict.{Verdict}
+use Rattle.relay_link.specs.declared.reply.Verdict.TheVariants.{Entered, Refused}
+use Rattle.relay_link.specs.declared.state.State.{State}
+use Rattle.relay_link.specs.declared.state.State.TheVariants.{Head, Replying, Open, Closing, Gone}
+use Rattle.relay_link.proofs.Framing.{appends_kept}
+
+-- ---- a reply that is being written: a front part was sent, and the rest is kept
+
+abbrev pub IsSent : List ℕ → List ℕ → Option (List ℕ) → Option (List ℕ) → Type 0
+IsSent reply rest before now = (sent : List ℕ) × (reply ≡ sent ++ rest) × Appends before now sent
+
+-- nothing of it yet
+pub sent_none : (reply : List ℕ) (before : Option (List ℕ)) → IsSent reply reply before before
+sent_none reply before = ([], refl, Appends-nil before)
+
+-- a write took some of the rest
+pub sent_more : (reply rest : List ℕ) (n : ℕ) (before now next : Option (List ℕ)) → IsSent reply rest before now → Appends now next (take n rest) → IsSent reply (drop n rest) before next
+sent_more reply rest n before now next (sent, is, appends) took =
+    (sent ++ take n rest, is ∙ ap (λ l. sent ++ l) (sym (take-append-drop n rest)) ∙ sym (append_assoc sent (take n rest) (drop n rest)), Appends-trans before now next sent (take n rest) appends took)
+
+-- a call took nothing
+pub sent_kept : (reply rest : List ℕ) (before now next : Option (List ℕ)) → IsSent reply rest before now → Keeps now next → IsSent reply rest before next
+sent_kept reply rest before now next (sent, is, appends) kept =
+    (sent, is, subst (Appends before next) (append-nil sent) (Appends-trans before now next sent [] appends (appends_kept now next kept)))
+
+-- all of it
+pub sent_all : (reply : List ℕ) (before now : Option (List ℕ)) → IsSent reply [] before now → Appends before now reply
+sent_all reply before now (sent, is, appends) = subst (Appends before now) (sym (is ∙ append-nil sent)) appends
+
+module _ {S : Type 0} (contents : S → Option (List ℕ)) where
+  -- the reply was written, and the link is open
+  pub writes_all : (reply : List ℕ) (before : Option (List ℕ)) (now : CorkedWriter S) (socket : Socket (CorkedWriter S)) (s : ℕ) (verdict : Verdict)
+      → IsSent reply [] before (written contents now) → IsFresh socket now Server → verdict ≡ Entered s → WritesReply contents before verdict reply (Open socket s)
+  writes_all reply before now socket s verdict sent fresh is =
+      let all = sent_all reply before (written contents now) sent in (
+        subst (λ w. Appends before (written contents w) reply) (sym fresh.on_stream) all,
+        is,
+        record {
+          on_stream = refl;
+          nothing_read = fresh.nothing_read;
+          nothing_waits = fresh.nothing_waits;
+          has_role = fresh.has_role;
+          is_active = fresh.is_active;
+          no_fragments = fresh.no_fragments;
+        },
+      )
+
+  -- the reply of a head that is accepted
+  pub replies_open : (before : Option (List ℕ)) (room : String Global) (reply : Vec ℕ Global) (s : ℕ) (state : State S) → WritesReply contents before (Entered s) reply.items state
+      → RepliesTo contents before (Accept room reply) state
+  replies_open before room reply s state writes = record { verdict = Entered s; reply = reply.items; is = refl; writes = writes }
+
+  pub replies_refused : (before : Option (List ℕ)) (room : String Global) (reply refused : Vec ℕ Global) (state : State S) → refused.items ≡ refusal_of 503
+      → WritesReply contents before (Refused 503) refused.items state → RepliesTo contents before (Accept room reply) state
+  replies_refused before room reply refused state is writes = record { verdict = Refused 503; reply = refused.items; is = (refl, is); writes = writes }
+
+  -- the reply of a head that is refused
+  pub replies_refuse : (before : Option (List ℕ)) (status : ℕ) (reply : Vec ℕ Global) (state : State S) → WritesReply contents before (Refused status) reply.items state
+      → RepliesTo contents before (Refuse status reply) state
+  replies_refuse before status reply state writes = record { verdict = Refused status; reply = reply.items; is = (refl, refl); writes = writes }
+
+  -- the stream is gone
+  pub replies_gone : (before : Option (List ℕ)) (room : String Global) (reply : Vec ℕ Global) (state : State S) → state ≡ Gone → RepliesTo contents before (Accept room reply) state
+  replies_gone before room reply state gone = rw gone (record { verdict = Refused 503; reply = refusal_of 503; is = (refl, refl); writes = tt })
+
+module _ {S : Type 0} (remaining contents : S → Option (List ℕ)) where
+  -- a turn that changes nothing
+  unchanged : (state : State S) → Replies remaining contents state state
+  unchanged (Head stream bytes) = tt
+  unchanged (Replying stream kept) = ([], refl, Appends-nil (written contents stream), refl)
+  unchanged (Open socket s) = tt
+  unchanged (Closing socket left) = tt
+  unchanged Gone = tt
+
+  pub replies_unchanged : (old new : State S) → new ≡ old → Replies remaining contents old new
+  replies_unchanged old new same = subst (Replies remaining contents old) (sym same) (unchanged old)
+
+  -- ---- a link that became open has read nothing
+
+  fresh_writes : (before : Option (List ℕ)) (verdict : Verdict) (reply : List ℕ) (state : State S) → WritesReply contents before verdict reply state → BeginsFresh state
+  fresh_writes before verdict reply (Open socket s) writes = writes.2
+  fresh_writes before verdict reply (Head stream bytes) writes = tt
+  fresh_writes before verdict reply (Replying stream kept) writes = tt
+  fresh_writes before verdict reply (Closing socket left) writes = tt
+  fresh_writes before verdict reply Gone writes = tt
+
+  pub passes_replying : (most : ℕ) (stream : CorkedWriter S) (kept : Reply) (new : State S) (before after : List Event) → Passes before after []
+      → WritesReply contents (written contents stream) kept.verdict kept.rest.items new → PassesTexts remaining most (Replying stream kept) new before after
+  passes_replying most stream kept new before after passes writes = (passes, fresh_writes (written contents stream) kept.verdict kept.rest.items new writes)
+
+  fresh_head : (stream : CorkedWriter S) (bytes : Vec ℕ Global) (state : State S) → Replies remaining contents (Head stream bytes) state → BeginsFresh state
+  fresh_head stream bytes (Open socket s) replies = fresh_writes replies.before replies.replies.verdict replies.replies.reply (Open socket s) replies.replies.writes
+  fresh_head stream bytes (Head other received) replies = tt
+  fresh_head stream bytes (Replying other kept) replies = tt
+  fresh_head stream bytes (Closing socket left) replies = tt
+  fresh_head stream bytes Gone replies = tt
+
+  pub passes_listening : (most : ℕ) (stream : CorkedWriter S) (bytes : Vec ℕ Global) (new : State S) (before after : List Event) → Passes before after []
+      → Replies remaining contents (Head stream bytes) new → PassesTexts remaining most (Head stream bytes) new before after
+  passes_listening most stream bytes new before after passes replies = (passes, fresh_head stream bytes new replies)
+
+  -- ---- the reply to a head
+
+  -- the answer to what was received and what one read took, and how it was replied to
+  pub replies_head : (stream now : CorkedWriter S) (bytes : Vec ℕ Global) (whole taken : List ℕ) (answer : Shake) (new : State S) → whole ≡ bytes.items ++ taken
+      → Consumes (remaining (stream_of stream)) (remaining (stream_of now)) taken → AnswersHead whole answer → AnswersNoHead whole answer
+      → RepliesTo contents (written contents now) answer new → Replies remaining contents (Head stream bytes) new
+  replies_head stream now bytes whole taken answer new same first head no_head replies =
+      let found : RepliesToHead contents bytes.items (remaining (stream_of stream)) new = record {
+        taken = taken;
+        rest = remaining (stream_of now);
+        first = first;
+        answer = answer;
+        head = subst (λ b. AnswersHead b answer) same head;
+        no_head = subst (λ b. AnswersNoHead b answer) same no_head;
+        before = written contents now;
+        replies = replies;
+      } in
+      if_replies new found
+    where
+      if_replies : {P : Type 0} (state : State S) → P → IfReplies state P
+      if_replies (Replying other kept) p = p
+      if_replies (Open socket s) p = p
+      if_replies (Head other received) p = tt
+      if_replies (Closing socket left) p = tt
+      if_replies Gone p = tt

@@ -1,0 +1,94 @@
+-- What a link hears in a turn: the text that it reads, which it passes to the hub.
+use Rattle.std.specs.Prelude.{◌≡◌, ◌⊎◌, ⊤, ℕ, zero, suc, List, [], ◌∷◌, ◌++◌, Option, None, Some, Result, Ok, Err}
+use Rattle.relay_hub.specs.declared.event.Event.{Event}
+use Rattle.relay_hub.specs.declared.event.Event.TheVariants.{Open, Receive, Draw, Close}
+use Rattle.tungstenite.specs.Socket.{Socket, Reads, IsFresh}
+use Rattle.tungstenite.specs.declared.error.Error.{Error}
+use Rattle.tungstenite.specs.declared.message.Message.{Message}
+use Rattle.tungstenite.specs.declared.message.Message.TheVariants.{Text}
+use Rattle.websocket.specs.declared.protocol.config.Role.TheVariants.{Server}
+use Rattle.relay_link.specs.Stream.{stream_of}
+use Rattle.relay_link.specs.declared.corked_writer.CorkedWriter.{CorkedWriter}
+use Rattle.relay_link.specs.declared.state.State.{State}
+use Rattle.relay_link.specs.declared.state.State.TheVariants as state
+
+-- the text that an event passes to the hub, if it passes one
+abbrev pub received_by : Event → List (List ℕ)
+received_by (Receive s text) = text ∷ []
+received_by (Open room) = []
+received_by (Draw s) = []
+received_by (Close s) = []
+
+-- the texts that events pass to the hub, in order
+abbrev pub received : List Event → List (List ℕ)
+received [] = []
+received (event ∷ made) = received_by event ++ received made
+
+-- from one list of events to another, these texts were passed to the hub
+abbrev pub Passes : List Event → List Event → List (List ℕ) → Type 0
+Passes before after texts = received after ≡ received before ++ texts
+
+-- the text of a message, if there is one and it is a text message (RFC 6455, section 5.6)
+abbrev pub text_of : Option Message → List (List ℕ)
+text_of (Some (Text words)) = words ∷ []
+text_of _ = []
+
+-- the message that a read found, if it found one
+abbrev pub message_of : Result Message Error → Option Message
+message_of (Ok message) = Some message
+message_of (Err error) = None
+
+module _ {S : Type 0} where
+  -- the second socket reads on where the first would: what was read before and is not yet part of a message is the same
+  pub record ReadsOn (old new : Socket (CorkedWriter S)) : Type 0 where
+    pub conn : new.conn ≡ old.conn
+    pub input : new.input ≡ old.input
+
+  -- The socket read once, with whatever outcome, and found these texts: that of the message, if it is a text message. `Reads` says which
+  -- message that is: the next one in the bytes that were read before and those that the stream gave, frame after frame.
+  abbrev pub Finds : (S → Option (List ℕ)) → Socket (CorkedWriter S) → Socket (CorkedWriter S) → List (List ℕ) → Type 0
+  Finds remaining old new texts =
+      (outcome : Result Message Error) × Reads (λ w. remaining (stream_of w)) old new outcome × (texts ≡ text_of (message_of outcome))
+
+  -- it read nothing
+  abbrev pub FindsNothing : Socket (CorkedWriter S) → Socket (CorkedWriter S) → List (List ℕ) → Type 0
+  FindsNothing old new texts = (new ≡ old) × (texts ≡ [])
+
+  -- it read at most so many messages, one at most, and found these texts
+  abbrev pub Hears : (S → Option (List ℕ)) → ℕ → Socket (CorkedWriter S) → Socket (CorkedWriter S) → List (List ℕ) → Type 0
+  Hears remaining zero old new texts = FindsNothing old new texts
+  Hears remaining (suc n) old new texts = FindsNothing old new texts ⊎ Finds remaining old new texts
+
+  -- from one list of events to another, the texts were passed to the hub that the socket found in at most so many reads: these, and no
+  -- others
+  pub record PassesOn (remaining : S → Option (List ℕ)) (most : ℕ) (socket : Socket (CorkedWriter S)) (before after : List Event) : Type 0 where
+    pub texts : List (List ℕ)
+    pub passes : Passes before after texts
+    pub heard : Socket (CorkedWriter S)
+    pub hears : Hears remaining most socket heard texts
+
+  -- the same of a socket that sends first what waits
+  pub record SendsAndPassesOn (remaining : S → Option (List ℕ)) (most : ℕ) (socket : Socket (CorkedWriter S)) (before after : List Event) : Type 0 where
+    pub ready : Socket (CorkedWriter S)
+    pub same : ReadsOn socket ready
+    pub passes_on : PassesOn remaining most ready before after
+
+  -- a link that is still open will read on where this socket would
+  abbrev pub GoesOn : Socket (CorkedWriter S) → State S → Type 0
+  GoesOn heard (state.Open socket s) = ReadsOn heard socket
+  GoesOn heard _ = ⊤
+
+  -- a link that became open has read nothing yet
+  abbrev pub BeginsFresh : State S → Type 0
+  BeginsFresh (state.Open socket s) = IsFresh socket socket.stream Server
+  BeginsFresh _ = ⊤
+
+  -- An open link reads on where it stopped, passes the texts that it reads to the hub, and no others, and stops where its next turn goes on.
+  pub record ReadsTexts (remaining : S → Option (List ℕ)) (most : ℕ) (socket : Socket (CorkedWriter S)) (new : State S) (before after : List Event) : Type 0 where
+    pub sends : SendsAndPassesOn remaining most socket before after
+    pub goes_on : GoesOn sends.passes_on.heard new
+
+  -- the same of any link: one that is not open passes no text
+  abbrev pub PassesTexts : (S → Option (List ℕ)) → ℕ → State S → State S → List Event → List Event → Type 0
+  PassesTexts remaining most (state.Open socket s) new before after = ReadsTexts remaining most socket new before after
+  PassesTexts remaining most _ new before after = Passes before after [] × BeginsFresh new
