@@ -1,5 +1,5 @@
 -- What a link wrote of a reply, and what it keeps.
-use Rattle.std.proofs.Common.{◌≡◌, ℕ, List, [], ◌++◌, take, drop, Option, None, Some, refl, sym, subst, ap, ◌∙◌, append_assoc, append-nil, Vec, Global, String}
+use Rattle.std.proofs.Common.{◌≡◌, ℕ, List, [], ◌++◌, take, drop, Option, refl, sym, subst, ap, ◌∙◌, append_assoc, append-nil, Vec, Global, String}
 use Rattle.std.proofs.KnownBytes.{Appends-trans, Appends-nil}
 use Rattle.std.proofs.lemmas.List.{take-append-drop}
 use Rattle.std.specs.Io.KnownBytes.{Appends, Keeps, Consumes}
@@ -11,7 +11,7 @@ use Rattle.relay_shake.specs.declared.answer.Shake.{Shake}
 use Rattle.relay_shake.specs.declared.answer.Shake.TheVariants.{Accept, Refuse}
 use Rattle.relay_hub.specs.declared.event.Event.{Event}
 use Rattle.relay_link.specs.Hears.{Passes, BeginsFresh, PassesTexts}
-use Rattle.relay_link.specs.Replies.{IsReply, WritesReply, RepliesTo, RepliesToHead, IfReplies, Replies}
+use Rattle.relay_link.specs.Replies.{WritesReply, RepliesTo, RepliesToHead, IfReplies, Replies}
 use Rattle.relay_link.specs.Stream.{stream_of, written}
 use Rattle.relay_link.specs.declared.corked_writer.CorkedWriter.{CorkedWriter}
 use Rattle.relay_link.specs.declared.reply.Reply.{Reply}

@@ -1,5 +1,5 @@
 -- What a link writes of its reply to a handshake.
-use Rattle.std.specs.Prelude.{◌≡◌, ℕ, List, ◌++◌, Option, None, Some, ⊤}
+use Rattle.std.specs.Prelude.{◌≡◌, ℕ, List, ◌++◌, Option, ⊤}
 use Rattle.std.specs.Io.KnownBytes.{Appends, Consumes}
 use Rattle.relay_shake.specs.Replies.{refusal_of}
 use Rattle.relay_shake.specs.Shaken.{AnswersHead, AnswersNoHead}
@@ -11,7 +11,7 @@ use Rattle.relay_link.specs.Stream.{stream_of, written}
 use Rattle.relay_link.specs.declared.reply.Verdict.{Verdict}
 use Rattle.relay_link.specs.declared.reply.Verdict.TheVariants.{Entered, Refused}
 use Rattle.relay_link.specs.declared.state.State.{State}
-use Rattle.relay_link.specs.declared.state.State.TheVariants.{Head, Replying, Open, Closing, Gone}
+use Rattle.relay_link.specs.declared.state.State.TheVariants.{Head, Replying, Open}
 
 -- The bytes of the reply to an answer, and what it reports. A head that is accepted gets the reply of the handshake if the hub opened a
 -- session, and 503 if it opened none.
