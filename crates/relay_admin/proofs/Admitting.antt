@@ -1,16 +1,18 @@
 -- Which requests are accepted.
-use Rattle.std.proofs.Common.{◌≡◌, ◌≤◌, ◌↔◌, ℕ, Bool, true, false, not, IsTrue, List, [], ◌∷◌, length, map, codes, bytes_eq, nat_le, Option, Some, None, is_some, refl, sym, ◌∙◌, ap, subst, arith, if◌then◌else◌}
+use Rattle.std.proofs.Common.{◌≡◌, ℕ, Bool, true, false, not, IsTrue, List, [], ◌∷◌, length, codes, bytes_eq, nat_le, Option, Some, None, is_some, refl, sym, ◌∙◌, ap, subst, arith, if◌then◌else◌}
 use Rattle.std.proofs.lemmas.Bool.Decides.{nat_tests}
 use Rattle.std.proofs.lemmas.Slice.Eq.{bytes_eq-Decides}
-use Rattle.httparse.specs.Grammar.{RequestHead, ReadsRequest}
-use Rattle.relay_head.specs.Head.{Fields, only_value, has_field, kept}
+use Rattle.httparse.specs.Grammar.{RequestHead}
+use Rattle.relay_head.specs.Checks.{first_failed}
+use Rattle.relay_head.specs.Head.{only_value, has_field, kept}
+use Rattle.relay_head.specs.Parsing.{parts_of}
 use Rattle.relay_admin.specs.Admitted.{IsAdmitted, AdmitsExactly, fields_of}
 use Rattle.relay_admin.specs.Asked.{AnswersHead}
 use Rattle.relay_admin.specs.Host.{is_loopback}
 use Rattle.relay_admin.specs.Route.{method_of, target_of, request_at}
-use Rattle.relay_admin.specs.Verdict.{checks, first_failed, parts_of, verdict_by, verdict_of, window, has_method, wrong_method}
+use Rattle.relay_admin.specs.Verdict.{checks, verdict_by, verdict_of, has_method}
 use Rattle.relay_admin.specs.declared.answer.Ask.{Ask}
-use Rattle.relay_admin.specs.declared.answer.Ask.TheVariants.{More, Request, Refused}
+use Rattle.relay_admin.specs.declared.answer.Ask.TheVariants.{Request}
 use Rattle.relay_admin.specs.declared.checks.TheConstants.{MAX_FIELDS}
 use Rattle.relay_admin.specs.declared.refusal.Refusal.{Refusal}
 use Rattle.relay_admin.specs.declared.request.AdminRequest.{AdminRequest}
@@ -77,7 +79,7 @@ from_not false e = refl
 is_admitted : (head : RequestHead) (request : AdminRequest) → verdict_of head ≡ Request request → IsAdmitted head request
 is_admitted head request e =
     let (none, at) = accepted _ _ request e in
-    let (few, (one, (host, (origin, (path, (method, _)))))) = all_passed (checks (parts_of head)) none in
+    let (few, (one, (host, (origin, (path, (method, _)))))) = all_passed (checks (parts_of head [])) none in
     record {
       target = target_at head.target request at;
       method = (bytes_eq-Decides head.method (method_of request)).0 (subst (λ o. has_method head.method o ≡ true) at method);
@@ -96,7 +98,7 @@ is_accepted head request is =
     let origin : not (has_field (codes "Origin") (fields_of head)) ≡ true = ap not is.no_origin in
     let path : is_some (request_at head.target) ≡ true = ap is_some at in
     let method : has_method head.method (request_at head.target) ≡ true = ap (has_method head.method) at ∙ (bytes_eq-Decides head.method (method_of request)).1 is.method in
-    let none = none_failed (checks (parts_of head)) (few, (one, (host, (origin, (path, (method, tt)))))) in
+    let none = none_failed (checks (parts_of head [])) (few, (one, (host, (origin, (path, (method, tt)))))) in
     ap (λ failed. verdict_by failed (request_at head.target)) none ∙ ap (verdict_by None) at
 
 -- if each head gets its verdict, the accepted are the admitted

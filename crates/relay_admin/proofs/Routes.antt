@@ -1,18 +1,14 @@
 -- Lookups in a router of literal routes.
-use Rattle.std.proofs.Common.{◌≡◌, ℕ, zero, suc, ◌-◌, ◌<◌, ◌≤◌, ◌&&◌, Bool, true, false, cond, List, [], ◌∷◌, length, codes, Option, Some, None, refl, sym, ◌∙◌, ap, ne_eqb, arith, lit<, ◌==◌, bytes_eq, if◌then◌else◌, option_map, nat_lt}
+use Rattle.std.proofs.Common.{◌≡◌, ℕ, suc, ◌<◌, ◌≤◌, ◌&&◌, Bool, true, false, cond, List, [], ◌∷◌, length, Option, Some, None, refl, ◌∙◌, ap, ne_eqb, arith, ◌==◌, bytes_eq, if◌then◌else◌, option_map, nat_lt}
 use Rattle.std.specs.List.{list_all}
 use Rattle.std.proofs.lemmas.Bool.Decides.{nat_tests}
 use Rattle.matchit.specs.Rows.{RowsOf}
 use Rattle.matchit.specs.Router.{RouteOf}
+use Rattle.relay_head.proofs.Routes.{IsPlain, or-none, nil-step, seek-nil}
 use Rattle.relay_admin.specs.Route.{target_of, request_at}
 use Rattle.relay_admin.specs.declared.request.AdminRequest.{AdminRequest}
 use Rattle.relay_admin.specs.declared.request.AdminRequest.TheVariants.{Health, Metrics, Rooms, Stop}
-use Rattle.matchit.specs.Seek.{seek, param_step, step, own, or_else, has_slash}
-
--- each byte of a literal is below the tokens
-abbrev pub IsPlain : List ℕ → Type 0
-IsPlain [] = Unit {0}
-IsPlain (x ∷ xs) = (x < 256) × IsPlain xs
+use Rattle.matchit.specs.Seek.{seek, param_step, step, own, has_slash}
 
 abbrev pub ArePlain : {K : Type 0} → RowsOf K → Type 0
 ArePlain [] = Unit {0}
@@ -27,25 +23,6 @@ module _ {K : Type 0} where
   abbrev pub row_of : RowsOf K → List ℕ → Option K
   row_of [] path = None
   row_of (row ∷ rows) path = if bytes_eq path row.0 then Some row.1 else row_of rows path
-
-  or-none : (o : Option K) → or_else o None ≡ o
-  or-none None = refl
-  or-none (Some x) = refl
-
-  abbrev after : Bool → ℕ → RowsOf K → ℕ × RowsOf K
-  after slash n rows = cond {A = ℕ × RowsOf K} slash (0, []) (n, rows)
-
-  nil-step : (slash : Bool) (n : ℕ) (path : List ℕ) → ((m : ℕ) → seek {K = K} m [] path ≡ None)
-      → or_else (seek ((after slash n []).0 - 1) (after slash n []).1 path) None ≡ None
-  nil-step true n path none = ap (λ o. or_else o None) (none (0 - 1))
-  nil-step false n path none = ap (λ o. or_else o None) (none (n - 1))
-
-  seek-nil : (n : ℕ) (path : List ℕ) → seek {K = K} n [] path ≡ None
-  unfolding seek param_step
-  seek-nil n [] = refl
-  seek-nil (suc n) (b ∷ path) = seek-nil n path
-  seek-nil zero (b ∷ path) =
-      rw (seek-nil 0 path) (nil-step (cond (b == 47) true (has_slash path)) (suc (length path)) path (λ m. seek-nil m path))
 
   -- no literal goes on with a token
   no_token : (token : ℕ) (rows : RowsOf K) → 256 ≤ token → ArePlain rows → step token rows ≡ []
@@ -86,7 +63,7 @@ module _ {K : Type 0} where
   unfolding seek param_step
   seek-plain rows [] plain = row_of-nil rows
   seek-plain rows (b ∷ path) plain =
-      let none = nil-step (cond (b == 47) true (has_slash path)) (suc (length path)) path (λ m. seek-nil m path) in
+      let none = nil-step {K = K} (cond (b == 47) true (has_slash path)) (suc (length path)) path (λ m. seek-nil {K = K} m path) in
       let first : seek 0 (step b rows) path ≡ row_of rows (b ∷ path) = seek-plain (step b rows) path (step-plain b rows plain) ∙ row_of-step b path rows in
       rw (no_token 256 rows (omega arith) plain, no_token 257 rows (omega arith) plain, none, or-none (seek 0 (step b rows) path)) first
 

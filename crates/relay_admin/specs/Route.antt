@@ -1,5 +1,5 @@
 -- The paths of the requests, and their methods.
-use Rattle.std.specs.Prelude.{ℕ, Bool, true, List, if◌then◌else◌, codes, bytes_eq, Option, Some, None}
+use Rattle.std.specs.Prelude.{ℕ, List, if◌then◌else◌, codes, bytes_eq, Option, Some, None}
 use Rattle.relay_admin.specs.declared.request.AdminRequest.{AdminRequest}
 use Rattle.relay_admin.specs.declared.request.AdminRequest.TheVariants.{Health, Metrics, Rooms, Stop}
 

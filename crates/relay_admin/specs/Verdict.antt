@@ -1,8 +1,9 @@
 -- The verdict on a head.
-use Rattle.std.specs.Prelude.{ℕ, Bool, true, not, nat_le, nat_lt, if◌then◌else◌, List, [], ◌∷◌, length, take, map, codes, bytes_eq, Option, Some, None, is_some}
+use Rattle.std.specs.Prelude.{ℕ, Bool, true, not, nat_le, nat_lt, if◌then◌else◌, List, [], ◌∷◌, length, take, codes, bytes_eq, Option, Some, None, is_some}
 use Rattle.httparse.specs.Grammar.{RequestHead}
-use Rattle.httparse.specs.Spans.{name_and_value}
-use Rattle.relay_head.specs.Head.{Fields, only_value, has_field, kept}
+use Rattle.relay_head.specs.Checks.{first_failed}
+use Rattle.relay_head.specs.Head.{only_value, has_field, kept}
+use Rattle.relay_head.specs.Parsing.{Parts, parts_of}
 use Rattle.relay_admin.specs.Host.{is_loopback}
 use Rattle.relay_admin.specs.Route.{method_of, request_at}
 use Rattle.relay_admin.specs.declared.answer.Ask.{Ask}
@@ -13,15 +14,6 @@ use Rattle.relay_admin.specs.declared.refusal.Refusal.{Refusal}
 use Rattle.relay_admin.specs.declared.refusal.Refusal.TheVariants.{TooLong, NoHost, OtherHost, Origin, NoPath, OnlyGet, OnlyPost}
 use Rattle.relay_admin.specs.declared.request.AdminRequest.{AdminRequest}
 use Rattle.relay_admin.specs.declared.request.AdminRequest.TheVariants.{Stop}
-
--- the parts of a head that the checks use
-pub record Parts : Type 0 where
-  pub method : List ℕ
-  pub target : List ℕ
-  pub fields : Fields
-
-abbrev pub parts_of : RequestHead → Parts
-parts_of head = record { method = head.method; target = head.target; fields = map name_and_value head.fields }
 
 -- whether the method is that of the request, if there is one
 abbrev pub has_method : List ℕ → Option AdminRequest → Bool
@@ -44,11 +36,6 @@ checks head =
     ∷ (has_method head.method (request_at head.target), wrong_method (request_at head.target))
     ∷ []
 
--- the refusal of the first check that fails
-abbrev pub first_failed : List (Bool × Refusal) → Option Refusal
-first_failed [] = None
-first_failed (check ∷ later) = if check.0 then first_failed later else Some check.1
-
 -- the request if no check failed
 abbrev pub verdict_by : Option Refusal → Option AdminRequest → Ask
 verdict_by (Some refusal) request = Refused refusal
@@ -58,8 +45,9 @@ verdict_by None None = Refused NoPath
 abbrev pub verdict_on : Parts → Ask
 verdict_on head = verdict_by (first_failed (checks head)) (request_at head.target)
 
+-- the verdict on a head, whatever follows it
 abbrev pub verdict_of : RequestHead → Ask
-verdict_of head = verdict_on (parts_of head)
+verdict_of head = verdict_on (parts_of head [])
 
 -- the bytes in which the head must be
 abbrev pub window : List ℕ → List ℕ

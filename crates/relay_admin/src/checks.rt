@@ -1,22 +1,21 @@
 //! The checks of a head, in their order.
-ghost use Rattle.std.specs.Prelude.{◌≡◌, OnOk, OnErr, IfErr, Some, true, false};
-ghost use Rattle.relay_admin.specs.Judged.{parts, Judges};
+ghost use Rattle.std.specs.Prelude.{◌≡◌, Some};
+ghost use Rattle.relay_admin.specs.Judged.{Judges};
 ghost use Rattle.relay_admin.specs.Verdict.{verdict_on, wrong_method};
+ghost use Rattle.relay_head.specs.Parsing.{parts};
 
-use crate::fault::Fault;
-use crate::head::Head;
 use crate::host::is_loopback;
 use crate::refusal::Refusal;
 use crate::request::AdminRequest;
 use crate::route::request_at;
-use relay_head::{has_field, only_value};
+use relay_head::{Fault, Head, demand, has_field, only_value};
 use std::alloc::Global;
 
 /// The most header fields of a head.
 pub(crate) const MAX_FIELDS: usize = 32;
 
 /// Returns the request of a head that passes all checks, or the first reason to refuse it.
-pub(crate) fn judge(alloc: Global, head: &Head<'_, '_>) -> Result<AdminRequest, Fault>
+pub(crate) fn judge(alloc: Global, head: &Head<'_, '_>) -> Result<AdminRequest, Fault<Refusal>>
     ensures { Judges result (verdict_on (parts head.now)) }
 {
     demand(head.fields.len() <= MAX_FIELDS, Refusal::TooLong)?;
@@ -26,19 +25,6 @@ pub(crate) fn judge(alloc: Global, head: &Head<'_, '_>) -> Result<AdminRequest, 
     let request = request_at(alloc, head.target)?.ok_or(Fault::Refused(Refusal::NoPath))?;
     demand(head.method == request.method(), wrong_method(request))?;
     Ok(request)
-}
-
-// Refuses for this reason unless the condition holds.
-fn demand(holds: bool, refusal: Refusal) -> Result<(), Fault>
-    ensures passed { OnOk result (holds ≡ true) }
-    ensures failed { OnErr result (holds ≡ false) }
-    ensures refused { IfErr result (λ fault. fault ≡ Fault.Refused refusal) }
-{
-    if holds {
-        Ok(())
-    } else {
-        Err(Fault::Refused(refusal))
-    }
 }
 
 // The refusal of another method at the path of this request.

@@ -9,8 +9,6 @@
 
 mod answer;
 mod checks;
-mod fault;
-mod head;
 mod host;
 mod metrics;
 mod reading;

@@ -1,18 +1,15 @@
 //! The path from bytes to a head, and from the head to the answer.
 ghost use Rattle.std.specs.Prelude.{◌≡◌, IfOk};
-ghost use Rattle.httparse.specs.Borrowed.{HoldsSomeRequest};
-ghost use Rattle.httparse.specs.Grammar.{HasNoRequest, NeverHasRequest, MayBecomeRequest};
 ghost use Rattle.relay_admin.specs.Admitted.{AdmitsExactly};
 ghost use Rattle.relay_admin.specs.Asked.{AnswersHead, AnswersNoHead};
-ghost use Rattle.relay_admin.specs.Judged.{parts};
-ghost use Rattle.relay_admin.specs.Verdict.{verdict_on, window};
+ghost use Rattle.relay_admin.specs.Verdict.{verdict_on};
+ghost use Rattle.relay_head.specs.Parsing.{parts};
 
 use crate::answer::Ask;
 use crate::checks::judge;
-use crate::fault::Fault;
-use crate::head::Head;
 use crate::refusal::Refusal;
-use httparse::{EMPTY_HEADER, Error, Request, Status};
+use httparse::{EMPTY_HEADER, Request};
+use relay_head::{Fault, Head, Parsed, head_of, parse_head};
 use std::alloc::{AllocError, Global};
 
 /// The most bytes of a head.
@@ -48,42 +45,12 @@ fn answered(alloc: Global, bytes: &[u8]) -> Result<Ask, AllocError>
 {
     let mut fields = vec![in alloc; EMPTY_HEADER; MAX_HEAD_FIELDS]?;
     let mut request = Request::new(&mut fields);
-    match request.parse(window(bytes)) {
-        Ok(Status::Complete(len)) => with_head(alloc, bytes, &request, len),
-        Ok(Status::Partial) => Ok(without_head(bytes)),
-        // `MAX_HEAD_FIELDS` is enough for every field that the window can hold.
-        Err(Error::TooManyHeaders) => unreachable!(),
-        Err(_) => Ok(hopeless(bytes)),
+    match parse_head(&mut request, bytes, MAX_HEAD) {
+        Parsed::Complete(len) => answer(alloc, &head_of(request, bytes, len)),
+        Parsed::Partial => Ok(Ask::More),
+        Parsed::TooLong => Ok(Ask::Refused(Refusal::TooLong)),
+        Parsed::Invalid => Ok(Ask::Refused(Refusal::NoHead)),
     }
-}
-
-// The bytes in which the head must be.
-fn window(bytes: &[u8]) -> &[u8]
-    ensures { result.now ≡ window bytes.now }
-{
-    if bytes.len() > MAX_HEAD {
-        &bytes[..MAX_HEAD]
-    } else {
-        bytes
-    }
-}
-
-fn with_head(
-    alloc: Global,
-    bytes: &[u8],
-    request: &Request<'_, '_>,
-    len: usize,
-) -> Result<Ask, AllocError>
-    requires { HoldsSomeRequest (window bytes.now) request.now len }
-    ensures head { IfOk result (AnswersHead bytes.now) }
-    ensures no_head { IfOk result (AnswersNoHead bytes.now) }
-{
-    let head = Head {
-        method: request.method.unwrap(),
-        target: request.path.unwrap(),
-        fields: &*request.headers,
-    };
-    answer(alloc, &head)
 }
 
 fn answer(alloc: Global, head: &Head<'_, '_>) -> Result<Ask, AllocError>
@@ -94,26 +61,4 @@ fn answer(alloc: Global, head: &Head<'_, '_>) -> Result<Ask, AllocError>
         Err(Fault::Refused(refusal)) => Ok(Ask::Refused(refusal)),
         Err(Fault::NoMemory) => Err(AllocError),
     }
-}
-
-fn without_head(bytes: &[u8]) -> Ask
-    requires none { HasNoRequest (window bytes.now) }
-    requires unfinished { MayBecomeRequest (window bytes.now) }
-    ensures head { AnswersHead bytes.now result }
-    ensures no_head { AnswersNoHead bytes.now result }
-{
-    if bytes.len() > MAX_HEAD {
-        Ask::Refused(Refusal::TooLong)
-    } else {
-        Ask::More
-    }
-}
-
-// No further bytes can complete these to a head.
-fn hopeless(bytes: &[u8]) -> Ask
-    requires { NeverHasRequest (window bytes.now) }
-    ensures head { AnswersHead bytes.now result }
-    ensures no_head { AnswersNoHead bytes.now result }
-{
-    Ask::Refused(Refusal::NoHead)
 }
