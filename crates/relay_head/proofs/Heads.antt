@@ -1,6 +1,5 @@
 -- Lemmas on the heads that bytes begin with.
-use Rattle.std.proofs.Common.{◌≡◌, ℕ, ◌+◌, ◌*◌, ◌<◌, ◌≤◌, List, [], ◌∷◌, ◌++◌, length, take, drop, sym, ◌∙◌, ap, subst, arith, append-nil, append_assoc, length-append, length-take, All, Option, None, Some, refl, option_copied, IsSome}
-use denote.Ref.{Bor}
+use Rattle.std.proofs.Common.{◌≡◌, ℕ, ◌+◌, ◌*◌, ◌<◌, ◌≤◌, List, [], ◌∷◌, ◌++◌, length, take, drop, sym, ◌∙◌, ap, subst, arith, append-nil, append_assoc, length-append, length-take, All}
 use Rattle.std.specs.List.{flat_map}
 use Rattle.httparse.specs.Borrowed.{HoldsSomeRequest}
 use Rattle.httparse.specs.Grammar.{RequestHead, ReadsRequest, Field, IsField, LineEnd, crlf, lf, print_end, print_field, print_request, HasNoRequest, NeverHasRequest}
@@ -42,14 +41,6 @@ no_excess bytes buffer most room same enough (front, rest, parts, head, reads, m
     let long : 3 * length head.fields < length (front ++ print_end lf) =
     subst (λ b. 3 * length head.fields < length b) (sym reads.1) (length-head head [] reads.0.fields) in
     omega (arith, many, long, enough, length-append front (print_end lf), ap length parts, ap length same, length-append front rest, length-take most bytes)
-
--- the content of an option whose copy is known
-pub some-from_copied : (o : Option (Bor (List ℕ))) (x : List ℕ) → option_copied o ≡ Some x → IsSome o
-some-from_copied None x e = absurd (cc)
-some-from_copied (Some r) x e = refl
-
-pub now-from_copied : (o : Option (Bor (List ℕ))) (r : Bor (List ℕ)) (x : List ℕ) → o ≡ Some r → option_copied o ≡ Some x → r.now ≡ x
-now-from_copied o r x is e = let both : Some r.now ≡ Some x = ap option_copied (sym is) ∙ e in cc
 
 -- a head that the first `most` bytes begin with is one that all of them begin with
 reads-whole : (most : ℕ) (bytes : List ℕ) (head : RequestHead) (rest : List ℕ) → ReadsRequest (take most bytes) head rest → ReadsRequest bytes head (rest ++ drop most bytes)
