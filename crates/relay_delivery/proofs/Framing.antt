@@ -1,0 +1,51 @@
+-- What a write turn of a link says of the bytes that it framed.
+use Rattle.std.proofs.Common.{◌≡◌, ◌≤◌, ℕ, List, [], ◌∷◌, ◌++◌, Option, Some, Result, Ok, Err, IfOk, refl, sym, ◌∙◌, ap, subst, arith}
+use Rattle.std.specs.Io.KnownBytes.{Appends}
+use Rattle.relay_hub.specs.State.{State as Hub}
+use Rattle.relay_hub.specs.declared.event.Event.{Event}
+use Rattle.relay_link.specs.Adds.{receives}
+use Rattle.relay_link.specs.Follows.{at, drawn}
+use Rattle.relay_link.specs.Frames.{framed, text_frames}
+use Rattle.relay_link.specs.Tells.{Told, WhileOpen}
+use Rattle.relay_link.specs.Turns.{Turns}
+use Rattle.relay_link.specs.declared.corked_writer.CorkedWriter.{CorkedWriter}
+use Rattle.relay_link.specs.declared.state.State.{State}
+use Rattle.relay_link.specs.declared.state.State.TheVariants.{Open}
+use Rattle.relay_link.specs.declared.turn.Turn.{Turn}
+use Rattle.tungstenite.specs.Socket.{Socket}
+use Rattle.relay_delivery.specs.Turn.{FramedTurn}
+
+same_rest : (before xs ys : List ℕ) → before ++ xs ≡ before ++ ys → xs ≡ ys
+same_rest [] xs ys is = is
+same_rest (b ∷ before) xs ys is = same_rest before xs ys (cc is)
+
+appended : (old new : Option (List ℕ)) (before frames texts : List ℕ) → Appends old new texts → old ≡ Some before → new ≡ Some (before ++ frames) → frames ≡ texts
+appended old new before frames texts appends was is =
+    let whole : before ++ frames ≡ before ++ texts = (rw (was, is) at appends) in
+    same_rest before frames texts whole
+
+module _ {S : Type 0} (remaining contents : S → Option (List ℕ)) where
+  told_turn : (hub next : Hub) (made : List Event) (s t : ℕ) (old new : Socket (CorkedWriter S)) (before frames : List ℕ)
+      → Told contents (at hub (Some s) []) (at next (Some t) made) old new → receives made ≤ 0 → framed contents old ≡ Some before → framed contents new ≡ Some (before ++ frames)
+      → FramedTurn s hub next made frames
+  told_turn hub next made s t old new before frames told few was is = record {
+    after = t;
+    follows = told.follows;
+    frames_are = appended (framed contents old) (framed contents new) before frames (text_frames (drawn told.follows)) told.frames was is;
+    hears_nothing = omega (arith, few);
+  }
+
+  framed_turn : (hub next : Hub) (old new : State S) (draws : ℕ) (turn : Turn) → Turns remaining 0 draws hub old next new turn → WhileOpen (Told contents) hub [] old next turn.made.items new
+      → (was is : Socket (CorkedWriter S)) (s t : ℕ) (before frames : List ℕ) → old ≡ Open was s → new ≡ Open is t → framed contents was ≡ Some before → framed contents is ≡ Some (before ++ frames)
+      → FramedTurn s hub next turn.made.items frames
+  framed_turn hub next old new draws turn turns tells was is s t before frames from to known grown =
+      told_turn hub next turn.made.items s t was is before frames
+      (subst (λ x. WhileOpen (Told contents) hub [] (Open was s) next turn.made.items x) to (subst (λ x. WhileOpen (Told contents) hub [] x next turn.made.items new) from tells))
+      turns.heard known grown
+
+  pub framed_if : {E : Type 0} (result : Result Turn E) (hub next : Hub) (old new : State S) (draws : ℕ) → IfOk result (Turns remaining 0 draws hub old next new)
+      → IfOk result (λ turn. WhileOpen (Told contents) hub [] old next turn.made.items new)
+      → IfOk result (λ turn. (was is : Socket (CorkedWriter S)) (s t : ℕ) (before frames : List ℕ) → old ≡ Open was s → new ≡ Open is t → framed contents was ≡ Some before
+      → framed contents is ≡ Some (before ++ frames) → FramedTurn s hub next turn.made.items frames)
+  framed_if (Ok turn) hub next old new draws turns tells = framed_turn hub next old new draws turn turns tells
+  framed_if (Err e) hub next old new draws turns tells = tt

@@ -1,0 +1,7 @@
+pub mod Parts
+pub mod Frames
+pub mod Progress
+pub mod Fronts
+pub mod Drawing
+pub mod Turns
+pub mod Framing

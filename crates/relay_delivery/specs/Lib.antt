@@ -1,0 +1,3 @@
+pub mod Texts
+pub mod Receiving
+pub mod Turn

@@ -1,0 +1,42 @@
+-- Texts, one after another, to a client.
+use Rattle.std.specs.Prelude.{◌≡◌, ⊤, ℕ, List, [], ◌∷◌, ◌++◌, Option, Some, None, option_and_then, IsUtf8}
+use Rattle.std.specs.List.{AllByRecursion}
+use Rattle.relay_follow.specs.Hearing.{as_client, told, hear_fault}
+use Rattle.relay_follow.specs.declared.fault.HearFault.{HearFault}
+use Rattle.relay_follow.specs.declared.fault.HearFault.TheVariants as hear
+use Rattle.relay_proto.specs.Client.{Client}
+use Rattle.relay_tree.specs.Document.{Document}
+use Rattle.relay_delivery.specs.declared.fault.ReceiveFault.{ReceiveFault}
+use Rattle.relay_delivery.specs.declared.fault.ReceiveFault.TheVariants.{NotUtf8, Refused, NoMemory}
+
+-- the client after texts, in order; None if one of them is no message
+abbrev pub told_all : Client → List (List ℕ) → Option Client
+told_all c [] = Some c
+told_all c (text ∷ texts) = option_and_then (λ next. told_all next texts) (told c text)
+
+-- the fault is that of a text to a follower: it can't be a frame's text, or the follower refuses it, or memory runs out
+abbrev pub IsFaultOf : Option (ℕ × Document) → List ℕ → ReceiveFault → Type 0
+IsFaultOf held text NotUtf8 = ¬ (IsUtf8 text)
+IsFaultOf held text (Refused fault) = hear_fault held text ≡ Some fault
+IsFaultOf held text NoMemory = ⊤
+IsFaultOf held text _ = ⊥
+
+-- the fault of a text that a follower did not take
+abbrev pub hearing_fault : HearFault → ReceiveFault
+hearing_fault hear.NoMemory = NoMemory
+hearing_fault fault = Refused fault
+
+-- A follower heard some of the texts, in order, and stopped at the next one, with its fault.
+pub record StopsAt (old new : Option (ℕ × Document)) (texts : List (List ℕ)) (fault : ReceiveFault) : Type 0 where
+  pub heard : List (List ℕ)
+  pub text : List ℕ
+  pub rest : List (List ℕ)
+  pub all : texts ≡ heard ++ text ∷ rest
+  pub holds : told_all (as_client old) heard ≡ Some (as_client new)
+  pub why : IsFaultOf new text fault
+
+-- the faults that can come of texts each of which a follower would take: memory runs out, or one of them is not UTF-8
+abbrev pub CanFail : List (List ℕ) → ReceiveFault → Type 0
+CanFail texts NoMemory = ⊤
+CanFail texts NotUtf8 = ¬ (AllByRecursion IsUtf8 texts)
+CanFail texts _ = ⊥

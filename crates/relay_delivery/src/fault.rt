@@ -1,0 +1,53 @@
+//! The errors of receiving frames.
+ghost use Rattle.std.specs.Prelude.{◌≡◌};
+ghost use Rattle.relay_delivery.specs.Receiving.{frame_fault};
+ghost use Rattle.relay_delivery.specs.Texts.{hearing_fault};
+
+use relay_follow::HearFault;
+use thiserror::Error;
+use websocket::error::Error as FrameError;
+
+/// The reason why a client stops receiving.
+#[derive(Clone, Copy, Debug, PartialEq, Eq, Error)]
+pub enum ReceiveFault {
+    /// The bytes are not frames of a server (RFC 6455, section 5.2), or end within one.
+    #[error("not frames of a server")]
+    NotFrames,
+    /// A text that is not UTF-8.
+    #[error("a text that is not UTF-8")]
+    NotUtf8,
+    /// A frame that is no whole text: a fragment, a binary message, a ping, a pong or a close.
+    #[error("a frame that is no whole text")]
+    NotText,
+    /// The follower refuses a text.
+    #[error("a text that the follower refuses")]
+    Refused(HearFault),
+    #[error("out of memory")]
+    NoMemory,
+}
+
+impl ReceiveFault {
+    /// The fault of bytes that the protocol refuses.
+    pub(crate) fn of_frame(error: FrameError) -> ReceiveFault
+        ensures { result ≡ frame_fault error }
+    {
+        match error {
+            FrameError::Utf8 => ReceiveFault::NotUtf8,
+            FrameError::OutOfMemory => ReceiveFault::NoMemory,
+            FrameError::ConnectionClosed
+            | FrameError::AlreadyClosed
+            | FrameError::Capacity(_)
+            | FrameError::Protocol(_) => ReceiveFault::NotFrames,
+        }
+    }
+
+    /// The fault of a text that the follower did not take.
+    pub(crate) fn of_hearing(fault: HearFault) -> ReceiveFault
+        ensures { result ≡ hearing_fault fault }
+    {
+        match fault {
+            HearFault::NoMemory => ReceiveFault::NoMemory,
+            fault => ReceiveFault::Refused(fault),
+        }
+    }
+}

@@ -1,0 +1,16 @@
+//! The client at the other end of a link.
+//!
+//! The promise: a client that reads the bytes which a link framed in a write turn, by the kit's WebSocket protocol in the client role, and
+//! passes each text to a follower, holds what the messages drawn in that turn make of what it held; and if nothing more waits for its
+//! session, exactly its view of the present document. No program uses the crate: it joins the promises of `relay_hub`, `relay_link` and
+//! `relay_follow` at the bytes between them.
+#![tactic(auto)]
+
+mod fault;
+mod frame;
+mod receiving;
+mod turn;
+
+pub use fault::ReceiveFault;
+pub use receiving::receive;
+pub use turn::write_turn;

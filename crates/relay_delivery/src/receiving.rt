@@ -1,0 +1,74 @@
+//! The frames of a server, to a follower.
+ghost use Rattle.std.specs.Prelude.{◌≡◌, ℕ, List, Some, IfErr, OnOk};
+ghost use Rattle.relay_delivery.specs.Texts.{told_all, StopsAt, CanFail};
+ghost use Rattle.relay_delivery.specs.Turn.{FramedTurn, KeepsUp, Delivered, with_events};
+ghost use Rattle.relay_follow.specs.Hearing.{as_client};
+ghost use Rattle.relay_hub.specs.Log.{Log};
+ghost use Rattle.relay_hub.specs.State.{State};
+ghost use Rattle.relay_hub.specs.declared.config.HubConfig.{HubConfig};
+ghost use Rattle.relay_hub.specs.declared.event.Event.{Event};
+ghost use Rattle.relay_link.specs.Follows.{drawn};
+ghost use Rattle.relay_link.specs.Frames.{text_frames};
+
+use crate::fault::ReceiveFault;
+use crate::frame::receive_frame;
+use relay_follow::Follower;
+use std::alloc::Global;
+use websocket::protocol::{Role, WebSocketConfig, WebSocketContext};
+
+/// A client puts no limit on a message: a snapshot is as long as what it shows.
+const NO_LIMITS: WebSocketConfig = WebSocketConfig {
+    max_message_size: None,
+    max_frame_size: None,
+    accept_unmasked_frames: false,
+};
+
+/// Receives what a link framed in a turn: reads the frames as the client of a connection whose handshake is done, and passes each text
+/// to the follower, in order, until no byte is left. An error comes at the first frame that is not a whole text, or whose text is not
+/// UTF-8 or is refused by the follower, or if memory runs out. It leaves the follower with what the texts before it make of what it held.
+///
+/// If the bytes are those that a write turn framed, and the follower held what the messages drawn before make of its start, it then holds
+/// what those drawn in the turn make of that; and if nothing more waits for its session, exactly its view of the present document. Only
+/// memory can be missing then.
+pub fn receive(
+    alloc: Global,
+    frames: &mut [u8],
+    follower: &mut Follower,
+) -> Result<(), ReceiveFault>
+    ensures heard { (texts : List (List ℕ)) → frames.old ≡ text_frames texts →
+        OnOk result (told_all (as_client follower.old) texts ≡ Some (as_client follower.new)) }
+    ensures stopped { (texts : List (List ℕ)) → frames.old ≡ text_frames texts →
+        IfErr result (StopsAt follower.old follower.new texts) }
+    ensures delivered { (b : HubConfig) (E : Log) (hub next : State) (s : ℕ) (made : List Event) (turn : FramedTurn s hub next made frames.old) →
+        KeepsUp b E hub s (as_client follower.old) →
+        OnOk result (Delivered b (with_events turn.follows E) next s (as_client follower.new)) }
+    ensures fails { (b : HubConfig) (E : Log) (hub next : State) (s : ℕ) (made : List Event) (turn : FramedTurn s hub next made frames.old) →
+        KeepsUp b E hub s (as_client follower.old) →
+        IfErr result (CanFail (drawn turn.follows)) }
+{
+    receive_all(alloc, frames, follower)
+}
+
+fn receive_all(
+    alloc: Global,
+    frames: &mut [u8],
+    follower: &mut Follower,
+) -> Result<(), ReceiveFault>
+    ensures heard { (texts : List (List ℕ)) → frames.old ≡ text_frames texts →
+        OnOk result (told_all (as_client follower.old) texts ≡ Some (as_client follower.new)) }
+    ensures stopped { (texts : List (List ℕ)) → frames.old ≡ text_frames texts →
+        IfErr result (StopsAt follower.old follower.new texts) }
+{
+    let mut context = WebSocketContext::new(alloc, Role::Client, NO_LIMITS);
+    let mut start = 0;
+    for _ in 0..frames.len() {
+        if start == frames.len() {
+            return Ok(());
+        }
+        match receive_frame(alloc, &mut context, &mut frames[start..], follower) {
+            Ok(consumed) => start += consumed,
+            Err(fault) => return Err(fault),
+        }
+    }
+    Ok(())
+}

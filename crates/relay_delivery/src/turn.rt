@@ -1,0 +1,27 @@
+//! A write turn of a link, as its client needs to know it.
+ghost use Rattle.std.specs.Prelude.{◌≡◌, ◌++◌, ℕ, List, Some, IfOk};
+ghost use Rattle.relay_delivery.specs.Turn.{FramedTurn};
+ghost use Rattle.relay_link.specs.Frames.{framed};
+ghost use Rattle.relay_link.specs.declared.corked_writer.CorkedWriter.{CorkedWriter};
+ghost use Rattle.relay_link.specs.declared.state.State.TheVariants.{Open};
+ghost use Rattle.tungstenite.specs.Socket.{Socket};
+
+use relay_hub::Hub;
+use relay_link::{Link, Turn};
+use std::alloc::{AllocError, Global};
+use std::io::{Read, Write};
+
+/// Runs [`Link::write_turn`]. If the link was open and still is, and the bytes that it framed before and since are known, what it framed in
+/// the turn are the frames that [`receive`](crate::receive) reads.
+pub fn write_turn<S: Read + Write + Drop>(
+    alloc: Global,
+    link: &mut Link<S>,
+    hub: &mut Hub,
+    draws: u64,
+) -> Result<Turn, AllocError>
+    ensures { IfOk result (λ turn. (old new : Socket (CorkedWriter S)) (s t : ℕ) (before frames : List ℕ) →
+        link.old ≡ Open old s → link.new ≡ Open new t → framed S.contents old ≡ Some before → framed S.contents new ≡ Some (before ++ frames) →
+        FramedTurn s hub.old hub.new turn.made.items frames) }
+{
+    link.write_turn(alloc, hub, draws)
+}
