@@ -1,108 +1,31 @@
--- A client that hears the texts that a turn drew keeps up.
-use Rattle.std.proofs.Common.{◌≡◌, ◌≢◌, ◌⊎◌, inl, inr, ℕ, ◌+◌, ◌==◌, Bool, true, false, cond, List, [], ◌∷◌, ◌++◌, Option, Some, None, refl, sym, ◌∙◌, ap, subst, arith, append-nil, if◌then◌else◌}
-use Rattle.std.specs.Prelude.{option_map, option_and_then}
+-- A client that hears the texts that a turn drew keeps up, and is never lost.
+use Rattle.std.proofs.Common.{◌≡◌, ◌≢◌, ◌⊎◌, inl, inr, ℕ, ◌==◌, Bool, true, false, List, [], ◌∷◌, ◌++◌, Option, Some, None, Result, Ok, Err, refl, sym, ◌∙◌, ap, subst, arith, append-nil, slice_get, if◌then◌else◌}
+use Rattle.std.specs.Prelude.{option_map}
 use Rattle.std.proofs.lemmas.Bool.Decides.{nat_tests}
-use Rattle.std.proofs.lemmas.List.Sums.{sum_by-append}
 use Rattle.relay_follow.specs.Hearing.{told}
-use Rattle.relay_hub.specs.Log.{Log, Watching, entry, documents, watching, view_message, hearing}
+use Rattle.relay_hub.specs.Log.{Log, Watching, begun, entry, home, documents, watching, hearing, resumes_from, asked, asked_at_home}
 use Rattle.relay_hub.specs.Session.{Session, later}
-use Rattle.relay_hub.specs.Stands.{StandsFor, HoldsPresent}
+use Rattle.relay_hub.specs.Stands.{HoldsPresent}
 use Rattle.relay_hub.specs.State.{State, RoomSessions, home_of, session_in}
 use Rattle.relay_hub.specs.Step.{Step}
 use Rattle.relay_hub.specs.declared.config.HubConfig.{HubConfig}
 use Rattle.relay_hub.specs.declared.event.Answer.{Answer}
 use Rattle.relay_hub.specs.declared.event.Answer.TheVariants.{Opened, NotOpened, Heard, Drawn, Closed, NoSession}
-use Rattle.relay_hub.specs.declared.event.Event.{Event}
 use Rattle.relay_hub.specs.declared.event.Event.TheVariants.{Open, Receive, Draw, Close}
-use Rattle.relay_hub.proofs.Follow.{client_after-append}
+use Rattle.relay_hub.specs.declared.event.Heard.TheVariants.{Answered, Busy}
 use Rattle.relay_hub.proofs.Stands.{step_stands}
 use Rattle.relay_hub.proofs.Watchers.{exactly_held}
-use Rattle.relay_link.specs.Adds.{is_receive, receives}
-use Rattle.relay_link.specs.Follows.{Point, at, no_room, Follows, stays, makes, drawn, drawn_by}
-use Rattle.relay_proto.specs.Client.{Client, lost, client, client_after}
-use Rattle.relay_proto.specs.MessageRead.{message_of_text}
-use Rattle.relay_proto.specs.declared.message.Message.{Message}
-use Rattle.relay_proto.specs.declared.message.Message.TheVariants as message
+use Rattle.relay_link.specs.Follows.{Point, no_room, Follows, stays, makes, drawn, drawn_by}
+use Rattle.relay_proto.specs.Client.{Client, nothing, holds, lost, client, client_after}
+use Rattle.relay_proto.specs.Request.{request_of_text}
+use Rattle.relay_proto.specs.declared.refusal.Refusal.{Refusal}
+use Rattle.relay_proto.specs.declared.request.Request.{Request}
+use Rattle.relay_proto.specs.declared.request.Request.TheVariants.{Edit, Watch, Resume, Unwatch}
+use Rattle.relay_tree.specs.Document.{Document}
+use Rattle.relay_view.specs.View.{View, view}
 use Rattle.relay_delivery.specs.Texts.{told_all}
-use Rattle.relay_delivery.specs.Turn.{with_events, KeepsUp, Delivered}
-use Rattle.relay_delivery.proofs.Fronts.{Leads, drawn_leads}
-
--- ---- one message
-
-heard_one : (c next start : Client) (heard : List Message) (o : Option Message) → c ≡ client_after start heard → option_map (client c) o ≡ Some next
-    → next ≡ client_after start (heard ++ view_message o)
-heard_one c next start heard None before is = absurd (cc is)
-heard_one c next start heard (Some (message.Reply r)) before is =
-    let same : next ≡ c = cc is in
-    same ∙ before ∙ ap (client_after start) (sym (append-nil heard))
-heard_one c next start heard (Some (message.Patch rev ops)) before is =
-    let m = message.Patch rev ops in
-    let led : next ≡ client c m = cc is in
-    led ∙ ap (λ x. client x m) before ∙ sym (client_after-append start heard (m ∷ []))
-heard_one c next start heard (Some (message.Snapshot rev tree)) before is =
-    let m = message.Snapshot rev tree in
-    let led : next ≡ client c m = cc is in
-    led ∙ ap (λ x. client x m) before ∙ sym (client_after-append start heard (m ∷ []))
-
-only_told : (c next : Client) (text : List ℕ) (o : Option Client) → told c text ≡ o → option_and_then (λ m. told_all m []) o ≡ Some next → told c text ≡ Some next
-only_told c next text None is all = absurd (cc all)
-only_told c next text (Some m) is all = is ∙ all
-
--- ---- one draw
-
-module _ (b : HubConfig) (E : Log) (hub new : State) (s : ℕ) (c next : Client) (before : KeepsUp b E hub s c) where
-  -- the session's client heard nothing
-  unheard : (answer : Answer) → Step hub (Draw s) answer new → watching b.epoch (entry (Draw s) answer ∷ E) s ≡ watching b.epoch E s → told_all c [] ≡ Some next
-      → KeepsUp b (entry (Draw s) answer ∷ E) new s next
-  unheard answer step same is =
-      let still : next ≡ c = cc is in
-      record {
-        stands = step_stands b E hub new (Draw s) answer before.stands step;
-        watch = before.watch;
-        watches = same ∙ before.watches;
-        holds = still ∙ before.holds;
-      }
-
-  own : (text : Option (List ℕ)) → watching b.epoch (entry (Draw s) (Drawn text) ∷ E) s ≡ hearing text (Some before.watch)
-  own text =
-      let mine : (s == s) ≡ true = grind (arith, nat_tests) in
-      rw (mine, before.watches) refl
-
-  after_draw : (answer : Answer) → Step hub (Draw s) answer new → told_all c (drawn_by (Draw s) answer) ≡ Some next → KeepsUp b (entry (Draw s) answer ∷ E) new s next
-  after_draw (Drawn None) step is = unheard (Drawn None) step (own None ∙ sym before.watches) is
-  after_draw (Drawn (Some text)) step is =
-      let w = before.watch in
-      record {
-        stands = step_stands b E hub new (Draw s) (Drawn (Some text)) before.stands step;
-        watch = record { view = w.view; start = w.start; heard = w.heard ++ view_message (message_of_text text) };
-        watches = own (Some text);
-        holds = heard_one c next w.start w.heard (message_of_text text) before.holds (only_told c next text (told c text) refl is);
-      }
-  after_draw (Opened n) step is = unheard (Opened n) step refl is
-  after_draw (NotOpened fault) step is = unheard (NotOpened fault) step refl is
-  after_draw (Heard heard) step is = unheard (Heard heard) step refl is
-  after_draw Closed step is = unheard Closed step refl is
-  after_draw NoSession step is = unheard NoSession step refl is
-
--- ---- the events of a turn
-
--- a link that opens no room has its session or none
-own_session : {p q : Point} (s : ℕ) → Follows no_room p q → p.session ≡ Some s → (q.session ≡ Some s) ⊎ (q.session ≡ None)
-own_session s stays is = inl is
-own_session s (makes (Open room) answer before own step) is = absurd own.1
-own_session s (makes (Receive t text) answer before own step) is = own_session s before is
-own_session s (makes (Draw t) answer before own step) is = own_session s before is
-own_session s (makes (Close t) answer before own step) is = inr refl
-
-its_own : (q : Option ℕ) (s t : ℕ) → (q ≡ Some s) ⊎ (q ≡ None) → q ≡ Some t → t ≡ s
-its_own q s t held is =
-    elim held [
-      | inl some ↦ cc (some, is)
-      | inr none ↦ absurd (cc (none, is))
-    ]
-
-one_more : (made : List Event) (event : Event) → receives (made ++ event ∷ []) ≡ receives made + receives (event ∷ [])
-one_more made event = sum_by-append (λ e. cond (is_receive e) 1 0) made (event ∷ [])
+use Rattle.relay_delivery.specs.Turn.{with_events, Tracks, KeepsUp, StartsAsHeld, Resumes, Delivered}
+use Rattle.relay_delivery.proofs.Fronts.{drawn_leads}
 
 -- ---- a client that is never lost
 
@@ -126,55 +49,152 @@ pub record Stays (b : HubConfig) (E : Log) (hub : State) (s : ℕ) (c : Client) 
   pub keeps : KeepsUp b E hub s client_is
   pub found : client_is ≢ lost
 
+-- ---- a request
+
+-- what a request makes of a watching, its client follows; a resume is that of a client that holds what it resumes from
+tracks_resume : (c : Client) (rev : ℕ) (pointers : View) (was : Option Watching) (d : Option Document) → ((e : Document) → d ≡ Some e → c ≡ holds rev (view pointers e)) → Tracks c was
+    → Tracks c (resumes_from was rev pointers d)
+tracks_resume c rev pointers was (Some d) starts before = inl (starts d refl)
+tracks_resume c rev pointers was None starts before = before
+
+tracks_known : (c : Client) (rev : ℕ) (pointers : View) (ds : List Document) (was : Option Watching) (this : Bool) → (this ≡ true → (d : Document) → slice_get ds rev ≡ Some d → c ≡ holds rev (view pointers d))
+    → Tracks c was → Tracks c (if this then resumes_from was rev pointers (slice_get ds rev) else Some (begun pointers nothing))
+tracks_known c rev pointers ds was true starts before = tracks_resume c rev pointers was (slice_get ds rev) (starts refl) before
+tracks_known c rev pointers ds was false starts before = inr (refl, refl)
+
+tracks_asked : (c : Client) (epoch : ℕ) (ds : List Document) (was : Option Watching) (request : Result Request Refusal)
+    → ((id rev : ℕ) (pointers : View) (d : Document) → request ≡ Ok (Resume id epoch rev pointers) → slice_get ds rev ≡ Some d → c ≡ holds rev (view pointers d))
+    → Tracks c was → Tracks c (asked epoch ds was request)
+tracks_asked c epoch ds was (Err r) starts before = before
+tracks_asked c epoch ds was (Ok (Edit id base patch)) starts before = before
+tracks_asked c epoch ds was (Ok (Watch id pointers)) starts before = inr (refl, refl)
+tracks_asked c epoch ds was (Ok (Unwatch id)) starts before = tt
+tracks_asked c epoch ds was (Ok (Resume id e rev pointers)) starts before =
+    tracks_known c rev pointers ds was (e == epoch)
+    (λ this d there.
+    let present : e ≡ epoch = grind (arith, nat_tests, this) in
+    starts id rev pointers d (ap (λ n. Ok (Resume id n rev pointers)) present) there)
+    before
+
+tracks_at_home : (c : Client) (epoch : ℕ) (ds : List ℕ → List Document) (was : Option Watching) (there : Option (List ℕ)) (text : List ℕ)
+    → ((id rev : ℕ) (pointers : View) (name : List ℕ) (d : Document) → there ≡ Some name → request_of_text text ≡ Ok (Resume id epoch rev pointers) → slice_get (ds name) rev ≡ Some d → c ≡ holds rev (view pointers d))
+    → Tracks c was → Tracks c (asked_at_home epoch ds was there text)
+tracks_at_home c epoch ds was (Some name) text starts before =
+    tracks_asked c epoch (ds name) was (request_of_text text) (λ id rev pointers d is there. starts id rev pointers name d refl is there) before
+tracks_at_home c epoch ds was None text starts before = before
+
+module _ (b : HubConfig) (E : Log) (s : ℕ) (c : Client) (before : Tracks c (watching b.epoch E s)) where
+  after_request : (text : List ℕ) (answer : Answer) → StartsAsHeld b E s c (Receive s text) → Tracks c (watching b.epoch (entry (Receive s text) answer ∷ E) s)
+  after_request text (Heard (Answered short)) starts =
+      let mine : (s == s) ≡ true = grind (arith, nat_tests) in
+      rw mine (tracks_at_home c b.epoch (documents E) (watching b.epoch E s) (home E s) text starts before)
+  after_request text (Heard Busy) starts = before
+  after_request text (Opened n) starts = before
+  after_request text (NotOpened fault) starts = before
+  after_request text (Drawn drew) starts = before
+  after_request text Closed starts = before
+  after_request text NoSession starts = before
+
+-- ---- a draw
+
 module _ (b : HubConfig) (E : Log) (hub new : State) (s : ℕ) (c : Client) (before : KeepsUp b E hub s c) (found : c ≢ lost) where
-  quiet : (answer : Answer) → drawn_by (Draw s) answer ≡ [] → Step hub (Draw s) answer new → Stays b (entry (Draw s) answer ∷ E) new s c (drawn_by (Draw s) answer)
-  quiet answer none step = record {
+  drew_own : (text : Option (List ℕ)) → watching b.epoch (entry (Draw s) (Drawn text) ∷ E) s ≡ hearing text (watching b.epoch E s)
+  drew_own text =
+      let mine : (s == s) ≡ true = grind (arith, nat_tests) in
+      rw mine refl
+
+  -- no text came
+  quiet : (answer : Answer) → drawn_by (Draw s) answer ≡ [] → Step hub (Draw s) answer new → watching b.epoch (entry (Draw s) answer ∷ E) s ≡ watching b.epoch E s
+      → Stays b (entry (Draw s) answer ∷ E) new s c (drawn_by (Draw s) answer)
+  quiet answer none step watches = record {
     client_is = c;
     survives = subst (λ texts. Survives c texts c) (sym none) same;
-    keeps = after_draw b E hub new s c c before answer step (rw none refl);
+    keeps = record { stands = step_stands b E hub new (Draw s) answer before.stands step; tracks = subst (Tracks c) (sym watches) before.tracks };
     found = found;
   }
 
   stays_draw : (answer : Answer) → Step hub (Draw s) answer new → Stays b (entry (Draw s) answer ∷ E) new s c (drawn_by (Draw s) answer)
   stays_draw (Drawn (Some text)) step =
-      let leads = drawn_leads b E hub new s before.watch c text before.stands before.watches before.holds found step in
+      let leads = drawn_leads b E hub new s c text before.stands before.tracks found step in
       let next = client c leads.message in
       let reads : told c text ≡ Some next = ap (option_map (client c)) leads.reads in
       record {
         client_is = next;
         survives = hears text reads leads.found same;
-        keeps = after_draw b E hub new s c next before (Drawn (Some text)) step (rw reads refl);
+        keeps = record {
+          stands = step_stands b E hub new (Draw s) (Drawn (Some text)) before.stands step;
+          tracks = subst (Tracks next) (sym (drew_own (Some text))) leads.tracks;
+        };
         found = leads.found;
       }
-  stays_draw (Drawn None) step = quiet (Drawn None) refl step
-  stays_draw (Opened n) step = quiet (Opened n) refl step
-  stays_draw (NotOpened fault) step = quiet (NotOpened fault) refl step
-  stays_draw (Heard heard) step = quiet (Heard heard) refl step
-  stays_draw Closed step = quiet Closed refl step
-  stays_draw NoSession step = quiet NoSession refl step
+  stays_draw (Drawn None) step = quiet (Drawn None) refl step (drew_own None)
+  stays_draw (Opened n) step = quiet (Opened n) refl step refl
+  stays_draw (NotOpened fault) step = quiet (NotOpened fault) refl step refl
+  stays_draw (Heard heard) step = quiet (Heard heard) refl step refl
+  stays_draw Closed step = quiet Closed refl step refl
+  stays_draw NoSession step = quiet NoSession refl step refl
 
-pub stays_turn : (b : HubConfig) (E : Log) (s t : ℕ) (c : Client) {p q : Point} (follows : Follows no_room p q) → p.session ≡ Some s → q.session ≡ Some t → receives q.made ≡ 0
+-- ---- the events of a turn
+
+-- a link that opens no room has its session or none
+own_session : {p q : Point} (s : ℕ) → Follows no_room p q → p.session ≡ Some s → (q.session ≡ Some s) ⊎ (q.session ≡ None)
+own_session s stays is = inl is
+own_session s (makes (Open room) answer before own step) is = absurd own.1
+own_session s (makes (Receive t text) answer before own step) is = own_session s before is
+own_session s (makes (Draw t) answer before own step) is = own_session s before is
+own_session s (makes (Close t) answer before own step) is = inr refl
+
+its_own : (q : Option ℕ) (s t : ℕ) → (q ≡ Some s) ⊎ (q ≡ None) → q ≡ Some t → t ≡ s
+its_own q s t held is =
+    elim held [
+      | inl some ↦ cc (some, is)
+      | inr none ↦ absurd (cc (none, is))
+    ]
+
+-- the link still has its session after the events
+pub stays_turn : (b : HubConfig) (E : Log) (s t : ℕ) (c : Client) {p q : Point} (follows : Follows no_room p q) → p.session ≡ Some s → q.session ≡ Some t → Resumes b E s c follows
     → KeepsUp b E p.hub s c → c ≢ lost → Stays b (with_events follows E) q.hub s c (drawn follows)
-stays_turn b E s t c stays is still none before found = record { client_is = c; survives = same; keeps = before; found = found }
-stays_turn b E s t c (makes (Open room) answer follows own step) is still none before found = absurd own.1
-stays_turn b E s t c (makes {q = q} (Receive u text) answer follows own step) is still none before found =
-    absurd (omega (arith, none, one_more q.made (Receive u text)))
-stays_turn b E s t c (makes {q = q} {hub = hub} (Draw u) answer follows own step) is still none before found =
+stays_turn b E s t c stays is still resumes before found = record { client_is = c; survives = same; keeps = before; found = found }
+stays_turn b E s t c (makes (Open room) answer follows own step) is still resumes before found = absurd own.1
+stays_turn b E s t c (makes {q = q} {hub = hub} (Receive u text) answer follows own step) is still resumes before found =
     let mine : u ≡ s = its_own q.session s u (own_session s follows is) own in
-    let quiet : receives q.made ≡ 0 = omega (arith, none, one_more q.made (Draw u)) in
-    let until = stays_turn b E s u c follows is own quiet before found in
+    let until = stays_turn b E s u c follows is own resumes.0 before found in
+    let starts : StartsAsHeld b (with_events follows E) s until.client_is (Receive u text) = resumes.1 until.client_is (survives_told until.survives) in
+    subst (λ v. Stays b (entry (Receive v text) answer ∷ with_events follows E) hub s c (drawn follows ++ [])) (sym mine)
+    (record {
+      client_is = until.client_is;
+      survives = survives_then {m = until.client_is} {next = until.client_is} until.survives same;
+      keeps = record {
+        stands = step_stands b (with_events follows E) q.hub hub (Receive s text) answer until.keeps.stands (subst (λ v. Step q.hub (Receive v text) answer hub) mine step);
+        tracks = after_request b (with_events follows E) s until.client_is until.keeps.tracks text answer (subst (λ v. StartsAsHeld b (with_events follows E) s until.client_is (Receive v text)) mine starts);
+      };
+      found = until.found;
+    })
+stays_turn b E s t c (makes {q = q} {hub = hub} (Draw u) answer follows own step) is still resumes before found =
+    let mine : u ≡ s = its_own q.session s u (own_session s follows is) own in
+    let until = stays_turn b E s u c follows is own resumes.0 before found in
     let last = stays_draw b (with_events follows E) q.hub hub s until.client_is until.keeps until.found answer (subst (λ v. Step q.hub (Draw v) answer hub) mine step) in
     subst (λ v. Stays b (entry (Draw v) answer ∷ with_events follows E) hub s c (drawn follows ++ drawn_by (Draw v) answer)) (sym mine)
-    (record { client_is = last.client_is; survives = survives_then {m = until.client_is} {next = last.client_is} until.survives last.survives; keeps = last.keeps; found = last.found })
-stays_turn b E s t c (makes (Close u) answer follows own step) is still none before found = absurd (cc still)
+    (record {
+      client_is = last.client_is;
+      survives = survives_then {m = until.client_is} {next = last.client_is} until.survives last.survives;
+      keeps = last.keeps;
+      found = last.found;
+    })
+stays_turn b E s t c (makes (Close u) answer follows own step) is still resumes before found = absurd (cc still)
 
 -- ---- what it holds when nothing waits
 
+present : (b : HubConfig) (E : Log) (hub : State) (s : ℕ) (c : Client) → KeepsUp b E hub s c → (name : List ℕ) (g : RoomSessions) (x : Session) (w : Watching)
+    → home_of hub s ≡ Some (name, g) → session_in g.sessions s ≡ Some x → watching b.epoch E s ≡ Some w → later g.room w.view x.outbox ≡ [] → HoldsPresent (documents E name) w.view c
+present b E hub s c keeps name g x w there is watches none =
+    let whole : w.heard ++ later g.room w.view x.outbox ≡ w.heard = ap (λ l. w.heard ++ l) none ∙ append-nil w.heard in
+    let now : HoldsPresent (documents E name) w.view (client_after w.start w.heard) = rw whole at (exactly_held b E hub s name g x w keeps.stands there is watches) in
+    let tracks : Tracks c (Some w) = subst (Tracks c) watches keeps.tracks in
+    elim tracks [
+      | inl held ↦ rw held now
+      | inr new ↦ absurd (rw (new.0, new.1) at now)
+    ]
+
 pub holds_present : (b : HubConfig) (E : Log) (hub : State) (s : ℕ) (c : Client) → KeepsUp b E hub s c → Delivered b E hub s c
-holds_present b E hub s c keeps = record {
-  keeps_up = keeps;
-  exactly = λ name g x there is none.
-      let w = keeps.watch in
-      let whole : w.heard ++ later g.room w.view x.outbox ≡ w.heard = ap (λ l. w.heard ++ l) none ∙ append-nil w.heard in
-      rw keeps.holds (rw whole at (exactly_held b E hub s name g x w keeps.stands there is keeps.watches));
-}
+holds_present b E hub s c keeps = record { keeps_up = keeps; exactly = present b E hub s c keeps }

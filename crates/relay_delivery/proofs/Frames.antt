@@ -1,10 +1,9 @@
 -- What a client reads of a text frame that a server sends.
-use Rattle.std.proofs.Common.{◌≡◌, ◌⊎◌, inl, inr, ℕ, ◌+◌, ◌^◌, ◌<◌, ◌≤◌, Bool, true, false, List, ◌++◌, length, length-append, cond, None, Some, Result, Ok, Err, refl, sym, ◌∙◌, ap, subst, arith}
+use Rattle.std.proofs.Common.{◌≡◌, ◌⊎◌, inl, inr, ℕ, ◌+◌, ◌^◌, ◌<◌, ◌≤◌, Bool, true, false, List, ◌++◌, length, length-append, cond, None, Result, Ok, Err, refl, sym, ◌∙◌, ap, subst, arith}
 use Rattle.std.specs.Prelude.{IsUtf8}
 use Rattle.websocket.specs.declared.error.Error.{Error}
 use Rattle.websocket.specs.declared.error.Error.TheVariants.{Utf8, OutOfMemory}
 use Rattle.websocket.specs.declared.protocol.context.Step.{Step}
-use Rattle.websocket.specs.declared.protocol.incomplete.MessageType.TheVariants as Kind
 use Rattle.websocket.specs.declared.protocol.frame.codec.FrameStatus.{FrameStatus}
 use Rattle.websocket.specs.declared.protocol.frame.codec.FrameStatus.TheVariants.{Partial, Complete}
 use Rattle.websocket.specs.declared.protocol.frame.codec.RawFrame.{RawFrame}
@@ -13,7 +12,7 @@ use Rattle.websocket.specs.declared.protocol.frame.coding.OpCode.TheVariants.{Da
 use Rattle.websocket.specs.declared.protocol.frame.header.FrameHeader.{FrameHeader}
 use Rattle.websocket.specs.Connection.{Connection, Effect, whole_header, deliver, on_frame, on_data, on_message_bytes, consumed_with, read_step, is_fragment, StartsWithFragment, ReadAsksReply}
 use Rattle.websocket.specs.Content.{text}
-use Rattle.websocket.specs.Frame.{encode_frame, decode_frame}
+use Rattle.websocket.specs.Frame.{decode_frame}
 use Rattle.websocket.specs.FrameHeader.{encode_header}
 use Rattle.websocket.specs.Text.{is_utf8}
 use Rattle.websocket.specs.View.{Returns, ReadLeaves, GivesError}

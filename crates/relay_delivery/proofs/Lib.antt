@@ -5,3 +5,4 @@ pub mod Fronts
 pub mod Drawing
 pub mod Turns
 pub mod Framing
+pub mod Others

@@ -1,7 +1,7 @@
 -- What a follower holds after the frames of a turn, and why it may stop before their end.
-use Rattle.std.proofs.Common.{◌≡◌, ◌≢◌, ℕ, Bool, true, false, List, [], ◌∷◌, ◌++◌, Option, Some, None, Result, Ok, Err, IfErr, OnOk, refl, sym, ◌∙◌, ap, subst, nat_lt, if◌then◌else◌}
+use Rattle.std.proofs.Common.{◌≡◌, ◌≢◌, ℕ, Bool, true, false, List, [], ◌∷◌, ◌++◌, Option, Some, None, Result, Ok, Err, IfErr, OnOk, refl, sym, ◌∙◌, subst, nat_lt, if◌then◌else◌}
 use Rattle.std.specs.List.{AllByRecursion}
-use Rattle.std.specs.Prelude.{IsUtf8, option_map, option_and_then}
+use Rattle.std.specs.Prelude.{IsUtf8, option_map}
 use Rattle.relay_follow.specs.Hearing.{as_client, told, hear_fault, read_fault, apply_fault}
 use Rattle.relay_follow.specs.declared.fault.HearFault.{HearFault}
 use Rattle.relay_follow.specs.declared.fault.HearFault.TheVariants.{Order}
@@ -20,10 +20,10 @@ use Rattle.relay_proto.specs.declared.message.Message.{Message}
 use Rattle.relay_proto.specs.declared.message.Message.TheVariants as message
 use Rattle.relay_tree.specs.Document.{Document}
 use Rattle.relay_delivery.specs.Texts.{told_all, IsFaultOf, StopsAt, CanFail}
-use Rattle.relay_delivery.specs.Turn.{FramedTurn, KeepsUp, Delivered, with_events}
+use Rattle.relay_delivery.specs.Turn.{FramedTurn, Resumes, KeepsUp, Delivered, with_events}
 use Rattle.relay_delivery.specs.declared.fault.ReceiveFault.{ReceiveFault}
 use Rattle.relay_delivery.specs.declared.fault.ReceiveFault.TheVariants.{NotFrames, NotUtf8, NotText, Refused, NoMemory}
-use Rattle.relay_delivery.proofs.Drawing.{Survives, same, hears, survives_told, Stays, stays_turn, holds_present}
+use Rattle.relay_delivery.proofs.Drawing.{Survives, hears, survives_told, Stays, stays_turn, holds_present}
 
 -- a follower is never lost
 found : (held : Option (ℕ × Document)) → as_client held ≢ lost
@@ -71,9 +71,9 @@ stops_for held now next texts heard rest text NotText all survives why = why
 
 -- ---- a turn
 
-module _ (b : HubConfig) (E : Log) (hub next : State) (s : ℕ) (made : List Event) (frames : List ℕ) (old new : Option (ℕ × Document)) (turn : FramedTurn s hub next made frames) (keeps : KeepsUp b E hub s (as_client old)) where
+module _ (b : HubConfig) (E : Log) (hub next : State) (s : ℕ) (made : List Event) (frames : List ℕ) (old new : Option (ℕ × Document)) (turn : FramedTurn s hub next made frames) (resumes : Resumes b E s (as_client old) turn.follows) (keeps : KeepsUp b E hub s (as_client old)) where
   stays : Stays b (with_events turn.follows E) next s (as_client old) (drawn turn.follows)
-  stays = stays_turn b E s turn.after (as_client old) turn.follows refl refl turn.hears_nothing keeps (found old)
+  stays = stays_turn b E s turn.after (as_client old) turn.follows refl refl resumes keeps (found old)
 
   held : told_all (as_client old) (drawn turn.follows) ≡ Some (as_client new) → Delivered b (with_events turn.follows E) next s (as_client new)
   held told =

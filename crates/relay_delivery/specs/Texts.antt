@@ -1,5 +1,5 @@
 -- Texts, one after another, to a client.
-use Rattle.std.specs.Prelude.{◌≡◌, ⊤, ℕ, List, [], ◌∷◌, ◌++◌, Option, Some, None, option_and_then, IsUtf8}
+use Rattle.std.specs.Prelude.{◌≡◌, ⊤, ℕ, List, [], ◌∷◌, ◌++◌, Option, Some, option_and_then, IsUtf8}
 use Rattle.std.specs.List.{AllByRecursion}
 use Rattle.relay_follow.specs.Hearing.{as_client, told, hear_fault}
 use Rattle.relay_follow.specs.declared.fault.HearFault.{HearFault}

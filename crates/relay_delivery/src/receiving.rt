@@ -1,7 +1,7 @@
 //! The frames of a server, to a follower.
 ghost use Rattle.std.specs.Prelude.{◌≡◌, ℕ, List, Some, IfErr, OnOk};
 ghost use Rattle.relay_delivery.specs.Texts.{told_all, StopsAt, CanFail};
-ghost use Rattle.relay_delivery.specs.Turn.{FramedTurn, KeepsUp, Delivered, with_events};
+ghost use Rattle.relay_delivery.specs.Turn.{FramedTurn, Resumes, KeepsUp, Delivered, with_events};
 ghost use Rattle.relay_follow.specs.Hearing.{as_client};
 ghost use Rattle.relay_hub.specs.Log.{Log};
 ghost use Rattle.relay_hub.specs.State.{State};
@@ -27,9 +27,9 @@ const NO_LIMITS: WebSocketConfig = WebSocketConfig {
 /// to the follower, in order, until no byte is left. An error comes at the first frame that is not a whole text, or whose text is not
 /// UTF-8 or is refused by the follower, or if memory runs out. It leaves the follower with what the texts before it make of what it held.
 ///
-/// If the bytes are those that a write turn framed, and the follower held what the messages drawn before make of its start, it then holds
-/// what those drawn in the turn make of that; and if nothing more waits for its session, exactly its view of the present document. Only
-/// memory can be missing then.
+/// If the bytes are those that a turn of a link framed, and the follower held what the messages drawn before make of its start, it then
+/// holds what those drawn in the turn make of that; and if nothing more waits for its session, exactly its view of the present document.
+/// Then only memory can be missing. A session that resumes in the turn has to hold what it resumes from.
 pub fn receive(
     alloc: Global,
     frames: &mut [u8],
@@ -40,10 +40,10 @@ pub fn receive(
     ensures stopped { (texts : List (List ℕ)) → frames.old ≡ text_frames texts →
         IfErr result (StopsAt follower.old follower.new texts) }
     ensures delivered { (b : HubConfig) (E : Log) (hub next : State) (s : ℕ) (made : List Event) (turn : FramedTurn s hub next made frames.old) →
-        KeepsUp b E hub s (as_client follower.old) →
+        Resumes b E s (as_client follower.old) turn.follows → KeepsUp b E hub s (as_client follower.old) →
         OnOk result (Delivered b (with_events turn.follows E) next s (as_client follower.new)) }
     ensures fails { (b : HubConfig) (E : Log) (hub next : State) (s : ℕ) (made : List Event) (turn : FramedTurn s hub next made frames.old) →
-        KeepsUp b E hub s (as_client follower.old) →
+        Resumes b E s (as_client follower.old) turn.follows → KeepsUp b E hub s (as_client follower.old) →
         IfErr result (CanFail (drawn turn.follows)) }
 {
     receive_all(alloc, frames, follower)

@@ -1,6 +1,6 @@
 //! A write turn of a link, as its client needs to know it.
 ghost use Rattle.std.specs.Prelude.{◌≡◌, ◌++◌, ℕ, List, Some, IfOk};
-ghost use Rattle.relay_delivery.specs.Turn.{FramedTurn};
+ghost use Rattle.relay_delivery.specs.Turn.{FramedWriteTurn};
 ghost use Rattle.relay_link.specs.Frames.{framed};
 ghost use Rattle.relay_link.specs.declared.corked_writer.CorkedWriter.{CorkedWriter};
 ghost use Rattle.relay_link.specs.declared.state.State.TheVariants.{Open};
@@ -21,7 +21,7 @@ pub fn write_turn<S: Read + Write + Drop>(
 ) -> Result<Turn, AllocError>
     ensures { IfOk result (λ turn. (old new : Socket (CorkedWriter S)) (s t : ℕ) (before frames : List ℕ) →
         link.old ≡ Open old s → link.new ≡ Open new t → framed S.contents old ≡ Some before → framed S.contents new ≡ Some (before ++ frames) →
-        FramedTurn s hub.old hub.new turn.made.items frames) }
+        FramedWriteTurn s hub.old hub.new turn.made.items frames) }
 {
     link.write_turn(alloc, hub, draws)
 }

@@ -1,5 +1,4 @@
-use Rattle.std.proofs.Common.{◌≡◌, ◌<◌, ◌^◌, ◌++◌, ℕ, List, length, length-append, arith, Ok, Err, refl, sym, ap, ◌∙◌}
-use Rattle.relay_link.specs.Frames.{text_frame}
+use Rattle.std.proofs.Common.{◌<◌, ◌^◌, length, arith, Err, ap}
 use Rattle.relay_delivery.proofs.Frames.{takes_text, never_partial, refuses_text, takes_bytes, short}
 use Rattle.relay_delivery.proofs.frame.read_frame.Goals as goal
 

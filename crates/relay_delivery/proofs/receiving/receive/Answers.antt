@@ -1,11 +1,10 @@
-use Rattle.std.proofs.Common.{◌≡◌, ℕ, List}
 use Rattle.relay_delivery.proofs.Turns.{delivers, can_fail}
 use Rattle.relay_delivery.proofs.receiving.receive.Goals as goal
 
 pub returns-clause-delivered : goal.returns-clause-delivered
-returns-clause-delivered c = λ b E hub next s made turn keeps.
-    delivers b E hub next s made c.args.frames.now c.args.follower.now c.receive_all.new.follower turn keeps c.receive_all.result c.receive_all.ensures.heard
+returns-clause-delivered c = λ b E hub next s made turn resumes keeps.
+    delivers b E hub next s made c.args.frames.now c.args.follower.now c.receive_all.new.follower turn resumes keeps c.receive_all.result c.receive_all.ensures.heard
 
 pub returns-clause-fails : goal.returns-clause-fails
-returns-clause-fails c = λ b E hub next s made turn keeps.
-    can_fail b E hub next s made c.args.frames.now c.args.follower.now c.receive_all.new.follower turn keeps c.receive_all.result c.receive_all.ensures.stopped
+returns-clause-fails c = λ b E hub next s made turn resumes keeps.
+    can_fail b E hub next s made c.args.frames.now c.args.follower.now c.receive_all.new.follower turn resumes keeps c.receive_all.result c.receive_all.ensures.stopped

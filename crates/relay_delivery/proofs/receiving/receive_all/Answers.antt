@@ -1,4 +1,4 @@
-use Rattle.std.proofs.Common.{◌≡◌, ℕ, ◌+◌, ◌-◌, ◌<◌, ◌≤◌, List, length, take, drop, sym, ◌∙◌, ap, arith, length-drop}
+use Rattle.std.proofs.Common.{◌≡◌, ◌-◌, ◌<◌, length, take, drop, ◌∙◌, ap, arith, length-drop}
 use Rattle.relay_delivery.proofs.Parts.{part_is, put_length, put_from}
 use Rattle.relay_delivery.proofs.Progress.{heard_all, heard_next, stops_next}
 use Rattle.relay_delivery.proofs.receiving.receive_all.Goals as goal

@@ -1,4 +1,3 @@
-use Rattle.std.proofs.Common.{◌≡◌}
 use Rattle.relay_delivery.proofs.Framing.{framed_if}
 use Rattle.relay_delivery.proofs.turn.write_turn.Goals as goal
 
