@@ -5,16 +5,23 @@
 
 mod config;
 mod jobs;
+mod log_level;
+mod log_lines;
+mod polled_output;
+mod rfc3339;
 mod serve;
 mod status;
 
 pub use jobs::{carry_out, refuse_words, start};
+pub use log_lines::LogLines;
+pub use polled_output::PolledOutput;
 pub use relay_lines::{
     MAX_LINE, MAX_LINES, Respond, Script, ScriptFault, Transport, run_follow, run_script,
 };
+pub use relay_link::Cause;
 pub use relay_loopback::{Client, ClientHandshake, ServeFault};
 pub use relay_serving::{
-    AdminPort, AdminReadiness, ConnectionLog, LogEntry, LogLines, NoLog, Polling, Readiness,
-    ReadyEvent, Server, StreamReady, connection_limit,
+    AdminPort, AdminReadiness, ConnectionId, ConnectionLog, LogEntry, NoLog, Polling, Readiness,
+    ReadyEvent, Refusal, RoomSession, Server, StreamReady, connection_limit,
 };
 pub use status::{Status, report};

@@ -11,13 +11,12 @@ ghost use Rattle.relay_lines.specs.declared.fault.ScriptFault.TheVariants.{BadLi
 ghost use Rattle.relay_loopback.specs.declared.fault.ServeFault.TheVariants.{Ended};
 
 use crate::config::config_of;
+use crate::log_lines::LogLines;
 use relay_hub::Hub;
 use relay_lines::{ScriptFault, write_whole};
 use relay_loopback::{ServeFault, listen};
 use relay_options::Settings;
-use relay_serving::{
-    AdminPort, AdminReadiness, ConnectionLog, LogLines, NoLog, Polling, Readiness, Server,
-};
+use relay_serving::{AdminPort, AdminReadiness, ConnectionLog, NoLog, Polling, Readiness, Server};
 use std::alloc::Global;
 use std::io::{Read, Write};
 use std::net::{Net, OpenListener, OpenStream};
@@ -54,7 +53,7 @@ pub fn serve<N: Clock + Net, W: Write, E: Write>(
             alloc,
             net,
             writer,
-            &mut LogLines::to(errors),
+            &mut LogLines::to(alloc, errors, net),
             served,
             settings,
         )

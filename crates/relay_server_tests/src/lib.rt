@@ -1,4 +1,4 @@
-//! Tests of the command line and of the program: its statuses and texts, the limits on lines, failing streams, and `serve`.
+//! Tests of the command line and of the program: its statuses and texts, the limits on lines, failing streams, `serve`, and its log.
 //!
 //! They test what no script can. The answers to lines are data in `tests/scripts`.
 #![tactic(auto)]
@@ -6,7 +6,11 @@
 #[cfg(test)]
 mod lines;
 #[cfg(test)]
+mod log_lines;
+#[cfg(test)]
 mod options;
+#[cfg(test)]
+mod polled_output;
 #[cfg(test)]
 mod program;
 #[cfg(test)]

@@ -2,49 +2,146 @@
 use relay_link::Cause;
 use std::fmt;
 use std::fmt::{Display, Formatter};
-use std::io::Write;
+use std::net::SocketAddr;
 
-/// An event of a connection, with its key in the server's slab, or of the server.
+/// An event of a connection, or of the server.
 #[derive(Clone, Copy, Debug)]
 pub enum LogEntry<'a> {
     /// Its handshake opened a session in a room.
     Opened {
-        key: usize,
-        room: &'a str,
-        session: u64,
+        connection: ConnectionId,
+        session: RoomSession<'a>,
     },
-    /// Its handshake was refused with this status.
+    /// Its handshake was refused.
     Refused {
-        key: usize,
-        status: u16,
+        connection: ConnectionId,
+        refusal: Refusal,
     },
-    /// It ended, `rounds` rounds after it was accepted.
+    /// It ended, `rounds` rounds after it was accepted. It had this session, if it ever had one.
     Ended {
-        key: usize,
+        connection: ConnectionId,
+        session: Option<RoomSession<'a>>,
         cause: Cause,
+        rounds: u64,
+    },
+    /// It was the oldest connection without a session when a place was needed, `rounds` rounds after it was accepted.
+    Evicted {
+        connection: ConnectionId,
         rounds: u64,
     },
     /// An allocation failed, so the hub gave memory back ([`relay_hub::Hub::shed`]).
     OutOfMemory,
 }
 
+/// A connection: its key in the server's slab, which a later connection may have again, and the address of its other side.
+#[derive(Clone, Copy, Debug)]
+pub struct ConnectionId {
+    pub key: usize,
+    pub peer: SocketAddr,
+}
+
+/// A session and the room in which it is.
+#[derive(Clone, Copy, Debug)]
+pub struct RoomSession<'a> {
+    pub number: u64,
+    pub room: &'a str,
+}
+
+/// Why a handshake was refused.
+#[derive(Clone, Copy, Debug, PartialEq, Eq)]
+pub enum Refusal {
+    /// Its head asks for no room in the way of the protocol. The reply has this status.
+    Status(u16),
+    /// 503: as many sessions are open as the hub allows.
+    SessionsFull,
+    /// 503: the room is new, and there are as many rooms as the hub allows.
+    RoomsFull,
+    /// 503: out of memory.
+    NoMemory,
+}
+
+impl Refusal {
+    /// The status of the reply.
+    pub fn status(self) -> u16 {
+        match self {
+            Refusal::Status(status) => status,
+            Refusal::SessionsFull | Refusal::RoomsFull | Refusal::NoMemory => 503,
+        }
+    }
+}
+
+/// The fields of a log line, as `key=value` with a space between. No value has a space: a room's name has none.
 impl Display for LogEntry<'_> {
     fn fmt<W: fmt::Write>(&self, f: &mut Formatter<W>) -> fmt::Result {
         match self {
-            LogEntry::Opened { key, room, session } => {
-                write!(f, "link {key} opened session {session} in room {room}")
+            LogEntry::Opened {
+                connection,
+                session,
+            } => write!(f, "event=opened {connection}{session}"),
+            LogEntry::Refused {
+                connection,
+                refusal,
+            } => write!(f, "event=refused {connection} {refusal}"),
+            LogEntry::Ended {
+                connection,
+                session,
+                cause,
+                rounds,
+            } => {
+                write!(f, "event=ended {connection}")?;
+                if let Some(session) = session {
+                    write!(f, "{session}")?;
+                }
+                let cause = cause_word(*cause);
+                write!(f, " cause={cause} rounds={rounds}")
             }
-            LogEntry::Refused { key, status } => write!(f, "link {key} refused with {status}"),
-            LogEntry::Ended { key, cause, rounds } => {
-                write!(f, "link {key} ended by {cause:?} after {rounds} rounds")
+            LogEntry::Evicted { connection, rounds } => {
+                write!(f, "event=evicted {connection} rounds={rounds}")
             }
-            LogEntry::OutOfMemory => {
-                write!(
-                    f,
-                    "out of memory: rooms forget what they remember, and waiting patches fold into snapshots"
-                )
-            }
+            LogEntry::OutOfMemory => f.write_str("event=out-of-memory"),
         }
+    }
+}
+
+impl Display for ConnectionId {
+    fn fmt<W: fmt::Write>(&self, f: &mut Formatter<W>) -> fmt::Result {
+        let (peer, key) = (self.peer, self.key);
+        write!(f, "peer={peer} link={key}")
+    }
+}
+
+impl Display for RoomSession<'_> {
+    fn fmt<W: fmt::Write>(&self, f: &mut Formatter<W>) -> fmt::Result {
+        let (number, room) = (self.number, self.room);
+        write!(f, " session={number} room={room}")
+    }
+}
+
+impl Display for Refusal {
+    fn fmt<W: fmt::Write>(&self, f: &mut Formatter<W>) -> fmt::Result {
+        let status = self.status();
+        write!(f, "status={status}")?;
+        match self {
+            Refusal::Status(_) => Ok(()),
+            Refusal::SessionsFull => f.write_str(" cause=sessions"),
+            Refusal::RoomsFull => f.write_str(" cause=rooms"),
+            Refusal::NoMemory => f.write_str(" cause=memory"),
+        }
+    }
+}
+
+/// The word for a cause, as in the metric `relay_connections_ended_total`.
+fn cause_word(cause: Cause) -> &'static str {
+    match cause {
+        Cause::Peer => "peer",
+        Cause::Binary => "binary",
+        Cause::Broken => "broken",
+        Cause::Stream => "stream",
+        Cause::Memory => "memory",
+        Cause::Full => "full",
+        Cause::Silent => "silent",
+        Cause::Ended => "relay",
+        Cause::Refused(_) => "refused",
     }
 }
 
@@ -59,22 +156,4 @@ pub struct NoLog;
 
 impl ConnectionLog for NoLog {
     fn record(&mut self, _entry: LogEntry<'_>) {}
-}
-
-/// A log that writes one line for each entry. Errors of the writer are ignored: there is nowhere to report them.
-#[derive(Drop)]
-pub struct LogLines<'w, W> {
-    writer: &'w mut W,
-}
-
-impl<'w, W: Write> LogLines<'w, W> {
-    pub fn to(writer: &'w mut W) -> LogLines<'w, W> {
-        LogLines { writer }
-    }
-}
-
-impl<W: Write> ConnectionLog for LogLines<'_, W> {
-    fn record(&mut self, entry: LogEntry<'_>) {
-        let _ = writeln!(self.writer, "{entry}");
-    }
 }

@@ -48,8 +48,9 @@ impl Counters {
     fn count(&mut self, entry: &LogEntry<'_>) {
         match entry {
             LogEntry::Opened { .. } => self.opened = next(self.opened),
-            LogEntry::Refused { status, .. } => self.count_refused(*status),
+            LogEntry::Refused { refusal, .. } => self.count_refused(refusal.status()),
             LogEntry::Ended { cause, .. } => self.count_ended(*cause),
+            LogEntry::Evicted { .. } => self.count_ended(Cause::Ended),
             LogEntry::OutOfMemory => {
                 self.shed = next(self.shed);
                 self.last_shed = Some(self.now);

@@ -8,8 +8,10 @@ mod admin_view;
 mod connection;
 mod connection_log;
 mod counters;
+mod eviction_log;
 mod key_queue;
 mod longest_round;
+mod peers;
 mod queues;
 mod read_share;
 mod readiness;
@@ -19,6 +21,6 @@ mod server;
 
 pub use admin_port::AdminPort;
 pub use admin_readiness::{ADMIN_LISTENER, AdminReadiness};
-pub use connection_log::{ConnectionLog, LogEntry, LogLines, NoLog};
+pub use connection_log::{ConnectionId, ConnectionLog, LogEntry, NoLog, Refusal, RoomSession};
 pub use readiness::{Polling, Readiness, ReadyEvent, StreamReady};
 pub use server::{Server, connection_limit};

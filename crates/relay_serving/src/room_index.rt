@@ -1,4 +1,6 @@
 //! Which connections have a session in which room.
+use crate::peers::asked_room;
+use relay_link::Turn;
 use std::alloc::{AllocError, Global};
 use std::hash::{DefaultHasher, Hash, Hasher};
 
@@ -41,8 +43,19 @@ impl RoomIndex {
         self.rooms.resize(count, None)
     }
 
+    /// Notes what a turn of a connection did that has this session now: whether it opened it, and whether a text was heard, so that others
+    /// in its room may have messages.
+    pub(crate) fn note_turn(&mut self, key: usize, turn: &Turn, session: Option<u64>) {
+        if let (Some(room), Some(_)) = (asked_room(turn), session) {
+            self.enter(key, room);
+        }
+        if turn.has_received() {
+            self.hear(key);
+        }
+    }
+
     /// Notes that a connection has a session in this room.
-    pub(crate) fn enter(&mut self, key: usize, name: &str) {
+    fn enter(&mut self, key: usize, name: &str) {
         self.leave(key);
         let room = hash_of(name);
         let Some(slot) = self.rooms.get_mut(key) else {
@@ -69,8 +82,8 @@ impl RoomIndex {
         }
     }
 
-    /// Notes that a text of a connection was heard, so that others in its room may have messages.
-    pub(crate) fn hear(&mut self, key: usize) {
+    /// Notes that a text of a connection was heard.
+    fn hear(&mut self, key: usize) {
         let Some(Some(room)) = self.rooms.get(key).copied() else {
             return;
         };

@@ -15,6 +15,7 @@ mod writing;
 
 use crate::connection::Connection;
 use crate::connection_log::ConnectionLog;
+use crate::peers::Peers;
 use crate::queues::Queues;
 use crate::read_share::ReadShare;
 use crate::readiness::{Readiness, ReadyEvent};
@@ -52,6 +53,8 @@ pub struct Server<S: Write + Drop, R> {
     queues: Queues,
     /// Who is in which room, and the rooms in which texts were heard since their sessions were looked at for messages that wait.
     rooms: RoomIndex,
+    /// Who is on the other side of each connection.
+    peers: Peers,
     rounds: u64,
     /// The first round in which the log may say again that memory was refused.
     next_shed_entry: u64,
@@ -81,6 +84,7 @@ impl<S: Read + Write + OpenStream + Drop, R: Readiness<S>> Server<S, R> {
             share: ReadShare::of(config),
             queues: Queues::new(alloc),
             rooms: RoomIndex::new(alloc),
+            peers: Peers::new(alloc),
             rounds: 0,
             next_shed_entry: 0,
             accepted: 0,

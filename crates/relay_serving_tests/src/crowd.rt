@@ -7,7 +7,6 @@ use relay_wire::Wire;
 use std::alloc::AllocGlobal;
 use std::cell::RefCell;
 use std::process::Abort;
-use std::str;
 
 /// A crowd of connections: those of one wire open a session each, and those of another send nothing.
 #[derive(Drop)]
@@ -55,9 +54,8 @@ impl<'a> Crowd<'a> {
     }
 
     /// Whether the log contains these words.
-    fn told(&self, rt: &impl Abort, words: &str) -> bool {
-        let log = str::from_utf8(self.server.log.as_slice());
-        log.expect(rt, "a log").contains(words)
+    fn told(&self, words: &str) -> bool {
+        self.server.log.text.contains(words)
     }
 }
 
@@ -71,13 +69,14 @@ fn fill(rt: &(impl Abort + AllocGlobal), crowd: &mut Crowd<'_>) {
 
 fn tells_who_made_room(rt: &impl Abort, crowd: &Crowd<'_>) {
     for (words, is_told) in [
-        ("opened session 256 in room r\n", true),
-        ("link 255 ended by Ended after 65 rounds\n", true),
-        ("link 0 ended", false),
-        ("link 254 ended", false),
-        ("refused", false),
+        (" session=256 room=r\n", true),
+        ("event=evicted peer=127.0.0.1:1 link=255 rounds=65\n", true),
+        ("event=evicted peer=127.0.0.1:1 link=0 ", false),
+        ("event=evicted peer=127.0.0.1:1 link=254 ", false),
+        ("event=ended", false),
+        ("event=refused", false),
     ] {
-        assert_eq!(rt; crowd.told(rt, words), is_told, "{words}");
+        assert_eq!(rt; crowd.told(words), is_told, "{words}");
     }
 }
 

@@ -11,6 +11,8 @@ mod crowd;
 #[cfg(test)]
 mod forgotten;
 #[cfg(test)]
+mod logging;
+#[cfg(test)]
 mod loopback_fixture;
 #[cfg(test)]
 mod memory_server;

@@ -1,6 +1,6 @@
 //! A server over in-memory streams, whose readiness the test controls.
 use relay_hub::{Hub, HubConfig};
-use relay_server::{LogLines, Readiness, ReadyEvent, Server};
+use relay_server::{ConnectionLog, LogEntry, Readiness, ReadyEvent, Server};
 use relay_wire::{End, Wire};
 use std::alloc::{AllocGlobal, Global};
 use std::cell::{RefCell, RefMut};
@@ -120,6 +120,18 @@ impl<'a> Readiness<End<'a>> for ScriptedReadiness<'_> {
     }
 }
 
+/// A log that holds the fields of each entry on a line.
+#[derive(Drop)]
+pub(crate) struct FieldLines {
+    pub text: String,
+}
+
+impl ConnectionLog for FieldLines {
+    fn record(&mut self, entry: LogEntry<'_>) {
+        let _ = writeln!(self.text, "{entry}");
+    }
+}
+
 /// A server, its listener, and the readiness of its streams.
 #[derive(Drop)]
 pub(crate) struct MemoryServer<'a> {
@@ -127,7 +139,7 @@ pub(crate) struct MemoryServer<'a> {
     script: &'a RefCell<ReadinessScript>,
     server: Server<End<'a>, ScriptedReadiness<'a>>,
     /// The server's log.
-    pub log: Vec<u8>,
+    pub log: FieldLines,
 }
 
 impl<'a> MemoryServer<'a> {
@@ -142,7 +154,9 @@ impl<'a> MemoryServer<'a> {
             listener: MemoryListener::new(rt.alloc()),
             script,
             server: Server::new(rt.alloc(), hub, ScriptedReadiness::of(script)),
-            log: Vec::new(rt.alloc()),
+            log: FieldLines {
+                text: String::new(rt.alloc()),
+            },
         }
     }
 
@@ -190,8 +204,7 @@ impl<'a> MemoryServer<'a> {
 
     /// Runs a round. Returns the time limit of its wait, in milliseconds.
     pub fn round(&mut self, rt: &(impl Abort + AllocGlobal)) -> u64 {
-        let mut log = LogLines::to(&mut self.log);
-        self.server.round(rt.alloc(), &self.listener, &mut log);
+        self.server.round(rt.alloc(), &self.listener, &mut self.log);
         self.script(rt).waited
     }
 }

@@ -14,12 +14,12 @@ const WATCH: &str = r#"{"do":"watch","id":1,"view":[""]}"#;
 
 const EDIT: &str = r#"{"do":"edit","id":2,"patch":[{"op":"add","path":"","value":7}]}"#;
 
-const CLOSE: &[u8] = b"\x88\x82\x00\x00\x00\x00\x03\xe8";
+pub(crate) const CLOSE: &[u8] = b"\x88\x82\x00\x00\x00\x00\x03\xe8";
 
-const BINARY: &[u8] = b"\x82\x81\x00\x00\x00\x00x";
+pub(crate) const BINARY: &[u8] = b"\x82\x81\x00\x00\x00\x00x";
 
 /// The first client of a new server connects and receives its welcome.
-const ENTERS: &[Row] = &[
+pub(crate) const ENTERS: &[Row] = &[
     (1, Incoming(0), ""),
     (1, Comes(0, HANDSHAKE), ""),
     (1, Round, "1, 1r2w 101 welcome, 0r0w"),
@@ -46,7 +46,7 @@ fn play(rt: &(impl Abort + AllocGlobal), max_waiting_patches: u64, rows: &[&[Row
     play_with(rt, config(max_waiting_patches), rows);
 }
 
-fn config(max_waiting_patches: u64) -> HubConfig {
+pub(crate) fn config(max_waiting_patches: u64) -> HubConfig {
     HubConfig::new(1, 1, 64, max_waiting_patches)
 }
 
@@ -60,7 +60,7 @@ fn play_with(rt: &(impl Abort + AllocGlobal), config: HubConfig, rows: &[&[Row]]
     }
 }
 
-fn play_rows(rt: &(impl Abort + AllocGlobal), pair: &mut Pair<'_>, rows: &[Row]) {
+pub(crate) fn play_rows(rt: &(impl Abort + AllocGlobal), pair: &mut Pair<'_>, rows: &[Row]) {
     for (place, row) in rows.iter().enumerate() {
         play_row(rt, pair, place, row);
     }
@@ -287,34 +287,3 @@ fn waits_for_the_answer_to_a_close(rt: HostRuntime) {
     ];
     play(&rt, 32, &[ENTERS, WATCHES, JOINS, answered]);
 }
-
-/// A handshake for a target that is not a room.
-const NOWHERE: &[u8] =
-    b"GET /nowhere HTTP/1.1\r\nHost: localhost\r\nUpgrade: websocket\r\nConnection: Upgrade\r\nSec-WebSocket-Key: dGhlIHNhbXBsZSBub25jZQ==\r\nSec-WebSocket-Version: 13\r\n\r\n";
-
-/// The log has a line for each opening, each refusal and each end.
-#[test]
-fn logs_its_connections(rt: HostRuntime) {
-    let script = ReadinessScript::new(rt.alloc());
-    let (one, two) = (Wire::new(rt.alloc()), Wire::new(rt.alloc()));
-    let mut pair = Pair::at(MemoryServer::new(&rt, &script, config(32)), &one, &two);
-    play_rows(&rt, &mut pair, ENTERS);
-    play_rows(&rt, &mut pair, ENDS);
-    let wanted =
-        "link 0 opened session 1 in room r\nlink 1 refused with 404\nlink 0 ended by Binary after 3 rounds\n";
-    assert_eq!(rt; pair.server.log.as_slice(), wanted.as_bytes());
-}
-
-/// The second client is refused, and the first one is ended.
-const ENDS: &[Row] = &[
-    (1, Incoming(1), ""),
-    (1, Comes(1, NOWHERE), ""),
-    (1, Round, "1 sleeps, 0r0w, 1r1w"),
-    (1, Comes(0, BINARY), ""),
-    (1, Readable(0), ""),
-    (1, Round, "1 sleeps, 1r1w unsupported, 0r0w"),
-    (1, Comes(0, CLOSE), ""),
-    (1, Readable(0), ""),
-    (1, Round, "1, 1r0w, 0r0w"),
-    (1, Round, "0, 0r0w, 0r0w"),
-];

@@ -4,10 +4,11 @@ ghost use Rattle.relay_serving.specs.Advances.{KeepsFewer, KeepsWithin};
 use super::Server;
 use crate::connection::Connection;
 use crate::connection_log::ConnectionLog;
+use crate::eviction_log::EvictionLog;
 use crate::readiness::Readiness;
 use std::alloc::{AllocError, Global};
 use std::io::{ErrorKind, Read, Write};
-use std::net::{OpenListener, OpenStream};
+use std::net::{OpenListener, OpenStream, SocketAddr};
 
 /// The maximum number of connections that a round accepts.
 const MAX_ACCEPTS: u32 = 8;
@@ -28,9 +29,9 @@ impl<S: Read + Write + OpenStream + Drop, R: Readiness<S>> Server<S, R> {
                 return;
             }
             match listener.accept() {
-                Ok((stream, _)) => {
+                Ok((stream, peer)) => {
                     self.evict(alloc, log);
-                    self.enter(alloc, stream, log);
+                    self.enter(alloc, stream, peer, log);
                 }
                 Err(error) => {
                     self.accept_ready = false;
@@ -49,7 +50,7 @@ impl<S: Read + Write + OpenStream + Drop, R: Readiness<S>> Server<S, R> {
             return;
         }
         if let Some(key) = self.first_unserved() {
-            self.end_link(alloc, key, log);
+            self.end_link(alloc, key, &mut EvictionLog::to(log));
         }
     }
 
@@ -70,11 +71,11 @@ impl<S: Read + Write + OpenStream + Drop, R: Readiness<S>> Server<S, R> {
 
     /// Holds a new connection, if it can be held, and queues it.
     #[tactic(auto, using(crate::proofs::Rules::advances))]
-    fn enter<J: ConnectionLog>(&mut self, alloc: Global, stream: S, log: &mut J)
+    fn enter<J: ConnectionLog>(&mut self, alloc: Global, stream: S, peer: SocketAddr, log: &mut J)
         ensures { KeepsWithin S.remaining self.old self.new }
     {
         let key = self.connections.vacant_key();
-        if self.add(alloc, stream).is_err() {
+        if self.add(alloc, stream, peer).is_err() {
             self.shed(log);
         }
         self.queue(key);
@@ -82,7 +83,7 @@ impl<S: Read + Write + OpenStream + Drop, R: Readiness<S>> Server<S, R> {
 
     /// Holds a new connection. It is dropped if there is no capacity, or if its stream cannot be made non-blocking or watched.
     #[tactic(auto, using(crate::proofs::Rules::advances))]
-    fn add(&mut self, alloc: Global, stream: S) -> Result<(), AllocError>
+    fn add(&mut self, alloc: Global, stream: S, peer: SocketAddr) -> Result<(), AllocError>
         ensures { KeepsWithin S.remaining self.old self.new }
     {
         if self.connections.len() >= self.most || stream.set_nonblocking(true).is_err() {
@@ -95,6 +96,7 @@ impl<S: Read + Write + OpenStream + Drop, R: Readiness<S>> Server<S, R> {
         }
         self.queues.admit(key)?;
         self.rooms.admit(key)?;
+        self.peers.begin(key, peer)?;
         let place = self.accepted;
         self.accepted = self.accepted.saturating_add(1);
         let connection = Connection::new(alloc, stream, place, self.rounds)?;

@@ -7,7 +7,6 @@ ghost use Rattle.relay_serving.specs.Rounds.{RoundsOf};
 use super::Server;
 use crate::connection_log::{ConnectionLog, LogEntry};
 use crate::readiness::Readiness;
-use relay_hub::Event;
 use relay_link::{Cause, Stage, Turn};
 use std::alloc::Global;
 use std::io::{Read, Write};
@@ -59,26 +58,12 @@ impl<S: Read + Write + OpenStream + Drop, R: Readiness<S>> Server<S, R> {
         let Some(connection) = self.connections.get(key) else {
             return;
         };
-        for event in turn.made.iter() {
-            if let (Event::Open { room }, Some(session)) = (event, connection.link.session()) {
-                let room = room.as_str();
-                self.rooms.enter(key, room);
-                log.record(LogEntry::Opened { key, room, session });
-            }
-        }
-        if turn.has_received() {
-            self.rooms.hear(key);
-        }
-        match turn.cause {
-            Some(Cause::Refused(status)) => log.record(LogEntry::Refused { key, status }),
-            // The end was logged when the closing began.
-            Some(_) if before == Stage::Closing => {}
-            Some(cause) => {
-                let rounds = self.rounds.saturating_sub(connection.since);
-                log.record(LogEntry::Ended { key, cause, rounds });
-            }
-            None => {}
-        }
+        let session = connection.link.session();
+        let rounds = self.rounds.saturating_sub(connection.since);
+        let most = self.hub.config().sessions;
+        self.peers.note_handshake(key, turn, session, most, log);
+        self.rooms.note_turn(key, turn, session);
+        self.peers.note_end(key, before, turn, rounds, log);
         if turn.cause == Some(Cause::Memory) {
             self.shed(log);
         }
