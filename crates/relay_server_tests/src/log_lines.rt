@@ -61,6 +61,19 @@ impl Write for PlannedWriter {
     }
 }
 
+/// Logs some entries to a writer.
+fn log_all(
+    rt: &impl AllocGlobal,
+    writer: &mut PlannedWriter,
+    clock: &Still,
+    entries: &[LogEntry<'_>],
+) {
+    let mut log = LogLines::to(rt.alloc(), writer, clock);
+    for entry in entries {
+        log.record(*entry);
+    }
+}
+
 /// What is written of some entries, if the writes take so many bytes.
 fn written(
     rt: &(impl Abort + AllocGlobal),
@@ -72,10 +85,7 @@ fn written(
         bytes: Vec::new(rt.alloc()),
         plan,
     };
-    let mut log = LogLines::to(rt.alloc(), &mut writer, &clock);
-    for entry in entries {
-        log.record(*entry);
-    }
+    log_all(rt, &mut writer, &clock, entries);
     text_of(rt, writer.bytes.as_slice())
 }
 
