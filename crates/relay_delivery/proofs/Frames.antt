@@ -26,11 +26,11 @@ text_header : FrameHeader
 text_header = whole_header (Data Text) None
 
 -- the outcome of a read of a text's frame, if a test says whether the text is UTF-8
-abbrev outcome : ℕ → List ℕ → Bool → Result (FrameStatus (ℕ × Effect)) Error
+abbrev pub outcome : ℕ → List ℕ → Bool → Result (FrameStatus (ℕ × Effect)) Error
 outcome n words valid = consumed_with n (deliver listening (cond valid (Ok (text words)) (Err Utf8)))
 
 -- a client reads the text of a text's frame, whatever follows
-read_text_frame : (words rest : List ℕ) → length words < 2 ^ 63 → read_step listening (text_frame words ++ rest) ≡ outcome (length (text_frame words)) words (is_utf8 words)
+pub read_text_frame : (words rest : List ℕ) → length words < 2 ^ 63 → read_step listening (text_frame words ++ rest) ≡ outcome (length (text_frame words)) words (is_utf8 words)
 unfolding on_frame on_data on_message_bytes
 read_text_frame words rest small =
     read_step-encode_frame listening (whole_header (Data Text) None) words rest (record { mask = tt; top_bit_clear = small })

@@ -6,3 +6,4 @@ pub mod Drawing
 pub mod Turns
 pub mod Framing
 pub mod Others
+pub mod Sockets

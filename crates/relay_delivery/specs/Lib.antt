@@ -1,3 +1,4 @@
 pub mod Texts
 pub mod Receiving
 pub mod Turn
+pub mod Socket

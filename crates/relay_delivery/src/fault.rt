@@ -5,6 +5,7 @@ ghost use Rattle.relay_delivery.specs.Texts.{hearing_fault};
 
 use relay_follow::HearFault;
 use thiserror::Error;
+use tungstenite::Error as SocketError;
 use websocket::error::Error as FrameError;
 
 /// The reason why a client stops receiving.
@@ -50,4 +51,18 @@ impl ReceiveFault {
             fault => ReceiveFault::Refused(fault),
         }
     }
+}
+
+/// The reason why the next text of a socket is not heard.
+#[derive(Debug, Drop, Error)]
+pub enum SocketFault {
+    /// The socket failed: its stream, the protocol, or memory.
+    #[error("{0}")]
+    Socket(SocketError),
+    /// The message is no text.
+    #[error("a message that is no text")]
+    NotText,
+    /// The follower refuses the text, or is out of memory.
+    #[error("{0}")]
+    Refused(HearFault),
 }

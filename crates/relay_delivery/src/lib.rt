@@ -9,8 +9,10 @@
 mod fault;
 mod frame;
 mod receiving;
+mod socket;
 mod turn;
 
-pub use fault::ReceiveFault;
+pub use fault::{ReceiveFault, SocketFault};
 pub use receiving::receive;
+pub use socket::{client_on, hear_next};
 pub use turn::write_turn;
