@@ -135,6 +135,16 @@ impl Peers {
         }
     }
 
+    /// Whether a turn refused a handshake because there was no memory for a session.
+    pub(crate) fn lacked_memory(&self, key: usize, turn: &Turn) -> bool {
+        match (turn.cause, self.peers.get(key)) {
+            (Some(Cause::Refused(status)), Some(peer)) => {
+                peer.refusal(status) == Refusal::NoMemory
+            }
+            _ => false,
+        }
+    }
+
     fn enter(&mut self, key: usize, room: &str, session: Option<u64>, max_sessions: u64) {
         let is_full = self.sessions >= max_sessions;
         let Some(peer) = self.peers.get_mut(key) else {

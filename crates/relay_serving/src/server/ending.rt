@@ -64,7 +64,7 @@ impl<S: Read + Write + OpenStream + Drop, R: Readiness<S>> Server<S, R> {
         self.peers.note_handshake(key, turn, session, most, log);
         self.rooms.note_turn(key, turn, session);
         self.peers.note_end(key, before, turn, rounds, log);
-        if turn.cause == Some(Cause::Memory) {
+        if turn.cause == Some(Cause::Memory) || self.peers.lacked_memory(key, turn) {
             self.shed(log);
         }
         self.remove_gone(key);
