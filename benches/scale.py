@@ -1,13 +1,14 @@
 #!/usr/bin/env python3
 """One relay with thousands of watching sessions that say nothing, beside 200 busy ones.
 
-    benches/scale.py [SESSIONS..]        0, 1000, 5000 and 15000, if none is named
+    benches/scale.py [--of SERVER] [SESSIONS..]        0, 1000, 5000 and 15000, if none is named
 
 For each number a relay is started with room for them, 20 in a room. Printed are the memory that a session takes, with its share of a
 room; deliveries to 200 watchers of one more room and the time from an edit to its own patch, by load.c; and, after the relay was killed
 and started again, the time until each session is back and holds the right slot, by crowd.c. It wants cc, and as many open files a
 process as there are connections. RELAY names another program than the one that ./relay builds."""
 
+import argparse
 import os
 import pathlib
 import resource
@@ -33,18 +34,20 @@ def open_files():
     resource.setrlimit(resource.RLIMIT_NOFILE, (most, most))
 
 
-class Relay:
-    def __init__(self, sessions, rooms):
-        self.sizes = ["--sessions", str(sessions + BUSY), "--rooms", str(rooms + BUSY_ROOMS)]
+class Server:
+    """The relay, with room for so many sessions and rooms, or another server of its protocol."""
+
+    def __init__(self, other, sessions, rooms):
+        self.program = other or os.environ.get("RELAY", f"{ROOT}/relay")
+        self.sizes = [] if other else ["--sessions", str(sessions + BUSY), "--rooms", str(rooms + BUSY_ROOMS)]
         self.start(0, 1)
 
     def start(self, port, epoch):
-        program = os.environ.get("RELAY", f"{ROOT}/relay")
-        words = [program, "serve", "--port", str(port), "--epoch", str(epoch), "--turns", "1000000000000", *self.sizes]
+        words = [self.program, "serve", "--port", str(port), "--epoch", str(epoch), "--turns", "1000000000000", *self.sizes]
         self.process = subprocess.Popen(words, stdout=subprocess.PIPE, stderr=subprocess.DEVNULL, text=True, preexec_fn=open_files)
         said = self.process.stdout.readline().split()
         if not said:
-            sys.exit(f"the relay does not start: {' '.join(words)}")
+            sys.exit(f"the server does not start: {' '.join(words)}")
         self.port = int(said[1])
 
     def restart(self):
@@ -83,34 +86,41 @@ class Crowd:
             self.process.wait()
 
 
-def measure(sessions, load, crowd_program):
+def measure(other, sessions, load, crowd_program):
     rooms = max(1, sessions // IN_A_ROOM)
-    relay = Relay(sessions, rooms)
+    server = Server(other, sessions, rooms)
     crowd = None
     try:
-        before = relay.resident()
-        crowd = Crowd(crowd_program, relay.port, sessions, rooms)
+        before = server.resident()
+        crowd = Crowd(crowd_program, server.port, sessions, rooms)
         crowd.all_there()
-        each = f", {(relay.resident() - before) / sessions / 1024:.1f} KiB each" if sessions else ""
+        each = f", {(server.resident() - before) / sessions / 1024:.1f} KiB each" if sessions else ""
         print(f"{sessions} sessions beside{each}", flush=True)
-        for words in (["deliver", "200", "5", str(relay.process.pid)], ["answer", "0", "3000"]):
-            said = subprocess.run([load, str(relay.port), *words], check=True, capture_output=True, text=True)
+        for words in (["deliver", "200", "5", str(server.process.pid)], ["answer", "0", "3000"]):
+            said = subprocess.run([load, str(server.port), *words], check=True, capture_output=True, text=True)
             print("  " + said.stdout.strip(), flush=True)
         if sessions:
-            relay.restart()
-            print(f"  all back {crowd.all_there():.1f} s after the relay was killed", flush=True)
+            server.restart()
+            print(f"  all back {crowd.all_there():.1f} s after the server was killed", flush=True)
     finally:
-        relay.end()
+        server.end()
         if crowd:
             crowd.end()
 
 
-def main(numbers):
+def asked():
+    words = argparse.ArgumentParser(description=__doc__, formatter_class=argparse.RawDescriptionHelpFormatter)
+    words.add_argument("--of", metavar="SERVER", help="another server than the relay")
+    words.add_argument("numbers", nargs="*", type=int, default=[0, 1_000, 5_000, 15_000], metavar="SESSIONS")
+    return words.parse_args()
+
+
+def main(words):
     with tempfile.TemporaryDirectory() as folder:
         load, crowd = compiled("load", folder), compiled("crowd", folder)
-        for sessions in numbers:
-            measure(sessions, load, crowd)
+        for sessions in words.numbers:
+            measure(words.of, sessions, load, crowd)
 
 
 if __name__ == "__main__":
-    main([int(word) for word in sys.argv[1:]] or [0, 1_000, 5_000, 15_000])
+    main(asked())
