@@ -7,3 +7,4 @@ pub mod Turns
 pub mod Framing
 pub mod Others
 pub mod Sockets
+pub mod Ahead

@@ -22,7 +22,7 @@ told_all-append c [] ys = refl
 told_all-append c (x ∷ xs) ys = after_told (told c x) xs ys (λ m. told_all-append m xs ys)
 
 -- one more
-told_next : (c m n : Client) (xs : List (List ℕ)) (text : List ℕ) → told_all c xs ≡ Some m → told m text ≡ Some n → told_all c (xs ++ text ∷ []) ≡ Some n
+pub told_next : (c m n : Client) (xs : List (List ℕ)) (text : List ℕ) → told_all c xs ≡ Some m → told m text ≡ Some n → told_all c (xs ++ text ∷ []) ≡ Some n
 told_next c m n xs text before next = rw (told_all-append c xs (text ∷ []), before, next) refl
 
 -- ---- frames
@@ -86,7 +86,7 @@ module _ (old mid new : Option (ℕ × Document)) (texts : List (List ℕ)) (fra
       )
 
   -- its text was not heard
-  pub stops_next : (fault : ReceiveFault) → ((text rest : List ℕ) → part ≡ text_frame text ++ rest → IsFaultOf mid text fault) → new ≡ mid → StopsAt old new texts fault
+  pub stops_next : (fault : ReceiveFault) → ((text rest : List ℕ) → part ≡ text_frame text ++ rest → IsFaultOf fault mid text) → new ≡ mid → StopsAt old new texts (IsFaultOf fault)
   stops_next fault refuses same =
       let next = next_of h.heard h.rest frames some h.left in
       record {

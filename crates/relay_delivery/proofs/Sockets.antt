@@ -1,5 +1,5 @@
 -- What a client's socket reads, if a text's frame stands in front of its bytes.
-use Rattle.std.proofs.Common.{◌≡◌, ◌≢◌, ℕ, ◌^◌, ◌<◌, Bool, true, false, List, [], ◌∷◌, ◌++◌, length, drop, Option, None, Some, Result, Ok, Err, refl, sym, ◌∙◌, ap, subst, append_assoc}
+use Rattle.std.proofs.Common.{◌≡◌, ◌≢◌, ℕ, ◌^◌, ◌<◌, Bool, true, false, List, [], ◌∷◌, ◌++◌, length, drop, Option, None, Some, Result, Ok, refl, sym, ◌∙◌, ap, subst, append_assoc}
 use Rattle.std.proofs.lemmas.List.{drop_at}
 use Rattle.std.specs.Io.KnownBytes.{Consumes, prepend_known}
 use Rattle.tungstenite.proofs.SocketLemmas.{runs-more, replies-none, nil-left}
@@ -118,7 +118,7 @@ said_is m said shown words is same content =
     let both : text said ≡ text words = (rw is at content) in
     same ∙ cc both
 
-pub next_fault : (held : Option (ℕ × Document)) (words : List ℕ) (fault : HearFault) → (fault ≢ NoMemory → hear_fault held words ≡ Some fault) → IsNextFault held words (Refused fault)
+pub next_fault : (held : Option (ℕ × Document)) (words : List ℕ) (fault : HearFault) → (fault ≢ NoMemory → hear_fault held words ≡ Some fault) → IsNextFault (Refused fault) held words
 next_fault held words NoMemory why = tt
 next_fault held words NotMessage why = why (λ e. cc e)
 next_fault held words NoView why = why (λ e. cc e)

@@ -62,7 +62,7 @@ utf8_there [] rest text all = all.0
 utf8_there (first ∷ heard) rest text all = utf8_there heard rest text all.1
 
 stops_for : (held now : Option (ℕ × Document)) (next : Client) (texts heard rest : List (List ℕ)) (text : List ℕ) (fault : ReceiveFault) → texts ≡ heard ++ text ∷ rest
-    → Survives (as_client now) (text ∷ rest) next → IsFaultOf now text fault → CanFail texts fault
+    → Survives (as_client now) (text ∷ rest) next → IsFaultOf fault now text → CanFail texts fault
 stops_for held now next texts heard rest text NoMemory all survives why = tt
 stops_for held now next texts heard rest text NotUtf8 all survives why = λ utf8. why (utf8_there heard rest text (subst (AllByRecursion IsUtf8) all utf8))
 stops_for held now next texts heard rest text (Refused fault) all survives why = takes_next now next text rest fault survives why
@@ -75,7 +75,7 @@ module _ (b : HubConfig) (E : Log) (hub next : State) (s : ℕ) (made : List Eve
   stays : Stays b (with_events turn.follows E) next s (as_client old) (drawn turn.follows)
   stays = stays_turn b E s turn.after (as_client old) turn.follows refl refl resumes keeps (found old)
 
-  held : told_all (as_client old) (drawn turn.follows) ≡ Some (as_client new) → Delivered b (with_events turn.follows E) next s (as_client new)
+  pub held : told_all (as_client old) (drawn turn.follows) ≡ Some (as_client new) → Delivered b (with_events turn.follows E) next s (as_client new)
   held told =
       let is : stays.client_is ≡ as_client new = cc (told, survives_told stays.survives) in
       subst (Delivered b (with_events turn.follows E) next s) is (holds_present b (with_events turn.follows E) next s stays.client_is stays.keeps)
@@ -85,7 +85,7 @@ module _ (b : HubConfig) (E : Log) (hub next : State) (s : ℕ) (made : List Eve
   delivers (Ok u) heard = held (heard (drawn turn.follows) turn.frames_are)
   delivers (Err fault) heard = tt
 
-  pub can_fail : (result : Result (Unit {0}) ReceiveFault) → ((texts : List (List ℕ)) → frames ≡ text_frames texts → IfErr result (StopsAt old new texts)) → IfErr result (CanFail (drawn turn.follows))
+  pub can_fail : (result : Result (Unit {0}) ReceiveFault) → ((texts : List (List ℕ)) → frames ≡ text_frames texts → IfErr result (λ fault. StopsAt old new texts (IsFaultOf fault))) → IfErr result (CanFail (drawn turn.follows))
   can_fail (Ok u) stopped = tt
   can_fail (Err fault) stopped =
       let stop = stopped (drawn turn.follows) turn.frames_are in

@@ -1,5 +1,6 @@
 -- A client's socket that reads a server's text frames off a stream.
-use Rattle.std.specs.Prelude.{◌≡◌, ⊤, ℕ, List, [], Option, Some}
+use Rattle.std.specs.Prelude.{◌≡◌, ⊤, ℕ, ◌<◌, ◌^◌, length, List, [], Option, Some}
+use Rattle.std.specs.List.{AllByRecursion}
 use Rattle.std.specs.Io.KnownBytes.{prepend_known}
 use Rattle.tungstenite.specs.Socket.{Socket}
 use Rattle.relay_follow.specs.Hearing.{hear_fault}
@@ -17,8 +18,12 @@ pub record Listens {S : Type 0} (remaining : S → Option (List ℕ)) (socket : 
   pub left : prepend_known socket.input (remaining socket.stream) ≡ Some bytes
 
 -- why a text that stands in front of these bytes was not heard: the socket failed, the follower refuses it, or memory ran out
-abbrev pub IsNextFault : Option (ℕ × Document) → List ℕ → SocketFault → Type 0
-IsNextFault held text (Failed error) = ⊤
-IsNextFault held text NotText = ⊥
-IsNextFault held text (Refused NoMemory) = ⊤
-IsNextFault held text (Refused fault) = hear_fault held text ≡ Some fault
+abbrev pub IsNextFault : SocketFault → Option (ℕ × Document) → List ℕ → Type 0
+IsNextFault (Failed error) held text = ⊤
+IsNextFault NotText held text = ⊥
+IsNextFault (Refused NoMemory) held text = ⊤
+IsNextFault (Refused fault) held text = hear_fault held text ≡ Some fault
+
+-- the length of each text fits a frame (RFC 6455, section 5.2)
+abbrev pub FitFrames : List (List ℕ) → Type 0
+FitFrames = AllByRecursion (λ text. length text < 2 ^ 63)

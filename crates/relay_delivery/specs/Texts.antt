@@ -15,25 +15,25 @@ told_all c [] = Some c
 told_all c (text ∷ texts) = option_and_then (λ next. told_all next texts) (told c text)
 
 -- the fault is that of a text to a follower: it can't be a frame's text, or the follower refuses it, or memory runs out
-abbrev pub IsFaultOf : Option (ℕ × Document) → List ℕ → ReceiveFault → Type 0
-IsFaultOf held text NotUtf8 = ¬ (IsUtf8 text)
-IsFaultOf held text (Refused fault) = hear_fault held text ≡ Some fault
-IsFaultOf held text NoMemory = ⊤
-IsFaultOf held text _ = ⊥
+abbrev pub IsFaultOf : ReceiveFault → Option (ℕ × Document) → List ℕ → Type 0
+IsFaultOf NotUtf8 held text = ¬ (IsUtf8 text)
+IsFaultOf (Refused fault) held text = hear_fault held text ≡ Some fault
+IsFaultOf NoMemory held text = ⊤
+IsFaultOf _ held text = ⊥
 
 -- the fault of a text that a follower did not take
 abbrev pub hearing_fault : HearFault → ReceiveFault
 hearing_fault hear.NoMemory = NoMemory
 hearing_fault fault = Refused fault
 
--- A follower heard some of the texts, in order, and stopped at the next one, with its fault.
-pub record StopsAt (old new : Option (ℕ × Document)) (texts : List (List ℕ)) (fault : ReceiveFault) : Type 0 where
+-- A follower heard some of the texts, in order, and stopped at the next one, for that reason.
+pub record StopsAt (old new : Option (ℕ × Document)) (texts : List (List ℕ)) (Why : Option (ℕ × Document) → List ℕ → Type 0) : Type 0 where
   pub heard : List (List ℕ)
   pub text : List ℕ
   pub rest : List (List ℕ)
   pub all : texts ≡ heard ++ text ∷ rest
   pub holds : told_all (as_client old) heard ≡ Some (as_client new)
-  pub why : IsFaultOf new text fault
+  pub why : Why new text
 
 -- the faults that can come of texts each of which a follower would take: memory runs out, or one of them is not UTF-8
 abbrev pub CanFail : List (List ℕ) → ReceiveFault → Type 0

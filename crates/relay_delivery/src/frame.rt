@@ -26,7 +26,7 @@ pub(crate) fn receive_frame(
         IfOk result (λ consumed. (context.new ≡ listening) × (consumed ≡ length (text_frame text))
         × (told (as_client follower.old) text ≡ Some (as_client follower.new))) }
     ensures refused { (text rest : List ℕ) → context.old ≡ listening → frames.old ≡ text_frame text ++ rest →
-        IfErr result (λ fault. IsFaultOf follower.old text fault) }
+        IfErr result (λ fault. IsFaultOf fault follower.old text) }
     ensures unchanged { OnErr result (follower.new ≡ follower.old) }
 {
     let step = read_frame(alloc, context, frames)?;

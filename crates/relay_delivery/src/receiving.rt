@@ -1,6 +1,6 @@
 //! The frames of a server, to a follower.
 ghost use Rattle.std.specs.Prelude.{◌≡◌, ℕ, List, Some, IfErr, OnOk};
-ghost use Rattle.relay_delivery.specs.Texts.{told_all, StopsAt, CanFail};
+ghost use Rattle.relay_delivery.specs.Texts.{told_all, IsFaultOf, StopsAt, CanFail};
 ghost use Rattle.relay_delivery.specs.Turn.{FramedTurn, Resumes, KeepsUp, Delivered, with_events};
 ghost use Rattle.relay_follow.specs.Hearing.{as_client};
 ghost use Rattle.relay_hub.specs.Log.{Log};
@@ -38,7 +38,7 @@ pub fn receive(
     ensures heard { (texts : List (List ℕ)) → frames.old ≡ text_frames texts →
         OnOk result (told_all (as_client follower.old) texts ≡ Some (as_client follower.new)) }
     ensures stopped { (texts : List (List ℕ)) → frames.old ≡ text_frames texts →
-        IfErr result (StopsAt follower.old follower.new texts) }
+        IfErr result (λ fault. StopsAt follower.old follower.new texts (IsFaultOf fault)) }
     ensures delivered { (b : HubConfig) (E : Log) (hub next : State) (s : ℕ) (made : List Event) (turn : FramedTurn s hub next made frames.old) →
         Resumes b E s (as_client follower.old) turn.follows → KeepsUp b E hub s (as_client follower.old) →
         OnOk result (Delivered b (with_events turn.follows E) next s (as_client follower.new)) }
@@ -57,7 +57,7 @@ fn receive_all(
     ensures heard { (texts : List (List ℕ)) → frames.old ≡ text_frames texts →
         OnOk result (told_all (as_client follower.old) texts ≡ Some (as_client follower.new)) }
     ensures stopped { (texts : List (List ℕ)) → frames.old ≡ text_frames texts →
-        IfErr result (StopsAt follower.old follower.new texts) }
+        IfErr result (λ fault. StopsAt follower.old follower.new texts (IsFaultOf fault)) }
 {
     let mut context = WebSocketContext::new(alloc, Role::Client, NO_LIMITS);
     let mut start = 0;

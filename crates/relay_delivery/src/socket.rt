@@ -1,8 +1,15 @@
 //! The same client over a stream: a socket of `tungstenite`, whose reads may cut the bytes anywhere.
 ghost use Rattle.std.specs.Prelude.{◌≡◌, ◌<◌, ◌^◌, ◌++◌, ℕ, List, Some, length, IfErr, OnOk, OnErr};
-ghost use Rattle.relay_delivery.specs.Socket.{Listens, IsNextFault};
+ghost use Rattle.relay_delivery.specs.Socket.{Listens, IsNextFault, FitFrames};
+ghost use Rattle.relay_delivery.specs.Texts.{told_all, StopsAt};
+ghost use Rattle.relay_delivery.specs.Turn.{FramedTurn, Resumes, KeepsUp, Delivered, with_events};
 ghost use Rattle.relay_follow.specs.Hearing.{as_client, told};
-ghost use Rattle.relay_link.specs.Frames.{text_frame};
+ghost use Rattle.relay_hub.specs.Log.{Log};
+ghost use Rattle.relay_hub.specs.State.{State};
+ghost use Rattle.relay_hub.specs.declared.config.HubConfig.{HubConfig};
+ghost use Rattle.relay_hub.specs.declared.event.Event.{Event};
+ghost use Rattle.relay_link.specs.Follows.{drawn};
+ghost use Rattle.relay_link.specs.Frames.{text_frame, text_frames};
 
 use crate::fault::SocketFault;
 use relay_follow::Follower;
@@ -34,7 +41,7 @@ pub fn hear_next<S: Read + Write + Drop, K: MaskKeys + Drop>(
     ensures heard { (text rest : List ℕ) → length text < 2 ^ 63 → Listens S.remaining socket.old (text_frame text ++ rest) →
         OnOk result ((told (as_client follower.old) text ≡ Some (as_client follower.new)) × Listens S.remaining socket.new rest) }
     ensures refused { (text rest : List ℕ) → length text < 2 ^ 63 → Listens S.remaining socket.old (text_frame text ++ rest) →
-        IfErr result (λ fault. IsNextFault follower.old text fault) }
+        IfErr result (λ fault. IsNextFault fault follower.old text) }
     ensures unchanged { OnErr result (follower.new ≡ follower.old) }
 {
     let message = match socket.read() {
@@ -48,4 +55,49 @@ pub fn hear_next<S: Read + Write + Drop, K: MaskKeys + Drop>(
         Ok(()) => Ok(()),
         Err(fault) => Err(SocketFault::Refused(fault)),
     }
+}
+
+/// Reads as many messages off a client's socket as a turn of its link drew, and passes their texts to the follower. If the bytes that are
+/// still to be read begin with what the turn framed, the follower then holds what [`receive`](crate::receive) would leave it with. An
+/// error leaves it with what the texts before make of what it held.
+pub fn hear_texts<S: Read + Write + Drop, K: MaskKeys + Drop>(
+    alloc: Global,
+    socket: &mut WebSocket<S, K>,
+    count: usize,
+    follower: &mut Follower,
+) -> Result<(), SocketFault>
+    ensures heard { (texts : List (List ℕ)) (rest : List ℕ) → length texts ≡ count → FitFrames texts →
+        Listens S.remaining socket.old (text_frames texts ++ rest) →
+        OnOk result ((told_all (as_client follower.old) texts ≡ Some (as_client follower.new)) × Listens S.remaining socket.new rest) }
+    ensures stopped { (texts : List (List ℕ)) (rest : List ℕ) → length texts ≡ count → FitFrames texts →
+        Listens S.remaining socket.old (text_frames texts ++ rest) →
+        IfErr result (λ fault. StopsAt follower.old follower.new texts (IsNextFault fault)) }
+    ensures delivered { (b : HubConfig) (E : Log) (hub next : State) (s : ℕ) (made : List Event) (frames rest : List ℕ) (turn : FramedTurn s hub next made frames) →
+        length (drawn turn.follows) ≡ count → FitFrames (drawn turn.follows) → Listens S.remaining socket.old (frames ++ rest) →
+        Resumes b E s (as_client follower.old) turn.follows → KeepsUp b E hub s (as_client follower.old) →
+        OnOk result (Delivered b (with_events turn.follows E) next s (as_client follower.new) × Listens S.remaining socket.new rest) }
+{
+    hear_all(alloc, socket, count, follower)
+}
+
+fn hear_all<S: Read + Write + Drop, K: MaskKeys + Drop>(
+    alloc: Global,
+    socket: &mut WebSocket<S, K>,
+    count: usize,
+    follower: &mut Follower,
+) -> Result<(), SocketFault>
+    ensures heard { (texts : List (List ℕ)) (rest : List ℕ) → length texts ≡ count → FitFrames texts →
+        Listens S.remaining socket.old (text_frames texts ++ rest) →
+        OnOk result ((told_all (as_client follower.old) texts ≡ Some (as_client follower.new)) × Listens S.remaining socket.new rest) }
+    ensures stopped { (texts : List (List ℕ)) (rest : List ℕ) → length texts ≡ count → FitFrames texts →
+        Listens S.remaining socket.old (text_frames texts ++ rest) →
+        IfErr result (λ fault. StopsAt follower.old follower.new texts (IsNextFault fault)) }
+{
+    for _ in 0..count {
+        match hear_next(alloc, socket, follower) {
+            Ok(()) => {}
+            Err(fault) => return Err(fault),
+        }
+    }
+    Ok(())
 }

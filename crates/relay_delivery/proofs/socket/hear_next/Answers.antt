@@ -1,7 +1,6 @@
-use Rattle.std.proofs.Common.{◌≡◌, ◌≢◌, ◌<◌, ◌^◌, ◌++◌, ℕ, List, Some, refl, subst, sym}
+use Rattle.std.proofs.Common.{◌≡◌, Some, refl, subst}
 use Rattle.relay_delivery.proofs.Sockets.{reads_next, only_text, said_is, next_fault}
 use Rattle.relay_follow.specs.Hearing.{as_client, told, hear_fault}
-use Rattle.relay_follow.specs.declared.fault.HearFault.TheVariants.{NoMemory}
 use Rattle.relay_delivery.proofs.socket.hear_next.Goals as goal
 
 pub returns-in_default : goal.returns-in_default
