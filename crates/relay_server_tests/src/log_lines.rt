@@ -139,7 +139,7 @@ fn says(rt: &(impl Abort + AllocGlobal), entry: LogEntry<'_>, wanted: &str) {
     assert_eq!(rt; rest, Some(wanted));
 }
 
-/// A line says what happened to which connection. It is a warning if a limit was reached or memory is short.
+/// A line says what happened to which connection. It is a warning if memory is short, or if the connection had to make place.
 #[test]
 fn a_line_says_what_happened(rt: HostRuntime) {
     let session = RoomSession {
@@ -175,6 +175,15 @@ fn a_line_says_what_happened(rt: HostRuntime) {
             evicted,
             "level=warn event=evicted peer=127.0.0.1:51000 link=7 rounds=3\n",
         ),
+    ] {
+        says(&rt, entry, wanted);
+    }
+}
+
+/// The line of a refused handshake says why. It is a warning if a limit was reached or memory is short.
+#[test]
+fn a_refusal_says_why(rt: HostRuntime) {
+    for (entry, wanted) in [
         (
             refused(Refusal::Status(404)),
             "level=info event=refused peer=127.0.0.1:51000 link=7 status=404\n",
