@@ -1,11 +1,15 @@
 -- The numbers of a relay in the text format of Prometheus: each metric has a line that says what it is, one that says its kind, and then a
 -- line for each value.
-use Rattle.std.specs.Prelude.{ℕ, List, [], ◌++◌, codes, decimal}
+use Rattle.std.specs.Prelude.{ℕ, List, [], ◌∷◌, ◌++◌, map, codes, decimal}
+use Rattle.std.specs.Borrow.{Bor}
+use Rattle.std.specs.List.{flat_map}
+use Rattle.relay_admin.specs.declared.metrics.DrawnMessages.{DrawnMessages}
 use Rattle.relay_admin.specs.declared.metrics.EndedBy.{EndedBy}
 use Rattle.relay_admin.specs.declared.metrics.Kind.{Kind}
 use Rattle.relay_admin.specs.declared.metrics.Kind.TheVariants.{Counter, Gauge}
 use Rattle.relay_admin.specs.declared.metrics.Metrics.{Metrics}
 use Rattle.relay_admin.specs.declared.metrics.RefusedBy.{RefusedBy}
+use Rattle.relay_admin.specs.declared.metrics.SnapshotsBy.{SnapshotsBy}
 
 abbrev pub kind_name : Kind → List ℕ
 kind_name Counter = codes "counter"
@@ -18,12 +22,21 @@ family_text name kind help =
 abbrev pub sample_text : List ℕ → ℕ → List ℕ
 sample_text name value = name ++ (codes " " ++ (decimal value ++ codes "\n"))
 
-abbrev pub labelled_text : List ℕ → List ℕ → List ℕ → ℕ → List ℕ
-labelled_text name label of value = name ++ (codes "{" ++ (label ++ (codes "=\"" ++ (of ++ (codes "\"} " ++ (decimal value ++ codes "\n"))))))
+-- a value of a metric that has one for each word of a label
+abbrev pub count_text : List ℕ → List ℕ → List ℕ × ℕ → List ℕ
+count_text name label (word, count) = name ++ (codes "{" ++ (label ++ (codes "=\"" ++ (word ++ (codes "\"} " ++ (decimal count ++ codes "\n"))))))
 
 -- a text, and behind it a metric with one value
 abbrev pub with_metric : List ℕ → Kind → List ℕ → ℕ → List ℕ → List ℕ
 with_metric name kind help value text = (text ++ family_text name kind help) ++ sample_text name value
+
+-- a text, and behind it a counter with a value for each of these words of a label
+abbrev pub with_counts : List ℕ → List ℕ → List ℕ → List (List ℕ × ℕ) → List ℕ → List ℕ
+with_counts name help label counts text = (text ++ family_text name Counter help) ++ flat_map (λ count. count_text name label count) counts
+
+-- a word of a label and its value, as the code holds them
+abbrev pub word_and_count : Bor (List ℕ) × ℕ → List ℕ × ℕ
+word_and_count pair = (pair.0.now, pair.1)
 
 -- A text with the metrics of a part of the relay behind it. They stand in the text from the bottom up.
 
@@ -42,40 +55,47 @@ with_connections m text =
     (with_metric (codes "relay_connections_limit") Gauge (codes "Connections that may be held.") m.max_connections
     (with_metric (codes "relay_connections") Gauge (codes "Connections that are held, with and without a session.") m.connections text))
 
--- a value for a status of a refusal
-abbrev pub refused_by : List ℕ → ℕ → List ℕ → List ℕ
-refused_by status value text = text ++ labelled_text (codes "relay_handshakes_refused_total") (codes "status") status value
-
 abbrev pub with_refused : RefusedBy → List ℕ → List ℕ
 with_refused r text =
-    refused_by (codes "503") r.unavailable
-    (refused_by (codes "431") r.too_long
-    (refused_by (codes "426") r.upgrade
-    (refused_by (codes "405") r.method
-    (refused_by (codes "404") r.not_found
-    (refused_by (codes "400") r.bad_request
-    (text ++ family_text (codes "relay_handshakes_refused_total") Counter (codes "Handshakes refused, by the status.")))))))
+    with_counts (codes "relay_handshakes_refused_total") (codes "Handshakes refused, by the status.") (codes "status")
+    ((codes "400", r.bad_request)
+    ∷ (codes "404", r.not_found)
+    ∷ (codes "405", r.method)
+    ∷ (codes "426", r.upgrade)
+    ∷ (codes "431", r.too_long)
+    ∷ (codes "503", r.unavailable)
+    ∷ []) text
 
--- a value for a cause of an end
-abbrev pub ended_by : List ℕ → ℕ → List ℕ → List ℕ
-ended_by cause value text = text ++ labelled_text (codes "relay_connections_ended_total") (codes "cause") cause value
+abbrev pub with_ended : EndedBy → List ℕ → List ℕ
+with_ended e text =
+    with_counts (codes "relay_connections_ended_total") (codes "Connections ended, by the cause.") (codes "cause")
+    ((codes "peer", e.peer)
+    ∷ (codes "binary", e.binary)
+    ∷ (codes "broken", e.broken)
+    ∷ (codes "stream", e.stream)
+    ∷ (codes "memory", e.memory)
+    ∷ (codes "full", e.full)
+    ∷ (codes "silent", e.silent)
+    ∷ (codes "relay", e.relay)
+    ∷ []) text
 
--- the ends that the other side or its stream made
-abbrev pub with_ended_there : EndedBy → List ℕ → List ℕ
-with_ended_there e text =
-    ended_by (codes "stream") e.stream
-    (ended_by (codes "broken") e.broken
-    (ended_by (codes "binary") e.binary
-    (ended_by (codes "peer") e.peer
-    (text ++ family_text (codes "relay_connections_ended_total") Counter (codes "Connections ended, by the cause.")))))
+abbrev pub with_snapshots : SnapshotsBy → List ℕ → List ℕ
+with_snapshots s text =
+    with_counts (codes "relay_snapshots_total") (codes "Snapshots drawn for sessions, by what made them due.") (codes "cause")
+    ((codes "watch", s.watch)
+    ∷ (codes "resume", s.resume)
+    ∷ (codes "edit", s.edit)
+    ∷ (codes "patches", s.patches)
+    ∷ (codes "weight", s.weight)
+    ∷ (codes "memory", s.memory)
+    ∷ []) text
 
--- those that this side made
-abbrev pub with_ended_here : EndedBy → List ℕ → List ℕ
-with_ended_here e text =
-    ended_by (codes "relay") e.relay
-    (ended_by (codes "silent") e.silent
-    (ended_by (codes "full") e.full
-    (ended_by (codes "memory") e.memory text)))
+abbrev pub with_drawn : DrawnMessages → List ℕ → List ℕ
+with_drawn d text =
+    with_snapshots d.snapshots
+    (with_metric (codes "relay_patches_total") Counter (codes "Patches drawn for sessions.") d.patches
+    (with_counts (codes "relay_refusals_total") (codes "Refusals drawn for sessions, by the fault.") (codes "fault") (map word_and_count d.refusals.now)
+    (with_metric (codes "relay_replies_total") Counter (codes "Replies drawn for sessions, refusals among them.") d.replies text)))
 
 -- the longest round, in millionths of a second
 abbrev pub with_longest : ℕ → List ℕ → List ℕ
@@ -91,4 +111,4 @@ with_rounds m text =
 
 -- the whole text
 abbrev pub metrics_text : Metrics → List ℕ
-metrics_text m = with_rounds m (with_ended_here m.ended (with_ended_there m.ended (with_refused m.refused (with_connections m (with_hub m [])))))
+metrics_text m = with_rounds m (with_drawn m.drawn (with_ended m.ended (with_refused m.refused (with_connections m (with_hub m [])))))

@@ -19,7 +19,7 @@ mod rooms;
 mod route;
 
 pub use answer::Ask;
-pub use metrics::{EndedBy, Metrics, RefusedBy, metrics_text};
+pub use metrics::{DrawnMessages, EndedBy, Metrics, RefusedBy, SnapshotsBy, metrics_text};
 pub use reading::{MAX_HEAD, ask};
 pub use refusal::Refusal;
 pub use reply::{Reply, reply_text};

@@ -1,12 +1,12 @@
 //! The numbers of a relay in the text format of Prometheus, version 0.0.4.
-ghost use Rattle.std.specs.Prelude.{◌≡◌, ◌++◌, IfOk, OnOk, string_bytes};
-ghost use Rattle.relay_admin.specs.Metrics.{kind_name, family_text, labelled_text, with_metric, with_hub, with_connections, with_refused, with_ended_here, with_ended_there, with_longest, with_rounds, metrics_text};
+ghost use Rattle.std.specs.Prelude.{◌≡◌, ◌++◌, map, IfOk, OnOk, string_bytes};
+ghost use Rattle.relay_admin.specs.Metrics.{kind_name, family_text, word_and_count, count_text, with_metric, with_counts, with_hub, with_connections, with_refused, with_ended, with_drawn, with_snapshots, with_longest, with_rounds, metrics_text};
 
 use std::alloc::{AllocError, Global};
 
 /// The numbers of a relay. What is counted begins with its start.
 #[derive(Clone, Copy, Debug, PartialEq, Eq)]
-pub struct Metrics {
+pub struct Metrics<'a> {
     pub rooms: u64,
     pub max_rooms: u64,
     pub sessions: u64,
@@ -21,6 +21,7 @@ pub struct Metrics {
     pub opened: u64,
     pub refused: RefusedBy,
     pub ended: EndedBy,
+    pub drawn: DrawnMessages<'a>,
     /// How many times the log said that memory was refused.
     pub shed: u64,
     pub rounds: u64,
@@ -59,6 +60,35 @@ pub struct EndedBy {
     pub relay: u64,
 }
 
+/// How many messages were drawn for sessions, by kind.
+#[derive(Clone, Copy, Debug, Default, PartialEq, Eq)]
+pub struct DrawnMessages<'a> {
+    /// The refusals are among them.
+    pub replies: u64,
+    /// The refusals, by the fault: the word that names it in a refusal, and how many there were. They are written in this order, and the
+    /// words as they are, so no word has a `"`, a `\` or a line end.
+    pub refusals: &'a [(&'a str, u64)],
+    pub patches: u64,
+    pub snapshots: SnapshotsBy,
+}
+
+/// How many snapshots were drawn for sessions, by what made them due.
+#[derive(Clone, Copy, Debug, Default, PartialEq, Eq)]
+pub struct SnapshotsBy {
+    /// The client asked to watch.
+    pub watch: u64,
+    /// A resume found no patch.
+    pub resume: u64,
+    /// An edit had no patch within bounds for this view.
+    pub edit: u64,
+    /// More patches waited than may.
+    pub patches: u64,
+    /// The patches that waited weighed more than they may.
+    pub weight: u64,
+    /// Memory was refused.
+    pub memory: u64,
+}
+
 /// The kind of a metric.
 #[derive(Clone, Copy, Debug, PartialEq, Eq)]
 pub enum Kind {
@@ -80,21 +110,21 @@ impl Kind {
 }
 
 /// Returns the text of all numbers.
-pub fn metrics_text(alloc: Global, metrics: &Metrics) -> Result<String, AllocError>
+pub fn metrics_text(alloc: Global, metrics: &Metrics<'_>) -> Result<String, AllocError>
     ensures { IfOk result (λ text. string_bytes text ≡ metrics_text metrics.now) }
 {
     let mut text = String::new(alloc);
     write_hub(alloc, &mut text, metrics)?;
     write_connections(alloc, &mut text, metrics)?;
     write_refused(alloc, &mut text, &metrics.refused)?;
-    write_ended_there(alloc, &mut text, &metrics.ended)?;
-    write_ended_here(alloc, &mut text, &metrics.ended)?;
+    write_ended(alloc, &mut text, &metrics.ended)?;
+    write_drawn(alloc, &mut text, &metrics.drawn)?;
     write_rounds(alloc, &mut text, metrics)?;
     Ok(text)
 }
 
 /// The rooms, the sessions, and what was edited.
-fn write_hub(alloc: Global, text: &mut String, metrics: &Metrics) -> Result<(), AllocError>
+fn write_hub(alloc: Global, text: &mut String, metrics: &Metrics<'_>) -> Result<(), AllocError>
     ensures { OnOk result (string_bytes text.new ≡ with_hub metrics.now (string_bytes text.old)) }
 {
     write_metric(
@@ -148,7 +178,11 @@ fn write_hub(alloc: Global, text: &mut String, metrics: &Metrics) -> Result<(), 
 }
 
 /// The connections, and the sessions that they opened.
-fn write_connections(alloc: Global, text: &mut String, metrics: &Metrics) -> Result<(), AllocError>
+fn write_connections(
+    alloc: Global,
+    text: &mut String,
+    metrics: &Metrics<'_>,
+) -> Result<(), AllocError>
     ensures { OnOk result (string_bytes text.new ≡ with_connections metrics.now (string_bytes text.old)) }
 {
     write_metric(
@@ -181,49 +215,111 @@ fn write_connections(alloc: Global, text: &mut String, metrics: &Metrics) -> Res
 fn write_refused(alloc: Global, text: &mut String, refused: &RefusedBy) -> Result<(), AllocError>
     ensures { OnOk result (string_bytes text.new ≡ with_refused refused.now (string_bytes text.old)) }
 {
-    let name = "relay_handshakes_refused_total";
-    write_family(
+    let counts = [
+        ("400", refused.bad_request),
+        ("404", refused.not_found),
+        ("405", refused.method),
+        ("426", refused.upgrade),
+        ("431", refused.too_long),
+        ("503", refused.unavailable),
+    ];
+    write_counts(
         alloc,
         text,
-        name,
-        Kind::Counter,
+        "relay_handshakes_refused_total",
         "Handshakes refused, by the status.",
+        "status",
+        &counts,
+    )
+}
+
+/// The connections that ended.
+fn write_ended(alloc: Global, text: &mut String, ended: &EndedBy) -> Result<(), AllocError>
+    ensures { OnOk result (string_bytes text.new ≡ with_ended ended.now (string_bytes text.old)) }
+{
+    let counts = [
+        ("peer", ended.peer),
+        ("binary", ended.binary),
+        ("broken", ended.broken),
+        ("stream", ended.stream),
+        ("memory", ended.memory),
+        ("full", ended.full),
+        ("silent", ended.silent),
+        ("relay", ended.relay),
+    ];
+    write_counts(
+        alloc,
+        text,
+        "relay_connections_ended_total",
+        "Connections ended, by the cause.",
+        "cause",
+        &counts,
+    )
+}
+
+/// The messages that were drawn for sessions.
+fn write_drawn(
+    alloc: Global,
+    text: &mut String,
+    drawn: &DrawnMessages<'_>,
+) -> Result<(), AllocError>
+    ensures { OnOk result (string_bytes text.new ≡ with_drawn drawn.now (string_bytes text.old)) }
+{
+    write_metric(
+        alloc,
+        text,
+        "relay_replies_total",
+        Kind::Counter,
+        "Replies drawn for sessions, refusals among them.",
+        drawn.replies,
     )?;
-    write_labelled(alloc, text, name, "status", "400", refused.bad_request)?;
-    write_labelled(alloc, text, name, "status", "404", refused.not_found)?;
-    write_labelled(alloc, text, name, "status", "405", refused.method)?;
-    write_labelled(alloc, text, name, "status", "426", refused.upgrade)?;
-    write_labelled(alloc, text, name, "status", "431", refused.too_long)?;
-    write_labelled(alloc, text, name, "status", "503", refused.unavailable)
+    write_counts(
+        alloc,
+        text,
+        "relay_refusals_total",
+        "Refusals drawn for sessions, by the fault.",
+        "fault",
+        drawn.refusals,
+    )?;
+    write_metric(
+        alloc,
+        text,
+        "relay_patches_total",
+        Kind::Counter,
+        "Patches drawn for sessions.",
+        drawn.patches,
+    )?;
+    write_snapshots(alloc, text, &drawn.snapshots)
 }
 
-/// The name of the metric of connections that ended.
-const ENDED: &str = "relay_connections_ended_total";
-
-/// The connections that the other side or its stream ended.
-fn write_ended_there(alloc: Global, text: &mut String, ended: &EndedBy) -> Result<(), AllocError>
-    ensures { OnOk result (string_bytes text.new ≡ with_ended_there ended.now (string_bytes text.old)) }
+/// The snapshots that were drawn for sessions.
+fn write_snapshots(
+    alloc: Global,
+    text: &mut String,
+    snapshots: &SnapshotsBy,
+) -> Result<(), AllocError>
+    ensures { OnOk result (string_bytes text.new ≡ with_snapshots snapshots.now (string_bytes text.old)) }
 {
-    let help = "Connections ended, by the cause.";
-    write_family(alloc, text, ENDED, Kind::Counter, help)?;
-    write_labelled(alloc, text, ENDED, "cause", "peer", ended.peer)?;
-    write_labelled(alloc, text, ENDED, "cause", "binary", ended.binary)?;
-    write_labelled(alloc, text, ENDED, "cause", "broken", ended.broken)?;
-    write_labelled(alloc, text, ENDED, "cause", "stream", ended.stream)
-}
-
-/// The connections that this side ended.
-fn write_ended_here(alloc: Global, text: &mut String, ended: &EndedBy) -> Result<(), AllocError>
-    ensures { OnOk result (string_bytes text.new ≡ with_ended_here ended.now (string_bytes text.old)) }
-{
-    write_labelled(alloc, text, ENDED, "cause", "memory", ended.memory)?;
-    write_labelled(alloc, text, ENDED, "cause", "full", ended.full)?;
-    write_labelled(alloc, text, ENDED, "cause", "silent", ended.silent)?;
-    write_labelled(alloc, text, ENDED, "cause", "relay", ended.relay)
+    let counts = [
+        ("watch", snapshots.watch),
+        ("resume", snapshots.resume),
+        ("edit", snapshots.edit),
+        ("patches", snapshots.patches),
+        ("weight", snapshots.weight),
+        ("memory", snapshots.memory),
+    ];
+    write_counts(
+        alloc,
+        text,
+        "relay_snapshots_total",
+        "Snapshots drawn for sessions, by what made them due.",
+        "cause",
+        &counts,
+    )
 }
 
 /// The rounds, and what went wrong in them.
-fn write_rounds(alloc: Global, text: &mut String, metrics: &Metrics) -> Result<(), AllocError>
+fn write_rounds(alloc: Global, text: &mut String, metrics: &Metrics<'_>) -> Result<(), AllocError>
     ensures { OnOk result (string_bytes text.new ≡ with_rounds metrics.now (string_bytes text.old)) }
 {
     write_metric(
@@ -286,17 +382,34 @@ fn write_family(
     text.push_str(lines.as_str())
 }
 
-/// One value of a metric that has several.
-fn write_labelled(
+/// A counter that has a value for each word of a label.
+fn write_counts(
+    alloc: Global,
+    text: &mut String,
+    name: &str,
+    help: &str,
+    label: &str,
+    counts: &[(&str, u64)],
+) -> Result<(), AllocError>
+    ensures { OnOk result (string_bytes text.new ≡ with_counts name.now help.now label.now (map word_and_count counts.now) (string_bytes text.old)) }
+{
+    write_family(alloc, text, name, Kind::Counter, help)?;
+    for (word, count) in counts {
+        write_count(alloc, text, name, label, word, *count)?;
+    }
+    Ok(())
+}
+
+fn write_count(
     alloc: Global,
     text: &mut String,
     name: &str,
     label: &str,
-    of: &str,
-    value: u64,
+    word: &str,
+    count: u64,
 ) -> Result<(), AllocError>
-    ensures { OnOk result (string_bytes text.new ≡ string_bytes text.old ++ labelled_text name.now label.now of.now value) }
+    ensures { OnOk result (string_bytes text.new ≡ string_bytes text.old ++ count_text name.now label.now (word.now, count)) }
 {
-    let line = format!(in alloc; "{name}{{{label}=\"{of}\"}} {value}\n")?;
+    let line = format!(in alloc; "{name}{{{label}=\"{word}\"}} {count}\n")?;
     text.push_str(line.as_str())
 }
