@@ -7,4 +7,5 @@ pub mod Judged
 pub mod Refusals
 pub mod Replies
 pub mod Rooms
+pub mod Metric
 pub mod Metrics

@@ -10,6 +10,7 @@
 mod answer;
 mod checks;
 mod host;
+mod metric;
 mod metrics;
 mod reading;
 mod refusal;

@@ -1,7 +1,10 @@
 //! The numbers of a relay in the text format of Prometheus, version 0.0.4.
-ghost use Rattle.std.specs.Prelude.{◌≡◌, ◌++◌, map, IfOk, OnOk, string_bytes};
-ghost use Rattle.relay_admin.specs.Metrics.{kind_name, family_text, word_and_count, count_text, with_metric, with_counts, with_hub, with_connections, with_refused, with_ended, with_drawn, with_snapshots, with_longest, with_rounds, metrics_text};
+ghost use Rattle.std.specs.Prelude.{◌≡◌, ◌++◌, IfOk, OnOk, string_bytes};
+ghost use Rattle.relay_admin.specs.Metrics.{hub_text, connections_text, refused_text, ended_text, replies_text, updates_text, rounds_text, metrics_text};
 
+use crate::metric::Kind::{Counter, Gauge};
+use crate::metric::Values::{Labelled, Micros, One};
+use crate::metric::{Metric, write_metric, write_metrics};
 use std::alloc::{AllocError, Global};
 
 /// The numbers of a relay. What is counted begins with its start.
@@ -65,9 +68,9 @@ pub struct EndedBy {
 pub struct DrawnMessages<'a> {
     /// The refusals are among them.
     pub replies: u64,
-    /// The refusals, by the fault: the word that names it in a refusal, and how many there were. They are written in this order, and the
-    /// words as they are, so no word has a `"`, a `\` or a line end.
-    pub refusals: &'a [(&'a str, u64)],
+    /// The refusals, by the fault: its word and how many there were, in the order in which they are written. A word is written as it is,
+    /// so it has no `"`, no `\` and no line end.
+    pub refusals: &'a [(&'static str, u64)],
     pub patches: u64,
     pub snapshots: SnapshotsBy,
 }
@@ -89,26 +92,6 @@ pub struct SnapshotsBy {
     pub memory: u64,
 }
 
-/// The kind of a metric.
-#[derive(Clone, Copy, Debug, PartialEq, Eq)]
-pub enum Kind {
-    /// It only rises.
-    Counter,
-    /// It rises and falls.
-    Gauge,
-}
-
-impl Kind {
-    fn name(self) -> &'static str
-        ensures { result.now ≡ kind_name self }
-    {
-        match self {
-            Kind::Counter => "counter",
-            Kind::Gauge => "gauge",
-        }
-    }
-}
-
 /// Returns the text of all numbers.
 pub fn metrics_text(alloc: Global, metrics: &Metrics<'_>) -> Result<String, AllocError>
     ensures { IfOk result (λ text. string_bytes text ≡ metrics_text metrics.now) }
@@ -118,63 +101,55 @@ pub fn metrics_text(alloc: Global, metrics: &Metrics<'_>) -> Result<String, Allo
     write_connections(alloc, &mut text, metrics)?;
     write_refused(alloc, &mut text, &metrics.refused)?;
     write_ended(alloc, &mut text, &metrics.ended)?;
-    write_drawn(alloc, &mut text, &metrics.drawn)?;
+    write_replies(alloc, &mut text, &metrics.drawn)?;
+    write_updates(alloc, &mut text, &metrics.drawn)?;
     write_rounds(alloc, &mut text, metrics)?;
     Ok(text)
 }
 
 /// The rooms, the sessions, and what was edited.
 fn write_hub(alloc: Global, text: &mut String, metrics: &Metrics<'_>) -> Result<(), AllocError>
-    ensures { OnOk result (string_bytes text.new ≡ with_hub metrics.now (string_bytes text.old)) }
+    ensures { OnOk result (string_bytes text.new ≡ string_bytes text.old ++ hub_text metrics.now) }
 {
-    write_metric(
-        alloc,
-        text,
-        "relay_rooms",
-        Kind::Gauge,
-        "Rooms that there are.",
-        metrics.rooms,
-    )?;
-    write_metric(
-        alloc,
-        text,
-        "relay_rooms_limit",
-        Kind::Gauge,
-        "Rooms that there may be.",
-        metrics.max_rooms,
-    )?;
-    write_metric(
-        alloc,
-        text,
-        "relay_sessions",
-        Kind::Gauge,
-        "Sessions that are open.",
-        metrics.sessions,
-    )?;
-    write_metric(
-        alloc,
-        text,
-        "relay_sessions_limit",
-        Kind::Gauge,
-        "Sessions that may be open.",
-        metrics.max_sessions,
-    )?;
-    write_metric(
-        alloc,
-        text,
-        "relay_edits_total",
-        Kind::Counter,
-        "Edits accepted, the sum of the revisions of all rooms.",
-        metrics.edits,
-    )?;
-    write_metric(
-        alloc,
-        text,
-        "relay_document_weight",
-        Kind::Gauge,
-        "Weight of all documents together.",
-        metrics.weight,
-    )
+    let rows = [
+        Metric {
+            name: "relay_rooms",
+            kind: Gauge,
+            help: "Rooms that there are.",
+            values: One(metrics.rooms),
+        },
+        Metric {
+            name: "relay_rooms_limit",
+            kind: Gauge,
+            help: "Rooms that there may be.",
+            values: One(metrics.max_rooms),
+        },
+        Metric {
+            name: "relay_sessions",
+            kind: Gauge,
+            help: "Sessions that are open.",
+            values: One(metrics.sessions),
+        },
+        Metric {
+            name: "relay_sessions_limit",
+            kind: Gauge,
+            help: "Sessions that may be open.",
+            values: One(metrics.max_sessions),
+        },
+        Metric {
+            name: "relay_edits_total",
+            kind: Counter,
+            help: "Edits accepted, the sum of the revisions of all rooms.",
+            values: One(metrics.edits),
+        },
+        Metric {
+            name: "relay_document_weight",
+            kind: Gauge,
+            help: "Weight of all documents together.",
+            values: One(metrics.weight),
+        },
+    ];
+    write_metrics(alloc, text, &rows)
 }
 
 /// The connections, and the sessions that they opened.
@@ -183,37 +158,34 @@ fn write_connections(
     text: &mut String,
     metrics: &Metrics<'_>,
 ) -> Result<(), AllocError>
-    ensures { OnOk result (string_bytes text.new ≡ with_connections metrics.now (string_bytes text.old)) }
+    ensures { OnOk result (string_bytes text.new ≡ string_bytes text.old ++ connections_text metrics.now) }
 {
-    write_metric(
-        alloc,
-        text,
-        "relay_connections",
-        Kind::Gauge,
-        "Connections that are held, with and without a session.",
-        metrics.connections,
-    )?;
-    write_metric(
-        alloc,
-        text,
-        "relay_connections_limit",
-        Kind::Gauge,
-        "Connections that may be held.",
-        metrics.max_connections,
-    )?;
-    write_metric(
-        alloc,
-        text,
-        "relay_sessions_opened_total",
-        Kind::Counter,
-        "Sessions that were opened.",
-        metrics.opened,
-    )
+    let rows = [
+        Metric {
+            name: "relay_connections",
+            kind: Gauge,
+            help: "Connections that are held, with and without a session.",
+            values: One(metrics.connections),
+        },
+        Metric {
+            name: "relay_connections_limit",
+            kind: Gauge,
+            help: "Connections that may be held.",
+            values: One(metrics.max_connections),
+        },
+        Metric {
+            name: "relay_sessions_opened_total",
+            kind: Counter,
+            help: "Sessions that were opened.",
+            values: One(metrics.opened),
+        },
+    ];
+    write_metrics(alloc, text, &rows)
 }
 
 /// The handshakes that were refused.
 fn write_refused(alloc: Global, text: &mut String, refused: &RefusedBy) -> Result<(), AllocError>
-    ensures { OnOk result (string_bytes text.new ≡ with_refused refused.now (string_bytes text.old)) }
+    ensures { OnOk result (string_bytes text.new ≡ string_bytes text.old ++ refused_text refused.now) }
 {
     let counts = [
         ("400", refused.bad_request),
@@ -223,19 +195,18 @@ fn write_refused(alloc: Global, text: &mut String, refused: &RefusedBy) -> Resul
         ("431", refused.too_long),
         ("503", refused.unavailable),
     ];
-    write_counts(
-        alloc,
-        text,
-        "relay_handshakes_refused_total",
-        "Handshakes refused, by the status.",
-        "status",
-        &counts,
-    )
+    let metric = Metric {
+        name: "relay_handshakes_refused_total",
+        kind: Counter,
+        help: "Handshakes refused, by the status.",
+        values: Labelled("status", &counts),
+    };
+    write_metric(alloc, text, &metric)
 }
 
 /// The connections that ended.
 fn write_ended(alloc: Global, text: &mut String, ended: &EndedBy) -> Result<(), AllocError>
-    ensures { OnOk result (string_bytes text.new ≡ with_ended ended.now (string_bytes text.old)) }
+    ensures { OnOk result (string_bytes text.new ≡ string_bytes text.old ++ ended_text ended.now) }
 {
     let counts = [
         ("peer", ended.peer),
@@ -247,169 +218,96 @@ fn write_ended(alloc: Global, text: &mut String, ended: &EndedBy) -> Result<(), 
         ("silent", ended.silent),
         ("relay", ended.relay),
     ];
-    write_counts(
-        alloc,
-        text,
-        "relay_connections_ended_total",
-        "Connections ended, by the cause.",
-        "cause",
-        &counts,
-    )
+    let metric = Metric {
+        name: "relay_connections_ended_total",
+        kind: Counter,
+        help: "Connections ended, by the cause.",
+        values: Labelled("cause", &counts),
+    };
+    write_metric(alloc, text, &metric)
 }
 
-/// The messages that were drawn for sessions.
-fn write_drawn(
+/// The replies that were drawn for sessions.
+fn write_replies(
     alloc: Global,
     text: &mut String,
     drawn: &DrawnMessages<'_>,
 ) -> Result<(), AllocError>
-    ensures { OnOk result (string_bytes text.new ≡ with_drawn drawn.now (string_bytes text.old)) }
+    ensures { OnOk result (string_bytes text.new ≡ string_bytes text.old ++ replies_text drawn.now) }
 {
-    write_metric(
-        alloc,
-        text,
-        "relay_replies_total",
-        Kind::Counter,
-        "Replies drawn for sessions, refusals among them.",
-        drawn.replies,
-    )?;
-    write_counts(
-        alloc,
-        text,
-        "relay_refusals_total",
-        "Refusals drawn for sessions, by the fault.",
-        "fault",
-        drawn.refusals,
-    )?;
-    write_metric(
-        alloc,
-        text,
-        "relay_patches_total",
-        Kind::Counter,
-        "Patches drawn for sessions.",
-        drawn.patches,
-    )?;
-    write_snapshots(alloc, text, &drawn.snapshots)
+    let rows = [
+        Metric {
+            name: "relay_replies_total",
+            kind: Counter,
+            help: "Replies drawn for sessions, refusals among them.",
+            values: One(drawn.replies),
+        },
+        Metric {
+            name: "relay_refusals_total",
+            kind: Counter,
+            help: "Refusals drawn for sessions, by the fault.",
+            values: Labelled("fault", drawn.refusals),
+        },
+    ];
+    write_metrics(alloc, text, &rows)
 }
 
-/// The snapshots that were drawn for sessions.
-fn write_snapshots(
+/// The patches and the snapshots that were drawn for sessions.
+fn write_updates(
     alloc: Global,
     text: &mut String,
-    snapshots: &SnapshotsBy,
+    drawn: &DrawnMessages<'_>,
 ) -> Result<(), AllocError>
-    ensures { OnOk result (string_bytes text.new ≡ with_snapshots snapshots.now (string_bytes text.old)) }
+    ensures { OnOk result (string_bytes text.new ≡ string_bytes text.old ++ updates_text drawn.now) }
 {
-    let counts = [
-        ("watch", snapshots.watch),
-        ("resume", snapshots.resume),
-        ("edit", snapshots.edit),
-        ("patches", snapshots.patches),
-        ("weight", snapshots.weight),
-        ("memory", snapshots.memory),
+    let snapshots = [
+        ("watch", drawn.snapshots.watch),
+        ("resume", drawn.snapshots.resume),
+        ("edit", drawn.snapshots.edit),
+        ("patches", drawn.snapshots.patches),
+        ("weight", drawn.snapshots.weight),
+        ("memory", drawn.snapshots.memory),
     ];
-    write_counts(
-        alloc,
-        text,
-        "relay_snapshots_total",
-        "Snapshots drawn for sessions, by what made them due.",
-        "cause",
-        &counts,
-    )
+    let rows = [
+        Metric {
+            name: "relay_patches_total",
+            kind: Counter,
+            help: "Patches drawn for sessions.",
+            values: One(drawn.patches),
+        },
+        Metric {
+            name: "relay_snapshots_total",
+            kind: Counter,
+            help: "Snapshots drawn for sessions, by what made them due.",
+            values: Labelled("cause", &snapshots),
+        },
+    ];
+    write_metrics(alloc, text, &rows)
 }
 
 /// The rounds, and what went wrong in them.
 fn write_rounds(alloc: Global, text: &mut String, metrics: &Metrics<'_>) -> Result<(), AllocError>
-    ensures { OnOk result (string_bytes text.new ≡ with_rounds metrics.now (string_bytes text.old)) }
+    ensures { OnOk result (string_bytes text.new ≡ string_bytes text.old ++ rounds_text metrics.now) }
 {
-    write_metric(
-        alloc,
-        text,
-        "relay_out_of_memory_total",
-        Kind::Counter,
-        "Entries of the log that memory was refused, at most one in 1024 rounds.",
-        metrics.shed,
-    )?;
-    write_metric(
-        alloc,
-        text,
-        "relay_rounds_total",
-        Kind::Counter,
-        "Rounds of the server.",
-        metrics.rounds,
-    )?;
-    write_longest(alloc, text, metrics.longest_round)
-}
-
-fn write_longest(alloc: Global, text: &mut String, micros: u64) -> Result<(), AllocError>
-    ensures { OnOk result (string_bytes text.new ≡ with_longest micros (string_bytes text.old)) }
-{
-    let name = "relay_longest_round_seconds";
-    let help = "How long the longest round of the last minute worked.";
-    write_family(alloc, text, name, Kind::Gauge, help)?;
-    let line = format!(in alloc; "{name} {micros}e-6\n")?;
-    text.push_str(line.as_str())
-}
-
-/// A metric with one value.
-fn write_metric(
-    alloc: Global,
-    text: &mut String,
-    name: &str,
-    kind: Kind,
-    help: &str,
-    value: u64,
-) -> Result<(), AllocError>
-    ensures { OnOk result (string_bytes text.new ≡ with_metric name.now kind help.now value (string_bytes text.old)) }
-{
-    write_family(alloc, text, name, kind, help)?;
-    let line = format!(in alloc; "{name} {value}\n")?;
-    text.push_str(line.as_str())
-}
-
-/// The lines of a metric before its values.
-fn write_family(
-    alloc: Global,
-    text: &mut String,
-    name: &str,
-    kind: Kind,
-    help: &str,
-) -> Result<(), AllocError>
-    ensures { OnOk result (string_bytes text.new ≡ string_bytes text.old ++ family_text name.now kind help.now) }
-{
-    let kind = kind.name();
-    let lines = format!(in alloc; "# HELP {name} {help}\n# TYPE {name} {kind}\n")?;
-    text.push_str(lines.as_str())
-}
-
-/// A counter that has a value for each word of a label.
-fn write_counts(
-    alloc: Global,
-    text: &mut String,
-    name: &str,
-    help: &str,
-    label: &str,
-    counts: &[(&str, u64)],
-) -> Result<(), AllocError>
-    ensures { OnOk result (string_bytes text.new ≡ with_counts name.now help.now label.now (map word_and_count counts.now) (string_bytes text.old)) }
-{
-    write_family(alloc, text, name, Kind::Counter, help)?;
-    for (word, count) in counts {
-        write_count(alloc, text, name, label, word, *count)?;
-    }
-    Ok(())
-}
-
-fn write_count(
-    alloc: Global,
-    text: &mut String,
-    name: &str,
-    label: &str,
-    word: &str,
-    count: u64,
-) -> Result<(), AllocError>
-    ensures { OnOk result (string_bytes text.new ≡ string_bytes text.old ++ count_text name.now label.now (word.now, count)) }
-{
-    let line = format!(in alloc; "{name}{{{label}=\"{word}\"}} {count}\n")?;
-    text.push_str(line.as_str())
+    let rows = [
+        Metric {
+            name: "relay_out_of_memory_total",
+            kind: Counter,
+            help: "Entries of the log that memory was refused, at most one in 1024 rounds.",
+            values: One(metrics.shed),
+        },
+        Metric {
+            name: "relay_rounds_total",
+            kind: Counter,
+            help: "Rounds of the server.",
+            values: One(metrics.rounds),
+        },
+        Metric {
+            name: "relay_longest_round_seconds",
+            kind: Gauge,
+            help: "How long the longest round of the last minute worked.",
+            values: Micros(metrics.longest_round),
+        },
+    ];
+    write_metrics(alloc, text, &rows)
 }
