@@ -4,6 +4,8 @@
 #[cfg(test)]
 mod asking;
 #[cfg(test)]
+mod metrics;
+#[cfg(test)]
 mod replying;
 #[cfg(test)]
 mod shared;

@@ -1,9 +1,6 @@
-//! Tests of the replies, of the list of rooms, and of the metrics.
+//! Tests of the replies, and of the list of rooms.
 use crate::shared::gives;
-use relay_admin::{
-    EndedBy, Metrics, Refusal, RefusedBy, Reply, RoomRow, begin_rooms, end_rooms, metrics_text,
-    reply_text, write_room,
-};
+use relay_admin::{Refusal, Reply, RoomRow, begin_rooms, end_rooms, reply_text, write_room};
 use std::alloc::AllocGlobal;
 use std::process::Abort;
 
@@ -144,90 +141,4 @@ fn row(name: &str, revision: u64) -> RoomRow<'_> {
         sessions: 2,
         weight: 8,
     }
-}
-
-/// A relay whose every number is another one.
-const NUMBERS: Metrics = Metrics {
-    rooms: 1,
-    max_rooms: 2,
-    sessions: 3,
-    max_sessions: 4,
-    connections: 5,
-    max_connections: 6,
-    edits: 7,
-    weight: 8,
-    opened: 9,
-    refused: RefusedBy {
-        bad_request: 10,
-        not_found: 11,
-        method: 12,
-        upgrade: 13,
-        too_long: 14,
-        unavailable: 15,
-    },
-    ended: EndedBy {
-        peer: 16,
-        binary: 17,
-        broken: 18,
-        stream: 19,
-        memory: 20,
-        full: 21,
-        silent: 22,
-        relay: 23,
-    },
-    shed: 24,
-    rounds: 25,
-    longest_round: 1_500_000,
-};
-
-/// Each line that has a value, without those that say what it is.
-fn values_of(rt: &(impl Abort + AllocGlobal), text: &str) -> String {
-    let mut values = String::new(rt.alloc());
-    for line in text.lines() {
-        if !line.starts_with("#") {
-            values.push_str(line).expect(rt, "memory");
-            values.push_str("\n").expect(rt, "memory");
-        }
-    }
-    values
-}
-
-#[test]
-fn tells_each_number(rt: HostRuntime) {
-    let text = metrics_text(rt.alloc(), &NUMBERS).expect(&rt, "memory");
-    let front =
-        "# HELP relay_rooms Rooms that there are.\n# TYPE relay_rooms gauge\nrelay_rooms 1\n# HELP relay_rooms_limit ";
-    assert!(&rt; text.as_str().starts_with(front));
-    gives(
-        &rt,
-        values_of(&rt, text.as_str()),
-        "relay_rooms 1
-relay_rooms_limit 2
-relay_sessions 3
-relay_sessions_limit 4
-relay_edits_total 7
-relay_document_weight 8
-relay_connections 5
-relay_connections_limit 6
-relay_sessions_opened_total 9
-relay_handshakes_refused_total{status=\"400\"} 10
-relay_handshakes_refused_total{status=\"404\"} 11
-relay_handshakes_refused_total{status=\"405\"} 12
-relay_handshakes_refused_total{status=\"426\"} 13
-relay_handshakes_refused_total{status=\"431\"} 14
-relay_handshakes_refused_total{status=\"503\"} 15
-relay_connections_ended_total{cause=\"peer\"} 16
-relay_connections_ended_total{cause=\"binary\"} 17
-relay_connections_ended_total{cause=\"broken\"} 18
-relay_connections_ended_total{cause=\"stream\"} 19
-relay_connections_ended_total{cause=\"memory\"} 20
-relay_connections_ended_total{cause=\"full\"} 21
-relay_connections_ended_total{cause=\"silent\"} 22
-relay_connections_ended_total{cause=\"relay\"} 23
-relay_out_of_memory_total 24
-relay_rounds_total 25
-relay_longest_round_seconds 1500000e-6
-",
-        "numbers",
-    );
 }

@@ -1,0 +1,143 @@
+//! Tests of the metrics.
+use crate::shared::gives;
+use relay_admin::{DrawnMessages, EndedBy, Metrics, RefusedBy, SnapshotsBy, metrics_text};
+
+/// A relay whose every number is another one.
+const NUMBERS: Metrics<'static> = Metrics {
+    rooms: 1,
+    max_rooms: 2,
+    sessions: 3,
+    max_sessions: 4,
+    connections: 5,
+    max_connections: 6,
+    edits: 7,
+    weight: 8,
+    opened: 9,
+    refused: RefusedBy {
+        bad_request: 10,
+        not_found: 11,
+        method: 12,
+        upgrade: 13,
+        too_long: 14,
+        unavailable: 15,
+    },
+    ended: EndedBy {
+        peer: 16,
+        binary: 17,
+        broken: 18,
+        stream: 19,
+        memory: 20,
+        full: 21,
+        silent: 22,
+        relay: 23,
+    },
+    drawn: DrawnMessages {
+        replies: 26,
+        refusals: &[("shape", 27), ("missing", 28)],
+        patches: 29,
+        snapshots: SnapshotsBy {
+            watch: 30,
+            resume: 31,
+            edit: 32,
+            patches: 33,
+            weight: 34,
+            memory: 35,
+        },
+    },
+    shed: 24,
+    rounds: 25,
+    longest_round: 1_500_000,
+};
+
+/// Their text.
+const TEXT: &str = r#"# HELP relay_rooms Rooms that there are.
+# TYPE relay_rooms gauge
+relay_rooms 1
+# HELP relay_rooms_limit Rooms that there may be.
+# TYPE relay_rooms_limit gauge
+relay_rooms_limit 2
+# HELP relay_sessions Sessions that are open.
+# TYPE relay_sessions gauge
+relay_sessions 3
+# HELP relay_sessions_limit Sessions that may be open.
+# TYPE relay_sessions_limit gauge
+relay_sessions_limit 4
+# HELP relay_edits_total Edits accepted, the sum of the revisions of all rooms.
+# TYPE relay_edits_total counter
+relay_edits_total 7
+# HELP relay_document_weight Weight of all documents together.
+# TYPE relay_document_weight gauge
+relay_document_weight 8
+# HELP relay_connections Connections that are held, with and without a session.
+# TYPE relay_connections gauge
+relay_connections 5
+# HELP relay_connections_limit Connections that may be held.
+# TYPE relay_connections_limit gauge
+relay_connections_limit 6
+# HELP relay_sessions_opened_total Sessions that were opened.
+# TYPE relay_sessions_opened_total counter
+relay_sessions_opened_total 9
+# HELP relay_handshakes_refused_total Handshakes refused, by the status.
+# TYPE relay_handshakes_refused_total counter
+relay_handshakes_refused_total{status="400"} 10
+relay_handshakes_refused_total{status="404"} 11
+relay_handshakes_refused_total{status="405"} 12
+relay_handshakes_refused_total{status="426"} 13
+relay_handshakes_refused_total{status="431"} 14
+relay_handshakes_refused_total{status="503"} 15
+# HELP relay_connections_ended_total Connections ended, by the cause.
+# TYPE relay_connections_ended_total counter
+relay_connections_ended_total{cause="peer"} 16
+relay_connections_ended_total{cause="binary"} 17
+relay_connections_ended_total{cause="broken"} 18
+relay_connections_ended_total{cause="stream"} 19
+relay_connections_ended_total{cause="memory"} 20
+relay_connections_ended_total{cause="full"} 21
+relay_connections_ended_total{cause="silent"} 22
+relay_connections_ended_total{cause="relay"} 23
+# HELP relay_replies_total Replies drawn for sessions, refusals among them.
+# TYPE relay_replies_total counter
+relay_replies_total 26
+# HELP relay_refusals_total Refusals drawn for sessions, by the fault.
+# TYPE relay_refusals_total counter
+relay_refusals_total{fault="shape"} 27
+relay_refusals_total{fault="missing"} 28
+# HELP relay_patches_total Patches drawn for sessions.
+# TYPE relay_patches_total counter
+relay_patches_total 29
+# HELP relay_snapshots_total Snapshots drawn for sessions, by what made them due.
+# TYPE relay_snapshots_total counter
+relay_snapshots_total{cause="watch"} 30
+relay_snapshots_total{cause="resume"} 31
+relay_snapshots_total{cause="edit"} 32
+relay_snapshots_total{cause="patches"} 33
+relay_snapshots_total{cause="weight"} 34
+relay_snapshots_total{cause="memory"} 35
+# HELP relay_out_of_memory_total Entries of the log that memory was refused, at most one in 1024 rounds.
+# TYPE relay_out_of_memory_total counter
+relay_out_of_memory_total 24
+# HELP relay_rounds_total Rounds of the server.
+# TYPE relay_rounds_total counter
+relay_rounds_total 25
+# HELP relay_longest_round_seconds How long the longest round of the last minute worked.
+# TYPE relay_longest_round_seconds gauge
+relay_longest_round_seconds 1500000e-6
+"#;
+
+#[test]
+fn tells_each_number(rt: HostRuntime) {
+    let text = metrics_text(rt.alloc(), &NUMBERS).expect(&rt, "memory");
+    gives(&rt, text, TEXT, "the numbers");
+}
+
+/// A metric that has no values keeps its two lines.
+#[test]
+fn tells_of_no_faults(rt: HostRuntime) {
+    let numbers = Metrics {
+        drawn: DrawnMessages::default(),
+        ..NUMBERS
+    };
+    let text = metrics_text(rt.alloc(), &numbers).expect(&rt, "memory");
+    let part = "\n# TYPE relay_refusals_total counter\n# HELP relay_patches_total ";
+    assert!(&rt; text.as_str().contains(part));
+}
