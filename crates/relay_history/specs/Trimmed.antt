@@ -1,5 +1,6 @@
 -- A history trimmed to the newest revisions that together weigh no more than a budget.
 use Rattle.std.specs.Prelude.{ℕ, min, List, [], ◌∷◌, Some, None}
+use Rattle.std.specs.List.{sum_by}
 use Rattle.relay_tree.specs.declared.count.TheConstants.{MAX_COUNT}
 use Rattle.relay_tree.specs.declared.budget.Budget.{Budget}
 use Rattle.relay_tree.specs.Budget.{paid}
@@ -10,6 +11,10 @@ use Rattle.relay_history.specs.History.{Past}
 -- the weight of a revision: that of its changes, or MAX_COUNT if they are heavier, so that the sum of all held ones fits in 64 bits
 abbrev pub revision_weight : List Change → ℕ
 revision_weight revision = min (changes_weight revision) MAX_COUNT
+
+-- what the held revisions weigh together
+abbrev pub history_weight : Past → ℕ
+history_weight past = sum_by revision_weight past.changes
 
 -- the newest revisions that a budget pays for, up to the first that it does not
 abbrev pub afforded : Budget → List (List Change) → List (List Change)

@@ -43,11 +43,10 @@ impl Model for History {
 
 impl History {
     ghost use Rattle.std.specs.Prelude.{◌≡◌, ◌<◌, ◌≤◌, ◌↔◌, ◌⊎◌, IfOk, IsErrOf, IfSome, IsSome};
-    ghost use Rattle.std.specs.List.{sum_by};
     ghost use Rattle.std.specs.Option.{is_none};
     ghost use Rattle.relay_tree.specs.Budget.{paid};
     ghost use Rattle.relay_history.specs.History.{begun, with_revision, oldest, Reaches, changes_since, IsHistory};
-    ghost use Rattle.relay_history.specs.Trimmed.{revision_weight, trimmed};
+    ghost use Rattle.relay_history.specs.Trimmed.{history_weight, trimmed};
     ghost use Rattle.relay_history.specs.Representation.{without_oldest};
 
     /// Creates a history that holds no revision yet. Its newest revision is `start`, and it will hold at most `limit`. Allocates all the
@@ -93,9 +92,16 @@ impl History {
         }
     }
 
+    /// Returns what the held revisions weigh together. Allocates nothing.
+    pub fn weight(&self) -> u64
+        ensures { result ≡ history_weight self.now }
+    {
+        self.weight
+    }
+
     /// Returns whether the held revisions together weigh more than the budget.
     fn exceeds(&self, budget: Budget) -> bool
-        ensures { result ≡ is_none (paid (sum_by revision_weight self.now.changes) budget) }
+        ensures { result ≡ is_none (paid (history_weight self.now) budget) }
     {
         budget.pay(self.weight).is_none()
     }

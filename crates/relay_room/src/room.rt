@@ -33,6 +33,7 @@ impl Room {
     ghost use Rattle.std.specs.Prelude.{◌≡◌, ◌<◌, ◌↔◌, ◌⊎◌, Some, None, IfOk, IfErr, IsErrOf};
     ghost use Rattle.relay_tree.specs.Document.{Document};
     ghost use Rattle.relay_tree.specs.Document.{null, weight};
+    ghost use Rattle.relay_history.specs.Trimmed.{history_weight};
     ghost use Rattle.relay_history.specs.declared.history.TheConstants.{MAX_REVISIONS};
     ghost use Rattle.relay_room.specs.Room.{IsRoom, begun, revision, trimmed};
     ghost use Rattle.relay_room.specs.Fault.{room_fault};
@@ -109,5 +110,12 @@ impl Room {
         ensures { result ≡ weight self.now.document }
     {
         self.weight
+    }
+
+    /// Returns what the changes that it holds weigh together ([`History::weight`]). Allocates nothing.
+    pub fn history_weight(&self) -> u64
+        ensures { result ≡ history_weight self.now.history }
+    {
+        self.history.weight()
     }
 }
