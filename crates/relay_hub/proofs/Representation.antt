@@ -110,7 +110,7 @@ module _ (h : Inside) (s i : ℕ) (is : IsHub (hub_of h)) (at : place_of (hub_of
 
 -- the hub after the sessions of the room at a place were written
 abbrev pub hub_with : Inside → ℕ → RoomSessions → State
-hub_with h i g = hub_of (record { made = h.made; next = h.next; rooms = with_value_at h.rooms i g; homes = h.homes })
+hub_with h i g = hub_of (record h { rooms = with_value_at h.rooms i g })
 
 -- the same, with another list of homes
 abbrev pub hub_closed : Inside → ℕ → RoomSessions → List (ℕ × ℕ) → State

@@ -1,16 +1,18 @@
 -- What an operator sees of a room.
 use Rattle.std.specs.Prelude.{ℕ, List, length}
 use Rattle.relay_tree.specs.Document.{weight}
+use Rattle.relay_history.specs.Trimmed.{history_weight}
 use Rattle.relay_room.specs.Room.{revision}
 use Rattle.relay_hub.specs.State.{RoomSessions}
 use Rattle.relay_hub.specs.declared.summary.RoomSummary.{RoomSummary}
 
--- the room's name, its revision, how many sessions are open in it, and the weight of its document
+-- the room's name, its revision, how many sessions are open in it, and the weights of its document and of the changes that it holds
 pub record Summary : Type 0 where
   pub name : List ℕ
   pub revision : ℕ
   pub sessions : ℕ
   pub weight : ℕ
+  pub history : ℕ
 
 abbrev pub summary_of : List ℕ × RoomSessions → Summary
 summary_of r = record {
@@ -18,8 +20,9 @@ summary_of r = record {
   revision = revision r.1.room;
   sessions = length r.1.sessions;
   weight = weight r.1.room.document;
+  history = history_weight r.1.room.history;
 }
 
 -- the same as the code holds it
 abbrev pub shown_by : RoomSummary → Summary
-shown_by x = record { name = x.name.now; revision = x.revision; sessions = x.sessions; weight = x.weight }
+shown_by x = record { name = x.name.now; revision = x.revision; sessions = x.sessions; weight = x.weight; history = x.history }

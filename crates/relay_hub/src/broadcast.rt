@@ -173,6 +173,7 @@ fn notify(
         }
         Err(_) => {
             session.take_update(Update::Snapshot);
+            session.lacked_memory();
             Err(AllocError)
         }
     }

@@ -22,6 +22,7 @@ use crate::config::HubConfig;
 use crate::entering::{NewSession, open_session, vacant_place};
 use crate::event::{Answer, Event, Heard};
 use crate::fault::{HubFault, HubNewFault, NoSession, OpenFault, RunFault};
+use crate::message_counts::MessageCounts;
 use crate::room_sessions::RoomSessions;
 use crate::session::Session;
 use crate::shed::{shed_budget, shed_rooms};
@@ -44,6 +45,7 @@ pub struct Hub {
     rooms: IndexMap<String, RoomSessions>,
     /// The place of each open session's room, by the session's number.
     homes: IndexMap<u64, usize>,
+    counts: MessageCounts,
 }
 
 impl Model for Hub {
@@ -95,6 +97,7 @@ impl Hub {
             next: made.first,
             rooms: IndexMap::new(alloc),
             homes: IndexMap::new(alloc),
+            counts: MessageCounts::none(),
         })
     }
 
@@ -103,6 +106,11 @@ impl Hub {
         ensures { result ≡ self.now.made }
     {
         self.made
+    }
+
+    /// How many messages its sessions drew since it was made, by kind. No clause speaks of these numbers. Allocates nothing.
+    pub fn message_counts(&self) -> &MessageCounts {
+        &self.counts
     }
 
     /// Opens a session in a room, and returns its number, which is never used again. If there is no room of that name, it is made, with the
@@ -194,7 +202,7 @@ impl Hub {
         let Some(room_sessions) = self.rooms.get_index_mut(*place) else {
             unreachable!()
         };
-        room_sessions.draw(alloc, session)
+        room_sessions.draw(alloc, session, &mut self.counts)
     }
 
     /// Closes a session. Its room stays. Allocates nothing.
@@ -281,6 +289,15 @@ impl Hub {
     {
         let (name, room_sessions) = self.rooms.get_index(place)?;
         Some(summary_of(name, room_sessions))
+    }
+
+    /// What the patches weigh that wait for all sessions, as far as that is bounded. No clause speaks of it. Allocates nothing.
+    pub fn waiting_weight(&self) -> u64 {
+        let mut weight = 0u64;
+        for (_, room_sessions) in self.rooms.iter() {
+            weight = weight.saturating_add(room_sessions.load());
+        }
+        weight
     }
 
     /// Carries out events, in order. The space for all answers is allocated before the first event. If memory runs out the run stops: the

@@ -14,6 +14,7 @@ mod event;
 mod fault;
 mod hub;
 mod load;
+mod message_counts;
 mod requests;
 mod room_sessions;
 mod session;
@@ -27,5 +28,6 @@ pub use config::{DEFAULT_ROOMS, DEFAULT_SESSIONS, HubConfig, MAX_ROOMS, MAX_SESS
 pub use event::{Answer, Event, Heard};
 pub use fault::{HubFault, HubNewFault, NoSession, OpenFault, RunFault};
 pub use hub::Hub;
+pub use message_counts::{FaultCount, MessageCounts, SnapshotCounts};
 pub use summary::RoomSummary;
 pub use text::Text;

@@ -6,23 +6,28 @@ ghost use Rattle.relay_hub.specs.Load.{IsLoad};
 ghost use Rattle.relay_hub.specs.Session.{with_patch_within, patches_weight};
 
 use crate::encoded_patch::EncodedPatch;
+use crate::message_counts::SnapshotCause;
 use relay_outbox::{Front, Outbox};
 use relay_proto::Reply;
 use relay_tree::Budget;
 
-/// Adds a patch behind the others if the budget pays for all of them; otherwise the outbox folds. Allocates nothing.
+/// Adds a patch behind the others if the budget pays for all of them; otherwise the outbox folds. Returns why it folded, if it did.
+/// Allocates nothing.
 pub fn put(
     outbox: &mut Outbox<Reply, EncodedPatch>,
     load: &mut u64,
     budget: Budget,
     encoded_patch: EncodedPatch,
-)
+) -> SnapshotCause
     requires { IsLoad budget load.old outbox.old }
     ensures contents { outbox.new ≡ with_patch_within budget encoded_patch outbox.old }
     ensures load { IsLoad budget load.new outbox.new }
 {
     match budget {
-        Budget::Unbounded => outbox.patch(encoded_patch),
+        Budget::Unbounded => {
+            outbox.patch(encoded_patch);
+            SnapshotCause::Patches
+        }
         Budget::Left(most) => put_within(outbox, load, most, encoded_patch),
     }
 }
@@ -33,7 +38,7 @@ fn put_within(
     load: &mut u64,
     most: u64,
     encoded_patch: EncodedPatch,
-)
+) -> SnapshotCause
     requires counted { load.old ≡ patches_weight outbox.old.patches }
     requires within { load.old ≤ most }
     ensures contents { outbox.new ≡ with_patch_within (Left most) encoded_patch outbox.old }
@@ -48,10 +53,12 @@ fn put_within(
             } else {
                 *load += weight;
             }
+            SnapshotCause::Patches
         }
         _ => {
             outbox.fold();
             *load = 0;
+            SnapshotCause::Weight
         }
     }
 }

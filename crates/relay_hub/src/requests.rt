@@ -17,6 +17,7 @@ use crate::caller::{Caller, session_at, session_mut};
 use crate::config::HubConfig;
 use crate::event::Heard;
 use crate::fault::HubFault;
+use crate::message_counts::MessageCounts;
 use crate::session::Session;
 use crate::shared_view::SharedView;
 use crate::update::Update;
@@ -301,12 +302,13 @@ fn put_view(
     Ok(shared)
 }
 
-/// Removes and returns the text at the front of the outbox of a session that is there.
+/// Removes and returns the text at the front of the outbox of a session that is there, and counts it.
 pub fn draw(
     alloc: Global,
     room: &Room,
     sessions: &mut [Session],
     number: u64,
+    counts: &mut MessageCounts,
 ) -> Result<Option<String>, HubFault>
     requires there { IsSome (session_in sessions.old number) }
     requires rising { IsRising sessions.old }
@@ -315,7 +317,7 @@ pub fn draw(
     ensures no_memory { IsErrOf result HubFault.NoMemory → IsSomeAnd (option_map waiting (session_in sessions.old number)) (λ n. 0 < n) }
 {
     let caller = Caller::find(sessions, number);
-    match session_mut(sessions, caller).draw(alloc, room) {
+    match session_mut(sessions, caller).draw(alloc, room, counts) {
         Ok(text) => Ok(text),
         Err(_) => Err(HubFault::NoMemory),
     }

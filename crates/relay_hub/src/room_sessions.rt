@@ -3,6 +3,7 @@ use crate::caller::{Caller, session_at};
 use crate::config::HubConfig;
 use crate::event::Heard;
 use crate::fault::HubFault;
+use crate::message_counts::MessageCounts;
 use crate::requests;
 use crate::session::Session;
 use crate::shed::shed_sessions;
@@ -73,6 +74,15 @@ impl RoomSessions {
         self.sessions.len()
     }
 
+    /// What the patches weigh that wait for its sessions, as far as that is bounded ([`Session::load`]). Allocates nothing.
+    pub fn load(&self) -> u64 {
+        let mut load = 0u64;
+        for session in self.sessions.iter() {
+            load = load.saturating_add(session.load());
+        }
+        load
+    }
+
     /// Whether it has no session and no edit was ever accepted, so that it is as if it had never been opened. Allocates nothing.
     pub fn is_untouched(&self) -> bool
         ensures { result ≡ is_untouched self.now }
@@ -139,11 +149,22 @@ impl RoomSessions {
     }
 
     /// Removes and returns the text at the front of the outbox of a session that is there ([`requests::draw`]).
-    pub fn draw(&mut self, alloc: Global, number: u64) -> Result<Option<String>, HubFault>
+    pub fn draw(
+        &mut self,
+        alloc: Global,
+        number: u64,
+        counts: &mut MessageCounts,
+    ) -> Result<Option<String>, HubFault>
         requires { IsSome (session_in self.old.sessions number) }
         ensures step { DrawsIf number (drawing result) self.old self.new }
         ensures no_memory { IsErrOf result HubFault.NoMemory → IsSomeAnd (option_map waiting (session_in self.old.sessions number)) (λ n. 0 < n) }
     {
-        requests::draw(alloc, &self.room, self.sessions.as_mut_slice(), number)
+        requests::draw(
+            alloc,
+            &self.room,
+            self.sessions.as_mut_slice(),
+            number,
+            counts,
+        )
     }
 }

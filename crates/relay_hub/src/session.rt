@@ -2,6 +2,7 @@
 use crate::config::HubConfig;
 use crate::encoded_patch::EncodedPatch;
 use crate::load;
+use crate::message_counts::{MessageCounts, SnapshotCause};
 use crate::shared_view::SharedView;
 use crate::update::Update;
 use relay_outbox::{Front, Outbox, OutboxFault};
@@ -22,6 +23,8 @@ pub struct Session {
     budget: Budget,
     /// What the waiting patches weigh, counted only if they are bounded.
     load: u64,
+    /// Why the snapshot is due, if one is.
+    due_for: SnapshotCause,
 }
 
 impl Model for Session {
@@ -44,6 +47,7 @@ impl Session {
     ghost use Rattle.std.specs.Prelude.{◌≡◌, ◌<◌, ◌≤◌, ℕ, nat_le, length, option_map, IfOk, OnOk, OnErr, IsSome, string_bytes};
     ghost use Rattle.relay_outbox.specs.declared.outbox.TheConstants.{MAX_REPLIES, MAX_PATCHES};
     ghost use Rattle.relay_room.specs.declared.catch_up.CatchUp.{CatchUp};
+    ghost use Rattle.relay_hub.specs.Load.{IsLoad};
     ghost use Rattle.relay_hub.specs.Update.{update_of, heard};
     ghost use Rattle.relay_hub.specs.Shed.{shed_session};
     ghost use Rattle.relay_hub.specs.Session.{with_outbox, replied, newcomer, watches, unwatches, resumes, front_message, message_text, ReadsBack, waiting, drawn};
@@ -73,6 +77,7 @@ impl Session {
             outbox,
             budget: made.waiting_weight,
             load: 0,
+            due_for: SnapshotCause::Watch,
         })
     }
 
@@ -95,6 +100,13 @@ impl Session {
         ensures { result ≡ self.now.budget }
     {
         self.budget
+    }
+
+    /// What the waiting patches weigh together, if that is bounded.
+    pub fn load(&self) -> u64
+        ensures { IsLoad self.now.budget result self.now.outbox }
+    {
+        self.load
     }
 
     /// Whether a snapshot is due. It will show the document as it is when it is drawn.
@@ -129,6 +141,7 @@ impl Session {
     {
         self.reply(Reply::Watching { id });
         load::fold(&mut self.outbox, &mut self.load);
+        self.due_for = SnapshotCause::Watch;
         self.view = Some(view);
     }
 
@@ -155,6 +168,7 @@ impl Session {
         load::clear(&mut self.outbox, &mut self.load);
         self.view = Some(view);
         self.take_update(update);
+        self.due_for = SnapshotCause::Resume;
     }
 
     /// Applies an update: adds nothing, a patch, which may wait in other outboxes too, or a snapshot in place of all patches. The snapshot
@@ -166,9 +180,17 @@ impl Session {
         match update {
             Update::Nothing => {}
             Update::Patch(encoded_patch) => {
-                load::put(&mut self.outbox, &mut self.load, self.budget, encoded_patch)
+                self.due_for = load::put(
+                    &mut self.outbox,
+                    &mut self.load,
+                    self.budget,
+                    encoded_patch,
+                );
             }
-            Update::Snapshot => load::fold(&mut self.outbox, &mut self.load),
+            Update::Snapshot => {
+                load::fold(&mut self.outbox, &mut self.load);
+                self.due_for = SnapshotCause::Edit;
+            }
         }
     }
 
@@ -178,12 +200,25 @@ impl Session {
     {
         if self.outbox.patches() > 0 {
             load::fold(&mut self.outbox, &mut self.load);
+            self.due_for = SnapshotCause::Memory;
         }
     }
 
+    /// Notes that the snapshot is due because memory was refused. Allocates nothing.
+    pub fn lacked_memory(&mut self)
+        ensures { self.new ≡ self.old }
+    {
+        self.due_for = SnapshotCause::Memory;
+    }
+
     /// Removes and returns the text at the front of the outbox; `None` if nothing waits. The text of a patch is copied, that of a reply is
-    /// written, and a due snapshot is made from the present document. Out of memory leaves the message in the outbox.
-    pub fn draw(&mut self, alloc: Global, room: &Room) -> Result<Option<String>, AllocError>
+    /// written, and a due snapshot is made from the present document. The message is counted. Out of memory leaves it in the outbox.
+    pub fn draw(
+        &mut self,
+        alloc: Global,
+        room: &Room,
+        counts: &mut MessageCounts,
+    ) -> Result<Option<String>, AllocError>
         ensures text { IfOk result (λ text. option_map string_bytes text ≡ option_map message_text (front_message room.now self.old)) }
         ensures ok { OnOk result (self.new ≡ drawn self.old) }
         ensures err { OnErr result (self.new ≡ self.old) }
@@ -191,6 +226,7 @@ impl Session {
         ensures no_memory { OnErr result (0 < waiting self.old) }
     {
         let text = self.front_text(alloc, room)?;
+        self.count_front(counts);
         load::drop_front(&mut self.outbox, &mut self.load, self.budget);
         Ok(text)
     }
@@ -211,6 +247,16 @@ impl Session {
                 let (rev, document) = (room.revision(), room.document());
                 Ok(Some(shown_text(alloc, rev, view.get(), document)?))
             }
+        }
+    }
+
+    /// Counts the message at the front of the outbox.
+    fn count_front(&self, counts: &mut MessageCounts) {
+        match self.outbox.front() {
+            Front::Nothing => {}
+            Front::Reply(reply) => counts.count_reply(reply),
+            Front::Patch(_) => counts.count_patch(),
+            Front::Snapshot => counts.count_snapshot(self.due_for),
         }
     }
 

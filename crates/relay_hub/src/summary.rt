@@ -13,6 +13,8 @@ pub struct RoomSummary<'h> {
     pub sessions: usize,
     /// The weight of its present document.
     pub weight: u64,
+    /// What the changes that it holds weigh together.
+    pub history: u64,
 }
 
 /// The summary of a room with this name. Allocates nothing.
@@ -24,5 +26,6 @@ pub(crate) fn summary_of<'h>(name: &'h String, room_sessions: &RoomSessions) -> 
         revision: room_sessions.room().revision(),
         sessions: room_sessions.len(),
         weight: room_sessions.room().weight(),
+        history: room_sessions.room().history_weight(),
     }
 }

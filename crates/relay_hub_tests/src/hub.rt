@@ -138,11 +138,11 @@ fn shows_each_room_in_the_order_of_opening(rt: HostRuntime) {
             (Close(1), "Ok(())"),
             (
                 RoomAt(0),
-                r#"Some(RoomSummary { name: "r", revision: 1, sessions: 1, weight: 17 })"#,
+                r#"Some(RoomSummary { name: "r", revision: 1, sessions: 1, weight: 17, history: 17 })"#,
             ),
             (
                 RoomAt(1),
-                r#"Some(RoomSummary { name: "q", revision: 0, sessions: 1, weight: 8 })"#,
+                r#"Some(RoomSummary { name: "q", revision: 0, sessions: 1, weight: 8, history: 0 })"#,
             ),
             (RoomAt(2), "None"),
         ],

@@ -12,7 +12,7 @@ use Rattle.relay_hub.proofs.hub.Hub.open.Goals as goal
 abbrev entered : goal.After-self-1 → State
 entered c =
     let hub = c.self.inside in
-    hub_of (record { made = hub.made; next = hub.next + 1; rooms = c.open_session.new.rooms; homes = c.insert.new.self })
+    hub_of (record hub { next = hub.next + 1; rooms = c.open_session.new.rooms; homes = c.insert.new.self })
 
 step : (c : goal.After-self-1) → Step (hub_of c.self.inside) (Open c.args.room.now) (Opened c.self.inside.next) (entered c)
 step c =

@@ -1,0 +1,139 @@
+//! The messages that the sessions of a hub drew, counted by kind.
+use relay_proto::{Reply, Word};
+
+/// How many words name the fault of a refusal.
+const FAULTS: usize = 19;
+
+/// Why a snapshot is due.
+#[derive(Clone, Copy)]
+pub enum SnapshotCause {
+    /// A client asked to watch.
+    Watch,
+    /// No patch answers a resume.
+    Resume,
+    /// No patch within the bounds tells of an edit.
+    Edit,
+    /// More patches waited than may.
+    Patches,
+    /// The patches that waited weighed more than they may.
+    Weight,
+    /// Memory was refused.
+    Memory,
+}
+
+/// How many messages the sessions of a hub drew since it was made, by kind.
+#[derive(Clone, Copy)]
+pub struct MessageCounts {
+    /// Replies, refusals among them.
+    pub replies: u64,
+    /// Refusals, by the fault, in the order of the checks.
+    pub refusals: [FaultCount; FAULTS],
+    pub patches: u64,
+    pub snapshots: SnapshotCounts,
+}
+
+/// How many refusals name a fault.
+#[derive(Clone, Copy)]
+pub struct FaultCount {
+    pub fault: Word,
+    pub count: u64,
+}
+
+/// How many snapshots were drawn, by what made them due.
+#[derive(Clone, Copy)]
+pub struct SnapshotCounts {
+    pub watch: u64,
+    pub resume: u64,
+    pub edit: u64,
+    pub patches: u64,
+    pub weight: u64,
+    pub memory: u64,
+}
+
+impl FaultCount {
+    /// The word that refusals have for the fault.
+    pub fn word(&self) -> &'static str {
+        self.fault.text()
+    }
+}
+
+impl MessageCounts {
+    /// Before anything was drawn.
+    pub fn none() -> MessageCounts {
+        MessageCounts {
+            replies: 0,
+            refusals: [
+                zero(Word::TooLong),
+                zero(Word::NotJson),
+                zero(Word::Number),
+                zero(Word::Shape),
+                zero(Word::TooMany),
+                zero(Word::UnknownOp),
+                zero(Word::Pointer),
+                zero(Word::Missing),
+                zero(Word::NotIndex),
+                zero(Word::PastEnd),
+                zero(Word::NoContainer),
+                zero(Word::Root),
+                zero(Word::IntoItself),
+                zero(Word::TestFailed),
+                zero(Word::TooDeep),
+                zero(Word::TooHeavy),
+                zero(Word::Exhausted),
+                zero(Word::Stale),
+                zero(Word::Future),
+            ],
+            patches: 0,
+            snapshots: SnapshotCounts {
+                watch: 0,
+                resume: 0,
+                edit: 0,
+                patches: 0,
+                weight: 0,
+                memory: 0,
+            },
+        }
+    }
+
+    /// Counts a reply.
+    pub fn count_reply(&mut self, reply: &Reply) {
+        self.replies = next(self.replies);
+        if let Reply::Refused { fault, .. } = reply {
+            self.count_refusal(*fault);
+        }
+    }
+
+    fn count_refusal(&mut self, fault: Word) {
+        for refusals in self.refusals.iter_mut() {
+            if refusals.fault == fault {
+                refusals.count = next(refusals.count);
+            }
+        }
+    }
+
+    /// Counts a patch.
+    pub fn count_patch(&mut self) {
+        self.patches = next(self.patches);
+    }
+
+    /// Counts a snapshot.
+    pub fn count_snapshot(&mut self, cause: SnapshotCause) {
+        let counts = &mut self.snapshots;
+        match cause {
+            SnapshotCause::Watch => counts.watch = next(counts.watch),
+            SnapshotCause::Resume => counts.resume = next(counts.resume),
+            SnapshotCause::Edit => counts.edit = next(counts.edit),
+            SnapshotCause::Patches => counts.patches = next(counts.patches),
+            SnapshotCause::Weight => counts.weight = next(counts.weight),
+            SnapshotCause::Memory => counts.memory = next(counts.memory),
+        }
+    }
+}
+
+fn zero(fault: Word) -> FaultCount {
+    FaultCount { fault, count: 0 }
+}
+
+fn next(count: u64) -> u64 {
+    count.saturating_add(1)
+}
