@@ -16,7 +16,14 @@ hub_text m = concat
     ∷ gauge (codes "relay_sessions") (codes "Sessions that are open.") m.sessions
     ∷ gauge (codes "relay_sessions_limit") (codes "Sessions that may be open.") m.max_sessions
     ∷ counter (codes "relay_edits_total") (codes "Edits accepted, the sum of the revisions of all rooms.") m.edits
-    ∷ gauge (codes "relay_document_weight") (codes "Weight of all documents together.") m.weight
+    ∷ [])
+
+-- what is held for clients
+abbrev pub weights_text : Metrics → List ℕ
+weights_text m = concat
+    (gauge (codes "relay_document_weight") (codes "Weight of all documents together.") m.weight
+    ∷ gauge (codes "relay_history_weight") (codes "Weight of the changes that rooms hold for resumes, together.") m.history_weight
+    ∷ gauge (codes "relay_waiting_weight") (codes "Weight of the patches that wait for sessions, together; 0 if it is not bounded.") m.waiting_weight
     ∷ [])
 
 -- the connections, and the sessions that they opened
@@ -83,4 +90,4 @@ rounds_text m = concat
 
 -- the whole text
 abbrev pub metrics_text : Metrics → List ℕ
-metrics_text m = (((((hub_text m ++ connections_text m) ++ refused_text m.refused) ++ ended_text m.ended) ++ replies_text m.drawn) ++ updates_text m.drawn) ++ rounds_text m
+metrics_text m = ((((((hub_text m ++ weights_text m) ++ connections_text m) ++ refused_text m.refused) ++ ended_text m.ended) ++ replies_text m.drawn) ++ updates_text m.drawn) ++ rounds_text m

@@ -1,6 +1,6 @@
 //! The numbers of a relay in the text format of Prometheus, version 0.0.4.
 ghost use Rattle.std.specs.Prelude.{◌≡◌, ◌++◌, IfOk, OnOk, string_bytes};
-ghost use Rattle.relay_admin.specs.Metrics.{hub_text, connections_text, refused_text, ended_text, replies_text, updates_text, rounds_text, metrics_text};
+ghost use Rattle.relay_admin.specs.Metrics.{hub_text, weights_text, connections_text, refused_text, ended_text, replies_text, updates_text, rounds_text, metrics_text};
 
 use crate::metric::Kind::{Counter, Gauge};
 use crate::metric::Values::{Labelled, Micros, One};
@@ -20,6 +20,10 @@ pub struct Metrics<'a> {
     pub edits: u64,
     /// The sum of the weights of the rooms' documents.
     pub weight: u64,
+    /// What the changes weigh together that the rooms hold for resumes.
+    pub history_weight: u64,
+    /// What the patches weigh together that wait for sessions, as far as that is bounded.
+    pub waiting_weight: u64,
     /// How many sessions were opened.
     pub opened: u64,
     pub refused: RefusedBy,
@@ -98,6 +102,7 @@ pub fn metrics_text(alloc: Global, metrics: &Metrics<'_>) -> Result<String, Allo
 {
     let mut text = String::new(alloc);
     write_hub(alloc, &mut text, metrics)?;
+    write_weights(alloc, &mut text, metrics)?;
     write_connections(alloc, &mut text, metrics)?;
     write_refused(alloc, &mut text, &metrics.refused)?;
     write_ended(alloc, &mut text, &metrics.ended)?;
@@ -142,11 +147,32 @@ fn write_hub(alloc: Global, text: &mut String, metrics: &Metrics<'_>) -> Result<
             help: "Edits accepted, the sum of the revisions of all rooms.",
             values: One(metrics.edits),
         },
+    ];
+    write_metrics(alloc, text, &rows)
+}
+
+/// What is held for clients.
+fn write_weights(alloc: Global, text: &mut String, metrics: &Metrics<'_>) -> Result<(), AllocError>
+    ensures { OnOk result (string_bytes text.new ≡ string_bytes text.old ++ weights_text metrics.now) }
+{
+    let rows = [
         Metric {
             name: "relay_document_weight",
             kind: Gauge,
             help: "Weight of all documents together.",
             values: One(metrics.weight),
+        },
+        Metric {
+            name: "relay_history_weight",
+            kind: Gauge,
+            help: "Weight of the changes that rooms hold for resumes, together.",
+            values: One(metrics.history_weight),
+        },
+        Metric {
+            name: "relay_waiting_weight",
+            kind: Gauge,
+            help: "Weight of the patches that wait for sessions, together; 0 if it is not bounded.",
+            values: One(metrics.waiting_weight),
         },
     ];
     write_metrics(alloc, text, &rows)

@@ -12,6 +12,8 @@ const NUMBERS: Metrics<'static> = Metrics {
     max_connections: 6,
     edits: 7,
     weight: 8,
+    history_weight: 36,
+    waiting_weight: 37,
     opened: 9,
     refused: RefusedBy {
         bad_request: 10,
@@ -68,6 +70,12 @@ relay_edits_total 7
 # HELP relay_document_weight Weight of all documents together.
 # TYPE relay_document_weight gauge
 relay_document_weight 8
+# HELP relay_history_weight Weight of the changes that rooms hold for resumes, together.
+# TYPE relay_history_weight gauge
+relay_history_weight 36
+# HELP relay_waiting_weight Weight of the patches that wait for sessions, together; 0 if it is not bounded.
+# TYPE relay_waiting_weight gauge
+relay_waiting_weight 37
 # HELP relay_connections Connections that are held, with and without a session.
 # TYPE relay_connections gauge
 relay_connections 5

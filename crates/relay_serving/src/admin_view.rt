@@ -1,10 +1,10 @@
 //! What an operator sees of a server.
 use crate::counters::Counters;
 use relay_admin::{
-    AdminRequest, Metrics, Reply, RoomRow, begin_rooms, end_rooms, metrics_text, reply_text,
-    write_room,
+    AdminRequest, DrawnMessages, Metrics, Reply, RoomRow, SnapshotsBy, begin_rooms, end_rooms,
+    metrics_text, reply_text, write_room,
 };
-use relay_hub::{Hub, MAX_ROOMS};
+use relay_hub::{Hub, MAX_ROOMS, SnapshotCounts};
 use std::alloc::{AllocError, Global};
 
 /// A hub, which no request changes, and the numbers of its server.
@@ -24,6 +24,7 @@ struct Totals {
     sessions: u64,
     edits: u64,
     weight: u64,
+    history: u64,
 }
 
 impl AdminView<'_> {
@@ -42,7 +43,8 @@ impl AdminView<'_> {
             AdminRequest::Health => reply_text(alloc, &Reply::Healthy),
             AdminRequest::Stop => reply_text(alloc, &Reply::Stopping),
             AdminRequest::Metrics => {
-                let text = metrics_text(alloc, &self.metrics(counters))?;
+                let refusals = self.refusals(alloc)?;
+                let text = metrics_text(alloc, &self.metrics(counters, refusals.as_slice()))?;
                 reply_text(alloc, &Reply::Metrics(text.as_str()))
             }
             AdminRequest::Rooms => {
@@ -52,9 +54,10 @@ impl AdminView<'_> {
         }
     }
 
-    fn metrics(&self, counters: &Counters) -> Metrics {
+    fn metrics<'a>(&self, counters: &Counters, refusals: &'a [(&'static str, u64)]) -> Metrics<'a> {
         let totals = self.totals();
         let config = self.hub.config();
+        let drawn = self.hub.message_counts();
         Metrics {
             rooms: totals.rooms,
             max_rooms: config.rooms,
@@ -64,13 +67,31 @@ impl AdminView<'_> {
             max_connections: self.max_connections,
             edits: totals.edits,
             weight: totals.weight,
+            history_weight: totals.history,
+            waiting_weight: self.hub.waiting_weight(),
             opened: counters.opened,
             refused: counters.refused,
             ended: counters.ended,
+            drawn: DrawnMessages {
+                replies: drawn.replies,
+                refusals,
+                patches: drawn.patches,
+                snapshots: snapshots_by(drawn.snapshots),
+            },
             shed: counters.shed,
             rounds: self.rounds,
             longest_round: self.longest_round,
         }
+    }
+
+    /// The refusals by the word of the fault.
+    fn refusals(&self, alloc: Global) -> Result<Vec<(&'static str, u64)>, AllocError> {
+        let counts = &self.hub.message_counts().refusals;
+        let mut refusals = Vec::with_capacity(alloc, counts.len())?;
+        for refused in counts.iter() {
+            refusals.push((refused.word(), refused.count))?;
+        }
+        Ok(refusals)
     }
 
     fn totals(&self) -> Totals {
@@ -79,6 +100,7 @@ impl AdminView<'_> {
             sessions: 0,
             edits: 0,
             weight: 0,
+            history: 0,
         };
         for place in 0..MAX_ROOMS as usize {
             let Some(room) = self.hub.room_at(place) else {
@@ -88,6 +110,7 @@ impl AdminView<'_> {
             totals.sessions = totals.sessions.saturating_add(room.sessions as u64);
             totals.edits = totals.edits.saturating_add(room.revision);
             totals.weight = totals.weight.saturating_add(room.weight);
+            totals.history = totals.history.saturating_add(room.history);
         }
         totals
     }
@@ -107,5 +130,16 @@ impl AdminView<'_> {
             write_room(&mut out, &row)?;
         }
         end_rooms(out)
+    }
+}
+
+fn snapshots_by(counts: SnapshotCounts) -> SnapshotsBy {
+    SnapshotsBy {
+        watch: counts.watch,
+        resume: counts.resume,
+        edit: counts.edit,
+        patches: counts.patches,
+        weight: counts.weight,
+        memory: counts.memory,
     }
 }

@@ -110,6 +110,11 @@ fn counts_what_its_log_says(rt: HostRuntime) {
         "\nrelay_handshakes_refused_total{status=\"404\"} 1\n",
         "\nrelay_handshakes_refused_total{status=\"400\"} 0\n",
         "\nrelay_sessions_opened_total 0\n",
+        "\nrelay_replies_total 0\n",
+        "\nrelay_refusals_total{fault=\"too-long\"} 0\n",
+        "\nrelay_refusals_total{fault=\"future\"} 0\n",
+        "\nrelay_snapshots_total{cause=\"memory\"} 0\n",
+        "\nrelay_waiting_weight 0\n",
         "\nrelay_rounds_total 1\n",
         "\nrelay_longest_round_seconds 0e-6\n",
     ] {
