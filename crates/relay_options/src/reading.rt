@@ -152,11 +152,11 @@ fn with_settings<'a>(alloc: Global, command: Command<'a>) -> Result<Command<'a>,
     .help("How many patches wait for a session at most, 1 to 256")
     .default_value(OUTBOX);
     let rooms = number(alloc, "rooms", ValueParser::unsigned(1, MAX_ROOMS))
-        .help("How many rooms there are at most, 1 to 65536; an idle room takes about 25 KiB")
+        .help("How many rooms there are at most, 1 to 65536; an idle room takes about 2 KiB")
         .default_value(ROOMS);
     let sessions = number(alloc, "sessions", ValueParser::unsigned(1, MAX_SESSIONS))
         .help(
-            "How many sessions are open at most, 1 to 65536; an idle one takes about 40 KiB with its connection",
+            "How many sessions are open at most, 1 to 65536; an idle one takes about 9 KiB with its connection",
         )
         .default_value(SESSIONS);
     let epoch = number(alloc, "epoch", ValueParser::unsigned(0, MAX_EPOCH))
