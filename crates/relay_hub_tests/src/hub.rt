@@ -1,5 +1,5 @@
 //! Tests of a hub's calls with their answers, and of its limits. What sessions send and receive is data in `tests/scripts`.
-use crate::hub::Call::{Close, Draw, MayHear, Open, RoomAt, Say, Shed, Truth, Waiting};
+use crate::hub::Call::{Close, Counts, Draw, MayHear, Open, RoomAt, Say, Shed, Truth, Waiting};
 use crate::shared::{at_revision, gives, owned, words};
 use relay_history::MAX_REVISIONS;
 use relay_hub::{Hub, HubFault, HubNewFault};
@@ -31,6 +31,8 @@ pub(crate) enum Call {
     RoomAt(usize),
     /// Gives memory back.
     Shed,
+    /// What the sessions drew.
+    Counts,
 }
 
 /// The result of a draw, as text: the text itself, if there was one.
@@ -51,6 +53,22 @@ fn seen(rt: &(impl Abort + AllocGlobal), held: Result<Option<(u64, Tree)>, HubFa
     }
 }
 
+/// How many replies, refusals and patches the sessions drew, and how many snapshots, by their causes.
+fn counted(rt: &(impl Abort + AllocGlobal), hub: &Hub) -> String {
+    let counts = hub.message_counts();
+    let mut refusals = 0u64;
+    for refused in counts.refusals.iter() {
+        refusals = refusals.saturating_add(refused.count);
+    }
+    let (replies, patches) = (counts.replies, counts.patches);
+    let by = counts.snapshots;
+    let (watch, resume, edit) = (by.watch, by.resume, by.edit);
+    let (full, heavy, memory) = (by.patches, by.weight, by.memory);
+    format!(in rt.alloc();
+        "{replies} {refusals} {patches}, watch {watch}, resume {resume}, edit {edit}, patches {full}, weight {heavy}, memory {memory}"
+    ).expect(rt, "memory")
+}
+
 /// Gives memory back, which always succeeds.
 fn give_memory_back(rt: &(impl Abort + AllocGlobal), hub: &mut Hub) -> String {
     hub.shed();
@@ -69,6 +87,7 @@ fn answer(rt: &(impl Abort + AllocGlobal), hub: &mut Hub, call: Call) -> String 
         Truth(session) => seen(rt, hub.truth(rt.alloc(), session)),
         RoomAt(place) => words(rt, hub.room_at(place)),
         Shed => give_memory_back(rt, hub),
+        Counts => counted(rt, hub),
     }
 }
 

@@ -10,11 +10,12 @@ const WATCH: &str = r#"{"do":"watch","id":1,"view":[""]}"#;
 
 /// The change that this edit makes weighs 17: 1 for the byte of the path's token, 8 for the token, and 8 for the number. In a view of the
 /// whole document two tokens of one byte come in front, so the patch weighs 35.
-const EDIT: &str = r#"{"do":"edit","id":2,"patch":[{"op":"add","path":"/x","value":1}]}"#;
+pub(crate) const EDIT: &str =
+    r#"{"do":"edit","id":2,"patch":[{"op":"add","path":"/x","value":1}]}"#;
 
 const ROOT: &str = r#"{"do":"edit","id":2,"patch":[{"op":"add","path":"","value":{}}]}"#;
 
-const ANSWERED: &str = "Ok(Answered { short: 0 })";
+pub(crate) const ANSWERED: &str = "Ok(Answered { short: 0 })";
 
 /// Resumes from revision 1.
 const RESUME_1: &str = r#"{"do":"resume","epoch":1,"id":1,"rev":1,"view":[""]}"#;
@@ -27,7 +28,7 @@ const BY_PATCH: &str = r#"{"how":"patch","id":1,"kind":"resumed"}"#;
 const BY_SNAPSHOT: &str = r#"{"how":"snapshot","id":1,"kind":"resumed"}"#;
 
 /// Session 1 watches the whole document, an object, and has drawn all that waits; session 2 watches nothing.
-const WATCHING: &[(Call, &str)] = &[
+pub(crate) const WATCHING: &[(Call, &str)] = &[
     (Open("r"), "Ok(1)"),
     (Open("r"), "Ok(2)"),
     (Say(2, ROOT), ANSWERED),
