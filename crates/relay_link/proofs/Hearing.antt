@@ -1,13 +1,15 @@
 -- How what a link reads and what it passes to the hub go on together.
-use Rattle.std.proofs.Common.{◌≡◌, inl, inr, ℕ, zero, suc, List, [], ◌∷◌, ◌++◌, Option, None, Some, Result, Ok, Err, OnOk, refl, sym, subst, ap, ◌∙◌, append_assoc, append-nil, arith}
+use Rattle.std.proofs.Common.{◌≡◌, inl, inr, ℕ, zero, suc, Bool, true, false, if◌then◌else◌, List, [], ◌∷◌, ◌++◌, Option, None, Some, Result, Ok, Err, OnOk, refl, sym, subst, ap, ◌∙◌, append_assoc, append-nil, arith}
 use Rattle.websocket.specs.Connection.{Connection}
 use Rattle.tungstenite.specs.Socket.{Socket, Reads}
 use Rattle.tungstenite.specs.declared.error.Error.{Error}
 use Rattle.tungstenite.specs.declared.message.Message.{Message}
+use Rattle.relay_hub.specs.Queries.{may_hear}
+use Rattle.relay_hub.specs.State.{State as Hub, session_of as hub_session}
 use Rattle.relay_hub.specs.declared.event.Event.{Event}
 use Rattle.relay_hub.specs.declared.event.Event.TheVariants.{Receive}
 use Rattle.relay_link.specs.Follows.{closing_of}
-use Rattle.relay_link.specs.Hears.{received_by, received, Passes, text_of, ReadsOn, Finds, Hears, PassesOn, SendsAndPassesOn, GoesOn, BeginsFresh, ReadsTexts, PassesTexts}
+use Rattle.relay_link.specs.Hears.{received_by, received, Passes, allowed_reads, text_of, ReadsOn, Finds, Hears, PassesOn, SendsAndPassesOn, GoesOn, BeginsFresh, ReadsTexts, PassesTexts}
 use Rattle.relay_link.specs.Stage.{stage_of, session_of, entered, IsForward}
 use Rattle.relay_link.specs.Stream.{stream_of}
 use Rattle.relay_link.specs.Tells.{Hearing}
@@ -15,6 +17,12 @@ use Rattle.relay_link.specs.declared.corked_writer.CorkedWriter.{CorkedWriter}
 use Rattle.relay_link.specs.declared.stage.Stage.TheVariants as stage
 use Rattle.relay_link.specs.declared.state.State.{State}
 use Rattle.relay_link.specs.declared.state.State.TheVariants.{Head, Replying, Open, Closing, Gone}
+
+-- ---- how many reads
+
+-- all of them, if the hub may hear the session
+reads_one : (hub : Hub) (s most : ℕ) → may_hear (hub_session hub s) ≡ true → most ≡ 1 → allowed_reads hub (Some s) most ≡ 1
+reads_one hub s most may one = rw (may, one) refl
 
 -- ---- the texts of events
 
@@ -77,10 +85,10 @@ module _ {S : Type 0} (remaining : S → Option (List ℕ)) where
       → Passes before after (text_of found) → Hearing remaining 1 before after a b
   hearing_read before after a b found finds role passes = record { texts = text_of found; passes = passes; hears = inr finds; role = role }
 
-  pub hearing_most : {E : Type 0} (result : Result (Unit {0}) E) (most : ℕ) (before after : List Event) (a b : Socket (CorkedWriter S)) → most ≡ 1
-      → OnOk result (Hearing remaining 1 before after a b) → OnOk result (Hearing remaining most before after a b)
-  hearing_most (Ok u) most before after a b one hearing = subst (λ n. Hearing remaining n before after a b) (sym one) hearing
-  hearing_most (Err e) most before after a b one hearing = tt
+  pub hearing_most : {E : Type 0} (result : Result (Unit {0}) E) (hub : Hub) (s most : ℕ) (before after : List Event) (a b : Socket (CorkedWriter S)) → may_hear (hub_session hub s) ≡ true → most ≡ 1
+      → OnOk result (Hearing remaining 1 before after a b) → OnOk result (Hearing remaining (allowed_reads hub (Some s) most) before after a b)
+  hearing_most (Ok u) hub s most before after a b may one hearing = subst (λ n. Hearing remaining n before after a b) (sym (reads_one hub s most may one)) hearing
+  hearing_most (Err e) hub s most before after a b may one hearing = tt
 
   -- ---- what was passed on, whatever comes of it
 
@@ -91,8 +99,9 @@ module _ {S : Type 0} (remaining : S → Option (List ℕ)) where
       → PassesOn remaining 1 a before after
   passes_on_read a b before after found finds passes = record { texts = text_of found; passes = passes; heard = b; hears = inr finds }
 
-  pub passes_on_most : (most : ℕ) (a : Socket (CorkedWriter S)) (before after : List Event) → most ≡ 1 → PassesOn remaining 1 a before after → PassesOn remaining most a before after
-  passes_on_most most a before after one passes = subst (λ n. PassesOn remaining n a before after) (sym one) passes
+  pub passes_on_most : (hub : Hub) (s most : ℕ) (a : Socket (CorkedWriter S)) (before after : List Event) → may_hear (hub_session hub s) ≡ true → most ≡ 1 → PassesOn remaining 1 a before after
+      → PassesOn remaining (allowed_reads hub (Some s) most) a before after
+  passes_on_most hub s most a before after may one passes = subst (λ n. PassesOn remaining n a before after) (sym (reads_one hub s most may one)) passes
 
   pub passes_on_then : (most : ℕ) (a : Socket (CorkedWriter S)) (before middle after : List Event) → PassesOn remaining most a before middle → Passes middle after [] → PassesOn remaining most a before after
   passes_on_then most a before middle after some none = record { texts = some.texts; passes = passes_then some.texts before middle after some.passes none; heard = some.heard; hears = some.hears }
@@ -113,44 +122,46 @@ module _ {S : Type 0} (remaining : S → Option (List ℕ)) where
   fresh_closing (Closing socket left) is = tt
   fresh_closing Gone is = tt
 
-  pub passes_closing : (most : ℕ) (socket : Socket (CorkedWriter S)) (left : ℕ) (new : State S) (before after : List Event) → IsForward stage.Closing (stage_of new) → after ≡ before
-      → PassesTexts remaining most (Closing socket left) new before after
-  passes_closing most socket left new before after over same = (passes_same before after same, fresh_closing new over)
+  pub passes_closing : (most : ℕ) (hub : Hub) (socket : Socket (CorkedWriter S)) (left : ℕ) (new : State S) (before after : List Event) → IsForward stage.Closing (stage_of new) → after ≡ before
+      → PassesTexts remaining most hub (Closing socket left) new before after
+  passes_closing most hub socket left new before after over same = (passes_same before after same, fresh_closing new over)
 
   -- one that changes nothing
-  unchanged : (most : ℕ) (state : State S) (before : List Event) → PassesTexts remaining most state state before before
+  unchanged : (most : ℕ) (hub : Hub) (state : State S) (before : List Event) → PassesTexts remaining most hub state state before before
   unfolding sends_none passes_on_none
-  unchanged most (Open socket s) before = record { sends = sends_none most socket before before refl; goes_on = reads_on_same socket }
-  unchanged most (Head stream bytes) before = (passes_same before before refl, tt)
-  unchanged most (Replying stream reply) before = (passes_same before before refl, tt)
-  unchanged most (Closing socket left) before = (passes_same before before refl, tt)
-  unchanged most Gone before = (passes_same before before refl, tt)
+  unchanged most hub (Open socket s) before = record { sends = sends_none (allowed_reads hub (Some s) most) socket before before refl; goes_on = reads_on_same socket }
+  unchanged most hub (Head stream bytes) before = (passes_same before before refl, tt)
+  unchanged most hub (Replying stream reply) before = (passes_same before before refl, tt)
+  unchanged most hub (Closing socket left) before = (passes_same before before refl, tt)
+  unchanged most hub Gone before = (passes_same before before refl, tt)
 
-  pub passes_unchanged : (most : ℕ) (old new : State S) (before after : List Event) → new ≡ old → after ≡ before → PassesTexts remaining most old new before after
-  passes_unchanged most old new before after same none = rw (same, none) (unchanged most old before)
+  pub passes_unchanged : (most : ℕ) (hub : Hub) (old new : State S) (before after : List Event) → new ≡ old → after ≡ before → PassesTexts remaining most hub old new before after
+  passes_unchanged most hub old new before after same none = rw (same, none) (unchanged most hub old before)
 
   -- a turn that reads nothing is one that reads at most once
-  hears_wider : (a b : Socket (CorkedWriter S)) (texts : List (List ℕ)) → Hears remaining 0 a b texts → Hears remaining 1 a b texts
-  hears_wider a b texts nothing = inl nothing
+  hears_wider : (may : Bool) (a b : Socket (CorkedWriter S)) (texts : List (List ℕ)) → Hears remaining (if may then 0 else 0) a b texts → Hears remaining (if may then 1 else 0) a b texts
+  hears_wider true a b texts nothing = inl nothing
+  hears_wider false a b texts nothing = nothing
 
-  reads_wider : (a : Socket (CorkedWriter S)) (new : State S) (before after : List Event) → ReadsTexts remaining 0 a new before after → ReadsTexts remaining 1 a new before after
-  reads_wider a new before after reads =
+  reads_wider : (may : Bool) (a : Socket (CorkedWriter S)) (new : State S) (before after : List Event) → ReadsTexts remaining (if may then 0 else 0) a new before after
+      → ReadsTexts remaining (if may then 1 else 0) a new before after
+  reads_wider may a new before after reads =
       let on = reads.sends.passes_on in
       record {
         sends = record {
           ready = reads.sends.ready;
           same = reads.sends.same;
-          passes_on = record { texts = on.texts; passes = on.passes; heard = on.heard; hears = hears_wider reads.sends.ready on.heard on.texts on.hears };
+          passes_on = record { texts = on.texts; passes = on.passes; heard = on.heard; hears = hears_wider may reads.sends.ready on.heard on.texts on.hears };
         };
         goes_on = reads.goes_on;
       }
 
-  pub passes_wider : (old new : State S) (before after : List Event) → PassesTexts remaining 0 old new before after → PassesTexts remaining 1 old new before after
-  passes_wider (Open socket s) new before after passes = reads_wider socket new before after passes
-  passes_wider (Head stream bytes) new before after passes = passes
-  passes_wider (Replying stream reply) new before after passes = passes
-  passes_wider (Closing socket left) new before after passes = passes
-  passes_wider Gone new before after passes = passes
+  pub passes_wider : (hub : Hub) (old new : State S) (before after : List Event) → PassesTexts remaining 0 hub old new before after → PassesTexts remaining 1 hub old new before after
+  passes_wider hub (Open socket s) new before after passes = reads_wider (may_hear (hub_session hub s)) socket new before after passes
+  passes_wider hub (Head stream bytes) new before after passes = passes
+  passes_wider hub (Replying stream reply) new before after passes = passes
+  passes_wider hub (Closing socket left) new before after passes = passes
+  passes_wider hub Gone new before after passes = passes
 
   -- a link that ends passes nothing
   closing_passes : (session : Option ℕ) → Passes [] (closing_of session) []
@@ -171,16 +182,16 @@ module _ {S : Type 0} (remaining : S → Option (List ℕ)) where
   ended_fresh (Closing socket left) gone = tt
   ended_fresh Gone gone = tt
 
-  pub passes_ended : (old new : State S) (made : List Event) → made ≡ closing_of (session_of old) → stage_of new ≡ stage.Gone → PassesTexts remaining 1 old new [] made
+  pub passes_ended : (hub : Hub) (old new : State S) (made : List Event) → made ≡ closing_of (session_of old) → stage_of new ≡ stage.Gone → PassesTexts remaining 1 hub old new [] made
   unfolding passes_on_none
-  passes_ended (Open socket s) new made is gone = record {
-    sends = record { ready = socket; same = reads_on_same socket; passes_on = passes_on_none 1 socket [] made (subst (λ m. Passes [] m []) (sym is) (closing_passes (Some s))) };
+  passes_ended hub (Open socket s) new made is gone = record {
+    sends = record { ready = socket; same = reads_on_same socket; passes_on = passes_on_none (allowed_reads hub (Some s) 1) socket [] made (subst (λ m. Passes [] m []) (sym is) (closing_passes (Some s))) };
     goes_on = ended_goes socket new gone;
   }
-  passes_ended (Head stream bytes) new made is gone = (subst (λ m. Passes [] m []) (sym is) refl, ended_fresh new gone)
-  passes_ended (Replying stream reply) new made is gone = (subst (λ m. Passes [] m []) (sym is) (closing_passes (entered reply.verdict)), ended_fresh new gone)
-  passes_ended (Closing socket left) new made is gone = (subst (λ m. Passes [] m []) (sym is) refl, ended_fresh new gone)
-  passes_ended Gone new made is gone = (subst (λ m. Passes [] m []) (sym is) refl, ended_fresh new gone)
+  passes_ended hub (Head stream bytes) new made is gone = (subst (λ m. Passes [] m []) (sym is) refl, ended_fresh new gone)
+  passes_ended hub (Replying stream reply) new made is gone = (subst (λ m. Passes [] m []) (sym is) (closing_passes (entered reply.verdict)), ended_fresh new gone)
+  passes_ended hub (Closing socket left) new made is gone = (subst (λ m. Passes [] m []) (sym is) refl, ended_fresh new gone)
+  passes_ended hub Gone new made is gone = (subst (λ m. Passes [] m []) (sym is) refl, ended_fresh new gone)
 
 module _ {S : Type 0} {remaining : S → Option (List ℕ)} where
   -- then no more was passed on

@@ -9,6 +9,7 @@ use Rattle.relay_shake.specs.Shaken.{AnswersHead, AnswersNoHead}
 use Rattle.relay_shake.specs.Replies.{refusal_of}
 use Rattle.relay_shake.specs.declared.answer.Shake.{Shake}
 use Rattle.relay_shake.specs.declared.answer.Shake.TheVariants.{Accept, Refuse}
+use Rattle.relay_hub.specs.State.{State as Hub}
 use Rattle.relay_hub.specs.declared.event.Event.{Event}
 use Rattle.relay_link.specs.Hears.{Passes, BeginsFresh, PassesTexts}
 use Rattle.relay_link.specs.Replies.{WritesReply, RepliesTo, RepliesToHead, IfReplies, Replies}
@@ -101,9 +102,9 @@ module _ {S : Type 0} (remaining contents : S → Option (List ℕ)) where
   fresh_writes before verdict reply (Closing socket left) writes = tt
   fresh_writes before verdict reply Gone writes = tt
 
-  pub passes_replying : (most : ℕ) (stream : CorkedWriter S) (kept : Reply) (new : State S) (before after : List Event) → Passes before after []
-      → WritesReply contents (written contents stream) kept.verdict kept.rest.items new → PassesTexts remaining most (Replying stream kept) new before after
-  passes_replying most stream kept new before after passes writes = (passes, fresh_writes (written contents stream) kept.verdict kept.rest.items new writes)
+  pub passes_replying : (most : ℕ) (hub : Hub) (stream : CorkedWriter S) (kept : Reply) (new : State S) (before after : List Event) → Passes before after []
+      → WritesReply contents (written contents stream) kept.verdict kept.rest.items new → PassesTexts remaining most hub (Replying stream kept) new before after
+  passes_replying most hub stream kept new before after passes writes = (passes, fresh_writes (written contents stream) kept.verdict kept.rest.items new writes)
 
   fresh_head : (stream : CorkedWriter S) (bytes : Vec ℕ Global) (state : State S) → Replies remaining contents (Head stream bytes) state → BeginsFresh state
   fresh_head stream bytes (Open socket s) replies = fresh_writes replies.before replies.replies.verdict replies.replies.reply (Open socket s) replies.replies.writes
@@ -112,9 +113,9 @@ module _ {S : Type 0} (remaining contents : S → Option (List ℕ)) where
   fresh_head stream bytes (Closing socket left) replies = tt
   fresh_head stream bytes Gone replies = tt
 
-  pub passes_listening : (most : ℕ) (stream : CorkedWriter S) (bytes : Vec ℕ Global) (new : State S) (before after : List Event) → Passes before after []
-      → Replies remaining contents (Head stream bytes) new → PassesTexts remaining most (Head stream bytes) new before after
-  passes_listening most stream bytes new before after passes replies = (passes, fresh_head stream bytes new replies)
+  pub passes_listening : (most : ℕ) (hub : Hub) (stream : CorkedWriter S) (bytes : Vec ℕ Global) (new : State S) (before after : List Event) → Passes before after []
+      → Replies remaining contents (Head stream bytes) new → PassesTexts remaining most hub (Head stream bytes) new before after
+  passes_listening most hub stream bytes new before after passes replies = (passes, fresh_head stream bytes new replies)
 
   -- ---- the reply to a head
 

@@ -1,5 +1,5 @@
 -- How what a link draws and what it frames go on together.
-use Rattle.std.proofs.Common.{◌≡◌, ℕ, true, Result, Ok, Err, IfOk, OnOk, OnErr, arith, List, [], ◌∷◌, ◌++◌, Option, Some, refl, sym, subst, ap, ◌∙◌, append_assoc, append-nil}
+use Rattle.std.proofs.Common.{◌≡◌, ℕ, Bool, true, false, if◌then◌else◌, Result, Ok, Err, IfOk, OnOk, OnErr, arith, List, [], ◌∷◌, ◌++◌, Option, Some, refl, sym, subst, ap, ◌∙◌, append_assoc, append-nil}
 use Rattle.std.proofs.KnownBytes.{Appends-trans, Appends-nil}
 use Rattle.websocket.specs.declared.protocol.config.Role.TheVariants.{Server}
 use Rattle.tungstenite.specs.Socket.{Socket}
@@ -10,7 +10,7 @@ use Rattle.relay_hub.specs.declared.event.Event.{Event}
 use Rattle.relay_link.specs.Follows.{Point, at, IsOwn, no_room, session_after, Follows, stays, makes, drawn_by, drawn}
 use Rattle.relay_link.specs.Frames.{text_frame, text_frames, framed, Frames}
 use Rattle.relay_link.specs.Stage.{stage_of, is_over, IsForward}
-use Rattle.relay_link.specs.Hears.{Passes, SendsAndPassesOn, GoesOn, ReadsTexts}
+use Rattle.relay_link.specs.Hears.{allowed_reads, Passes, Hears, FindsNothing, SendsAndPassesOn, GoesOn, ReadsTexts}
 use Rattle.relay_link.specs.Tells.{Drew, Tells, Hearing, Exchanges, Talks, IsServing, IfOpen, WhileOpen, Told, Answered}
 use Rattle.relay_link.specs.declared.stage.Stage.TheVariants as stage
 use Rattle.relay_link.specs.declared.state.State.{State}
@@ -104,11 +104,11 @@ module _ {S : Type 0} (remaining contents : S → Option (List ℕ)) where
   -- ---- a turn
 
   -- what was heard comes before what was told
-  pub exchanged : (most : ℕ) (p m q : Point) (a b c : Socket (CorkedWriter S)) → Drew [] p m → Hearing remaining most p.made m.made a b → Passes m.made q.made [] → Tells contents m q b c
+  pub exchanged : (most : ℕ) (p m q : Point) (a b c : Socket (CorkedWriter S)) → Drew [] p m → Hearing remaining (allowed_reads p.hub p.session most) p.made m.made a b → Passes m.made q.made [] → Tells contents m q b c
       → Exchanges remaining contents most p q a c
   exchanged most p m q a b c drew hearing quiet tells = record {
     heard = b;
-    hearing = hearing_then most p.made m.made q.made a b hearing quiet;
+    hearing = hearing_then (allowed_reads p.hub p.session most) p.made m.made q.made a b hearing quiet;
     tells = tells_then (tells_none p m b b drew refl) tells;
   }
 
@@ -117,7 +117,7 @@ module _ {S : Type 0} (remaining contents : S → Option (List ℕ)) where
   talked_none most p a b sent = record {
     ready = b;
     sent = sent;
-    exchanges = record { heard = b; hearing = hearing_none remaining most p.made p.made b b refl refl; tells = tells_start p b };
+    exchanges = record { heard = b; hearing = hearing_none remaining (allowed_reads p.hub p.session most) p.made p.made b b refl refl; tells = tells_start p b };
   }
 
   -- what waited was sent, and what was told was sent or has to wait
@@ -151,9 +151,9 @@ module _ {S : Type 0} (remaining contents : S → Option (List ℕ)) where
 
   -- what was read and passed on: if the link is still open, its next turn reads on
   pub reads_into : {E : Type 0} (turned : Result (Unit {0}) E) (most : ℕ) (p : Point) (hub next : Hub) (made after : List Event) (s : ℕ) (a b : Socket (CorkedWriter S)) (state : State S)
-      → OnOk turned (Talks remaining contents most p (at hub (Some s) made) a b) → SendsAndPassesOn remaining most a p.made made
+      → OnOk turned (Talks remaining contents most p (at hub (Some s) made) a b) → SendsAndPassesOn remaining (allowed_reads p.hub p.session most) a p.made made
       → OnOk turned ((state ≡ Open b s) × (next ≡ hub) × (after ≡ made)) → OnErr turned (is_over (stage_of state) ≡ true) → Passes made after []
-      → ReadsTexts remaining most a state p.made after
+      → ReadsTexts remaining (allowed_reads p.hub p.session most) a state p.made after
   reads_into (Ok u) most p hub next made after s a b state talks sends stayed over quiet = rw (stayed.0, stayed.2) (record {
     sends = record {
       ready = talks.ready;
@@ -190,9 +190,15 @@ module _ {S : Type 0} (remaining contents : S → Option (List ℕ)) where
   serves_on texts p next made a (Closing socket turns) talks server = tt
   serves_on texts p next made a Gone talks server = tt
 
+  -- of no reads none is made
+  reads_nothing : (may : Bool) (a b : Socket (CorkedWriter S)) (texts : List (List ℕ)) → Hears remaining (if may then 0 else 0) a b texts → FindsNothing a b texts
+  reads_nothing true a b texts nothing = nothing
+  reads_nothing false a b texts nothing = nothing
+
   told_alone : (p q : Point) (a b : Socket (CorkedWriter S)) → Talks remaining contents 0 p q a b → a.conn.role ≡ Server → Told contents p q a b
   told_alone p q a b talks server =
-      let same = talks.exchanges.hearing.hears.0 in
+      let hearing = talks.exchanges.hearing in
+      let same = (reads_nothing _ talks.ready talks.exchanges.heard hearing.texts hearing.hears).0 in
       let tells = subst (λ x. Tells contents p q x b) same talks.exchanges.tells in
       told (record { follows = tells.follows; frames = frames_more [] _ talks.sent tells.frames }) server
 

@@ -1,5 +1,7 @@
 -- What a link hears in a turn: the text that it reads, which it passes to the hub.
-use Rattle.std.specs.Prelude.{◌≡◌, ◌⊎◌, ⊤, ℕ, zero, suc, List, [], ◌∷◌, ◌++◌, Option, None, Some, Result, Ok, Err}
+use Rattle.std.specs.Prelude.{◌≡◌, ◌⊎◌, ⊤, ℕ, zero, suc, List, [], ◌∷◌, ◌++◌, if◌then◌else◌, Option, None, Some, option_and_then, Result, Ok, Err}
+use Rattle.relay_hub.specs.Queries.{may_hear}
+use Rattle.relay_hub.specs.State.{State as Hub, session_of}
 use Rattle.relay_hub.specs.declared.event.Event.{Event}
 use Rattle.relay_hub.specs.declared.event.Event.TheVariants.{Open, Receive, Draw, Close}
 use Rattle.tungstenite.specs.Socket.{Socket, Reads, IsFresh}
@@ -27,6 +29,10 @@ received (event ∷ made) = received_by event ++ received made
 -- from one list of events to another, these texts were passed to the hub
 abbrev pub Passes : List Event → List Event → List (List ℕ) → Type 0
 Passes before after texts = received after ≡ received before ++ texts
+
+-- How many of so many messages a link may read: none unless the hub may hear its session.
+abbrev pub allowed_reads : Hub → Option ℕ → ℕ → ℕ
+allowed_reads hub session most = if may_hear (option_and_then (session_of hub) session) then most else 0
 
 -- the text of a message, if there is one and it is a text message (RFC 6455, section 5.6)
 abbrev pub text_of : Option Message → List (List ℕ)
@@ -88,7 +94,8 @@ module _ {S : Type 0} where
     pub sends : SendsAndPassesOn remaining most socket before after
     pub goes_on : GoesOn sends.passes_on.heard new
 
-  -- the same of any link: one that is not open passes no text
-  abbrev pub PassesTexts : (S → Option (List ℕ)) → ℕ → State S → State S → List Event → List Event → Type 0
-  PassesTexts remaining most (state.Open socket s) new before after = ReadsTexts remaining most socket new before after
-  PassesTexts remaining most _ new before after = Passes before after [] × BeginsFresh new
+  -- The same of any link. One that is open reads nothing if the hub before the turn may not hear its session; one that is not open passes no
+  -- text.
+  abbrev pub PassesTexts : (S → Option (List ℕ)) → ℕ → Hub → State S → State S → List Event → List Event → Type 0
+  PassesTexts remaining most hub (state.Open socket s) new before after = ReadsTexts remaining (allowed_reads hub (Some s) most) socket new before after
+  PassesTexts remaining most hub _ new before after = Passes before after [] × BeginsFresh new

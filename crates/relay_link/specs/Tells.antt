@@ -7,7 +7,7 @@ use Rattle.tungstenite.specs.Socket.{Socket}
 use Rattle.websocket.specs.declared.protocol.config.Role.TheVariants.{Server}
 use Rattle.relay_link.specs.Follows.{Point, at, no_room, Follows, drawn}
 use Rattle.relay_link.specs.Frames.{text_frames, framed, Frames}
-use Rattle.relay_link.specs.Hears.{Hears, Passes, ReadsOn}
+use Rattle.relay_link.specs.Hears.{allowed_reads, Hears, Passes, ReadsOn}
 use Rattle.relay_link.specs.declared.corked_writer.CorkedWriter.{CorkedWriter}
 use Rattle.relay_link.specs.declared.state.State.{State}
 use Rattle.relay_link.specs.declared.state.State.TheVariants.{Open}
@@ -34,7 +34,7 @@ module _ {S : Type 0} where
   -- a link that has nothing to send hears, and then tells
   pub record Exchanges (remaining contents : S → Option (List ℕ)) (most : ℕ) (p q : Point) (old new : Socket (CorkedWriter S)) : Type 0 where
     pub heard : Socket (CorkedWriter S)
-    pub hearing : Hearing remaining most p.made q.made old heard
+    pub hearing : Hearing remaining (allowed_reads p.hub p.session most) p.made q.made old heard
     pub tells : Tells contents p q heard new
 
   -- the same of a link that may have something to send, which goes first
@@ -76,5 +76,5 @@ module _ {S : Type 0} where
     pub texts : List (List ℕ)
     pub passes : Passes p.made q.made texts
     pub heard : Socket (CorkedWriter S)
-    pub hears : Hears remaining 1 ready heard texts
+    pub hears : Hears remaining (allowed_reads p.hub p.session 1) ready heard texts
     pub told : Told contents p q heard new

@@ -25,8 +25,9 @@ pub record Turns {S : Type 0} (remaining : S → Option (List ℕ)) (texts most 
   pub received : Receives remaining old new
   pub few : length turn.made.items ≤ MAX_EVENTS
   pub heard : receives turn.made.items ≤ texts
-  -- the texts that the events pass to the hub are those that the link read, and the next turn reads on where this one stopped
-  pub passes : PassesTexts remaining texts old new [] turn.made.items
+  -- the texts that the events pass to the hub are those that the link read, none while the hub may not hear its session, and the next
+  -- turn reads on where this one stopped
+  pub passes : PassesTexts remaining texts hub old new [] turn.made.items
   pub drew : draws turn.made.items ≤ min most MAX_DRAWS
   -- a session that the link no longer has was closed
   pub closed : (s : ℕ) → session_of old ≡ Some s → session_of new ≡ None → Contains turn.made.items (Close s)

@@ -103,11 +103,12 @@ impl<S: Read + Write + Drop> Link<S> {
     /// - Head: the turn writes the rest of an unfinished reply. Otherwise it reads up to 4,096 bytes, and checks all bytes
     ///   received so far as a handshake. A valid one opens a session; if the hub opens none the reply is 503. Once the reply is
     ///   written the link is Open, or Gone with [`Cause::Refused`].
-    /// - Open: while output is pending the turn only sends. Otherwise, if the hub accepts a request of the session, it reads one
-    ///   message: a text is passed to the hub, a ping is answered, a pong has no effect, a binary message is answered by a close
-    ///   with 1003, and a close is answered. Then it draws messages, and sends them together, 64 KiB at a time, until output is
-    ///   pending; a draw that is out of memory ends the turn. After a binary message or a close the link is Closing. If the
-    ///   bytes end, the stream fails, frames violate the protocol, or memory runs out, it is Gone.
+    /// - Open: while output is pending the turn only sends. Otherwise it reads one message: a text is passed to the hub, a ping is
+    ///   answered, a pong has no effect, a binary message is answered by a close with 1003, and a close is answered. If the
+    ///   session is busy ([`Hub::may_hear`] is false before the turn), it reads nothing, and passes no text to the hub. Then it
+    ///   draws messages, and sends them together, 64 KiB at a time, until output is pending; a draw that is out of memory ends the
+    ///   turn. After a binary message or a close the link is Closing. If the bytes end, the stream fails, frames violate the
+    ///   protocol, or memory runs out, it is Gone.
     /// - Closing: the turn reads one message and drops it. If the other side's close has not arrived after 16 such turns, the
     ///   link is Gone with [`Cause::Silent`].
     /// - Gone: the turn does nothing.
@@ -148,7 +149,6 @@ impl<S: Read + Write + Drop> Link<S> {
     /// Runs the write part of a turn, which reads nothing: it writes the rest of an unfinished reply, and an open link draws
     /// messages, and sends them and its corked output as in [`Link::turn`]. A link in any other state is unchanged. `AllocError`
     /// comes before anything is written or changed. A link that stays open has framed the drawn texts, in order, and nothing else.
-    #[tactic(auto, using(crate::proofs::Telling::tells_if))]
     pub fn write_turn(
         &mut self,
         alloc: Global,
@@ -245,7 +245,7 @@ fn advance<S: Read + Write + Drop>(
     ensures talks { WhileOpen (Talks S.remaining S.contents (texts_of phase)) hub.old made.old state hub.new made.new result.state }
     ensures serving { IsServing state → IsServing result.state }
     ensures replies { Replies S.remaining S.contents state result.state }
-    ensures passes { PassesTexts S.remaining (texts_of phase) state result.state made.old made.new }
+    ensures passes { PassesTexts S.remaining (texts_of phase) hub.old state result.state made.old made.new }
     ensures adds { Adds (draws + 2) (texts_of phase) draws made.old made.new }
     ensures cause { is_some result.cause ≡ leaves (stage_of state) (stage_of result.state) }
     ensures forward { IsForward (stage_of state) (stage_of result.state) }

@@ -4,7 +4,7 @@ ghost use Rattle.relay_link.specs.Adds.{Adds, texts_of};
 ghost use Rattle.relay_link.specs.Ends.{IsPrompt, cause_of, turns_left};
 ghost use Rattle.relay_link.specs.Follows.{Follows, no_room, at};
 ghost use Rattle.relay_link.specs.Stage.{leaves, stage_of, session_of, is_over, IsForward};
-ghost use Rattle.relay_link.specs.Hears.{Passes, PassesOn, SendsAndPassesOn, ReadsTexts};
+ghost use Rattle.relay_link.specs.Hears.{allowed_reads, Passes, PassesOn, SendsAndPassesOn, ReadsTexts};
 ghost use Rattle.relay_link.specs.Tells.{Drew, Hearing, Tells, Exchanges, Talks, IfOpen, IsServing};
 ghost use Rattle.relay_link.specs.declared.cause.Cause.TheVariants.{Silent};
 ghost use Rattle.relay_link.specs.declared.closing.TheConstants.{MAX_TURNS};
@@ -57,7 +57,7 @@ pub(crate) fn turn<S: Read + Write + Drop>(
     ensures follows { Follows no_room (at hub.old (Some session) made.old) (at hub.new (session_of result.state) made.new) }
     ensures talks { IfOpen (Talks S.remaining S.contents (texts_of phase)) (at hub.old (Some session) made.old) socket hub.new made.new result.state }
     ensures serving { socket.conn.role ≡ Server → IsServing result.state }
-    ensures passes { ReadsTexts S.remaining (texts_of phase) socket result.state made.old made.new }
+    ensures passes { ReadsTexts S.remaining (allowed_reads hub.old (Some session) (texts_of phase)) socket result.state made.old made.new }
     ensures adds { Adds (draws + 2) (texts_of phase) draws made.old made.new }
     ensures cause { is_some result.cause ≡ leaves Open (stage_of result.state) }
     ensures forward { IsForward Open (stage_of result.state) }
@@ -119,7 +119,7 @@ fn talk<S: Read + Write + Drop>(
     requires { length made.old + draws + 1 ≤ MAX_EVENTS }
     ensures follows { Follows no_room (at hub.old (Some session) made.old) (at hub.new (Some session) made.new) }
     ensures talks { OnOk result (Talks S.remaining S.contents (texts_of phase) (at hub.old (Some session) made.old) (at hub.new (Some session) made.new) socket.old socket.new) }
-    ensures passes { SendsAndPassesOn S.remaining (texts_of phase) socket.old made.old made.new }
+    ensures passes { SendsAndPassesOn S.remaining (allowed_reads hub.old (Some session) (texts_of phase)) socket.old made.old made.new }
     ensures adds { Adds (draws + 1) (texts_of phase) draws made.old made.new }
     ensures prompt { IfErr result (λ ending. IsPrompt (cause_of ending)) }
 {
@@ -152,7 +152,7 @@ fn exchange<S: Read + Write + Drop>(
     requires { length made.old + draws + 1 ≤ MAX_EVENTS }
     ensures follows { Follows no_room (at hub.old (Some session) made.old) (at hub.new (Some session) made.new) }
     ensures exchanges { OnOk result (Exchanges S.remaining S.contents (texts_of phase) (at hub.old (Some session) made.old) (at hub.new (Some session) made.new) socket.old socket.new) }
-    ensures passes { PassesOn S.remaining (texts_of phase) socket.old made.old made.new }
+    ensures passes { PassesOn S.remaining (allowed_reads hub.old (Some session) (texts_of phase)) socket.old made.old made.new }
     ensures adds { Adds (draws + 1) (texts_of phase) draws made.old made.new }
     ensures prompt { IfErr result (λ ending. IsPrompt (cause_of ending)) }
 {
@@ -161,7 +161,7 @@ fn exchange<S: Read + Write + Drop>(
     Ok(())
 }
 
-/// Reads a message, if the phase reads and the hub has space for a reply.
+/// Reads a message, if the phase reads and the hub may hear the session.
 #[tactic(auto, using(crate::proofs::Following::follows_same, crate::proofs::Telling::drew_same, crate::proofs::Hearing::passes_same, crate::proofs::Hearing::passes_on_none, crate::proofs::Hearing::passes_on_most, crate::proofs::Hearing::hearing_none, crate::proofs::Hearing::hearing_most))]
 fn hear<S: Read + Write + Drop>(
     alloc: Global,
@@ -174,8 +174,8 @@ fn hear<S: Read + Write + Drop>(
     requires { length made.old + 1 ≤ MAX_EVENTS }
     ensures follows { Follows no_room (at hub.old (Some session) made.old) (at hub.new (Some session) made.new) }
     ensures drew { OnOk result (Drew [] (at hub.old (Some session) made.old) (at hub.new (Some session) made.new)) }
-    ensures hears { OnOk result (Hearing S.remaining (texts_of phase) made.old made.new socket.old socket.new) }
-    ensures passes { PassesOn S.remaining (texts_of phase) socket.old made.old made.new }
+    ensures hears { OnOk result (Hearing S.remaining (allowed_reads hub.old (Some session) (texts_of phase)) made.old made.new socket.old socket.new) }
+    ensures passes { PassesOn S.remaining (allowed_reads hub.old (Some session) (texts_of phase)) socket.old made.old made.new }
     ensures adds { Adds 1 (texts_of phase) 0 made.old made.new }
     ensures prompt { IfErr result (λ ending. IsPrompt (cause_of ending)) }
 {

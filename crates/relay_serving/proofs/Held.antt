@@ -92,14 +92,14 @@ module _ {S : Type 0} (held : Slab (Connection S)) (key : ℕ) (was is : Connect
 
     -- Its link made a turn.
     pub turned : (hub next : State) (made : List Event) → Follows (asked_by remaining was.link) (at hub (session_of was.link) []) (at next (session_of is.link) made)
-        → Receives remaining was.link is.link → PassesTexts remaining 1 was.link is.link [] made → Advances remaining hub (links_of held) next (links_of (with_value held key is))
+        → Receives remaining was.link is.link → PassesTexts remaining 1 hub was.link is.link [] made → Advances remaining hub (links_of held) next (links_of (with_value held key is))
     turned hub next made follows received passes =
         turns (stays (λ other. refl)) key made (ap of there) (ap of written.changed) (updated_others held (with_value held key is) key (Some is) written) follows received passes
 
     -- Its link ended.
     pub ended : (hub next : State) (made : List Event) → Follows no_room (at hub (session_of was.link) []) (at next (session_of is.link) made)
         → made ≡ closing_of (session_of was.link) → stage_of is.link ≡ stage.Gone → Advances remaining hub (links_of held) next (links_of (with_value held key is))
-    ended hub next made follows closes gone = turned hub next made (follows_none follows) (gone_receives remaining was.link is.link gone) (passes_ended remaining was.link is.link made closes gone)
+    ended hub next made follows closes gone = turned hub next made (follows_none follows) (gone_receives remaining was.link is.link gone) (passes_ended remaining hub was.link is.link made closes gone)
 
 -- A new connection was added.
 pub added : {S : Type 0} {remaining : Watched S → Option (List ℕ)} (held new : Slab (Connection S)) (key : ℕ) (connection : Connection S) (hub : State) → get held key ≡ None

@@ -45,12 +45,12 @@ module _ {S : Type 0} (remaining : S → Option (List ℕ)) where
   -- The second hub, with its links, is reached from the first. The hub changes by turns of links alone, whose events are each the link's
   -- own, and by giving memory back. A session is opened only in the room that the link's head asks for. The head is what the link has
   -- received since it was added, and then what the turn reads. A text of a session is one that its link read from its WebSocket, which
-  -- reads on from turn to turn.
+  -- reads on from turn to turn, and reads nothing while the hub may not hear the session.
   pub data Advances : State → Links S → State → Links S → Type 0 where
     stays : {hub : State} {old new : Links S} → ((key : ℕ) → new key ≡ old key) → Advances hub old hub new
     turns : {hub mid next : State} {old held new : Links S} {was is : Link S} → Advances hub old mid held → (key : ℕ) (made : List Event)
         → held key ≡ Some was → new key ≡ Some is → Others key held new
-        → Follows (asked_by remaining was) (at mid (session_of was) []) (at next (session_of is) made) → Receives remaining was is → PassesTexts remaining 1 was is [] made → Advances hub old next new
+        → Follows (asked_by remaining was) (at mid (session_of was) []) (at next (session_of is) made) → Receives remaining was is → PassesTexts remaining 1 mid was is [] made → Advances hub old next new
     adds : {hub mid : State} {old held new : Links S} {is : Link S} → Advances hub old mid held → (key : ℕ)
         → held key ≡ None → new key ≡ Some is → Others key held new → IsNew is → Advances hub old mid new
     removes : {hub mid : State} {old held new : Links S} {was : Link S} → Advances hub old mid held → (key : ℕ)
