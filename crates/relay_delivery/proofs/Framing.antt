@@ -57,6 +57,7 @@ module _ {S : Type 0} (remaining contents : S → Option (List ℕ)) where
         turn = record {
           after = t;
           follows = told.follows;
+          utf8 = told.utf8;
           frames_are = appended (framed contents old) (framed contents new) before frames (text_frames (drawn told.follows)) told.frames was is;
         };
         resumes = λ b E c. nobody_resumes b E s c told.follows none;

@@ -19,7 +19,7 @@ use Rattle.relay_proto.specs.MessageRead.{message_of_text}
 use Rattle.relay_proto.specs.declared.message.Message.{Message}
 use Rattle.relay_proto.specs.declared.message.Message.TheVariants as message
 use Rattle.relay_tree.specs.Document.{Document}
-use Rattle.relay_delivery.specs.Texts.{told_all, IsFaultOf, StopsAt, CanFail}
+use Rattle.relay_delivery.specs.Texts.{told_all, IsFaultOf, StopsAt}
 use Rattle.relay_delivery.specs.Turn.{FramedTurn, Resumes, KeepsUp, Delivered, with_events}
 use Rattle.relay_delivery.specs.declared.fault.ReceiveFault.{ReceiveFault}
 use Rattle.relay_delivery.specs.declared.fault.ReceiveFault.TheVariants.{NotFrames, NotUtf8, NotText, Refused, NoMemory}
@@ -61,13 +61,13 @@ utf8_there : (heard rest : List (List ℕ)) (text : List ℕ) → AllByRecursion
 utf8_there [] rest text all = all.0
 utf8_there (first ∷ heard) rest text all = utf8_there heard rest text all.1
 
-stops_for : (held now : Option (ℕ × Document)) (next : Client) (texts heard rest : List (List ℕ)) (text : List ℕ) (fault : ReceiveFault) → texts ≡ heard ++ text ∷ rest
-    → Survives (as_client now) (text ∷ rest) next → IsFaultOf fault now text → CanFail texts fault
-stops_for held now next texts heard rest text NoMemory all survives why = tt
-stops_for held now next texts heard rest text NotUtf8 all survives why = λ utf8. why (utf8_there heard rest text (subst (AllByRecursion IsUtf8) all utf8))
-stops_for held now next texts heard rest text (Refused fault) all survives why = takes_next now next text rest fault survives why
-stops_for held now next texts heard rest text NotFrames all survives why = why
-stops_for held now next texts heard rest text NotText all survives why = why
+stops_for : (now : Option (ℕ × Document)) (next : Client) (rest : List (List ℕ)) (text : List ℕ) (fault : ReceiveFault) → IsUtf8 text → Survives (as_client now) (text ∷ rest) next → IsFaultOf fault now text
+    → fault ≡ NoMemory
+stops_for now next rest text NoMemory utf8 survives why = refl
+stops_for now next rest text NotUtf8 utf8 survives why = absurd (why utf8)
+stops_for now next rest text (Refused fault) utf8 survives why = absurd (takes_next now next text rest fault survives why)
+stops_for now next rest text NotFrames utf8 survives why = absurd why
+stops_for now next rest text NotText utf8 survives why = absurd why
 
 -- ---- a turn
 
@@ -85,9 +85,10 @@ module _ (b : HubConfig) (E : Log) (hub next : State) (s : ℕ) (made : List Eve
   delivers (Ok u) heard = held (heard (drawn turn.follows) turn.frames_are)
   delivers (Err fault) heard = tt
 
-  pub can_fail : (result : Result (Unit {0}) ReceiveFault) → ((texts : List (List ℕ)) → frames ≡ text_frames texts → IfErr result (λ fault. StopsAt old new texts (IsFaultOf fault))) → IfErr result (CanFail (drawn turn.follows))
-  can_fail (Ok u) stopped = tt
-  can_fail (Err fault) stopped =
+  pub only_memory : (result : Result (Unit {0}) ReceiveFault) → ((texts : List (List ℕ)) → frames ≡ text_frames texts → IfErr result (λ fault. StopsAt old new texts (IsFaultOf fault))) → IfErr result (λ fault. fault ≡ NoMemory)
+  only_memory (Ok u) stopped = tt
+  only_memory (Err fault) stopped =
       let stop = stopped (drawn turn.follows) turn.frames_are in
       let left = survives_rest (as_client old) (as_client new) stays.client_is stop.heard (stop.text ∷ stop.rest) (subst (λ texts. Survives (as_client old) texts stays.client_is) stop.all stays.survives) stop.holds in
-      stops_for old new stays.client_is (drawn turn.follows) stop.heard stop.rest stop.text fault stop.all left stop.why
+      let utf8 = utf8_there stop.heard stop.rest stop.text (subst (AllByRecursion IsUtf8) stop.all turn.utf8) in
+      stops_for new stays.client_is stop.rest stop.text fault utf8 left stop.why

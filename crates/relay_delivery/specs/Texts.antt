@@ -1,6 +1,5 @@
 -- Texts, one after another, to a client.
 use Rattle.std.specs.Prelude.{◌≡◌, ⊤, ℕ, List, [], ◌∷◌, ◌++◌, Option, Some, option_and_then, IsUtf8}
-use Rattle.std.specs.List.{AllByRecursion}
 use Rattle.relay_follow.specs.Hearing.{as_client, told, hear_fault}
 use Rattle.relay_follow.specs.declared.fault.HearFault.{HearFault}
 use Rattle.relay_follow.specs.declared.fault.HearFault.TheVariants as hear
@@ -34,9 +33,3 @@ pub record StopsAt (old new : Option (ℕ × Document)) (texts : List (List ℕ)
   pub all : texts ≡ heard ++ text ∷ rest
   pub holds : told_all (as_client old) heard ≡ Some (as_client new)
   pub why : Why new text
-
--- the faults that can come of texts each of which a follower would take: memory runs out, or one of them is not UTF-8
-abbrev pub CanFail : List (List ℕ) → ReceiveFault → Type 0
-CanFail texts NoMemory = ⊤
-CanFail texts NotUtf8 = ¬ (AllByRecursion IsUtf8 texts)
-CanFail texts _ = ⊥

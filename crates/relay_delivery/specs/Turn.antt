@@ -1,5 +1,6 @@
 -- What a turn of a link brings to the client of its session.
-use Rattle.std.specs.Prelude.{◌≡◌, ◌≢◌, ◌⊎◌, ⊤, ℕ, List, [], ◌∷◌, Option, None, Some, Ok, slice_get}
+use Rattle.std.specs.Prelude.{◌≡◌, ◌≢◌, ◌⊎◌, ⊤, ℕ, List, [], ◌∷◌, Option, None, Some, Ok, slice_get, IsUtf8}
+use Rattle.std.specs.List.{AllByRecursion}
 use Rattle.relay_delivery.specs.Texts.{told_all}
 use Rattle.relay_hub.specs.Log.{Log, Watching, entry, home, documents, watching}
 use Rattle.relay_hub.specs.Session.{Session, later}
@@ -21,10 +22,12 @@ abbrev pub with_events : {p q : Point} → Follows no_room p q → Log → Log
 with_events stays E = E
 with_events (makes event answer before own step) E = entry event answer ∷ with_events before E
 
--- An open link of session s made these events in a turn, and framed these bytes: the frames of the texts that the events drew.
+-- An open link of session s made these events in a turn, and framed these bytes: the frames of the texts that the events drew, each in
+-- UTF-8.
 pub record FramedTurn (s : ℕ) (hub next : State) (made : List Event) (frames : List ℕ) : Type 0 where
   pub after : ℕ
   pub follows : Follows no_room (at hub (Some s) []) (at next (Some after) made)
+  pub utf8 : AllByRecursion IsUtf8 (drawn follows)
   pub frames_are : frames ≡ text_frames (drawn follows)
 
 -- What the client of a session holds, if the session watches: what the messages drawn for it make of what it held at the start of the

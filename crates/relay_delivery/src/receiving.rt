@@ -1,13 +1,12 @@
 //! The frames of a server, to a follower.
 ghost use Rattle.std.specs.Prelude.{◌≡◌, ℕ, List, Some, IfErr, OnOk};
-ghost use Rattle.relay_delivery.specs.Texts.{told_all, IsFaultOf, StopsAt, CanFail};
+ghost use Rattle.relay_delivery.specs.Texts.{told_all, IsFaultOf, StopsAt};
 ghost use Rattle.relay_delivery.specs.Turn.{FramedTurn, Resumes, KeepsUp, Delivered, with_events};
 ghost use Rattle.relay_follow.specs.Hearing.{as_client};
 ghost use Rattle.relay_hub.specs.Log.{Log};
 ghost use Rattle.relay_hub.specs.State.{State};
 ghost use Rattle.relay_hub.specs.declared.config.HubConfig.{HubConfig};
 ghost use Rattle.relay_hub.specs.declared.event.Event.{Event};
-ghost use Rattle.relay_link.specs.Follows.{drawn};
 ghost use Rattle.relay_link.specs.Frames.{text_frames};
 
 use crate::fault::ReceiveFault;
@@ -44,7 +43,7 @@ pub fn receive(
         OnOk result (Delivered b (with_events turn.follows E) next s (as_client follower.new)) }
     ensures fails { (b : HubConfig) (E : Log) (hub next : State) (s : ℕ) (made : List Event) (turn : FramedTurn s hub next made frames.old) →
         Resumes b E s (as_client follower.old) turn.follows → KeepsUp b E hub s (as_client follower.old) →
-        IfErr result (CanFail (drawn turn.follows)) }
+        IfErr result (λ fault. fault ≡ ReceiveFault.NoMemory) }
 {
     receive_all(alloc, frames, follower)
 }

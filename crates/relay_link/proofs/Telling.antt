@@ -1,13 +1,16 @@
 -- How what a link draws and what it frames go on together.
-use Rattle.std.proofs.Common.{◌≡◌, ℕ, Bool, true, false, if◌then◌else◌, Result, Ok, Err, IfOk, OnOk, OnErr, arith, List, [], ◌∷◌, ◌++◌, Option, Some, refl, sym, subst, ap, ◌∙◌, append_assoc, append-nil}
+use Rattle.std.proofs.Common.{◌≡◌, ℕ, Bool, true, false, if◌then◌else◌, Result, Ok, Err, IfOk, OnOk, OnErr, arith, List, [], ◌∷◌, ◌++◌, Option, Some, None, option_map, String, Global, string_bytes, IsUtf8, refl, sym, subst, ap, ◌∙◌, append_assoc, append-nil}
+use Rattle.std.proofs.ByRecursion.{All-append}
 use Rattle.std.proofs.KnownBytes.{Appends-trans, Appends-nil}
+use Rattle.std.proofs.lemmas.Str.{IsUtf8-string_bytes}
+use Rattle.std.specs.List.{AllByRecursion}
 use Rattle.websocket.specs.declared.protocol.config.Role.TheVariants.{Server}
 use Rattle.tungstenite.specs.Socket.{Socket}
 use Rattle.relay_hub.specs.State.{State as Hub}
 use Rattle.relay_hub.specs.Step.{Step}
 use Rattle.relay_hub.specs.declared.event.Answer.{Answer}
 use Rattle.relay_hub.specs.declared.event.Event.{Event}
-use Rattle.relay_link.specs.Follows.{Point, at, IsOwn, no_room, session_after, Follows, stays, makes, drawn_by, drawn}
+use Rattle.relay_link.specs.Follows.{Point, at, IsOwn, no_room, session_after, Follows, stays, makes, given, drawn_by, drawn}
 use Rattle.relay_link.specs.Frames.{text_frame, text_frames, framed, Frames}
 use Rattle.relay_link.specs.Stage.{stage_of, is_over, IsForward}
 use Rattle.relay_link.specs.Hears.{allowed_reads, Passes, Hears, FindsNothing, SendsAndPassesOn, GoesOn, ReadsTexts}
@@ -23,15 +26,20 @@ use Rattle.relay_link.proofs.Hearing.{reads_on_same, reads_on_then, role_kept, h
 
 -- no event was made
 pub drew_same : (old new : Hub) (session : Option ℕ) (before after : List Event) → new ≡ old → after ≡ before → Drew [] (at old session before) (at new session after)
-drew_same old new session before after h m = rw (h, m) (record { follows = stays; texts_are = refl })
+drew_same old new session before after h m = rw (h, m) (record { follows = stays; texts_are = refl; utf8 = tt })
+
+-- the text of a draw
+pub given_utf8 : (text : Option (String Global)) → AllByRecursion IsUtf8 (given (option_map string_bytes text))
+given_utf8 None = tt
+given_utf8 (Some text) = (IsUtf8-string_bytes text, tt)
 
 -- one event was made
 pub drew_one : (old new : Hub) (session : Option ℕ) (before after : List Event) (event : Event) (answer : Answer)
-    → after ≡ before ++ event ∷ [] → IsOwn no_room session event → Step old event answer new
+    → after ≡ before ++ event ∷ [] → IsOwn no_room session event → Step old event answer new → AllByRecursion IsUtf8 (drawn_by event answer)
     → Drew (drawn_by event answer) (at old session before) (at new (session_after session event answer) after)
-drew_one old new session before after event answer m own step =
+drew_one old new session before after event answer m own step utf8 =
     subst (λ x. Drew (drawn_by event answer) (at old session before) (at new (session_after session event answer) x)) (sym m)
-    (record { follows = makes event answer stays own step; texts_are = refl })
+    (record { follows = makes event answer stays own step; texts_are = refl; utf8 = utf8 })
 
 -- one run of events after another
 joined : {p q r : Point} (f : Follows no_room p q) (g : Follows no_room q r) → (h : Follows no_room p r) × (drawn h ≡ drawn f ++ drawn g)
@@ -67,19 +75,24 @@ module _ {S : Type 0} {contents : S → Option (List ℕ)} where
       let both = joined f.follows g.follows in
       record {
         follows = both.0;
+        utf8 = subst (AllByRecursion IsUtf8) (sym both.1) (All-append IsUtf8 (drawn f.follows) (drawn g.follows) f.utf8 g.utf8);
         frames = frames_as (ap text_frames both.1 ∙ frames_then (drawn f.follows) (drawn g.follows)) (frames_more _ _ f.frames g.frames);
       }
 
   -- what was drawn was framed
   tells_drawn : {p q : Point} {a b : Socket (CorkedWriter S)} (texts : List (List ℕ)) → Drew texts p q → Frames contents a b (text_frames texts) → Tells contents p q a b
-  tells_drawn texts drew f = record { follows = drew.follows; frames = frames_as (ap text_frames drew.texts_are) f }
+  tells_drawn texts drew f = record {
+    follows = drew.follows;
+    utf8 = subst (AllByRecursion IsUtf8) (sym drew.texts_are) drew.utf8;
+    frames = frames_as (ap text_frames drew.texts_are) f;
+  }
 
   -- nothing was drawn, and nothing framed
   pub tells_none : (p q : Point) (a b : Socket (CorkedWriter S)) → Drew [] p q → b ≡ a → Tells contents p q a b
   tells_none p q a b drew same = tells_drawn [] drew (frames_none a b same)
 
   pub tells_start : (p : Point) (a : Socket (CorkedWriter S)) → Tells contents p p a a
-  tells_start p a = record { follows = stays; frames = frames_none a a refl }
+  tells_start p a = record { follows = stays; utf8 = tt; frames = frames_none a a refl }
 
   -- then nothing more was drawn
   pub tells_on : (p q r : Point) (a b c : Socket (CorkedWriter S)) → Tells contents p q a b → Drew [] q r → c ≡ b → Tells contents p r a c
@@ -91,7 +104,7 @@ module _ {S : Type 0} {contents : S → Option (List ℕ)} where
 
   -- of a server's socket the frames are known
   told : {p q : Point} {a b : Socket (CorkedWriter S)} → Tells contents p q a b → a.conn.role ≡ Server → Told contents p q a b
-  told tells server = record { follows = tells.follows; frames = tells.frames.bytes server; reads_on = tells.frames.reads_on }
+  told tells server = record { follows = tells.follows; utf8 = tells.utf8; frames = tells.frames.bytes server; reads_on = tells.frames.reads_on }
 
 over_goes : {S : Type 0} (a : Socket (CorkedWriter S)) (state : State S) → is_over (stage_of state) ≡ true → GoesOn a state
 over_goes a (Open socket s) over = absurd (cc over)
@@ -132,6 +145,7 @@ module _ {S : Type 0} (remaining contents : S → Option (List ℕ)) where
       hearing = exchanges.hearing;
       tells = record {
         follows = exchanges.tells.follows;
+        utf8 = exchanges.tells.utf8;
         frames = frames_as (sym (append-nil _)) (frames_more _ _ exchanges.tells.frames last);
       };
     };
@@ -200,7 +214,7 @@ module _ {S : Type 0} (remaining contents : S → Option (List ℕ)) where
       let hearing = talks.exchanges.hearing in
       let same = (reads_nothing _ talks.ready talks.exchanges.heard hearing.texts hearing.hears).0 in
       let tells = subst (λ x. Tells contents p q x b) same talks.exchanges.tells in
-      told (record { follows = tells.follows; frames = frames_more [] _ talks.sent tells.frames }) server
+      told (record { follows = tells.follows; utf8 = tells.utf8; frames = frames_more [] _ talks.sent tells.frames }) server
 
   answered : (p q : Point) (a b : Socket (CorkedWriter S)) → Talks remaining contents 1 p q a b → a.conn.role ≡ Server → Answered remaining contents p q a b
   answered p q a b talks server = record {

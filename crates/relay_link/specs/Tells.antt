@@ -1,5 +1,6 @@
 -- What an open link sends in a turn: the frames of the texts that it draws.
-use Rattle.std.specs.Prelude.{◌≡◌, ⊤, ℕ, List, [], Option, Some}
+use Rattle.std.specs.Prelude.{◌≡◌, ⊤, ℕ, List, [], Option, Some, IsUtf8}
+use Rattle.std.specs.List.{AllByRecursion}
 use Rattle.std.specs.Io.KnownBytes.{Appends}
 use Rattle.relay_hub.specs.State.{State as Hub}
 use Rattle.relay_hub.specs.declared.event.Event.{Event}
@@ -12,16 +13,18 @@ use Rattle.relay_link.specs.declared.corked_writer.CorkedWriter.{CorkedWriter}
 use Rattle.relay_link.specs.declared.state.State.{State}
 use Rattle.relay_link.specs.declared.state.State.TheVariants.{Open}
 
--- the events from one point to another drew these texts
+-- the events from one point to another drew these texts, each in UTF-8
 pub record Drew (texts : List (List ℕ)) (p q : Point) : Type 0 where
   pub follows : Follows no_room p q
   pub texts_are : drawn follows ≡ texts
+  pub utf8 : AllByRecursion IsUtf8 texts
 
 module _ {S : Type 0} where
   -- Between two points, and in the calls on the socket beside them, each text that was drawn was framed: all of them, whole, in order, and
-  -- nothing else.
+  -- nothing else. Each is UTF-8.
   pub record Tells (contents : S → Option (List ℕ)) (p q : Point) (old new : Socket (CorkedWriter S)) : Type 0 where
     pub follows : Follows no_room p q
+    pub utf8 : AllByRecursion IsUtf8 (drawn follows)
     pub frames : Frames contents old new (text_frames (drawn follows))
 
   -- the link hears at most so many messages, and passes their texts on
@@ -61,9 +64,10 @@ module _ {S : Type 0} where
   -- ---- what a public turn says
 
   -- The bytes that were framed before, and the frames of the texts that the events drew, each whole and in order: these, and nothing else,
-  -- are what is framed now. Nothing was read.
+  -- are what is framed now. Each of the texts is UTF-8. Nothing was read.
   pub record Told (contents : S → Option (List ℕ)) (p q : Point) (old new : Socket (CorkedWriter S)) : Type 0 where
     pub follows : Follows no_room p q
+    pub utf8 : AllByRecursion IsUtf8 (drawn follows)
     pub frames : Appends (framed contents old) (framed contents new) (text_frames (drawn follows))
     pub reads_on : ReadsOn old new
 

@@ -1,4 +1,4 @@
-use Rattle.relay_delivery.proofs.Turns.{delivers, can_fail}
+use Rattle.relay_delivery.proofs.Turns.{delivers, only_memory}
 use Rattle.relay_delivery.proofs.receiving.receive.Goals as goal
 
 pub returns-clause-delivered : goal.returns-clause-delivered
@@ -7,4 +7,4 @@ returns-clause-delivered c = λ b E hub next s made turn resumes keeps.
 
 pub returns-clause-fails : goal.returns-clause-fails
 returns-clause-fails c = λ b E hub next s made turn resumes keeps.
-    can_fail b E hub next s made c.args.frames.now c.args.follower.now c.receive_all.new.follower turn resumes keeps c.receive_all.result c.receive_all.ensures.stopped
+    only_memory b E hub next s made c.args.frames.now c.args.follower.now c.receive_all.new.follower turn resumes keeps c.receive_all.result c.receive_all.ensures.stopped

@@ -3,7 +3,7 @@ use Rattle.std.proofs.Common.{refl, option_map}
 use Rattle.std.specs.String.{string_bytes}
 use Rattle.relay_hub.specs.declared.event.Answer.TheVariants.{Drawn, NoSession}
 use Rattle.relay_link.proofs.Following.{follows_same, follows_one}
-use Rattle.relay_link.proofs.Telling.{drew_same, drew_one}
+use Rattle.relay_link.proofs.Telling.{drew_same, drew_one, given_utf8}
 use Rattle.relay_link.proofs.events.draw.Goals as goal
 use Rattle.relay_link.proofs.events.draw.Goals.{in-Ok, in-Err-NoSession}
 
@@ -27,8 +27,8 @@ returns-clause-follows c = elim c.match-draw.branch [
 
 pub returns-clause-drew : goal.returns-clause-drew
 returns-clause-drew c = elim c.match-draw.branch [
-  | in-Ok w ↦ rw w.text-is (drew_one _ _ _ _ _ _ (Drawn (option_map string_bytes w.in-Ok.text)) c.note_draw.ensures refl w.in-Ok.ensures.step)
+  | in-Ok w ↦ rw w.text-is (drew_one _ _ _ _ _ _ (Drawn (option_map string_bytes w.in-Ok.text)) c.note_draw.ensures refl w.in-Ok.ensures.step (given_utf8 w.in-Ok.text))
   | in-Err-NoSession w ↦
       let step = rw w.in-Err-NoSession.field-0-is at w.in-Err-NoSession.ensures.step in
-      rw w.text-is (drew_one _ _ _ _ _ _ NoSession c.note_draw.ensures refl step)
+      rw w.text-is (drew_one _ _ _ _ _ _ NoSession c.note_draw.ensures refl step tt)
 ]
