@@ -6,12 +6,12 @@ use Rattle.relay_hub.specs.Log.{Log}
 use Rattle.relay_hub.specs.State.{State}
 use Rattle.relay_hub.specs.declared.config.HubConfig.{HubConfig}
 use Rattle.relay_hub.specs.declared.event.Event.{Event}
-use Rattle.relay_link.specs.Follows.{drawn}
+use Rattle.relay_link.specs.Follows.{with_events, drawn}
 use Rattle.relay_link.specs.Frames.{text_frame, text_frames}
 use Rattle.relay_tree.specs.Document.{Document}
 use Rattle.relay_delivery.specs.Socket.{Listens, FitFrames}
 use Rattle.relay_delivery.specs.Texts.{told_all, StopsAt}
-use Rattle.relay_delivery.specs.Turn.{FramedTurn, Resumes, KeepsUp, Delivered, with_events}
+use Rattle.relay_delivery.specs.Turn.{FramedTurn, Resumes, KeepsUp, Delivered}
 use Rattle.relay_delivery.proofs.Progress.{told_next}
 use Rattle.relay_delivery.proofs.Turns.{held}
 

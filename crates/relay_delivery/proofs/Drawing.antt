@@ -15,7 +15,7 @@ use Rattle.relay_hub.specs.declared.event.Event.TheVariants.{Open, Receive, Draw
 use Rattle.relay_hub.specs.declared.event.Heard.TheVariants.{Answered, Busy}
 use Rattle.relay_hub.proofs.Stands.{step_stands}
 use Rattle.relay_hub.proofs.Watchers.{exactly_held}
-use Rattle.relay_link.specs.Follows.{Point, no_room, Follows, stays, makes, drawn, drawn_by}
+use Rattle.relay_link.specs.Follows.{Point, no_room, Follows, stays, makes, with_events, drawn, drawn_by}
 use Rattle.relay_proto.specs.Client.{Client, nothing, holds, lost, client, client_after}
 use Rattle.relay_proto.specs.Request.{request_of_text}
 use Rattle.relay_proto.specs.declared.refusal.Refusal.{Refusal}
@@ -24,7 +24,7 @@ use Rattle.relay_proto.specs.declared.request.Request.TheVariants.{Edit, Watch, 
 use Rattle.relay_tree.specs.Document.{Document}
 use Rattle.relay_view.specs.View.{View, view}
 use Rattle.relay_delivery.specs.Texts.{told_all}
-use Rattle.relay_delivery.specs.Turn.{with_events, Tracks, KeepsUp, StartsAsHeld, Resumes, Delivered}
+use Rattle.relay_delivery.specs.Turn.{Tracks, KeepsUp, StartsAsHeld, Resumes, Delivered}
 use Rattle.relay_delivery.proofs.Fronts.{drawn_leads}
 
 -- ---- a client that is never lost

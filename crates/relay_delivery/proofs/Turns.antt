@@ -9,7 +9,7 @@ use Rattle.relay_hub.specs.Log.{Log}
 use Rattle.relay_hub.specs.State.{State}
 use Rattle.relay_hub.specs.declared.config.HubConfig.{HubConfig}
 use Rattle.relay_hub.specs.declared.event.Event.{Event}
-use Rattle.relay_link.specs.Follows.{drawn}
+use Rattle.relay_link.specs.Follows.{with_events, drawn}
 use Rattle.relay_link.specs.Frames.{text_frames}
 use Rattle.relay_patch.specs.After.{after}
 use Rattle.relay_patch.specs.Patch.{free}
@@ -20,7 +20,7 @@ use Rattle.relay_proto.specs.declared.message.Message.{Message}
 use Rattle.relay_proto.specs.declared.message.Message.TheVariants as message
 use Rattle.relay_tree.specs.Document.{Document}
 use Rattle.relay_delivery.specs.Texts.{told_all, IsFaultOf, StopsAt}
-use Rattle.relay_delivery.specs.Turn.{FramedTurn, Resumes, KeepsUp, Delivered, with_events}
+use Rattle.relay_delivery.specs.Turn.{FramedTurn, Resumes, KeepsUp, Delivered}
 use Rattle.relay_delivery.specs.declared.fault.ReceiveFault.{ReceiveFault}
 use Rattle.relay_delivery.specs.declared.fault.ReceiveFault.TheVariants.{NotFrames, NotUtf8, NotText, Refused, NoMemory}
 use Rattle.relay_delivery.proofs.Drawing.{Survives, hears, survives_told, Stays, stays_turn, holds_present}

@@ -1,26 +1,21 @@
 -- What a turn of a link brings to the client of its session.
-use Rattle.std.specs.Prelude.{◌≡◌, ◌≢◌, ◌⊎◌, ⊤, ℕ, List, [], ◌∷◌, Option, None, Some, Ok, slice_get, IsUtf8}
+use Rattle.std.specs.Prelude.{◌≡◌, ◌≢◌, ◌⊎◌, ⊤, ℕ, List, [], Option, None, Some, Ok, slice_get, IsUtf8}
 use Rattle.std.specs.List.{AllByRecursion}
 use Rattle.relay_delivery.specs.Texts.{told_all}
-use Rattle.relay_hub.specs.Log.{Log, Watching, entry, home, documents, watching}
+use Rattle.relay_hub.specs.Log.{Log, Watching, home, documents, watching}
 use Rattle.relay_hub.specs.Session.{Session, later}
 use Rattle.relay_hub.specs.Stands.{StandsFor, HoldsPresent}
 use Rattle.relay_hub.specs.State.{State, RoomSessions, home_of, session_in}
 use Rattle.relay_hub.specs.declared.config.HubConfig.{HubConfig}
 use Rattle.relay_hub.specs.declared.event.Event.{Event}
 use Rattle.relay_hub.specs.declared.event.Event.TheVariants.{Receive, Draw}
-use Rattle.relay_link.specs.Follows.{Point, at, no_room, Follows, stays, makes, drawn}
+use Rattle.relay_link.specs.Follows.{Point, at, no_room, Follows, stays, makes, with_events, drawn}
 use Rattle.relay_link.specs.Frames.{text_frames}
 use Rattle.relay_proto.specs.Client.{Client, nothing, holds, client_after}
 use Rattle.relay_proto.specs.Request.{request_of_text}
 use Rattle.relay_proto.specs.declared.request.Request.TheVariants.{Resume}
 use Rattle.relay_tree.specs.Document.{Document}
 use Rattle.relay_view.specs.View.{View, view}
-
--- a log with the entries of a link's events
-abbrev pub with_events : {p q : Point} → Follows no_room p q → Log → Log
-with_events stays E = E
-with_events (makes event answer before own step) E = entry event answer ∷ with_events before E
 
 -- An open link of session s made these events in a turn, and framed these bytes: the frames of the texts that the events drew, each in
 -- UTF-8.

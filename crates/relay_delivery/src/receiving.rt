@@ -1,12 +1,13 @@
 //! The frames of a server, to a follower.
 ghost use Rattle.std.specs.Prelude.{◌≡◌, ℕ, List, Some, IfErr, OnOk};
 ghost use Rattle.relay_delivery.specs.Texts.{told_all, IsFaultOf, StopsAt};
-ghost use Rattle.relay_delivery.specs.Turn.{FramedTurn, Resumes, KeepsUp, Delivered, with_events};
+ghost use Rattle.relay_delivery.specs.Turn.{FramedTurn, Resumes, KeepsUp, Delivered};
 ghost use Rattle.relay_follow.specs.Hearing.{as_client};
 ghost use Rattle.relay_hub.specs.Log.{Log};
 ghost use Rattle.relay_hub.specs.State.{State};
 ghost use Rattle.relay_hub.specs.declared.config.HubConfig.{HubConfig};
 ghost use Rattle.relay_hub.specs.declared.event.Event.{Event};
+ghost use Rattle.relay_link.specs.Follows.{with_events};
 ghost use Rattle.relay_link.specs.Frames.{text_frames};
 
 use crate::fault::ReceiveFault;

@@ -2,13 +2,13 @@
 ghost use Rattle.std.specs.Prelude.{◌≡◌, ◌<◌, ◌^◌, ◌++◌, ℕ, List, Some, length, IfErr, OnOk, OnErr};
 ghost use Rattle.relay_delivery.specs.Socket.{Listens, IsNextFault, FitFrames};
 ghost use Rattle.relay_delivery.specs.Texts.{told_all, StopsAt};
-ghost use Rattle.relay_delivery.specs.Turn.{FramedTurn, Resumes, KeepsUp, Delivered, with_events};
+ghost use Rattle.relay_delivery.specs.Turn.{FramedTurn, Resumes, KeepsUp, Delivered};
 ghost use Rattle.relay_follow.specs.Hearing.{as_client, told};
 ghost use Rattle.relay_hub.specs.Log.{Log};
 ghost use Rattle.relay_hub.specs.State.{State};
 ghost use Rattle.relay_hub.specs.declared.config.HubConfig.{HubConfig};
 ghost use Rattle.relay_hub.specs.declared.event.Event.{Event};
-ghost use Rattle.relay_link.specs.Follows.{drawn};
+ghost use Rattle.relay_link.specs.Follows.{with_events, drawn};
 ghost use Rattle.relay_link.specs.Frames.{text_frame, text_frames};
 
 use crate::fault::SocketFault;

@@ -1,5 +1,6 @@
 -- The changes of the hub by a link: its events, one step after another.
 use Rattle.std.specs.Prelude.{◌≡◌, ℕ, List, [], ◌∷◌, ◌++◌, Option, Some, None}
+use Rattle.relay_hub.specs.Log.{Log, entry}
 use Rattle.relay_hub.specs.State.{State}
 use Rattle.relay_hub.specs.Step.{Step}
 use Rattle.relay_hub.specs.declared.event.Answer.{Answer}
@@ -42,6 +43,11 @@ pub data Follows (rooms : List ℕ → Type 0) : Point → Point → Type 0 wher
   stays : {p : Point} → Follows rooms p p
   makes : {p q : Point} {hub : State} (event : Event) (answer : Answer) → Follows rooms p q → IsOwn rooms q.session event → Step q.hub event answer hub
       → Follows rooms p (at hub (session_after q.session event answer) (q.made ++ event ∷ []))
+
+-- a log with the entries of the events between two points
+abbrev pub with_events : {rooms : List ℕ → Type 0} {p q : Point} → Follows rooms p q → Log → Log
+with_events stays E = E
+with_events (makes event answer before own step) E = entry event answer ∷ with_events before E
 
 -- the text that an event drew, if it drew one
 abbrev pub given : Option (List ℕ) → List (List ℕ)

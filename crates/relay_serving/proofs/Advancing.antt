@@ -7,8 +7,8 @@ use Rattle.relay_hub.specs.declared.config.HubConfig.{HubConfig}
 use Rattle.relay_hub.proofs.Shedding.{shed_stands}
 use Rattle.relay_hub.proofs.Stands.{step_stands}
 use Rattle.relay_hub.proofs.Watchers.{exactly_held, each_held}
-use Rattle.relay_link.specs.Follows.{Point, Follows, stays as none, makes}
-use Rattle.relay_serving.specs.Advances.{Links, Advances, stays, turns, adds, removes, sheds, with_events, with_turns}
+use Rattle.relay_link.specs.Follows.{Point, Follows, stays as none, makes, with_events}
+use Rattle.relay_serving.specs.Advances.{Links, Advances, stays, turns, adds, removes, sheds, with_turns}
 use Rattle.relay_serving.specs.Rounds.{Rounds}
 use Rattle.relay_serving.proofs.Owners.{connected_after}
 

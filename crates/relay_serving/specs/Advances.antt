@@ -1,13 +1,13 @@
 -- What a server does to its hub and to its connections' links: turns of links, one after another, and giving memory back when it was
 -- refused. Between turns links are added and removed, and none changes.
-use Rattle.std.specs.Prelude.{ℕ, ◌≡◌, ◌≢◌, ◌≤◌, List, [], ◌∷◌, Option, Some, None, option_map, option_and_then}
+use Rattle.std.specs.Prelude.{ℕ, ◌≡◌, ◌≢◌, ◌≤◌, List, [], Option, Some, None, option_map, option_and_then}
 use Rattle.slab.specs.Slab.{Slab, get}
-use Rattle.relay_hub.specs.Log.{Log, entry}
+use Rattle.relay_hub.specs.Log.{Log}
 use Rattle.relay_hub.specs.Shed.{shed}
 use Rattle.relay_hub.specs.State.{State}
 use Rattle.relay_hub.specs.declared.event.Event.{Event}
 use Rattle.relay_link.specs.Asks.{asked_by, Receives}
-use Rattle.relay_link.specs.Follows.{Point, Follows, stays as none, makes, at}
+use Rattle.relay_link.specs.Follows.{Follows, at, with_events}
 use Rattle.relay_link.specs.Hears.{PassesTexts}
 use Rattle.relay_link.specs.Stage.{session_of}
 use Rattle.relay_link.specs.declared.state.State.{State as Link}
@@ -56,11 +56,6 @@ module _ {S : Type 0} (remaining : S → Option (List ℕ)) where
     removes : {hub mid : State} {old held new : Links S} {was : Link S} → Advances hub old mid held → (key : ℕ)
         → held key ≡ Some was → new key ≡ None → Others key held new → session_of was ≡ None → Advances hub old mid new
     sheds : {hub mid : State} {old new : Links S} → Advances hub old mid new → Advances hub old (shed mid) new
-
--- a log with the entries of a link's events
-abbrev pub with_events : {rooms : List ℕ → Type 0} {p q : Point} → Follows rooms p q → Log → Log
-with_events none E = E
-with_events (makes event answer before own step) E = entry event answer ∷ with_events before E
 
 module _ {S : Type 0} {remaining : S → Option (List ℕ)} where
   -- a log with the entries of all events
