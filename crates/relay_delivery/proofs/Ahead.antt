@@ -9,9 +9,10 @@ use Rattle.relay_hub.specs.declared.event.Event.{Event}
 use Rattle.relay_link.specs.Follows.{with_events, drawn}
 use Rattle.relay_link.specs.Frames.{text_frame, text_frames}
 use Rattle.relay_tree.specs.Document.{Document}
-use Rattle.relay_delivery.specs.Socket.{Listens, FitFrames}
-use Rattle.relay_delivery.specs.Texts.{told_all, StopsAt}
+use Rattle.relay_delivery.specs.Socket.{Listens, IsNextFault, FitFrames}
+use Rattle.relay_delivery.specs.Texts.{told_all, StopsAt, HearsAll}
 use Rattle.relay_delivery.specs.Turn.{FramedTurn, Resumes, KeepsUp, Delivered}
+use Rattle.relay_delivery.specs.declared.fault.SocketFault.{SocketFault}
 use Rattle.relay_delivery.proofs.Progress.{told_next}
 use Rattle.relay_delivery.proofs.Turns.{held}
 
@@ -97,13 +98,13 @@ module _ {S : Type 0} (remaining : S → Option (List ℕ)) where
 
   -- ---- a turn
 
-  pub delivers_turn : {E2 : Type 0} (b : HubConfig) (E : Log) (hub next : State) (s : ℕ) (made : List Event) (frames rest : List ℕ) (count : ℕ) (old new : Option (ℕ × Document)) (before after : Socket S)
-      (turn : FramedTurn s hub next made frames) (result : Result (Unit {0}) E2)
+  pub delivers_turn : (b : HubConfig) (E : Log) (hub next : State) (s : ℕ) (made : List Event) (frames rest : List ℕ) (count : ℕ) (old new : Option (ℕ × Document)) (before after : Socket S)
+      (turn : FramedTurn s hub next made frames) (result : Result (Unit {0}) SocketFault)
       → ((texts : List (List ℕ)) (more : List ℕ) → length texts ≡ count → FitFrames texts → Listens remaining before (text_frames texts ++ more)
-      → OnOk result ((told_all (as_client old) texts ≡ Some (as_client new)) × Listens remaining after more))
+      → HearsAll IsNextFault old new texts result × OnOk result (Listens remaining after more))
       → length (drawn turn.follows) ≡ count → FitFrames (drawn turn.follows) → Listens remaining before (frames ++ rest) → Resumes b E s (as_client old) turn.follows → KeepsUp b E hub s (as_client old)
       → OnOk result (Delivered b (with_events turn.follows E) next s (as_client new) × Listens remaining after rest)
   delivers_turn b E hub next s made frames rest count old new before after turn (Err e) hears whole fit listens resumes keeps = tt
   delivers_turn b E hub next s made frames rest count old new before after turn (Ok u) hears whole fit listens resumes keeps =
       let did = hears (drawn turn.follows) rest whole fit (subst (λ l. Listens remaining before (l ++ rest)) turn.frames_are listens) in
-      (held b E hub next s made frames old new turn resumes keeps did.0, did.1)
+      (held b E hub next s made frames old new turn resumes keeps did.0.heard, did.1)

@@ -19,7 +19,7 @@ use Rattle.relay_proto.specs.MessageRead.{message_of_text}
 use Rattle.relay_proto.specs.declared.message.Message.{Message}
 use Rattle.relay_proto.specs.declared.message.Message.TheVariants as message
 use Rattle.relay_tree.specs.Document.{Document}
-use Rattle.relay_delivery.specs.Texts.{told_all, IsFaultOf, StopsAt}
+use Rattle.relay_delivery.specs.Texts.{told_all, IsFaultOf, HearsAll}
 use Rattle.relay_delivery.specs.Turn.{FramedTurn, Resumes, KeepsUp, Delivered}
 use Rattle.relay_delivery.specs.declared.fault.ReceiveFault.{ReceiveFault}
 use Rattle.relay_delivery.specs.declared.fault.ReceiveFault.TheVariants.{NotFrames, NotUtf8, NotText, Refused, NoMemory}
@@ -80,15 +80,15 @@ module _ (b : HubConfig) (E : Log) (hub next : State) (s : ℕ) (made : List Eve
       let is : stays.client_is ≡ as_client new = cc (told, survives_told stays.survives) in
       subst (Delivered b (with_events turn.follows E) next s) is (holds_present b (with_events turn.follows E) next s stays.client_is stays.keeps)
 
-  pub delivers : (result : Result (Unit {0}) ReceiveFault) → ((texts : List (List ℕ)) → frames ≡ text_frames texts → OnOk result (told_all (as_client old) texts ≡ Some (as_client new)))
+  pub delivers : (result : Result (Unit {0}) ReceiveFault) → ((texts : List (List ℕ)) → frames ≡ text_frames texts → HearsAll IsFaultOf old new texts result)
       → OnOk result (Delivered b (with_events turn.follows E) next s (as_client new))
-  delivers (Ok u) heard = held (heard (drawn turn.follows) turn.frames_are)
-  delivers (Err fault) heard = tt
+  delivers (Ok u) all = held (all (drawn turn.follows) turn.frames_are).heard
+  delivers (Err fault) all = tt
 
-  pub only_memory : (result : Result (Unit {0}) ReceiveFault) → ((texts : List (List ℕ)) → frames ≡ text_frames texts → IfErr result (λ fault. StopsAt old new texts (IsFaultOf fault))) → IfErr result (λ fault. fault ≡ NoMemory)
-  only_memory (Ok u) stopped = tt
-  only_memory (Err fault) stopped =
-      let stop = stopped (drawn turn.follows) turn.frames_are in
+  pub only_memory : (result : Result (Unit {0}) ReceiveFault) → ((texts : List (List ℕ)) → frames ≡ text_frames texts → HearsAll IsFaultOf old new texts result) → IfErr result (λ fault. fault ≡ NoMemory)
+  only_memory (Ok u) all = tt
+  only_memory (Err fault) all =
+      let stop = (all (drawn turn.follows) turn.frames_are).stopped in
       let left = survives_rest (as_client old) (as_client new) stays.client_is stop.heard (stop.text ∷ stop.rest) (subst (λ texts. Survives (as_client old) texts stays.client_is) stop.all stays.survives) stop.holds in
       let utf8 = utf8_there stop.heard stop.rest stop.text (subst (AllByRecursion IsUtf8) stop.all turn.utf8) in
       stops_for new stays.client_is stop.rest stop.text fault utf8 left stop.why

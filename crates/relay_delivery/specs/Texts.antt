@@ -1,5 +1,5 @@
 -- Texts, one after another, to a client.
-use Rattle.std.specs.Prelude.{◌≡◌, ⊤, ℕ, List, [], ◌∷◌, ◌++◌, Option, Some, option_and_then, IsUtf8}
+use Rattle.std.specs.Prelude.{◌≡◌, ⊤, ℕ, List, [], ◌∷◌, ◌++◌, Option, Some, option_and_then, Result, OnOk, IfErr, IsUtf8}
 use Rattle.relay_follow.specs.Hearing.{as_client, told, hear_fault}
 use Rattle.relay_follow.specs.declared.fault.HearFault.{HearFault}
 use Rattle.relay_follow.specs.declared.fault.HearFault.TheVariants as hear
@@ -33,3 +33,8 @@ pub record StopsAt (old new : Option (ℕ × Document)) (texts : List (List ℕ)
   pub all : texts ≡ heard ++ text ∷ rest
   pub holds : told_all (as_client old) heard ≡ Some (as_client new)
   pub why : Why new text
+
+-- What comes of texts to a follower: it heard all of them, in order, or it stopped at one of them, and the fault is that of this text.
+pub record HearsAll {E : Type 0} (IsFault : E → Option (ℕ × Document) → List ℕ → Type 0) (old new : Option (ℕ × Document)) (texts : List (List ℕ)) (result : Result (Unit {0}) E) : Type 0 where
+  pub heard : OnOk result (told_all (as_client old) texts ≡ Some (as_client new))
+  pub stopped : IfErr result (λ fault. StopsAt old new texts (IsFault fault))

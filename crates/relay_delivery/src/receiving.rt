@@ -1,6 +1,6 @@
 //! The frames of a server, to a follower.
-ghost use Rattle.std.specs.Prelude.{◌≡◌, ℕ, List, Some, IfErr, OnOk};
-ghost use Rattle.relay_delivery.specs.Texts.{told_all, IsFaultOf, StopsAt};
+ghost use Rattle.std.specs.Prelude.{◌≡◌, ℕ, List, IfErr, OnOk};
+ghost use Rattle.relay_delivery.specs.Texts.{IsFaultOf, HearsAll};
 ghost use Rattle.relay_delivery.specs.Turn.{FramedTurn, Resumes, KeepsUp, Delivered};
 ghost use Rattle.relay_follow.specs.Hearing.{as_client};
 ghost use Rattle.relay_hub.specs.Log.{Log};
@@ -35,10 +35,7 @@ pub fn receive(
     frames: &mut [u8],
     follower: &mut Follower,
 ) -> Result<(), ReceiveFault>
-    ensures heard { (texts : List (List ℕ)) → frames.old ≡ text_frames texts →
-        OnOk result (told_all (as_client follower.old) texts ≡ Some (as_client follower.new)) }
-    ensures stopped { (texts : List (List ℕ)) → frames.old ≡ text_frames texts →
-        IfErr result (λ fault. StopsAt follower.old follower.new texts (IsFaultOf fault)) }
+    ensures hears { (texts : List (List ℕ)) → frames.old ≡ text_frames texts → HearsAll IsFaultOf follower.old follower.new texts result }
     ensures delivered { (b : HubConfig) (E : Log) (hub next : State) (s : ℕ) (made : List Event) (turn : FramedTurn s hub next made frames.old) →
         Resumes b E s (as_client follower.old) turn.follows → KeepsUp b E hub s (as_client follower.old) →
         OnOk result (Delivered b (with_events turn.follows E) next s (as_client follower.new)) }
@@ -54,10 +51,7 @@ fn receive_all(
     frames: &mut [u8],
     follower: &mut Follower,
 ) -> Result<(), ReceiveFault>
-    ensures heard { (texts : List (List ℕ)) → frames.old ≡ text_frames texts →
-        OnOk result (told_all (as_client follower.old) texts ≡ Some (as_client follower.new)) }
-    ensures stopped { (texts : List (List ℕ)) → frames.old ≡ text_frames texts →
-        IfErr result (λ fault. StopsAt follower.old follower.new texts (IsFaultOf fault)) }
+    ensures hears { (texts : List (List ℕ)) → frames.old ≡ text_frames texts → HearsAll IsFaultOf follower.old follower.new texts result }
 {
     let mut context = WebSocketContext::new(alloc, Role::Client, NO_LIMITS);
     let mut start = 0;

@@ -1,7 +1,7 @@
 //! The same client over a stream: a socket of `tungstenite`, whose reads may cut the bytes anywhere.
 ghost use Rattle.std.specs.Prelude.{◌≡◌, ◌<◌, ◌^◌, ◌++◌, ℕ, List, Some, length, IfErr, OnOk, OnErr};
 ghost use Rattle.relay_delivery.specs.Socket.{Listens, IsNextFault, FitFrames};
-ghost use Rattle.relay_delivery.specs.Texts.{told_all, StopsAt};
+ghost use Rattle.relay_delivery.specs.Texts.{HearsAll};
 ghost use Rattle.relay_delivery.specs.Turn.{FramedTurn, Resumes, KeepsUp, Delivered};
 ghost use Rattle.relay_follow.specs.Hearing.{as_client, told};
 ghost use Rattle.relay_hub.specs.Log.{Log};
@@ -66,12 +66,9 @@ pub fn hear_texts<S: Read + Write + Drop, K: MaskKeys + Drop>(
     count: usize,
     follower: &mut Follower,
 ) -> Result<(), SocketFault>
-    ensures heard { (texts : List (List ℕ)) (rest : List ℕ) → length texts ≡ count → FitFrames texts →
+    ensures hears { (texts : List (List ℕ)) (rest : List ℕ) → length texts ≡ count → FitFrames texts →
         Listens S.remaining socket.old (text_frames texts ++ rest) →
-        OnOk result ((told_all (as_client follower.old) texts ≡ Some (as_client follower.new)) × Listens S.remaining socket.new rest) }
-    ensures stopped { (texts : List (List ℕ)) (rest : List ℕ) → length texts ≡ count → FitFrames texts →
-        Listens S.remaining socket.old (text_frames texts ++ rest) →
-        IfErr result (λ fault. StopsAt follower.old follower.new texts (IsNextFault fault)) }
+        HearsAll IsNextFault follower.old follower.new texts result × OnOk result (Listens S.remaining socket.new rest) }
     ensures delivered { (b : HubConfig) (E : Log) (hub next : State) (s : ℕ) (made : List Event) (frames rest : List ℕ) (turn : FramedTurn s hub next made frames) →
         length (drawn turn.follows) ≡ count → FitFrames (drawn turn.follows) → Listens S.remaining socket.old (frames ++ rest) →
         Resumes b E s (as_client follower.old) turn.follows → KeepsUp b E hub s (as_client follower.old) →
@@ -86,12 +83,9 @@ fn hear_all<S: Read + Write + Drop, K: MaskKeys + Drop>(
     count: usize,
     follower: &mut Follower,
 ) -> Result<(), SocketFault>
-    ensures heard { (texts : List (List ℕ)) (rest : List ℕ) → length texts ≡ count → FitFrames texts →
+    ensures hears { (texts : List (List ℕ)) (rest : List ℕ) → length texts ≡ count → FitFrames texts →
         Listens S.remaining socket.old (text_frames texts ++ rest) →
-        OnOk result ((told_all (as_client follower.old) texts ≡ Some (as_client follower.new)) × Listens S.remaining socket.new rest) }
-    ensures stopped { (texts : List (List ℕ)) (rest : List ℕ) → length texts ≡ count → FitFrames texts →
-        Listens S.remaining socket.old (text_frames texts ++ rest) →
-        IfErr result (λ fault. StopsAt follower.old follower.new texts (IsNextFault fault)) }
+        HearsAll IsNextFault follower.old follower.new texts result × OnOk result (Listens S.remaining socket.new rest) }
 {
     for _ in 0..count {
         match hear_next(alloc, socket, follower) {

@@ -3,16 +3,22 @@ use Rattle.relay_delivery.proofs.Parts.{part_is, put_length, put_from}
 use Rattle.relay_delivery.proofs.Progress.{heard_all, heard_next, stops_next}
 use Rattle.relay_delivery.proofs.receiving.receive_all.Goals as goal
 
-pub returns-then-start-frames-clause-heard : goal.returns-then-start-frames-clause-heard
-returns-then-start-frames-clause-heard c = λ texts is.
-    heard_all c.args.follower.now c.loop.follower texts c.loop.frames c.loop.start (omega arith) (c.loop.invariant.hears texts is).1
+pub returns-then-start-frames : goal.returns-then-start-frames
+returns-then-start-frames c = record {
+  hears = λ texts is.
+      record { heard = heard_all c.args.follower.now c.loop.follower texts c.loop.frames c.loop.start (omega arith) (c.loop.invariant.hears texts is).1; stopped = tt };
+}
 
-pub returns-in-Err-clause-stopped : goal.returns-in-Err-clause-stopped
-returns-in-Err-clause-stopped c = λ texts is.
-    let h = c.loop.invariant.hears texts is in
-    let some : 0 < length (drop c.loop.start c.loop.frames) = omega (arith, length-drop c.loop.start c.loop.frames, c.if-start-frames.false) in
-    stops_next c.args.follower.now c.loop.follower c.receive_frame.new.follower texts (drop c.loop.start c.loop.frames) _ some h.1 (part_is c.loop.frames c.loop.start)
-    c.in-Err.fault (λ text rest part. c.in-Err.ensures.refused text rest h.0 part) c.in-Err.ensures.unchanged
+pub returns-in-Err : goal.returns-in-Err
+returns-in-Err c = record {
+  hears = λ texts is.
+      let h = c.loop.invariant.hears texts is in
+      let some : 0 < length (drop c.loop.start c.loop.frames) = omega (arith, length-drop c.loop.start c.loop.frames, c.if-start-frames.false) in
+      let stops =
+      stops_next c.args.follower.now c.loop.follower c.receive_frame.new.follower texts (drop c.loop.start c.loop.frames) _ some h.1 (part_is c.loop.frames c.loop.start)
+      c.in-Err.fault (λ text rest part. c.in-Err.ensures.refused text rest h.0 part) c.in-Err.ensures.unchanged in
+      record { heard = tt; stopped = stops };
+}
 
 pub loop-preserved : goal.loop-preserved
 loop-preserved c =
@@ -34,7 +40,9 @@ loop-preserved c =
           (put_from f c.receive_frame.new.frames c.loop.start within same n ∙ c.in-Ok.ensures.rest);
     }
 
-pub returns-clause-heard : goal.returns-clause-heard
-returns-clause-heard c = λ texts is.
-    let h = c.loop.invariant in
-    heard_all c.args.follower.now c.loop.follower texts c.loop.frames c.loop.start (omega (arith, h.advances, h.same_length, c.loop-test.false)) (h.hears texts is).1
+pub returns : goal.returns
+returns c = record {
+  hears = λ texts is.
+      let h = c.loop.invariant in
+      record { heard = heard_all c.args.follower.now c.loop.follower texts c.loop.frames c.loop.start (omega (arith, h.advances, h.same_length, c.loop-test.false)) (h.hears texts is).1; stopped = tt };
+}

@@ -13,15 +13,16 @@ loop-preserved g c = λ texts rest whole fit listens.
 
 pub returns-in-Err : goal.returns-in-Err
 returns-in-Err g c = record {
-  heard = λ texts rest whole fit listens. tt;
-  stopped = λ texts rest whole fit listens.
+  hears = λ texts rest whole fit listens.
+      let stops =
       stops_ahead g.S.Read.remaining c.args.follower.now c.loop.follower texts rest c.loop.counter c.args.count c.loop.socket (c.loop.invariant texts rest whole fit listens) whole c.loop-test.true
-      c.hear_next.new.follower (IsNextFault c.in-Err.fault) c.in-Err.ensures.refused c.in-Err.ensures.unchanged;
+      c.hear_next.new.follower (IsNextFault c.in-Err.fault) c.in-Err.ensures.refused c.in-Err.ensures.unchanged in
+      (record { heard = tt; stopped = stops }, tt);
 }
 
 pub returns : goal.returns
 returns g c = record {
-  heard = λ texts rest whole fit listens.
-      ends g.S.Read.remaining c.args.follower.now c.loop.follower texts rest c.loop.counter c.args.count c.loop.socket (c.loop.invariant texts rest whole fit listens) whole (omega (arith, c.loop-test.false));
-  stopped = λ texts rest whole fit listens. tt;
+  hears = λ texts rest whole fit listens.
+      let end = ends g.S.Read.remaining c.args.follower.now c.loop.follower texts rest c.loop.counter c.args.count c.loop.socket (c.loop.invariant texts rest whole fit listens) whole (omega (arith, c.loop-test.false)) in
+      (record { heard = end.0; stopped = tt }, end.1);
 }
