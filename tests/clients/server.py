@@ -1,5 +1,5 @@
 """The relay, started again and again, behind a proxy that cuts connections."""
-import asyncio, json, os
+import asyncio, contextlib, json, os
 import websockets
 
 
@@ -16,7 +16,8 @@ class Relay:
         return relay
 
     async def end(self):
-        self.process.kill()
+        with contextlib.suppress(ProcessLookupError):  # it was killed before
+            self.process.kill()
         await self.process.wait()
 
     async def request(self, room, request, kind):
