@@ -28,6 +28,7 @@ use crate::session::Session;
 use crate::shed::{shed_budget, shed_rooms};
 use crate::summary::{RoomSummary, summary_of};
 use crate::text::Text;
+use crate::work::most_work;
 use indexmap::IndexMap;
 use relay_proto::is_room_name;
 use relay_room::Room;
@@ -260,6 +261,16 @@ impl Hub {
     {
         let (_, session) = self.find(session)?;
         Some(session.waiting())
+    }
+
+    /// At most how much weight the session's room walks over to carry out a text, told before the text is read: for each operation the
+    /// document, which each copy may double, and for each slot of a view the document, and of a resume what the room remembers. 0 if
+    /// the session is not open. No clause speaks of it. Allocates nothing.
+    pub fn most_work(&self, session: u64, text: &str) -> u64 {
+        match self.find(session) {
+            Some((room, _)) => most_work(text, room),
+            None => 0,
+        }
     }
 
     /// The present revision and the session's view of the present document; `None` if it watches nothing. `NoSession`: it is not open.

@@ -23,6 +23,7 @@ mod shed;
 mod summary;
 mod text;
 mod update;
+mod work;
 
 pub use config::{DEFAULT_ROOMS, DEFAULT_SESSIONS, HubConfig, MAX_ROOMS, MAX_SESSIONS};
 pub use event::{Answer, Event, Heard};

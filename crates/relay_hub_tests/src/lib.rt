@@ -29,3 +29,5 @@ mod shake;
 mod shared;
 #[cfg(test)]
 mod weights;
+#[cfg(test)]
+mod work;
