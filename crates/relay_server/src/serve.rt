@@ -129,7 +129,7 @@ fn serve_hub<N: Clock + Net, W: Write, J: ConnectionLog>(
 }
 
 /// Prints the port, runs the rounds, ends every connection, and prints the number of rounds.
-#[tactic(auto, using(crate::proofs::ServeLemmas::part_none, crate::proofs::ServeLemmas::then_all, relay_serving::proofs::Advancing::no_rounds))]
+#[tactic(auto, using(crate::proofs::ServeLemmas::part_none, relay_serving::proofs::Advancing::no_rounds))]
 fn host<L: OpenListener, P: Readiness<L::Stream>, W: Write, J: ConnectionLog>(
     alloc: Global,
     writer: &mut W,
