@@ -96,7 +96,17 @@ def flood(attackers):
 
 def removals(attackers):
     """Removals from large objects, from 18 connections for five seconds, as fast as they are read."""
+    pour(attackers, heavy.begin_members, heavy.edit_members())
+
+
+def watches(attackers):
+    """Watches of 16 slots of a long string, from 18 connections for five seconds, as fast as they are read."""
+    pour(attackers, heavy.begin_string, heavy.watch_string())
+
+
+def pour(attackers, begin, request):
+    """The request from connections that each have a room of their own with the document that `begin` makes."""
     editors = [attackers.open(f"heavy{room}") for room in range(EDITORS)]
     for editor in editors:
-        heavy.begin_members(editor)
-    attackers.pour(editors, heavy.edit_members(), 1_000_000, SECONDS)
+        begin(editor)
+    attackers.pour(editors, request, 1_000_000, SECONDS)

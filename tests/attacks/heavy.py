@@ -1,6 +1,7 @@
 """Heavy edits: a few bytes that stand for much work. Either a list of 15,000 is copied to one place, again and again, so that the document
 stays within its limit, and each copy is a change of its own that carries all values. Or a member of a large object is removed and added
-again: the changes weigh nothing, but each removal that other operations follow copies the object."""
+again: the changes weigh nothing, but each removal that other operations follow copies the object. Or a long string is shown, again and
+again, in each slot of a view."""
 
 import wire
 from attackers import Wrong
@@ -12,6 +13,7 @@ VIEW = ["/t"] * 16
 """The copies come from outside these slots, so each slot is told all values of each copy."""
 
 
+LETTERS = 250_000
 MEMBERS = 18_000
 AGAIN = [{"op": "remove", "path": "/m0"}, {"op": "add", "path": "/m0", "value": 0}]
 
@@ -32,6 +34,15 @@ def begin(client, items=ITEMS):
 def begin_members(client):
     """Makes a document of many members; it is in its room from here on."""
     set_document(client, {f"m{number}": 0 for number in range(MEMBERS)})
+
+
+def begin_string(client):
+    """Makes the document of one long string; it is in its room from here on."""
+    set_document(client, {"a": "x" * LETTERS})
+
+
+def watch_string():
+    return wire.request("watch", view=["/a"] * 16)
 
 
 def set_document(client, document):
