@@ -13,13 +13,14 @@ use Rattle.relay_hub.specs.declared.event.Event.{Event}
 use Rattle.relay_link.specs.Follows.{Point, at, IsOwn, no_room, session_after, Follows, stays, makes, given, drawn_by, drawn}
 use Rattle.relay_link.specs.Frames.{text_frame, text_frames, framed, Frames}
 use Rattle.relay_link.specs.Stage.{stage_of, is_over, IsForward}
-use Rattle.relay_link.specs.Hears.{allowed_reads, Passes, Hears, FindsNothing, SendsAndPassesOn, GoesOn, ReadsTexts}
+use Rattle.relay_link.specs.Hears.{allowed_reads, Passes, Hears, GoesOnFrom, SendsAndPassesOn, GoesOn, ReadsTexts}
 use Rattle.relay_link.specs.Tells.{Drew, Tells, Hearing, Exchanges, Talks, IsServing, IfOpen, WhileOpen, Told, Answered}
 use Rattle.relay_link.specs.declared.stage.Stage.TheVariants as stage
 use Rattle.relay_link.specs.declared.state.State.{State}
 use Rattle.relay_link.specs.declared.turn.Turn.{Turn}
 use Rattle.relay_link.specs.declared.state.State.TheVariants.{Head, Replying, Open, Closing, Gone}
 use Rattle.relay_link.specs.declared.corked_writer.CorkedWriter.{CorkedWriter}
+use Rattle.relay_link.specs.declared.open_socket.OpenSocket.{OpenSocket}
 use Rattle.relay_link.proofs.Hearing.{reads_on_same, reads_on_then, role_kept, hearing_none, hearing_then, passes_then}
 
 -- ---- what was drawn
@@ -103,11 +104,16 @@ module _ {S : Type 0} {contents : S → Option (List ℕ)} where
   tells_text p q r a b c text f drew framed = tells_then f (tells_drawn (text ∷ []) drew (frames_as (append-nil (text_frame text)) framed))
 
   -- of a server's socket the frames are known
-  told : {p q : Point} {a b : Socket (CorkedWriter S)} → Tells contents p q a b → a.conn.role ≡ Server → Told contents p q a b
-  told tells server = record { follows = tells.follows; utf8 = tells.utf8; frames = tells.frames.bytes server; reads_on = tells.frames.reads_on }
+  told : {p q : Point} {a b : OpenSocket S} → Tells contents p q a.socket b.socket → b.held ≡ a.held → a.socket.conn.role ≡ Server → Told contents p q a b
+  told tells holds server = record {
+    follows = tells.follows;
+    utf8 = tells.utf8;
+    frames = tells.frames.bytes server;
+    goes_on = record { reads_on = tells.frames.reads_on; holds = holds };
+  }
 
-over_goes : {S : Type 0} (a : Socket (CorkedWriter S)) (state : State S) → is_over (stage_of state) ≡ true → GoesOn a state
-over_goes a (Open socket s) over = absurd (cc over)
+over_goes : {S : Type 0} (a : OpenSocket S) (state : State S) → is_over (stage_of state) ≡ true → GoesOn a state
+over_goes a (Open opened s) over = absurd (cc over)
 over_goes a (Head stream bytes) over = tt
 over_goes a (Replying stream reply) over = tt
 over_goes a (Closing socket turns) over = tt
@@ -117,29 +123,32 @@ module _ {S : Type 0} (remaining contents : S → Option (List ℕ)) where
   -- ---- a turn
 
   -- what was heard comes before what was told
-  pub exchanged : (most : ℕ) (p m q : Point) (a b c : Socket (CorkedWriter S)) → Drew [] p m → Hearing remaining (allowed_reads p.hub p.session most) p.made m.made a b → Passes m.made q.made [] → Tells contents m q b c
-      → Exchanges remaining contents most p q a c
-  exchanged most p m q a b c drew hearing quiet tells = record {
+  pub exchanged : (most : ℕ) (p m q : Point) (a b c : OpenSocket S) → Drew [] p m → Hearing remaining (allowed_reads p.hub p.session most) p.made m.made a b → Passes m.made q.made []
+      → Tells contents m q b.socket c.socket → c.held ≡ b.held → Exchanges remaining contents most p q a c
+  exchanged most p m q a b c drew hearing quiet tells holds = record {
     heard = b;
     hearing = hearing_then (allowed_reads p.hub p.session most) p.made m.made q.made a b hearing quiet;
-    tells = tells_then (tells_none p m b b drew refl) tells;
+    tells = tells_then (tells_none p m b.socket b.socket drew refl) tells;
+    holds = holds;
   }
 
   -- what waits has still to wait
-  pub talked_none : (most : ℕ) (p : Point) (a b : Socket (CorkedWriter S)) → Frames contents a b [] → Talks remaining contents most p p a b
-  talked_none most p a b sent = record {
+  pub talked_none : (most : ℕ) (p : Point) (a b : OpenSocket S) → Frames contents a.socket b.socket [] → b.held ≡ a.held → Talks remaining contents most p p a b
+  talked_none most p a b sent holds = record {
     ready = b;
     sent = sent;
-    exchanges = record { heard = b; hearing = hearing_none remaining (allowed_reads p.hub p.session most) p.made p.made b b refl refl; tells = tells_start p b };
+    holds = holds;
+    exchanges = record { heard = b; hearing = hearing_none remaining (allowed_reads p.hub p.session most) p.made p.made b b refl refl; tells = tells_start p b.socket; holds = refl };
   }
 
   -- what waited was sent, and what was told was sent or has to wait
-  pub talked : {E : Type 0} (result : Result (Unit {0}) E) (most : ℕ) (p q : Point) (a b c d : Socket (CorkedWriter S)) → Frames contents a b [] → OnOk result (Exchanges remaining contents most p q b c)
-      → Frames contents c d [] → OnOk result (Talks remaining contents most p q a d)
-  talked (Err e) most p q a b c d sent exchanges last = tt
-  talked (Ok u) most p q a b c d sent exchanges last = record {
+  pub talked : {E : Type 0} (result : Result (Unit {0}) E) (most : ℕ) (p q : Point) (a b c d : OpenSocket S) → Frames contents a.socket b.socket [] → b.held ≡ a.held
+      → OnOk result (Exchanges remaining contents most p q b c) → Frames contents c.socket d.socket [] → d.held ≡ c.held → OnOk result (Talks remaining contents most p q a d)
+  talked (Err e) most p q a b c d sent holds exchanges last kept = tt
+  talked (Ok u) most p q a b c d sent holds exchanges last kept = record {
     ready = b;
     sent = sent;
+    holds = holds;
     exchanges = record {
       heard = exchanges.heard;
       hearing = exchanges.hearing;
@@ -148,30 +157,31 @@ module _ {S : Type 0} (remaining contents : S → Option (List ℕ)) where
         utf8 = exchanges.tells.utf8;
         frames = frames_as (sym (append-nil _)) (frames_more _ _ exchanges.tells.frames last);
       };
+      holds = kept ∙ exchanges.holds;
     };
   }
 
   -- ---- a turn of a link
 
-  pub talked_into : {E : Type 0} (turned : Result (Unit {0}) E) (texts : ℕ) (p : Point) (hub next : Hub) (made after : List Event) (s : ℕ) (a b : Socket (CorkedWriter S)) (state : State S)
+  pub talked_into : {E : Type 0} (turned : Result (Unit {0}) E) (texts : ℕ) (p : Point) (hub next : Hub) (made after : List Event) (s : ℕ) (a b : OpenSocket S) (state : State S)
       → OnOk turned (Talks remaining contents texts p (at hub (Some s) made) a b) → OnOk turned ((state ≡ Open b s) × (next ≡ hub) × (after ≡ made)) → OnErr turned (is_over (stage_of state) ≡ true)
       → IfOpen (Talks remaining contents texts) p a next after state
   talked_into (Ok u) texts p hub next made after s a b state talks stayed over = rw (stayed.0, stayed.1, stayed.2) talks
-  talked_into (Err e) texts p hub next made after s a b (Open socket t) talks stayed over = absurd (cc over)
+  talked_into (Err e) texts p hub next made after s a b (Open opened t) talks stayed over = absurd (cc over)
   talked_into (Err e) texts p hub next made after s a b (Head stream bytes) talks stayed over = tt
   talked_into (Err e) texts p hub next made after s a b (Replying stream reply) talks stayed over = tt
   talked_into (Err e) texts p hub next made after s a b (Closing socket turns) talks stayed over = tt
   talked_into (Err e) texts p hub next made after s a b Gone talks stayed over = tt
 
   -- what was read and passed on: if the link is still open, its next turn reads on
-  pub reads_into : {E : Type 0} (turned : Result (Unit {0}) E) (most : ℕ) (p : Point) (hub next : Hub) (made after : List Event) (s : ℕ) (a b : Socket (CorkedWriter S)) (state : State S)
+  pub reads_into : {E : Type 0} (turned : Result (Unit {0}) E) (most : ℕ) (p : Point) (hub next : Hub) (made after : List Event) (s : ℕ) (a b : OpenSocket S) (state : State S)
       → OnOk turned (Talks remaining contents most p (at hub (Some s) made) a b) → SendsAndPassesOn remaining (allowed_reads p.hub p.session most) a p.made made
       → OnOk turned ((state ≡ Open b s) × (next ≡ hub) × (after ≡ made)) → OnErr turned (is_over (stage_of state) ≡ true) → Passes made after []
       → ReadsTexts remaining (allowed_reads p.hub p.session most) a state p.made after
   reads_into (Ok u) most p hub next made after s a b state talks sends stayed over quiet = rw (stayed.0, stayed.2) (record {
     sends = record {
       ready = talks.ready;
-      same = talks.sent.reads_on;
+      same = record { reads_on = talks.sent.reads_on; holds = talks.holds };
       passes_on = record {
         texts = talks.exchanges.hearing.texts;
         passes = talks.exchanges.hearing.passes;
@@ -179,7 +189,7 @@ module _ {S : Type 0} (remaining contents : S → Option (List ℕ)) where
         hears = talks.exchanges.hearing.hears;
       };
     };
-    goes_on = talks.exchanges.tells.frames.reads_on;
+    goes_on = record { reads_on = talks.exchanges.tells.frames.reads_on; holds = talks.exchanges.holds };
   })
   reads_into (Err e) most p hub next made after s a b state talks sends stayed over quiet = record {
     sends = record {
@@ -196,8 +206,8 @@ module _ {S : Type 0} (remaining contents : S → Option (List ℕ)) where
   }
 
   -- the role stays
-  pub serves_on : (texts : ℕ) (p : Point) (next : Hub) (made : List Event) (a : Socket (CorkedWriter S)) (state : State S) → IfOpen (Talks remaining contents texts) p a next made state
-      → a.conn.role ≡ Server → IsServing state
+  pub serves_on : (texts : ℕ) (p : Point) (next : Hub) (made : List Event) (a : OpenSocket S) (state : State S) → IfOpen (Talks remaining contents texts) p a next made state
+      → a.socket.conn.role ≡ Server → IsServing state
   serves_on texts p next made a (Open b t) talks server = role_kept talks.exchanges.tells.frames.reads_on ∙ talks.exchanges.hearing.role ∙ role_kept talks.sent.reads_on ∙ server
   serves_on texts p next made a (Head stream bytes) talks server = tt
   serves_on texts p next made a (Replying stream reply) talks server = tt
@@ -205,31 +215,32 @@ module _ {S : Type 0} (remaining contents : S → Option (List ℕ)) where
   serves_on texts p next made a Gone talks server = tt
 
   -- of no reads none is made
-  reads_nothing : (may : Bool) (a b : Socket (CorkedWriter S)) (texts : List (List ℕ)) → Hears remaining (if may then 0 else 0) a b texts → FindsNothing a b texts
+  reads_nothing : (may : Bool) (a b : OpenSocket S) (texts : List (List ℕ)) → Hears remaining (if may then 0 else 0) a b texts → (b ≡ a) × (texts ≡ [])
   reads_nothing true a b texts nothing = nothing
   reads_nothing false a b texts nothing = nothing
 
-  told_alone : (p q : Point) (a b : Socket (CorkedWriter S)) → Talks remaining contents 0 p q a b → a.conn.role ≡ Server → Told contents p q a b
+  told_alone : (p q : Point) (a b : OpenSocket S) → Talks remaining contents 0 p q a b → a.socket.conn.role ≡ Server → Told contents p q a b
   told_alone p q a b talks server =
       let hearing = talks.exchanges.hearing in
       let same = (reads_nothing _ talks.ready talks.exchanges.heard hearing.texts hearing.hears).0 in
-      let tells = subst (λ x. Tells contents p q x b) same talks.exchanges.tells in
-      told (record { follows = tells.follows; utf8 = tells.utf8; frames = frames_more [] _ talks.sent tells.frames }) server
+      let tells = subst (λ (x : OpenSocket S). Tells contents p q x.socket b.socket) same talks.exchanges.tells in
+      let holds = talks.exchanges.holds ∙ ap (λ (x : OpenSocket S). x.held) same ∙ talks.holds in
+      told (record { follows = tells.follows; utf8 = tells.utf8; frames = frames_more [] _ talks.sent tells.frames }) holds server
 
-  answered : (p q : Point) (a b : Socket (CorkedWriter S)) → Talks remaining contents 1 p q a b → a.conn.role ≡ Server → Answered remaining contents p q a b
+  answered : (p q : Point) (a b : OpenSocket S) → Talks remaining contents 1 p q a b → a.socket.conn.role ≡ Server → Answered remaining contents p q a b
   answered p q a b talks server = record {
     ready = talks.ready;
     sent = talks.sent.bytes server;
-    reads_on = talks.sent.reads_on;
+    goes_on = record { reads_on = talks.sent.reads_on; holds = talks.holds };
     texts = talks.exchanges.hearing.texts;
     passes = talks.exchanges.hearing.passes;
     heard = talks.exchanges.heard;
     hears = talks.exchanges.hearing.hears;
-    told = told talks.exchanges.tells (talks.exchanges.hearing.role ∙ role_kept talks.sent.reads_on ∙ server);
+    told = told talks.exchanges.tells talks.exchanges.holds (talks.exchanges.hearing.role ∙ role_kept talks.sent.reads_on ∙ server);
   }
 
-module _ {S : Type 0} (P Q : Point → Point → Socket (CorkedWriter S) → Socket (CorkedWriter S) → Type 0) (told_of : (p q : Point) (a b : Socket (CorkedWriter S)) → P p q a b → a.conn.role ≡ Server → Q p q a b) where
-  if_open : (p : Point) (a : Socket (CorkedWriter S)) (next : Hub) (made : List Event) (new : State S) → IfOpen P p a next made new → a.conn.role ≡ Server → IfOpen Q p a next made new
+module _ {S : Type 0} (P Q : Point → Point → OpenSocket S → OpenSocket S → Type 0) (told_of : (p q : Point) (a b : OpenSocket S) → P p q a b → a.socket.conn.role ≡ Server → Q p q a b) where
+  if_open : (p : Point) (a : OpenSocket S) (next : Hub) (made : List Event) (new : State S) → IfOpen P p a next made new → a.socket.conn.role ≡ Server → IfOpen Q p a next made new
   if_open p a next made (Open b t) holds server = told_of p (at next (Some t) made) a b holds server
   if_open p a next made (Head stream bytes) holds server = tt
   if_open p a next made (Replying stream reply) holds server = tt
@@ -258,7 +269,7 @@ module _ {S : Type 0} (remaining contents : S → Option (List ℕ)) where
 module _ {S : Type 0} where
   -- a link that closes, or is gone, serves nobody
   pub serves_over : (state : State S) → IsForward stage.Closing (stage_of state) → IsServing state
-  serves_over (Open socket s) is = absurd (omega (arith, is))
+  serves_over (Open opened s) is = absurd (omega (arith, is))
   serves_over (Head stream bytes) is = tt
   serves_over (Replying stream reply) is = tt
   serves_over (Closing socket turns) is = tt

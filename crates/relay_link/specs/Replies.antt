@@ -5,8 +5,7 @@ use Rattle.relay_shake.specs.Replies.{refusal_of}
 use Rattle.relay_shake.specs.Shaken.{AnswersHead, AnswersNoHead}
 use Rattle.relay_shake.specs.declared.answer.Shake.{Shake}
 use Rattle.relay_shake.specs.declared.answer.Shake.TheVariants.{More, Accept, Refuse}
-use Rattle.tungstenite.specs.Socket.{IsFresh}
-use Rattle.websocket.specs.declared.protocol.config.Role.TheVariants.{Server}
+use Rattle.relay_link.specs.Hears.{HasReadNothing}
 use Rattle.relay_link.specs.Stream.{stream_of, written}
 use Rattle.relay_link.specs.declared.reply.Verdict.{Verdict}
 use Rattle.relay_link.specs.declared.reply.Verdict.TheVariants.{Entered, Refused}
@@ -24,12 +23,12 @@ IsReply More verdict bytes = ⊥
 
 module _ {S : Type 0} where
   -- A link wrote a front part of the reply behind what its stream held before, and keeps the rest. If it is open, it wrote all of the reply,
-  -- and its WebSocket has read nothing and has nothing to send.
+  -- its WebSocket has read nothing and has nothing to send, and the link holds no text.
   abbrev pub WritesReply : (S → Option (List ℕ)) → Option (List ℕ) → Verdict → List ℕ → State S → Type 0
   WritesReply contents before verdict reply (Replying stream kept) =
       (sent : List ℕ) × (reply ≡ sent ++ kept.rest.items) × Appends before (written contents stream) sent × (kept.verdict ≡ verdict)
-  WritesReply contents before verdict reply (Open socket s) =
-      Appends before (written contents socket.stream) reply × (verdict ≡ Entered s) × IsFresh socket socket.stream Server
+  WritesReply contents before verdict reply (Open opened s) =
+      Appends before (written contents opened.socket.stream) reply × (verdict ≡ Entered s) × HasReadNothing opened
   WritesReply contents before verdict reply _ = ⊤
 
   -- a reply to the answer, which may have been written in part
@@ -53,7 +52,7 @@ module _ {S : Type 0} where
   -- a link that replies, or that is open, has a reply; a link that is gone has no stream to speak of
   abbrev pub IfReplies : State S → Type 0 → Type 0
   IfReplies (Replying stream kept) P = P
-  IfReplies (Open socket s) P = P
+  IfReplies (Open opened s) P = P
   IfReplies _ P = ⊤
 
   -- What a turn writes of a reply. A link that waits for its head begins one, and a link that replies goes on with what it kept.

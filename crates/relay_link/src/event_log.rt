@@ -12,6 +12,8 @@ pub(crate) struct EventLog {
     events: Vec<Event>,
     /// The bytes of the texts that were drawn.
     drawn: u64,
+    /// How much work the texts may be that were passed to the hub.
+    work: u64,
 }
 
 impl Model for EventLog {
@@ -37,6 +39,7 @@ impl EventLog {
         Ok(EventLog {
             events: Vec::with_capacity(alloc, MAX_EVENTS)?,
             drawn: 0,
+            work: 0,
         })
     }
 
@@ -62,6 +65,18 @@ impl EventLog {
     /// The bytes of the texts that were drawn.
     pub(crate) fn drawn(&self) -> u64 {
         self.drawn
+    }
+
+    /// Counts how much work a text may be that is passed to the hub. Allocates nothing.
+    pub(crate) fn count_work(&mut self, work: u64)
+        ensures { self.new ≡ self.old }
+    {
+        self.work = self.work.saturating_add(work);
+    }
+
+    /// How much work the texts may be that were passed to the hub.
+    pub(crate) fn work(&self) -> u64 {
+        self.work
     }
 
     pub(crate) fn into_events(self) -> Vec<Event>

@@ -53,17 +53,16 @@ pub(crate) fn receive(
     alloc: Global,
     hub: &mut Hub,
     session: u64,
-    text: String,
+    text: Text,
     made: &mut EventLog,
 ) -> Result<(), AllocError>
     requires { length made.old < MAX_EVENTS }
     ensures follows { Follows no_room (at hub.old (Some session) made.old) (at hub.new (Some session) made.new) }
     ensures drew { Drew [] (at hub.old (Some session) made.old) (at hub.new (Some session) made.new) }
-    ensures passes { OnOk result (Passes made.old made.new (string_bytes text ∷ [])) }
+    ensures passes { OnOk result (Passes made.old made.new (text ∷ [])) }
     ensures passes_none { OnErr result (Passes made.old made.new []) }
     ensures adds { Adds 1 1 0 made.old made.new }
 {
-    let text = Text::of(text);
     match hub.receive(alloc, session, text.as_str()) {
         Ok(_) => {}
         Err(HubFault::NoSession) => {}

@@ -20,6 +20,7 @@ mod events;
 mod head;
 mod link;
 mod non_blocking;
+mod open_socket;
 mod opened;
 mod reply;
 mod socket;

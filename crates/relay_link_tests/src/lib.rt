@@ -23,6 +23,8 @@ mod link_fixture;
 #[cfg(test)]
 mod others;
 #[cfg(test)]
+mod put_off;
+#[cfg(test)]
 mod streams;
 #[cfg(test)]
 mod write_turns;

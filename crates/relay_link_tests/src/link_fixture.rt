@@ -145,7 +145,7 @@ impl<'a> LinkFixture<'a> {
 
     /// Runs a read turn with the current number of draws. Returns the number of its events.
     pub fn heard(&mut self, rt: &(impl Abort + AllocGlobal), hub: &mut Hub) -> usize {
-        let turn = self.link.read_turn(rt.alloc(), hub, self.draws);
+        let turn = self.link.read_turn(rt.alloc(), hub, self.draws, u64::MAX);
         turn.expect(rt, "memory").made.len()
     }
 

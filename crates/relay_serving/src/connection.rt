@@ -24,10 +24,25 @@ pub(crate) enum Output {
 /// How much of a round a connection takes.
 #[derive(Clone, Copy, Debug, PartialEq, Eq)]
 pub(crate) enum Weight {
-    /// It sends short texts.
+    /// It sends short texts, of which each is little work.
     Light,
-    /// It sends long ones.
-    Heavy,
+    /// Its next text is short and may be much work.
+    Costly,
+    /// It sends long texts.
+    Long,
+}
+
+/// How much work a text may be at most that is little work: one operation on a largest document.
+const MAX_LIGHT: u64 = 262_144;
+
+impl Weight {
+    /// How much work a text may be that the hub is given in a read turn of this weight.
+    pub(crate) fn most_work(self) -> u64 {
+        match self {
+            Weight::Light => MAX_LIGHT,
+            Weight::Costly | Weight::Long => u64::MAX,
+        }
+    }
 }
 
 /// The turns that would do something for a connection.
@@ -106,10 +121,12 @@ impl<S: Read + Write + Drop> Connection<S> {
         }
     }
 
-    /// The weight of its read turns.
+    /// The weight of its next read turn.
     pub(crate) fn weight(&self) -> Weight {
-        if self.known.is_heavy() {
-            Weight::Heavy
+        if self.link.holds_text() {
+            Weight::Costly
+        } else if self.known.is_long() {
+            Weight::Long
         } else {
             Weight::Light
         }

@@ -3,12 +3,13 @@ use crate::connection::{Output, Wants, Weight};
 use crate::key_queue::KeyQueue;
 use std::alloc::{AllocError, Global};
 
-/// The keys of the connections that may be read, of those that may be written, and of those that are closing. A key stays where it is if its connection is dropped or
-/// no longer wants the turn, so whoever takes it out looks first.
+/// The keys of the connections that may be read, by weight, of those that may be written, and of those that are closing. A key stays where
+/// it is if its connection is dropped or no longer wants the turn, so whoever takes it out looks first.
 #[derive(Drop)]
 pub(crate) struct Queues {
     light: KeyQueue,
-    heavy: KeyQueue,
+    costly: KeyQueue,
+    long: KeyQueue,
     corked: KeyQueue,
     waiting: KeyQueue,
     closing: KeyQueue,
@@ -18,7 +19,8 @@ impl Queues {
     pub(crate) fn new(alloc: Global) -> Queues {
         Queues {
             light: KeyQueue::new(alloc),
-            heavy: KeyQueue::new(alloc),
+            costly: KeyQueue::new(alloc),
+            long: KeyQueue::new(alloc),
             corked: KeyQueue::new(alloc),
             waiting: KeyQueue::new(alloc),
             closing: KeyQueue::new(alloc),
@@ -28,7 +30,8 @@ impl Queues {
     /// Takes the memory for a key in each queue. `AllocError` leaves the keys that are queued.
     pub(crate) fn admit(&mut self, key: usize) -> Result<(), AllocError> {
         self.light.admit(key)?;
-        self.heavy.admit(key)?;
+        self.costly.admit(key)?;
+        self.long.admit(key)?;
         self.corked.admit(key)?;
         self.waiting.admit(key)?;
         self.closing.admit(key)
@@ -38,7 +41,8 @@ impl Queues {
     pub(crate) fn push(&mut self, key: usize, wants: Wants) {
         match wants.read {
             Some(Weight::Light) => self.light.push(key),
-            Some(Weight::Heavy) => self.heavy.push(key),
+            Some(Weight::Costly) => self.costly.push(key),
+            Some(Weight::Long) => self.long.push(key),
             None => {}
         }
         if wants.corked {
@@ -56,7 +60,8 @@ impl Queues {
     pub(crate) fn pop_reader(&mut self, weight: Weight) -> Option<usize> {
         match weight {
             Weight::Light => self.light.pop(),
-            Weight::Heavy => self.heavy.pop(),
+            Weight::Costly => self.costly.pop(),
+            Weight::Long => self.long.pop(),
         }
     }
 
@@ -82,7 +87,8 @@ impl Queues {
     pub(crate) fn readers(&self, weight: Weight) -> usize {
         match weight {
             Weight::Light => self.light.len(),
-            Weight::Heavy => self.heavy.len(),
+            Weight::Costly => self.costly.len(),
+            Weight::Long => self.long.len(),
         }
     }
 
@@ -97,7 +103,8 @@ impl Queues {
     /// Whether no key waits for a turn.
     pub(crate) fn is_empty(&self) -> bool {
         self.light.is_empty()
-            && self.heavy.is_empty()
+            && self.costly.is_empty()
+            && self.long.is_empty()
             && self.corked.is_empty()
             && self.waiting.is_empty()
     }
@@ -106,7 +113,8 @@ impl Queues {
     pub(crate) fn has(&self, key: usize, wants: Wants) -> bool {
         let is_read = match wants.read {
             Some(Weight::Light) => self.light.contains(key),
-            Some(Weight::Heavy) => self.heavy.contains(key),
+            Some(Weight::Costly) => self.costly.contains(key),
+            Some(Weight::Long) => self.long.contains(key),
             None => true,
         };
         is_read

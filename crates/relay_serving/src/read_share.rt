@@ -5,15 +5,27 @@ use relay_tree::Budget;
 /// The most texts that a round reads, whatever may wait.
 pub(crate) const MAX_TEXTS: u64 = 16;
 
-/// What a round may still read: so many texts, and so many bytes of them. One text is read while any byte is left.
+/// How much work the costly texts of a round may be together, but for the last one: sixteen operations on a largest document.
+const MAX_WORK: u64 = 4_194_304;
+
+/// A text that a read turn passed to the hub.
+#[derive(Clone, Copy, Debug, PartialEq, Eq)]
+pub(crate) struct TextRead {
+    pub bytes: u64,
+    /// How much work it may be ([`relay_hub::Hub::most_work`]).
+    pub work: u64,
+}
+
+/// What a round may still read from connections of one weight: so many texts, so many bytes of them, and so much work. One text is read while any of each is left.
 #[derive(Clone, Copy, Debug, PartialEq, Eq)]
 pub(crate) struct ReadShare {
     texts: u64,
     bytes: u64,
+    work: u64,
 }
 
 impl ReadShare {
-    /// Half as many texts as patches may wait for a session, at least 1 and at most 16, and as many bytes as half of what these
+    /// Of light texts. Half as many as patches may wait for a session, at least 1 and at most 16, and as many bytes as half of what these
     /// patches may weigh. So the number of a round's texts never folds the outbox of a watcher that keeps up. The weight of their
     /// changes may, since a short text can make a heavy change.
     pub(crate) fn of(config: HubConfig) -> ReadShare {
@@ -23,18 +35,28 @@ impl ReadShare {
                 Budget::Unbounded => u64::MAX,
                 Budget::Left(weight) => (weight / 2).max(1),
             },
+            work: u64::MAX,
         }
     }
 
-    /// What is left after a text of so many bytes.
-    pub(crate) fn less(self, bytes: u64) -> ReadShare {
+    /// The same of costly texts, which are also bounded by their work.
+    pub(crate) fn of_costly(self) -> ReadShare {
+        ReadShare {
+            work: MAX_WORK,
+            ..self
+        }
+    }
+
+    /// What is left after a text.
+    pub(crate) fn less(self, text: TextRead) -> ReadShare {
         ReadShare {
             texts: self.texts.saturating_sub(1),
-            bytes: self.bytes.saturating_sub(bytes),
+            bytes: self.bytes.saturating_sub(text.bytes),
+            work: self.work.saturating_sub(text.work),
         }
     }
 
     pub(crate) fn is_spent(self) -> bool {
-        self.texts == 0 || self.bytes == 0
+        self.texts == 0 || self.bytes == 0 || self.work == 0
     }
 }

@@ -23,15 +23,15 @@ struct StreamState {
     /// How many bytes were read since the last whole text.
     unfinished: u64,
     /// Whether that, or the last text, is long.
-    is_heavy: bool,
+    is_long: bool,
 }
 
 /// A stream that returns `WouldBlock` without a system call while it is known not to be ready. It is readable until a read returns
 /// `WouldBlock` or fewer bytes than it was asked for, since then nothing is left (epoll(7)), and writable until a write returns
 /// `WouldBlock`. A later event makes it ready again.
 ///
-/// It also returns `WouldBlock` where a text becomes long, until the turn ends and the stream counts as heavy. So the end of a long text
-/// is read in a turn of a heavy stream alone, and no other turn takes longer than a short text.
+/// It also returns `WouldBlock` where a text becomes long, until the turn ends and the stream counts as long. So the end of a long text
+/// is read in a turn of a long stream alone, and no other turn takes longer than a short text.
 #[derive(Drop)]
 pub(crate) struct Watched<S> {
     stream: S,
@@ -53,7 +53,7 @@ impl Known {
     /// Whether a read may give bytes in this turn.
     fn is_readable(&self) -> bool {
         let state = self.state.get();
-        state.ready.readable && (state.is_heavy || state.unfinished < LONG)
+        state.ready.readable && (state.is_long || state.unfinished < LONG)
     }
 
     pub(crate) fn is_writable(&self) -> bool {
@@ -61,8 +61,8 @@ impl Known {
     }
 
     /// Whether the last text was long, or one is long already of which the end was not read.
-    pub(crate) fn is_heavy(&self) -> bool {
-        self.state.get().is_heavy
+    pub(crate) fn is_long(&self) -> bool {
+        self.state.get().is_long
     }
 
     /// Ends a read turn, in which a text of so many bytes was received, or none.
@@ -71,7 +71,7 @@ impl Known {
         if received.is_some() {
             state.unfinished = 0;
         }
-        state.is_heavy = received.unwrap_or(state.unfinished) >= LONG;
+        state.is_long = received.unwrap_or(state.unfinished) >= LONG;
         self.state.set(state);
     }
 
@@ -114,7 +114,7 @@ impl<S> Watched<S> {
                     is_over: false,
                 },
                 unfinished: 0,
-                is_heavy: false,
+                is_long: false,
             }),
         )?;
         let known = Known {

@@ -47,7 +47,7 @@ pub struct Server<S: Write + Drop, R> {
     /// Whether a connection may wait to be accepted; `failed`: whether the last accept failed.
     accept_ready: bool,
     failed: bool,
-    /// How much a round reads from light connections.
+    /// How much a round reads from light connections, and from costly ones.
     share: ReadShare,
     /// The connections that may have a turn.
     queues: Queues,
@@ -103,16 +103,19 @@ impl<S: Read + Write + OpenStream + Drop, R: Readiness<S>> Server<S, R> {
     /// - accepts up to 8 waiting connections. If [`connection_limit`] are held already, the oldest one without a session is ended. A connection
     ///   that cannot be accepted or held is dropped;
     /// - reads: each light connection that may have input gets a read turn; the one that had its turn last comes last. The turn reads
-    ///   one text and draws up to 32 messages, which are corked. This repeats until a pass reads no text, or until the round's share
-    ///   of texts was read;
+    ///   one text and draws up to 32 messages, which are corked. A text that may be more work than one operation on a largest document
+    ///   is held, and its connection is costly. This repeats until a pass reads no text, or until the round's share was read;
     /// - writes: each link with waiting messages or corked output, whose stream is writable, gets a write turn, which draws and
     ///   sends up to 32 more messages: first the links with corked output, then all, each time starting with the one that has waited
     ///   longest. Once such a pass has drawn 512 KiB, the others wait for the next pass;
-    /// - reads from one heavy connection, and writes again. A connection is heavy if its last text had 8 KiB or more, or if as much was
-    ///   read of a text without its end; of the heavy ones too the one that had its turn last comes last.
+    /// - passes on texts that costly connections hold, each connection's after those that have waited longer, until their share of work is
+    ///   spent, and writes again;
+    /// - reads from one long connection, and writes again. A connection is long if its last text had 8 KiB or more, or if as much was
+    ///   read of a text without its end; of the long ones too the one that had its turn last comes last.
     ///
-    /// So a client that sends short texts waits for at most one long text of others. A turn that is out of memory is left for the next
-    /// round. Links that are gone are dropped. If it is unknown what is ready, everything counts as ready.
+    /// So a client whose texts are short and little work waits for at most one share of costly texts of others, and one long text. A turn that
+    /// is out of memory is left for the next round. Links that are gone are dropped. If it is unknown what is ready, everything counts as
+    /// ready.
     #[tactic(auto, using(crate::proofs::Rules::rounds))]
     pub fn round<L: OpenListener<Stream = S>, J: ConnectionLog>(
         &mut self,
@@ -129,6 +132,7 @@ impl<S: Read + Write + OpenStream + Drop, R: Readiness<S>> Server<S, R> {
         self.accept(alloc, listener, log);
         self.read(alloc, log);
         self.write(alloc, log);
+        self.exchange_costly(alloc, log);
         self.exchange_long(alloc, log);
     }
 

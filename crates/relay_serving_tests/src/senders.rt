@@ -13,6 +13,10 @@ pub(crate) const WATCH: &str = r#"{"do":"watch","id":1,"view":[""]}"#;
 
 pub(crate) const EDIT: &str = r#"{"do":"edit","id":2,"patch":[{"op":"add","path":"","value":7}]}"#;
 
+/// An edit that may be more work than all costly texts of a round together: each `"copy"` in it may double the document.
+pub(crate) const COSTLY_EDIT: &str =
+    r#"{"do":"edit","id":3,"patch":[{"op":"add","path":"","value":["copy","copy","copy","copy","copy","copy","copy","copy","copy","copy","copy","copy","copy","copy","copy","copy","copy","copy"]}]}"#;
+
 /// What the reply to an accepted edit has.
 const DONE: &[u8] = b"\"kind\":\"done\"";
 

@@ -1,49 +1,58 @@
-//! Tests of whose text a round receives: short ones before long ones, and one long one a round.
+//! Tests of whose text a round receives: short ones that are little work first, then costly ones, and then a long one.
 use crate::memory_server::ReadinessScript;
 use crate::pair::lent;
-use crate::senders::{EDIT, Senders, WATCH, long_edit, wires};
+use crate::senders::{COSTLY_EDIT, EDIT, Senders, WATCH, long_edit, wires};
 use std::alloc::AllocGlobal;
 use std::process::Abort;
 
-/// The clients that send a long text. The next one sends short ones.
-const LONG: usize = 18;
+/// The clients that send a long text each, or a costly one. The next one sends light ones.
+const OTHERS: usize = 18;
 
-/// How many edits of the clients that send long texts were accepted since the last call.
-fn accepted_long(rt: &impl Abort, senders: &Senders<'_>) -> u64 {
+/// How many edits of the clients before the last one were accepted since the last call.
+fn accepted_others(rt: &impl Abort, senders: &Senders<'_>) -> u64 {
     let mut count = 0u64;
-    for key in 0..LONG {
+    for key in 0..OTHERS {
         count = count.saturating_add(senders.accepted(rt, key));
     }
     count
 }
 
-/// Sends a short text, runs a round, and asserts that it was answered, that one long text was received, and that this was after the writes
-/// for the short one: the client, which watches, is sent the patches of the two edits by two writes.
-fn edit_beside_long_texts(rt: &(impl Abort + AllocGlobal), senders: &mut Senders<'_>) {
-    lent(rt, senders.wire(rt, LONG)).write_calls = 0;
-    senders.say(rt, LONG, EDIT, 1);
+/// Sends a light text, runs a round, and asserts that it was answered, that one text of the others was received, and that this was after
+/// the writes for the light one: the client, which watches, is sent the patches of the two edits by two writes.
+fn edit_beside(rt: &(impl Abort + AllocGlobal), senders: &mut Senders<'_>) {
+    lent(rt, senders.wire(rt, OTHERS)).write_calls = 0;
+    senders.say(rt, OTHERS, EDIT, 1);
     senders.server.round(rt);
-    assert_eq!(rt; senders.accepted(rt, LONG), 1, "short texts");
-    assert_eq!(rt; accepted_long(rt, senders), 1, "long texts");
-    assert_eq!(rt; lent(rt, senders.wire(rt, LONG)).write_calls, 2, "writes");
+    assert_eq!(rt; senders.accepted(rt, OTHERS), 1, "light texts");
+    assert_eq!(rt; accepted_others(rt, senders), 1, "other texts");
+    assert_eq!(rt; lent(rt, senders.wire(rt, OTHERS)).write_calls, 2, "writes");
 }
 
-/// A client that edits in each round has its answer in that round, before the next of the long texts is received that all others sent.
-#[test]
-fn answers_short_texts_before_long_ones(rt: HostRuntime) {
+/// A client that edits in each round has its answer in that round, before the next text is received of those that all others sent.
+fn answers_light_texts_before(rt: &(impl Abort + AllocGlobal), text: &str) {
     let script = ReadinessScript::new(rt.alloc());
-    let wires = wires(&rt, LONG + 1);
-    let mut senders = Senders::at(&rt, &script, wires.as_slice());
-    senders.enter(&rt);
-    senders.say(&rt, LONG, WATCH, 1);
-    senders.server.rounds(&rt, 2);
+    let wires = wires(rt, OTHERS + 1);
+    let mut senders = Senders::at(rt, &script, wires.as_slice());
+    senders.enter(rt);
+    senders.say(rt, OTHERS, WATCH, 1);
+    senders.server.rounds(rt, 2);
+    for key in 0..OTHERS {
+        senders.say(rt, key, text, 1);
+    }
+    for _ in 0..OTHERS {
+        edit_beside(rt, &mut senders);
+    }
+}
+
+#[test]
+fn answers_light_texts_before_long_ones(rt: HostRuntime) {
     let long = long_edit(&rt, rt.alloc(), 10_000);
-    for key in 0..LONG {
-        senders.say(&rt, key, long.as_str(), 1);
-    }
-    for _ in 0..LONG {
-        edit_beside_long_texts(&rt, &mut senders);
-    }
+    answers_light_texts_before(&rt, long.as_str());
+}
+
+#[test]
+fn answers_light_texts_before_costly_ones(rt: HostRuntime) {
+    answers_light_texts_before(&rt, COSTLY_EDIT);
 }
 
 /// While two clients have more short texts than a round receives, a third has a long one received in each round.

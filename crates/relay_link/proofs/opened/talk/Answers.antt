@@ -1,14 +1,18 @@
--- While output is pending, a link only sends.
+-- While output is pending, a link only sends. Otherwise it sends what waits, exchanges, and sends what came of it.
 use Rattle.std.proofs.Common.{refl}
 use Rattle.relay_link.proofs.Hearing.{sends_none}
-use Rattle.relay_link.proofs.Telling.{talked_none}
+use Rattle.relay_link.proofs.Telling.{talked_none, talked}
 use Rattle.relay_link.proofs.opened.talk.Goals as goal
 
 pub returns-then-not-branch-clause-talks : goal.returns-then-not-branch-clause-talks
-returns-then-not-branch-clause-talks g c = talked_none g.S.Read.remaining g.S.Write.contents _ _ _ _ c.flush.ensures.frames
+returns-then-not-branch-clause-talks g c = talked_none g.S.Read.remaining g.S.Write.contents _ _ _ _ c.flush.ensures.frames refl
 
 pub returns-then-not-branch-clause-passes : goal.returns-then-not-branch-clause-passes
 returns-then-not-branch-clause-passes g c = sends_none g.S.Read.remaining _ _ _ _ refl
 
 pub returns-in_err-flush-clause-passes : goal.returns-in_err-flush-clause-passes
 returns-in_err-flush-clause-passes g c = sends_none g.S.Read.remaining _ _ _ _ refl
+
+pub returns-in_ok-sent-clause-talks : goal.returns-in_ok-sent-clause-talks
+returns-in_ok-sent-clause-talks g c =
+    talked g.S.Read.remaining g.S.Write.contents c.exchange-exchanged.result _ _ _ _ _ _ _ c.flush.ensures.frames refl c.exchange-exchanged.ensures.exchanges c.flush-sent.ensures.frames refl
