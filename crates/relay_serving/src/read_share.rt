@@ -5,6 +5,10 @@ use relay_tree::Budget;
 /// The most texts that a round reads, whatever may wait.
 pub(crate) const MAX_TEXTS: u64 = 16;
 
+/// The most bytes of texts that a round reads, each counted once for each session in its room. It is less than a pass of writes draws, so
+/// what is read does not run ahead of what those are sent who are told of it.
+const MAX_TOLD: u64 = 393_216;
+
 /// How much work the costly texts of a round may be together, but for the last one: sixteen operations on a largest document.
 const MAX_WORK: u64 = 4_194_304;
 
@@ -12,22 +16,26 @@ const MAX_WORK: u64 = 4_194_304;
 #[derive(Clone, Copy, Debug, PartialEq, Eq)]
 pub(crate) struct TextRead {
     pub bytes: u64,
+    /// How many sessions are in the room, which may be told of it.
+    pub sessions: u64,
     /// How much work it may be ([`relay_hub::Hub::most_work`]).
     pub work: u64,
 }
 
-/// What a round may still read from connections of one weight: so many texts, so many bytes of them, and so much work. One text is read while any of each is left.
+/// What a round may still read from connections of one weight: so many texts, so many bytes of them, so many bytes by those who may be told
+/// of them, and so much work. One text is read while any of each is left.
 #[derive(Clone, Copy, Debug, PartialEq, Eq)]
 pub(crate) struct ReadShare {
     texts: u64,
     bytes: u64,
+    told: u64,
     work: u64,
 }
 
 impl ReadShare {
     /// Of light texts. Half as many as patches may wait for a session, at least 1 and at most 16, and as many bytes as half of what these
     /// patches may weigh. So the number of a round's texts never folds the outbox of a watcher that keeps up. The weight of their
-    /// changes may, since a short text can make a heavy change.
+    /// changes may, since a short text can make a heavy change. To a crowd, as many bytes as 384 KiB for all who may be told.
     pub(crate) fn of(config: HubConfig) -> ReadShare {
         ReadShare {
             texts: (config.max_waiting_patches / 2).max(1).min(MAX_TEXTS),
@@ -35,6 +43,7 @@ impl ReadShare {
                 Budget::Unbounded => u64::MAX,
                 Budget::Left(weight) => (weight / 2).max(1),
             },
+            told: MAX_TOLD,
             work: u64::MAX,
         }
     }
@@ -52,11 +61,14 @@ impl ReadShare {
         ReadShare {
             texts: self.texts.saturating_sub(1),
             bytes: self.bytes.saturating_sub(text.bytes),
+            told: self
+                .told
+                .saturating_sub(text.bytes.saturating_mul(text.sessions)),
             work: self.work.saturating_sub(text.work),
         }
     }
 
     pub(crate) fn is_spent(self) -> bool {
-        self.texts == 0 || self.bytes == 0 || self.work == 0
+        self.texts == 0 || self.bytes == 0 || self.told == 0 || self.work == 0
     }
 }

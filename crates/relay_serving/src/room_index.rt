@@ -102,6 +102,14 @@ impl RoomIndex {
         self.heard.pop()
     }
 
+    /// How many connections have a session in the room of this one; 0 if it has none.
+    pub(crate) fn in_room_of(&self, key: usize) -> u64 {
+        match self.rooms.get(key) {
+            Some(Some(room)) => self.end(*room).saturating_sub(self.first(*room)) as u64,
+            _ => 0,
+        }
+    }
+
     /// The place of a room's first key.
     pub(crate) fn first(&self, room: u64) -> usize {
         self.members.partition_point(|member| member.0 < room)

@@ -55,6 +55,21 @@ fn answers_light_texts_before_costly_ones(rt: HostRuntime) {
     answers_light_texts_before(&rt, COSTLY_EDIT);
 }
 
+/// Of texts of 6,064 bytes, each told to 8 sessions, a round receives those that begin within 384 KiB.
+#[test]
+fn receives_no_more_than_it_sends(rt: HostRuntime) {
+    let script = ReadinessScript::new(rt.alloc());
+    let wires = wires(&rt, 8);
+    let mut senders = Senders::at(&rt, &script, wires.as_slice());
+    senders.enter(&rt);
+    let edit = long_edit(&rt, rt.alloc(), 6_000);
+    senders.say(&rt, 0, edit.as_str(), 12);
+    for wanted in [9, 3] {
+        senders.server.round(&rt);
+        assert_eq!(&rt; senders.accepted(&rt, 0), wanted);
+    }
+}
+
 /// While two clients have more short texts than a round receives, a third has a long one received in each round.
 #[test]
 fn receives_a_long_text_in_each_round(rt: HostRuntime) {

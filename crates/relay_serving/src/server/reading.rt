@@ -156,6 +156,7 @@ impl<S: Read + Write + OpenStream + Drop, R: Readiness<S>> Server<S, R> {
         match received(turn) {
             Some(bytes) => Some(TextRead {
                 bytes,
+                sessions: self.rooms.in_room_of(key),
                 work: turn.work,
             }),
             None => None,
