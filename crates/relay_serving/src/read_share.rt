@@ -5,9 +5,9 @@ use relay_tree::Budget;
 /// The most texts that a round reads, whatever may wait.
 pub(crate) const MAX_TEXTS: u64 = 16;
 
-/// The most bytes of texts that a round reads, each counted once for each session in its room. It is less than a pass of writes draws, so
-/// what is read does not run ahead of what those are sent who are told of it.
-const MAX_TOLD: u64 = 393_216;
+/// The most bytes of texts that a round reads, each counted once for each session in its room. It is three quarters of what a pass of writes
+/// draws, so what is read does not run ahead of what those are sent who are told of it.
+const MAX_TOLD: u64 = 589_824;
 
 /// How much work the costly texts of a round may be together, but for the last one: sixteen operations on a largest document.
 const MAX_WORK: u64 = 4_194_304;
@@ -35,7 +35,7 @@ pub(crate) struct ReadShare {
 impl ReadShare {
     /// Of light texts. Half as many as patches may wait for a session, at least 1 and at most 16, and as many bytes as half of what these
     /// patches may weigh. So the number of a round's texts never folds the outbox of a watcher that keeps up. The weight of their
-    /// changes may, since a short text can make a heavy change. To a crowd, as many bytes as 384 KiB for all who may be told.
+    /// changes may, since a short text can make a heavy change. To a crowd, as many bytes as 576 KiB for all who may be told.
     pub(crate) fn of(config: HubConfig) -> ReadShare {
         ReadShare {
             texts: (config.max_waiting_patches / 2).max(1).min(MAX_TEXTS),

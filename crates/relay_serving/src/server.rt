@@ -107,7 +107,7 @@ impl<S: Read + Write + OpenStream + Drop, R: Readiness<S>> Server<S, R> {
     ///   is held, and its connection is costly. This repeats until a pass reads no text, or until the round's share was read;
     /// - writes: each link with waiting messages or corked output, whose stream is writable, gets a write turn, which draws and
     ///   sends up to 32 more messages: first the links with corked output, then all, each time starting with the one that has waited
-    ///   longest. Once such a pass has drawn 512 KiB, the others wait for the next pass;
+    ///   longest. Once the first pass has drawn 256 KiB, or the second 768 KiB, the others wait for the next one;
     /// - passes on texts that costly connections hold, each connection's after those that have waited longer, until their share of work is
     ///   spent, and writes again;
     /// - reads from one long connection, and writes again. A connection is long if its last text had 8 KiB or more, or if as much was

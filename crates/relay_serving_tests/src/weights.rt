@@ -55,7 +55,7 @@ fn answers_light_texts_before_costly_ones(rt: HostRuntime) {
     answers_light_texts_before(&rt, COSTLY_EDIT);
 }
 
-/// Of texts of 6,064 bytes, each told to 8 sessions, a round receives those that begin within 384 KiB.
+/// Of texts of 6,064 bytes, each told to 8 sessions, a round receives those that begin within 576 KiB.
 #[test]
 fn receives_no_more_than_it_sends(rt: HostRuntime) {
     let script = ReadinessScript::new(rt.alloc());
@@ -63,8 +63,8 @@ fn receives_no_more_than_it_sends(rt: HostRuntime) {
     let mut senders = Senders::at(&rt, &script, wires.as_slice());
     senders.enter(&rt);
     let edit = long_edit(&rt, rt.alloc(), 6_000);
-    senders.say(&rt, 0, edit.as_str(), 12);
-    for wanted in [9, 3] {
+    senders.say(&rt, 0, edit.as_str(), 16);
+    for wanted in [13, 3] {
         senders.server.round(&rt);
         assert_eq!(&rt; senders.accepted(&rt, 0), wanted);
     }

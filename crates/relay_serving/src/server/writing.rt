@@ -10,8 +10,14 @@ use std::alloc::Global;
 use std::io::{Read, Write};
 use std::net::OpenStream;
 
-/// The most bytes that one pass of writes draws, but for the last link's turn.
-const MAX_DRAWN: u64 = 524_288;
+/// The most bytes that a pass of writes draws, but for the last link's turn. Both passes together draw 1 MiB. That to links with corked
+/// output is for few: most messages wait for links that said nothing.
+fn most_drawn(output: Output) -> u64 {
+    match output {
+        Output::Corked => 262_144,
+        Output::Waiting => 786_432,
+    }
+}
 
 impl<S: Read + Write + OpenStream + Drop, R: Readiness<S>> Server<S, R> {
     /// Writes to the links that have corked output, so that a reply does not wait for the patches of others, and then to those that have
@@ -25,13 +31,13 @@ impl<S: Read + Write + OpenStream + Drop, R: Readiness<S>> Server<S, R> {
         self.write_each(alloc, Output::Waiting, log);
     }
 
-    /// Writes once to each link that is queued for such output, until 512 KiB were drawn. The links that were not reached come first in
-    /// the next pass.
+    /// Writes once to each link that is queued for such output, until as much was drawn as a pass draws. The links that were not reached
+    /// come first in the next pass.
     #[tactic(auto, using(crate::proofs::Rules::advances))]
     fn write_each<J: ConnectionLog>(&mut self, alloc: Global, output: Output, log: &mut J)
         ensures { KeepsFewer S.remaining self.old self.new }
     {
-        let mut left = MAX_DRAWN;
+        let mut left = most_drawn(output);
         for _ in 0..self.queues.writers(output) {
             if left == 0 {
                 return;
