@@ -21,6 +21,7 @@ pub mod Recorded
 pub mod Contained
 pub mod Carried
 pub mod Spent
+pub mod Overspent
 pub mod Folds
 pub mod Fits
 pub mod Measures

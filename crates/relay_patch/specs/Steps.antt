@@ -1,14 +1,17 @@
 -- Definitions by which the functions of this crate state what their steps do.
-use Rattle.std.specs.Prelude.{take, slice_get, ℕ, List, [], ◌∷◌, ◌++◌, Bool, true, false, Option, Some, None, Result, Ok, Err, is_some, ◌≡◌, ◌≢◌, IsOk, if◌then◌else◌, nat_le, nat_lt, ◌+◌, ◌==◌, ◌&&◌, ◌||◌, bytes_eq}
+use Rattle.std.specs.Prelude.{take, slice_get, ℕ, List, [], ◌∷◌, ◌++◌, Bool, true, false, Option, Some, None, Result, Ok, Err, is_some, ◌≡◌, ◌≢◌, IsOk, ◌⊎◌, if◌then◌else◌, nat_le, nat_lt, ◌+◌, ◌==◌, ◌&&◌, ◌||◌, bytes_eq}
 use Rattle.relay_tree.specs.Document.{Document, list, object}
 use Rattle.relay_tree.specs.Part.{items_length, member_at}
+use Rattle.relay_tree.specs.Budget.{paid}
+use Rattle.relay_tree.specs.declared.budget.Budget.{Budget}
 use Rattle.relay_pointer.specs.Index.{Token, index_of, index_text}
 use Rattle.relay_pointer.specs.Path.{Path}
-use Rattle.relay_patch.specs.Walk.{Cause, NotIndex, PastEnd, NoContainer, Root, NoMemory, then_do, is_dash, step, walk}
+use Rattle.relay_patch.specs.Walk.{Cause, NotIndex, PastEnd, NoContainer, Root, NoMemory, TooHeavy, then_do, is_dash, step, walk}
 use Rattle.relay_patch.specs.Place.{Place, parent, last}
 use Rattle.relay_patch.specs.Patch.{Op, Bounds, effect}
 use Rattle.relay_patch.specs.After.{after}
-use Rattle.relay_patch.specs.Change.{Change}
+use Rattle.relay_patch.specs.Change.{Change, changes_of}
+use Rattle.relay_patch.specs.Weight.{changes_weight}
 use Rattle.relay_patch.specs.declared.change.Change.TheVariants as change
 pub use Rattle.relay_patch.specs.declared.applying.insert_target.InsertTarget.{InsertTarget}
 use Rattle.relay_patch.specs.declared.applying.insert_target.InsertTarget.TheVariants as insert_target
@@ -107,3 +110,7 @@ listed (Some c) = c ∷ []
 -- the operations before place n pass, and the one at n is not refused by its own checks
 abbrev pub Reaches : Document → List Op → Bounds → ℕ → Type 0
 Reaches d ops bounds n = (e : Document) × (op : Op) × (after d (take n ops) bounds ≡ Ok e) × (slice_get ops n ≡ Some op) × IsOk (effect e op)
+
+-- why an operation is refused if its change weighs more than what is left: it fails its own checks, or it is too heavy
+abbrev pub IsOverspent : Document → Op → Budget → Cause → Type 0
+IsOverspent d op left cause = (effect d op ≡ Err cause) ⊎ ((cause ≡ TooHeavy) × IsOk (effect d op) × (paid (changes_weight (changes_of d op)) left ≡ None))

@@ -1,27 +1,32 @@
 //! One operation of a patch: its checks, the change that it makes, and the bounds on the document after it.
 ghost use Rattle.std.specs.Prelude.{◌≡◌, ◌≢◌, ◌<◌, ◌+◌, ◌++◌, Ok, Err, Some, false, is_some, IsOk, IsSome, OnOk, OnErr, IfOk, IfErr, IfSome};
-ghost use Rattle.relay_tree.specs.Document.{Document};
+ghost use Rattle.relay_tree.specs.Document.{Document, weight};
 ghost use Rattle.relay_tree.specs.Budget.{paid};
+ghost use Rattle.relay_tree.specs.declared.budget.Budget.{Budget};
 ghost use Rattle.relay_patch.specs.Patch.{effect, within};
 ghost use Rattle.relay_patch.specs.After.{afforded, performed};
 ghost use Rattle.relay_patch.specs.Change.{Makes, Leads, changes_of};
 ghost use Rattle.relay_patch.specs.Measure.{carries, Known};
-ghost use Rattle.relay_patch.specs.Steps.{listed};
+ghost use Rattle.relay_patch.specs.Steps.{listed, IsOverspent};
 ghost use Rattle.relay_patch.specs.Undo.{taken_back};
 ghost use Rattle.relay_patch.specs.Weight.{changes_weight};
 ghost use Rattle.relay_patch.specs.declared.change.Change.TheVariants.{Move};
 ghost use Rattle.relay_patch.specs.declared.fault.Cause.TheVariants.{NoMemory};
+ghost use Rattle.relay_patch.specs.declared.op.Op.TheVariants as op;
 
+use super::insert_target::resolve_insert;
 use super::keeping::{make_keeping, put_in, take_out};
 use super::making::make;
 use super::measuring::{displaced, gone, measure, weight_after};
 use super::recording::record;
 use super::sliding::in_one_list;
 use super::undo::Kept;
+use super::walk::walk;
 use crate::bounds::Bounds;
 use crate::change::{Change, Place};
 use crate::fault::Cause;
 use crate::op::Op;
+use relay_pointer::Pointer;
 use relay_tree::{Budget, Tree};
 use std::alloc::Global;
 
@@ -36,6 +41,7 @@ pub(crate) struct Done {
 }
 
 /// Performs one operation, which `following` others follow, and checks the bounds. Keeps what takes it back, if others follow.
+#[tactic(auto, using(crate::proofs::Overspent::overspent))]
 pub(crate) fn perform(
     alloc: Global,
     tree: &mut Tree,
@@ -57,8 +63,54 @@ pub(crate) fn perform(
     ensures back { OnOk result (0 < following → taken_back tree.new kept.new.undos.items ≡ taken_back tree.old kept.old.undos.items) }
     ensures refused_back { OnErr result (taken_back tree.new kept.new.undos.items ≡ taken_back tree.old kept.old.undos.items) }
 {
+    if let Some(cause) = too_heavy(tree, op, done.left) {
+        return Err(cause);
+    }
     let change = record(alloc, tree, op)?;
     advance(alloc, tree, kept, done, change, bounds, following)
+}
+
+// Why an operation is refused whose value alone weighs more than its change may; `None` if it does not. So no value is copied that is far
+// too heavy. The value is walked only as far as the budget pays for.
+fn too_heavy(tree: &Tree, op: &Op, left: Budget) -> Option<Cause>
+    ensures refused { IfSome result (IsOverspent tree.now op.now left) }
+    ensures other { IfSome result (λ cause. cause ≢ NoMemory) }
+{
+    match op {
+        Op::Add { path, value } => match value.pay(left) {
+            Some(_) => None,
+            None => Some(heavy_insertion(tree, path)),
+        },
+        Op::Replace { path, value } => match value.pay(left) {
+            Some(_) => None,
+            None => Some(heavy_replacement(tree, path)),
+        },
+        Op::Remove { .. } | Op::Move { .. } | Op::Copy { .. } | Op::Test { .. } => None,
+    }
+}
+
+// Why an insertion of a value is refused that what is left does not pay for.
+#[tactic(auto, using(crate::proofs::Overspent::added_here, crate::proofs::Overspent::added_nowhere))]
+fn heavy_insertion(tree: &Tree, path: &Pointer) -> Cause
+    ensures refused { (v : Document) (left : Budget) → paid (weight v) left ≡ None → IsOverspent tree.now (op.Add path.now v) left result }
+    ensures other { result ≢ NoMemory }
+{
+    match resolve_insert(tree, path.tokens()) {
+        Ok(_) => Cause::TooHeavy,
+        Err(cause) => cause,
+    }
+}
+
+// The same of a replacement.
+#[tactic(auto, using(crate::proofs::Overspent::replaced_here, crate::proofs::Overspent::replaced_nowhere))]
+fn heavy_replacement(tree: &Tree, path: &Pointer) -> Cause
+    ensures refused { (v : Document) (left : Budget) → paid (weight v) left ≡ None → IsOverspent tree.now (op.Replace path.now v) left result }
+    ensures other { result ≢ NoMemory }
+{
+    match walk(tree, path.tokens()) {
+        Ok(_) => Cause::TooHeavy,
+        Err(cause) => cause,
+    }
 }
 
 // Makes the change, if there is one, within the bounds. It is paid for before it is made.
