@@ -3,7 +3,12 @@ use Rattle.std.specs.Prelude.{ℕ, ◌≤◌, ◌≢◌, ⊤, Option, Some, None
 use Rattle.relay_options.specs.declared.job.Job.{Job}
 use Rattle.relay_options.specs.declared.job.Job.TheVariants.{Script, Loop, Follow, Serve}
 use Rattle.relay_options.specs.declared.settings.Settings.{Settings}
-use Rattle.relay_options.specs.declared.settings.TheConstants.{MAX_HISTORY, MAX_WAITING_PATCHES, MAX_ROOMS, MAX_SESSIONS, MAX_EPOCH, MAX_TURNS, MAX_PORT}
+use Rattle.relay_options.specs.declared.settings.TheConstants.{MAX_HISTORY, MAX_WAITING_PATCHES, MAX_ROOMS, MAX_SESSIONS, MAX_EPOCH, MAX_WEIGHT_LIMIT, MAX_TURNS, MAX_PORT}
+
+-- a limit of a weight, if there is one, is in range
+abbrev pub IsLimit : Option ℕ → Type 0
+IsLimit None = ⊤
+IsLimit (Some limit) = limit ≤ MAX_WEIGHT_LIMIT
 
 -- settings that are in range for a hub
 pub record AreSettings (settings : Settings) : Type 0 where
@@ -16,6 +21,9 @@ pub record AreSettings (settings : Settings) : Type 0 where
   pub some_sessions : 1 ≤ settings.sessions
   pub sessions : settings.sessions ≤ MAX_SESSIONS
   pub epoch : settings.epoch ≤ MAX_EPOCH
+  pub history_weight : IsLimit settings.history_weight
+  pub waiting_weight : IsLimit settings.waiting_weight
+  pub telling_weight : IsLimit settings.telling_weight
 
 -- the port of an operator, if there is one, is a port of its own
 abbrev pub IsAdmin : ℕ → Option ℕ → Type 0

@@ -1,6 +1,6 @@
 //! The parser of the command line, by `clap`.
 ghost use Rattle.std.specs.Prelude.{IfOk, ◌≤◌};
-ghost use Rattle.relay_options.specs.Ranges.{AreSettings, IsAdmin, IsPossible};
+ghost use Rattle.relay_options.specs.Ranges.{AreSettings, IsAdmin, IsLimit, IsPossible};
 
 use crate::job::{Job, Stop};
 use crate::settings::{
@@ -266,9 +266,9 @@ fn settings_of(alloc: Global, given: &ArgMatches<'_>) -> Result<Settings, Stop>
         rooms: number_of(alloc, given, "rooms", 1, MAX_ROOMS)?,
         sessions: number_of(alloc, given, "sessions", 1, MAX_SESSIONS)?,
         epoch: number_of(alloc, given, "epoch", 0, MAX_EPOCH)?,
-        history_weight: given.get_one::<u64>("max-history-weight"),
-        waiting_weight: given.get_one::<u64>("max-waiting-weight"),
-        telling_weight: given.get_one::<u64>("max-telling-weight"),
+        history_weight: weight_of(alloc, given, "max-history-weight")?,
+        waiting_weight: weight_of(alloc, given, "max-waiting-weight")?,
+        telling_weight: weight_of(alloc, given, "max-telling-weight")?,
     })
 }
 
@@ -287,6 +287,19 @@ fn number_of(
         Some(number) if least <= number && number <= most => Ok(number),
         Some(_) | None => Err(Stop::Misuse(format!(in alloc;
             "error: --{name} takes a number from {least} to {most}\n"
+        )?)),
+    }
+}
+
+/// The weight of an option, if it is given; checked again as in [`number_of`].
+fn weight_of(alloc: Global, given: &ArgMatches<'_>, name: &str) -> Result<Option<u64>, Stop>
+    ensures { IfOk result IsLimit }
+{
+    match given.get_one::<u64>(name) {
+        None => Ok(None),
+        Some(weight) if weight <= MAX_WEIGHT_LIMIT => Ok(Some(weight)),
+        Some(_) => Err(Stop::Misuse(format!(in alloc;
+            "error: --{name} takes a number from 0 to {MAX_WEIGHT_LIMIT}\n"
         )?)),
     }
 }
