@@ -130,18 +130,24 @@ module _ {S : Type 0} (remaining : S → Option (List ℕ)) where
   hearing_most (Ok u) hub s most before after a b may one hearing = subst (λ n. Hearing remaining n before after a b) (sym (reads_one hub s most may one)) hearing
   hearing_most (Err e) hub s most before after a b may one hearing = tt
 
+  -- then no more was passed on
+  pub hearing_then : (most : ℕ) (before middle after : List Event) (a b : OpenSocket S) → Hearing remaining most before middle a b → Passes middle after [] → Hearing remaining most before after a b
+  hearing_then most before middle after a b hearing none = record {
+    texts = hearing.texts;
+    passes = passes_then hearing.texts before middle after hearing.passes none;
+    hears = hearing.hears;
+    role = hearing.role;
+  }
+
   -- ---- what was passed on, whatever comes of it
 
   pub passes_on_none : (most : ℕ) (a : OpenSocket S) (before after : List Event) → Passes before after [] → PassesOn remaining most a before after
   passes_on_none most a before after none = record { texts = []; passes = none; heard = a; hears = hears_nothing most a }
 
   pub passes_on_heard : (most : ℕ) (a b : OpenSocket S) (before middle after : List Event) → Hearing remaining most before middle a b → Passes middle after [] → PassesOn remaining most a before after
-  passes_on_heard most a b before middle after hearing none = record {
-    texts = hearing.texts;
-    passes = passes_then hearing.texts before middle after hearing.passes none;
-    heard = b;
-    hears = hearing.hears;
-  }
+  passes_on_heard most a b before middle after hearing none =
+      let on = hearing_then most before middle after a b hearing none in
+      record { texts = on.texts; passes = on.passes; heard = b; hears = on.hears }
 
   -- the same of a link that sends first
   pub sends_none : (most : ℕ) (a : OpenSocket S) (before after : List Event) → after ≡ before → SendsAndPassesOn remaining most a before after
@@ -230,13 +236,3 @@ module _ {S : Type 0} (remaining : S → Option (List ℕ)) where
   passes_ended hub (Replying stream reply) new made is gone = (subst (λ m. Passes [] m []) (sym is) (closing_passes (entered reply.verdict)), ended_fresh new gone)
   passes_ended hub (Closing socket left) new made is gone = (subst (λ m. Passes [] m []) (sym is) refl, ended_fresh new gone)
   passes_ended hub Gone new made is gone = (subst (λ m. Passes [] m []) (sym is) refl, ended_fresh new gone)
-
-module _ {S : Type 0} {remaining : S → Option (List ℕ)} where
-  -- then no more was passed on
-  pub hearing_then : (most : ℕ) (before middle after : List Event) (a b : OpenSocket S) → Hearing remaining most before middle a b → Passes middle after [] → Hearing remaining most before after a b
-  hearing_then most before middle after a b hearing none = record {
-    texts = hearing.texts;
-    passes = passes_then hearing.texts before middle after hearing.passes none;
-    hears = hearing.hears;
-    role = hearing.role;
-  }

@@ -127,7 +127,7 @@ module _ {S : Type 0} (remaining contents : S → Option (List ℕ)) where
       → Tells contents m q b.socket c.socket → c.held ≡ b.held → Exchanges remaining contents most p q a c
   exchanged most p m q a b c drew hearing quiet tells holds = record {
     heard = b;
-    hearing = hearing_then (allowed_reads p.hub p.session most) p.made m.made q.made a b hearing quiet;
+    hearing = hearing_then remaining (allowed_reads p.hub p.session most) p.made m.made q.made a b hearing quiet;
     tells = tells_then (tells_none p m b.socket b.socket drew refl) tells;
     holds = holds;
   }
