@@ -1,7 +1,8 @@
 //! The relay without sockets: rooms, sessions and events. One event is one call of [`Hub::open`], [`Hub::receive`], [`Hub::draw`] or
 //! [`Hub::close`]. A call ends before the next one starts, so concurrent clients are events in any order.
 //!
-//! Rooms are kept by name, and stay when their sessions are closed. A session belongs to one room.
+//! Rooms are kept by name, and stay when their sessions are closed, until one in which no edit was ever accepted makes place for another. A
+//! session belongs to one room.
 #![tactic(auto)]
 
 mod broadcast;
@@ -32,3 +33,4 @@ pub use hub::Hub;
 pub use message_counts::{FaultCount, MessageCounts, SnapshotCounts};
 pub use summary::RoomSummary;
 pub use text::Text;
+pub use work::OPERATION_WORK;

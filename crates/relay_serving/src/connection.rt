@@ -7,7 +7,7 @@ ghost use Rattle.relay_serving.specs.Connections.{has_room};
 
 use crate::readiness::StreamReady;
 use crate::ready::{Known, Watched};
-use relay_hub::Hub;
+use relay_hub::{Hub, OPERATION_WORK};
 use relay_link::{Link, Stage};
 use std::alloc::{AllocError, Global};
 use std::io::{Read, Write};
@@ -24,7 +24,7 @@ pub(crate) enum Output {
 /// How much of a round a connection takes.
 #[derive(Clone, Copy, Debug, PartialEq, Eq)]
 pub(crate) enum Weight {
-    /// It sends short texts, of which each is little work.
+    /// It sends short texts, of which each is little work: one operation on a largest document at most.
     Light,
     /// Its next text is short and may be much work.
     Costly,
@@ -32,14 +32,11 @@ pub(crate) enum Weight {
     Long,
 }
 
-/// How much work a text may be at most that is little work: one operation on a largest document.
-const MAX_LIGHT: u64 = 262_144;
-
 impl Weight {
     /// How much work a text may be that the hub is given in a read turn of this weight.
     pub(crate) fn most_work(self) -> u64 {
         match self {
-            Weight::Light => MAX_LIGHT,
+            Weight::Light => OPERATION_WORK,
             Weight::Costly | Weight::Long => u64::MAX,
         }
     }

@@ -1,16 +1,17 @@
 //! How much a round reads before it writes.
-use relay_hub::HubConfig;
+use crate::server::MAX_WAITING;
+use relay_hub::{HubConfig, OPERATION_WORK};
 use relay_tree::Budget;
 
-/// The most texts that a round reads, whatever may wait.
+/// The most light texts that a round reads, and the most costly ones, whatever may wait.
 pub(crate) const MAX_TEXTS: u64 = 16;
 
-/// The most bytes of texts that a round reads, each counted once for each session in its room. It is three quarters of what a pass of writes
-/// draws, so what is read does not run ahead of what those are sent who are told of it.
-const MAX_TOLD: u64 = 589_824;
+/// The most bytes of light texts that a round reads, and of costly ones, each counted once for each session in its room. It is three
+/// quarters of what a pass of writes draws, so what is read does not run ahead of what those are sent who are told of it.
+const MAX_TOLD: u64 = MAX_WAITING / 4 * 3;
 
 /// How much work the costly texts of a round may be together, but for the last one: sixteen operations on a largest document.
-const MAX_WORK: u64 = 4_194_304;
+const MAX_WORK: u64 = 16 * OPERATION_WORK;
 
 /// A text that a read turn passed to the hub.
 #[derive(Clone, Copy, Debug, PartialEq, Eq)]

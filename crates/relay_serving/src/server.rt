@@ -25,6 +25,7 @@ use slab::Slab;
 use std::alloc::Global;
 use std::io::{Read, Write};
 use std::net::{OpenListener, OpenStream};
+pub(crate) use writing::MAX_WAITING;
 
 /// The maximum number of connections that a server holds whose hub allows that number of sessions: a quarter more, and at least 64 more.
 /// The others have no session yet, or none any more.
@@ -63,8 +64,8 @@ pub struct Server<S: Write + Drop, R> {
 }
 
 impl<S: Read + Write + OpenStream + Drop, R: Readiness<S>> Server<S, R> {
-    /// A server of a hub, with no connection. A round reads half as many short texts as patches may wait for a session of the hub, and half
-    /// as many bytes as these may weigh ([`ReadShare::of`]).
+    /// A server of a hub, with no connection. A round reads half as many light texts as patches may wait for a session of the hub, 16 at
+    /// most, and half as many bytes as these may weigh, and of costly texts as much again ([`ReadShare::of`]).
     #[tactic(auto, using(crate::proofs::Owners::none_connected))]
     pub fn new(alloc: Global, hub: Hub, readiness: R) -> Server<S, R>
         ensures empty { connections_of result ≡ 0 }
@@ -108,14 +109,15 @@ impl<S: Read + Write + OpenStream + Drop, R: Readiness<S>> Server<S, R> {
     /// - writes: each link with waiting messages or corked output, whose stream is writable, gets a write turn, which draws and
     ///   sends up to 32 more messages: first the links with corked output, then all, each time starting with the one that has waited
     ///   longest. Once the first pass has drawn 256 KiB, or the second 768 KiB, the others wait for the next one;
-    /// - passes on texts that costly connections hold, each connection's after those that have waited longer, until their share of work is
-    ///   spent, and writes again;
+    /// - passes on texts that costly connections hold, each connection's after those that have waited longer, until a share like that of
+    ///   light texts was read, or as much work as sixteen operations on a largest document, and writes again;
     /// - reads from one long connection, and writes again. A connection is long if its last text had 8 KiB or more, or if as much was
     ///   read of a text without its end; of the long ones too the one that had its turn last comes last.
     ///
-    /// So a client whose texts are short and little work waits for at most one share of costly texts of others, and one long text. A turn that
-    /// is out of memory is left for the next round. Links that are gone are dropped. If it is unknown what is ready, everything counts as
-    /// ready.
+    /// So a client whose texts are short and little work waits in turn with others like it, and in each round for at most one share of costly
+    /// texts, and one long text. A turn that is out of memory is left for the next round, and the hub gives memory back
+    /// ([`relay_hub::Hub::shed`]), so that resumes and waiting patches become snapshots. Links that are gone are dropped. If it is unknown
+    /// what is ready, everything counts as ready.
     #[tactic(auto, using(crate::proofs::Rules::rounds))]
     pub fn round<L: OpenListener<Stream = S>, J: ConnectionLog>(
         &mut self,
@@ -136,7 +138,7 @@ impl<S: Read + Write + OpenStream + Drop, R: Readiness<S>> Server<S, R> {
         self.exchange_long(alloc, log);
     }
 
-    /// Runs that many rounds, and ends every connection.
+    /// Runs that many rounds, and ends every connection as [`Server::end`] does.
     #[tactic(auto, using(crate::proofs::Rules::rounds))]
     pub fn run<L: OpenListener<Stream = S>, J: ConnectionLog>(
         &mut self,

@@ -1,7 +1,7 @@
 //! A test that no connection is forgotten: rounds go by queues, and here they are compared with a walk over all connections.
 use crate::memory_server::ReadinessScript;
 use crate::pair::lent;
-use crate::senders::{EDIT, Senders, WATCH, long_edit, readable, wires};
+use crate::senders::{COSTLY_EDIT, EDIT, Senders, WATCH, long_edit, readable, wires};
 use relay_server::{ReadyEvent, StreamReady};
 use relay_wire::InjectedFault;
 use std::alloc::AllocGlobal;
@@ -46,17 +46,18 @@ fn ready(key: usize, writable: bool) -> ReadyEvent {
 
 /// A step of a client, or of what its stream does.
 fn step(rt: &impl Abort, numbers: &mut Numbers, senders: &Senders<'_>, key: usize, long: &str) {
-    match numbers.below(12) {
+    match numbers.below(14) {
         0..=3 => senders.say(rt, key, EDIT, 1),
         4 => senders.say(rt, key, EDIT, 40),
         5 | 6 => senders.say(rt, key, long, 1),
-        7 => senders.say(rt, key, WATCH, 1),
-        8 => lent(rt, senders.wire(rt, key)).writes = Some(InjectedFault::Nothing),
-        9 => {
+        7 | 8 => senders.say(rt, key, COSTLY_EDIT, 3),
+        9 => senders.say(rt, key, WATCH, 1),
+        10 => lent(rt, senders.wire(rt, key)).writes = Some(InjectedFault::Nothing),
+        11 => {
             lent(rt, senders.wire(rt, key)).writes = None;
             senders.server.event(rt, ready(key, true));
         }
-        10 => send(rt, senders, key, PING),
+        12 => send(rt, senders, key, PING),
         _ => break_off(rt, numbers, senders, key),
     }
 }
@@ -116,8 +117,8 @@ fn falls_asleep(rt: &(impl Abort + AllocGlobal), senders: &mut Senders<'_>) -> b
     false
 }
 
-/// Clients send short texts and long ones, pings and watches, more than may be answered; streams fill up and take more; the system loses
-/// events; and some clients break off. After each round every connection that may have a turn is queued for it.
+/// Clients send short texts, costly ones and long ones, pings and watches, more than may be answered; streams fill up and take more; the
+/// system loses events; and some clients break off. After each round every connection that may have a turn is queued for it.
 #[test]
 fn no_connection_is_forgotten(rt: HostRuntime) {
     for seed in 0..3 {

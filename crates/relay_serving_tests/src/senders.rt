@@ -64,10 +64,15 @@ impl<'a> Senders<'a> {
 
     /// How many edits of a client were accepted, by what was written to it since the last call.
     pub fn accepted(&self, rt: &impl Abort, key: usize) -> u64 {
+        self.count(rt, key, DONE)
+    }
+
+    /// How often a part stands in what was written to a client since the last call.
+    pub fn count(&self, rt: &impl Abort, key: usize, part: &[u8]) -> u64 {
         let mut wire = lent(rt, self.wire(rt, key));
         let mut count = 0u64;
         for start in 0..wire.output.len() {
-            if wire.output.get(start..).unwrap_or(&[]).starts_with(DONE) {
+            if wire.output.get(start..).unwrap_or(&[]).starts_with(part) {
                 count = count.saturating_add(1);
             }
         }

@@ -55,6 +55,21 @@ fn answers_light_texts_before_costly_ones(rt: HostRuntime) {
     answers_light_texts_before(&rt, COSTLY_EDIT);
 }
 
+/// Of a long text and a costly one that wait, the costly one is received first: its edit makes the first revision.
+#[test]
+fn receives_costly_texts_before_long_ones(rt: HostRuntime) {
+    let script = ReadinessScript::new(rt.alloc());
+    let wires = wires(&rt, 2);
+    let mut senders = Senders::at(&rt, &script, wires.as_slice());
+    senders.enter(&rt);
+    let long = long_edit(&rt, rt.alloc(), 10_000);
+    senders.say(&rt, 0, long.as_str(), 1);
+    senders.say(&rt, 1, COSTLY_EDIT, 1);
+    senders.server.round(&rt);
+    assert_eq!(&rt; senders.count(&rt, 1, b"\"rev\":1"), 1, "the costly one");
+    assert_eq!(&rt; senders.count(&rt, 0, b"\"rev\":2"), 1, "the long one");
+}
+
 /// Of texts of 6,064 bytes, each told to 8 sessions, a round receives those that begin within 576 KiB.
 #[test]
 fn receives_no_more_than_it_sends(rt: HostRuntime) {

@@ -10,12 +10,17 @@ use std::alloc::Global;
 use std::io::{Read, Write};
 use std::net::OpenStream;
 
-/// The most bytes that a pass of writes draws, but for the last link's turn. Both passes together draw 1 MiB. That to links with corked
-/// output is for few: most messages wait for links that said nothing.
+/// The most bytes that the pass of writes to links with corked output draws, but for the last link's turn. It is for few: most messages wait
+/// for links that said nothing.
+const MAX_CORKED: u64 = 262_144;
+
+/// The same of the pass to all links. Both passes together draw 1 MiB.
+pub(crate) const MAX_WAITING: u64 = 786_432;
+
 fn most_drawn(output: Output) -> u64 {
     match output {
-        Output::Corked => 262_144,
-        Output::Waiting => 786_432,
+        Output::Corked => MAX_CORKED,
+        Output::Waiting => MAX_WAITING,
     }
 }
 
