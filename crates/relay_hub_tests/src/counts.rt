@@ -10,12 +10,14 @@ use std::process::Abort;
 /// Resumes from another epoch.
 const RESUME: &str = r#"{"do":"resume","epoch":2,"id":1,"rev":1,"view":[""]}"#;
 
+const SNAPSHOT_1: &str = r#"{"kind":"snapshot","rev":1,"view":[[{}]]}"#;
+
 const SNAPSHOT_2: &str = r#"{"kind":"snapshot","rev":2,"view":[[{"x":1}]]}"#;
 
 const SNAPSHOT_3: &str = r#"{"kind":"snapshot","rev":3,"view":[[{"x":1}]]}"#;
 
 /// Asserts the answers of a hub to the calls of [`WATCHING`], by which session 1 has drawn two replies and a snapshot, then to these. So many
-/// patches wait for a session at most, of at most this weight.
+/// patches wait for a session at most, of at most this weight. One of [`EDIT`] weighs 35.
 fn counts(
     rt: &(impl Abort + AllocGlobal),
     most: u64,
@@ -66,10 +68,9 @@ fn a_message_is_counted_by_its_kind(rt: HostRuntime) {
 }
 
 #[test]
-fn a_snapshot_is_counted_by_its_cause(rt: HostRuntime) {
-    let rt = &rt;
+fn patches_that_are_too_many_make_a_snapshot(rt: HostRuntime) {
     counts(
-        rt,
+        &rt,
         1,
         Budget::Unbounded,
         &[
@@ -82,8 +83,12 @@ fn a_snapshot_is_counted_by_its_cause(rt: HostRuntime) {
             ),
         ],
     );
+}
+
+#[test]
+fn patches_that_are_too_heavy_make_a_snapshot(rt: HostRuntime) {
     counts(
-        rt,
+        &rt,
         32,
         Budget::Left(69),
         &[
@@ -96,8 +101,12 @@ fn a_snapshot_is_counted_by_its_cause(rt: HostRuntime) {
             ),
         ],
     );
+}
+
+#[test]
+fn an_edit_that_is_too_heavy_makes_a_snapshot(rt: HostRuntime) {
     counts(
-        rt,
+        &rt,
         32,
         Budget::Left(34),
         &[
@@ -109,8 +118,12 @@ fn a_snapshot_is_counted_by_its_cause(rt: HostRuntime) {
             ),
         ],
     );
+}
+
+#[test]
+fn memory_given_back_makes_a_snapshot(rt: HostRuntime) {
     counts(
-        rt,
+        &rt,
         32,
         Budget::Unbounded,
         &[
@@ -121,12 +134,23 @@ fn a_snapshot_is_counted_by_its_cause(rt: HostRuntime) {
                 Counts,
                 "2 0 0, watch 1, resume 0, edit 0, patches 0, weight 0, memory 1",
             ),
+        ],
+    );
+}
+
+#[test]
+fn a_resume_from_another_epoch_makes_a_snapshot(rt: HostRuntime) {
+    counts(
+        &rt,
+        32,
+        Budget::Unbounded,
+        &[
             (Say(1, RESUME), ANSWERED),
             (Draw(1), r#"{"how":"snapshot","id":1,"kind":"resumed"}"#),
-            (Draw(1), SNAPSHOT_2),
+            (Draw(1), SNAPSHOT_1),
             (
                 Counts,
-                "3 0 0, watch 1, resume 1, edit 0, patches 0, weight 0, memory 1",
+                "3 0 0, watch 1, resume 1, edit 0, patches 0, weight 0, memory 0",
             ),
         ],
     );

@@ -1,8 +1,8 @@
-//! The limits, one by one, as `docs/PROTOCOL.md` lists them. All other tests use their names.
+//! The limits, one by one, as `docs/PROTOCOL.md` lists them.
 use relay_history::{LAST_REVISION, MAX_REVISIONS};
 use relay_hub::{DEFAULT_ROOMS, DEFAULT_SESSIONS, MAX_ROOMS, MAX_SESSIONS};
 use relay_outbox::{MAX_PATCHES, MAX_REPLIES};
-use relay_patch::{MAX_DEPTH, MAX_OPS, MAX_RELAYED_TOKENS, MAX_WEIGHT};
+use relay_patch::{MAX_CHANGES_WEIGHT, MAX_DEPTH, MAX_OPS, MAX_RELAYED_TOKENS, MAX_WEIGHT};
 use relay_pointer::MAX_TOKENS;
 use relay_proto::{MAX_NAME, MAX_REQUEST};
 use relay_tree::MAX_COUNT;
@@ -13,6 +13,11 @@ fn the_limits_are_those_of_the_protocol(rt: HostRuntime) {
     for (limit, wanted, what) in [
         (MAX_DEPTH, 64, "depth of a document"),
         (MAX_WEIGHT, 262_144, "weight of a document"),
+        (
+            MAX_CHANGES_WEIGHT,
+            1_048_576,
+            "weight of the changes of an edit",
+        ),
         (MAX_REQUEST, 1_048_576, "bytes of a request"),
         (MAX_OPS, 64, "operations in an edit"),
         (MAX_SLOTS, 16, "slots in a view"),
