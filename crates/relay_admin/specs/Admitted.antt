@@ -15,14 +15,14 @@ use Rattle.relay_admin.specs.declared.request.AdminRequest.{AdminRequest}
 abbrev pub fields_of : RequestHead → Fields
 fields_of head = map name_and_value head.fields
 
--- a head that asks for this, and that no page in a browser can have sent
+-- a head that asks for this; a page in a browser can have sent it only as a GET whose answer the page cannot read
 pub record IsAdmitted (head : RequestHead) (request : AdminRequest) : Type 0 where
   pub target : head.target ≡ target_of request
   pub method : head.method ≡ method_of request
   pub few : length (fields_of head) ≤ MAX_FIELDS
   -- one host, which is this machine under one of its own names
   pub host : (value : List ℕ) × (only_value (codes "Host") (fields_of head) ≡ Some value) × IsTrue (is_loopback value)
-  -- no page asks
+  -- no page is named as the one that asks
   pub no_origin : has_field (codes "Origin") (fields_of head) ≡ false
 
 -- if the bytes begin with a head: the answer is a request exactly if the head is one that is admitted

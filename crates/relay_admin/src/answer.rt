@@ -9,6 +9,6 @@ pub enum Ask {
     More,
     /// An accepted request.
     Request(AdminRequest),
-    /// A refused one. Its reply is [`crate::refusal`].
+    /// A refused one. Its reply is [`crate::Reply::Refused`].
     Refused(Refusal),
 }

@@ -96,7 +96,7 @@ pub struct SnapshotsBy {
     pub memory: u64,
 }
 
-/// Returns the text of all numbers.
+/// Returns the text of all numbers. If memory runs out, it returns `AllocError` and leaves nothing behind.
 pub fn metrics_text(alloc: Global, metrics: &Metrics<'_>) -> Result<String, AllocError>
     ensures { IfOk result (λ text. string_bytes text ≡ metrics_text metrics.now) }
 {

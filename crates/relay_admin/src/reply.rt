@@ -15,7 +15,7 @@ pub enum Reply<'a> {
     Unhealthy(&'a str),
     /// 200: its numbers ([`crate::metrics_text`]).
     Metrics(&'a str),
-    /// 200: its rooms ([`crate::RoomList`]).
+    /// 200: its rooms ([`crate::end_rooms`]).
     Rooms(&'a str),
     /// 202: it ends once what waits was told.
     Stopping,
@@ -70,7 +70,8 @@ impl<'a> Reply<'a> {
     }
 }
 
-/// Returns each byte of a reply, after which the connection is closed. No cache keeps it, and no browser reads it as another type.
+/// Returns each byte of a reply, after which the connection is closed. No cache keeps it, and no browser reads it as another type. If memory
+/// runs out, it returns `AllocError` and leaves nothing behind.
 pub fn reply_text(alloc: Global, reply: &Reply<'_>) -> Result<String, AllocError>
     ensures { IfOk result (λ text. string_bytes text ≡ reply_text reply.now) }
 {

@@ -17,7 +17,7 @@ pub struct RoomRow<'a> {
     pub weight: u64,
 }
 
-/// Begins a list of rooms.
+/// Begins a list of rooms. If memory runs out, it returns `AllocError` and leaves nothing behind.
 pub fn begin_rooms(alloc: Global) -> Result<Writer, AllocError>
     ensures before { IfOk result (λ out. out.before ≡ []) }
     ensures tokens { IfOk result (λ out. out.tokens ≡ begun) }
@@ -63,7 +63,8 @@ fn write_number(out: &mut Writer, name: &str, value: u64) -> Result<(), AllocErr
     out.u64(value)
 }
 
-/// Ends a list, and returns its text, which reads back as the tokens written.
+/// Ends a list, and returns its text, which reads back as the tokens written. If memory runs out, it returns `AllocError`, and the list is
+/// gone.
 pub fn end_rooms(mut out: Writer) -> Result<String, AllocError>
     requires { out.before ≡ [] }
     ensures text { IfOk result (λ text. string_bytes text ≡ print (out.tokens ++ end_array ∷ [])) }

@@ -1,8 +1,9 @@
 //! Tests of what documents are made of and changed by: trees, pointers, patches, views, and their translation.
 //!
-//! They call each public function once with success, and show what no script can: limits that a caller chooses, and calls that only other
-//! crates make. How edits change documents, and what views show of it, is data in `tests/scripts`. Each test is a table, and a function
-//! that asserts each of its rows. These functions unwrap each result with `expect`, since a returned error is one more exit to prove.
+//! They call what stands alone with success, and show what no script can: limits that a caller chooses, and calls that only other crates
+//! make. What is done within a budget (`apply_within`, `translate_within`) is shown by the tests of the hub. How edits change documents, and
+//! what views show of it, is data in `tests/scripts`. Most tests are a table, and a function that asserts each of its rows. These functions
+//! unwrap each result with `expect`, since a returned error is one more exit to prove.
 #![tactic(auto)]
 
 #[cfg(test)]

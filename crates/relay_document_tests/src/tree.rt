@@ -92,7 +92,7 @@ fn counts(rt: &(impl Abort + AllocGlobal), rows: &[(&str, Option<u64>)]) {
 }
 
 #[test]
-fn counts_up_to_2_to_the_53(rt: HostRuntime) {
+fn counts_up_to_2_to_the_53_less_1(rt: HostRuntime) {
     counts(
         &rt,
         &[

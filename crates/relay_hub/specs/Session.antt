@@ -60,7 +60,7 @@ abbrev pub patches_weight : List (ℕ × List Op) → ℕ
 patches_weight [] = 0
 patches_weight (p ∷ ps) = ops_weight p.1 + patches_weight ps
 
--- a patch waits behind the others if a budget pays for all of them; otherwise the outbox folds
+-- a patch is added as `with_patch` says if a budget pays for it and for all that wait; otherwise the outbox folds
 abbrev pub with_patch_within : Budget → ℕ × List Op → Contents Reply (ℕ × List Op) → Contents Reply (ℕ × List Op)
 with_patch_within budget p contents =
     if is_some (paid (patches_weight contents.patches + ops_weight p.1) budget) then with_patch p contents else folded contents

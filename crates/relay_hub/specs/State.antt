@@ -45,8 +45,8 @@ pub record IsConfig (made : HubConfig) : Type 0 where
   pub history : (1 ≤ made.history) × (made.history ≤ MAX_REVISIONS)
   pub max_waiting_patches : (1 ≤ made.max_waiting_patches) × (made.max_waiting_patches ≤ MAX_PATCHES)
 
--- the configuration, the number of the next session, the rooms by name, in the order in which they were first opened, and for each open
--- session the place of its room
+-- the configuration, the number of the next session, the rooms by name, each at its place (a new one comes last, or takes that of one that
+-- is untouched), and for each open session the place of its room
 pub record State : Type 0 where
   pub made : HubConfig
   pub next : ℕ

@@ -46,7 +46,7 @@ pub fn broadcast_and_trim(
 /// Notifies the watchers of the newest edit. The index finds the sessions that the edit touches, and no other is visited. If the look-up
 /// runs out of memory, every session is visited. Returns how many outboxes folded because memory ran out.
 ///
-/// Costs the look-up ([`Room::touched`]); for each session found, a binary search and a comparison of its view with at most 16 others; and
+/// Costs the look-up ([`Room::touched`]); for each session found, a binary search and a comparison of its view with at most 32 others; and
 /// for each whose view is none of these, what the edit means to it ([`Room::catch_up_within`]) and the text of that. So an update is made
 /// and written once for all sessions that watch the same view, if they watch at most 16 views. No patch is made that what is left does not
 /// pay for.

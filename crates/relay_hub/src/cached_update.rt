@@ -101,9 +101,10 @@ fn keep<T: Drop>(kept: &mut Vec<T>, item: T) -> Result<(), AllocError>
     Ok(())
 }
 
-/// Returns the update of the newest edit for a view that a session with this budget watches. If one of the kept patches is for an equal
-/// view, it is shared, if the session's budget pays for it. Otherwise the update is made within that budget and what is left, and kept; a
-/// patch is paid from what is left. Out of memory leaves what may be made, and the views of the kept patches.
+/// Returns the update of the newest edit for a view that a session with this budget watches. A kept patch for an equal view is shared, or a
+/// snapshot takes its place if the session's budget does not pay for it. A kept update that is no patch is shared if the view and what a
+/// patch may weigh are the same. Otherwise the update is made within that budget and what is left, and kept; a patch is paid from what is
+/// left. Out of memory leaves what may be made, and the views of the kept patches.
 #[tactic(auto, using(crate::proofs::CachedUpdates::patch_found, crate::proofs::CachedUpdates::other_found))]
 pub fn update_for(
     alloc: Global,

@@ -5,7 +5,7 @@ use thiserror::Error;
 /// Why a hub cannot be made.
 #[derive(Clone, Copy, Debug, PartialEq, Eq, Error)]
 pub enum HubNewFault {
-    /// `epoch` or `first` is not a count, or `history` or `max_waiting_patches` is out of its range.
+    /// `epoch` or `first` is not a count, or `rooms`, `sessions`, `history` or `max_waiting_patches` is out of its range.
     #[error("a limit out of range")]
     BadLimit,
     #[error("out of memory")]

@@ -2,7 +2,7 @@
 //!
 //! Each call is a step (`specs/Step`). A hub agrees with the log of the calls that it answered (`specs/Stands`): it has the documents,
 //! sessions and views of the log, and every client that watches, and applies what was drawn for it and what waits, in order, holds exactly
-//! its view of the present document. A call that runs out of memory changes nothing.
+//! its view of the present document. A call that returns `NoMemory` changes nothing.
 ghost use Rattle.std.specs.Prelude.{◌≡◌, ◌≢◌, ◌<◌, ◌⊎◌, ◌↔◌, [], ◌∷◌, ℕ, Some, None, Ok, IfOk, IfErr, IsErrOf, IsSomeAnd, IsTrue, OnOk, OnErr, length, option_map, slice_get};
 ghost use Rattle.relay_hub.specs.Call.{StepIf, opening, receiving, drawing, closing, logged, done, followed, Runs};
 ghost use Rattle.relay_hub.specs.Log.{Log, entry};
@@ -42,7 +42,7 @@ pub struct Hub {
     made: HubConfig,
     /// The number of the next session. If it is above [`MAX_COUNT`], no number is left.
     next: u64,
-    /// The rooms by name, in the order in which they were first opened. A room is never removed.
+    /// The rooms by name, each at its place. A new one comes last, or takes the place of one that is untouched.
     rooms: IndexMap<String, RoomSessions>,
     /// The place of each open session's room, by the session's number.
     homes: IndexMap<u64, usize>,
@@ -115,8 +115,8 @@ impl Hub {
     }
 
     /// Opens a session in a room, and returns its number, which is never used again. If there is no room of that name, it is made, with the
-    /// document `null` at revision 0. A `Welcome` waits in the session's outbox. An error leaves the hub unchanged. `NoMemory` comes only
-    /// if no other error does.
+    /// document `null` at revision 0; if all places are taken, an untouched room makes place for it. A `Welcome` waits in the session's
+    /// outbox. An error leaves the hub unchanged. `NoMemory` comes only if no other error does.
     pub fn open(&mut self, alloc: Global, room: &str) -> Result<u64, OpenFault>
         ensures step { StepIf self.old (Open room.now) (opening result) self.new }
         ensures stands { (b : HubConfig) (E : Log) → StandsFor b E self.old →
@@ -161,7 +161,7 @@ impl Hub {
         Ok(place)
     }
 
-    /// Whether another room is needed, there are 64 already, and none of them is untouched.
+    /// Whether another room is needed, there are as many as the configuration allows, and none of them is untouched.
     fn is_crowded(&self, place: Option<usize>) -> bool
         ensures { result ≡ is_crowded place self.now }
     {
@@ -170,9 +170,9 @@ impl Hub {
             && vacant_place(self.made.rooms, &self.rooms).is_none()
     }
 
-    /// Serves a text from a session. `Busy`, with nothing changed, exactly if 32 replies wait for it, which is checked before the text is
-    /// read. Otherwise exactly one reply is added to its outbox. An edit that is refused changes no room and no other session. `NoMemory`
-    /// comes only if [`Hub::may_hear`] is true.
+    /// Serves a text from a session. `NoSession`: it is not open. `Busy`, with nothing changed, exactly if 32 replies wait for it, which is
+    /// checked before the text is read. Otherwise exactly one reply is added to its outbox, unless memory runs out. An edit that is refused
+    /// changes no room and no other session. `NoMemory` comes only if [`Hub::may_hear`] is true, and leaves the hub unchanged.
     pub fn receive(&mut self, alloc: Global, session: u64, text: &str) -> Result<Heard, HubFault>
         ensures step { StepIf self.old (Receive session text.now) (receiving result) self.new }
         ensures stands { (b : HubConfig) (E : Log) → StandsFor b E self.old →
@@ -190,7 +190,8 @@ impl Hub {
     }
 
     /// Removes and returns the text at the front of a session's outbox: replies first, then patches, then the due snapshot, which is made
-    /// from the present document. `None` if nothing waits. `NoMemory` comes only if something waits, and leaves the message in the outbox.
+    /// from the present document. `None` if nothing waits. `NoSession`: it is not open. `NoMemory` comes only if something waits, and leaves the
+    /// message in the outbox.
     pub fn draw(&mut self, alloc: Global, session: u64) -> Result<Option<String>, HubFault>
         ensures step { StepIf self.old (Draw session) (drawing result) self.new }
         ensures stands { (b : HubConfig) (E : Log) → StandsFor b E self.old →
@@ -206,7 +207,7 @@ impl Hub {
         room_sessions.draw(alloc, session, &mut self.counts)
     }
 
-    /// Closes a session. Its room stays. Allocates nothing.
+    /// Closes a session. Its room stays. `NoSession`: it is not open. Allocates nothing.
     pub fn close(&mut self, session: u64) -> Result<(), NoSession>
         ensures step { Step self.old (Close session) (closing result) self.new }
         ensures stands { (b : HubConfig) (E : Log) → StandsFor b E self.old →
@@ -223,9 +224,9 @@ impl Hub {
         Ok(())
     }
 
-    /// Gives memory back when there was none: each room forgets its history, if a weight bounds that, so that a resume is answered by a
-    /// snapshot; and the patches that wait for a session fold into one snapshot that is due. Documents, sessions and replies stay. Allocates
-    /// nothing.
+    /// Gives memory back when there was none: each room forgets its history, if a weight bounds that, so that a resume from before its last
+    /// change is answered by a snapshot; and the patches that wait for a session fold into one snapshot that is due. Documents, sessions and
+    /// replies stay. Allocates nothing.
     pub fn shed(&mut self)
         ensures shed { self.new ≡ shed self.old }
         ensures stands { (b : HubConfig) (E : Log) → StandsFor b E self.old → StandsFor b E self.new }
@@ -292,8 +293,7 @@ impl Hub {
         }
     }
 
-    /// The name and the size of the room at a place, from 0, in the order in which the rooms were first opened. `None` if there are no
-    /// more. Allocates nothing.
+    /// The name and the size of the room at a place, from 0. `None` if no room has that place or a later one. Allocates nothing.
     #[tactic(auto, using(crate::proofs::Representation::room_at, crate::proofs::Representation::no_room_at))]
     pub fn room_at(&self, place: usize) -> Option<RoomSummary<'_>>
         ensures { option_map shown_by result ≡ option_map summary_of (slice_get self.now.rooms place) }

@@ -11,8 +11,8 @@ use relay_outbox::{Front, Outbox};
 use relay_proto::Reply;
 use relay_tree::Budget;
 
-/// Adds a patch behind the others if the budget pays for all of them; otherwise the outbox folds. Returns why it folded, if it did.
-/// Allocates nothing.
+/// Adds a patch behind the others. The outbox folds instead if the budget does not pay for all of them, or if as many wait as may; a
+/// snapshot that is due already stays. Returns why it folded, if it did. Allocates nothing.
 pub fn put(
     outbox: &mut Outbox<Reply, EncodedPatch>,
     load: &mut u64,

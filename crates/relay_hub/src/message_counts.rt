@@ -26,7 +26,7 @@ pub enum SnapshotCause {
 pub struct MessageCounts {
     /// Replies, refusals among them.
     pub replies: u64,
-    /// Refusals, by the fault, in the order of the checks.
+    /// Refusals, by the fault, in the order of [`Word`].
     pub refusals: [FaultCount; FAULTS],
     pub patches: u64,
     pub snapshots: SnapshotCounts,

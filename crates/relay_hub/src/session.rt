@@ -172,7 +172,7 @@ impl Session {
     }
 
     /// Applies an update: adds nothing, a patch, which may wait in other outboxes too, or a snapshot in place of all patches. The snapshot
-    /// also replaces them if they would weigh more than they may. Allocates nothing.
+    /// also replaces them if they would be more, or weigh more, than may wait. Allocates nothing.
     pub fn take_update(&mut self, update: Update)
         requires { IsSome self.old.view }
         ensures { self.new ≡ with_outbox (heard self.old.budget update self.old.outbox) self.old }

@@ -18,7 +18,7 @@ pub fn shed_budget(budget: Budget) -> Budget
     }
 }
 
-/// Each room forgets its history, and the patches that wait for its sessions fold.
+/// Each room forgets the oldest changes that the budget does not pay for, and the patches that wait for its sessions fold.
 pub fn shed_rooms(rooms: &mut IndexMap<String, RoomSessions>, budget: Budget)
     ensures { rooms_of rooms.new.entries ≡ map (shed_named budget) (rooms_of rooms.old.entries) }
 {

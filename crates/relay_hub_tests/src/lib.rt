@@ -1,8 +1,9 @@
 //! Tests of rooms and sessions: histories, outboxes, rooms, messages, followers, handshakes, and the hub.
 //!
-//! They call each public function once with success, and show what no script can: limits that a caller chooses, the last revision, the
-//! bytes of a handshake, and runs of events. What sessions receive is data in `tests/scripts`. Most functions unwrap each result with
-//! `expect`, since a returned error is one more exit to prove.
+//! They call what stands alone with success, and show what no script can: limits that a caller chooses, the last revision, the bytes of a
+//! handshake, and runs of events. What only a server asks of a hub (`config`, `waiting_weight`) is called by the tests of its rounds. What
+//! sessions receive is data in `tests/scripts`. Most functions unwrap each result with `expect`, since a returned error is one more exit to
+//! prove.
 #![tactic(auto)]
 
 #[cfg(test)]

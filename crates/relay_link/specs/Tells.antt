@@ -67,7 +67,7 @@ module _ {S : Type 0} where
   -- ---- what a public turn says
 
   -- The bytes that were framed before, and the frames of the texts that the events drew, each whole and in order: these, and nothing else,
-  -- are what is framed now. Each of the texts is UTF-8. Nothing was read, and no text that the link held was passed on.
+  -- are what is framed now. Each of the texts is UTF-8. Nothing was read, and the link holds the same text, or none.
   pub record Told (contents : S → Option (List ℕ)) (p q : Point) (old new : OpenSocket S) : Type 0 where
     pub follows : Follows no_room p q
     pub utf8 : AllByRecursion IsUtf8 (drawn follows)

@@ -1,15 +1,17 @@
 //! The link between one socket and the hub, as turns: a handshake, then messages, then a closing handshake (RFC 6455).
 //!
 //! The promise: a turn changes the hub by exactly the events that it reports, in their order, and each of them names the
-//! link's own session or opens it. Each text that it draws is framed whole and in order, and a turn that writes frames nothing
-//! else. A link that is closing or gone has no session. What the other side does can end no link but its own.
+//! link's own session or opens it. If it leaves the link open, each text that it drew is framed whole and in order, and a turn that
+//! reads nothing frames nothing else. A link that is closing or gone has no session. What the other side does can end no link but its
+//! own.
 //!
 //! No call blocks. A stream that returns `WouldBlock`, or is interrupted, ends the turn early and is tried again in the next.
 //!
 //! Besides its stream, an idle link costs about 5 KB: 1.5 KiB that one read fills, as much for bytes of an incomplete
 //! message and for output, and a few hundred bytes of state. A handshake takes 90 KB more while it is checked.
 //! Longer messages come on top, and their capacity is kept: one incoming message (at most 1,056,768 bytes), and outgoing
-//! texts of up to 64 KiB together plus one more, since a link draws no further text while output is pending.
+//! texts of up to 64 KiB together plus one more, since a link draws no further text while output is pending; and one text that is held for a
+//! later turn ([`Link::read_turn`]), until it is passed on.
 #![tactic(auto)]
 
 mod cause;

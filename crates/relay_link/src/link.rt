@@ -82,8 +82,9 @@ impl<S: Read + Write + Drop> Link<S> {
         self.state.stage()
     }
 
-    /// Whether a turn has no work until the stream is ready again or a message waits for the session. `false` if the last read turn
-    /// read a byte, since another message may have arrived with it, or if a turn since then was interrupted or out of memory.
+    /// Whether a turn has no work until the stream is ready again or a message waits for the session. `false` if the last read turn read a
+    /// byte, found a message or took the text that it held, since more may have come with it, or if a turn since then was interrupted or
+    /// out of memory.
     pub fn is_idle(&self) -> bool
         ensures { result ≡ is_idle self.now }
     {
@@ -109,7 +110,8 @@ impl<S: Read + Write + Drop> Link<S> {
     ///
     /// - Head: the turn writes the rest of an unfinished reply. Otherwise it reads up to 4,096 bytes, and checks all bytes
     ///   received so far as a handshake. A valid one opens a session; if the hub opens none the reply is 503. Once the reply is
-    ///   written the link is Open, or Gone with [`Cause::Refused`].
+    ///   written the link is Open, or Gone with [`Cause::Refused`]. If the bytes end, the stream fails, or memory runs out before that, it
+    ///   is Gone, and a session that was opened is closed.
     /// - Open: while output is pending the turn only sends. Otherwise it passes the text that it holds to the hub. If it holds none
     ///   ([`Link::read_turn`]), it reads one message: a text is passed to the hub, a ping is answered, a pong has no effect, a binary
     ///   message is answered by a close with 1003, and a close is answered. If the session is busy ([`Hub::may_hear`] is false before
@@ -117,7 +119,8 @@ impl<S: Read + Write + Drop> Link<S> {
     ///   until output is pending; a draw that is out of memory ends the turn. After a binary message or a close the link is Closing. If
     ///   the bytes end, the stream fails, frames violate the protocol, or memory runs out, it is Gone.
     /// - Closing: the turn reads one message and drops it. If the other side's close has not arrived after 16 such turns, the
-    ///   link is Gone with [`Cause::Silent`].
+    ///   link is Gone with [`Cause::Silent`]. If that close or the end of the bytes comes, the stream fails, frames violate the protocol,
+    ///   or memory runs out, it is Gone at once.
     /// - Gone: the turn does nothing.
     ///
     /// The turn has a cause exactly if it ended Head without Open, left Open, or ended Closing. [`Cause::Stream`] comes only if

@@ -76,7 +76,7 @@ fn is_not_sent_back(rt: &(impl Abort + AllocGlobal), frame: &[u8], code: u16) {
 
 /// A character that is cut by the end of a fragment continues in the next one, or the text is not UTF-8 (section 8.1).
 #[test]
-fn a_cut_character_goes_on(rt: HostRuntime) {
+fn a_cut_character_has_to_go_on(rt: HostRuntime) {
     goes_not_on(
         &rt,
         &[

@@ -155,7 +155,7 @@ fn a_socket_hears_what_a_turn_drew(rt: HostRuntime) {
     }
 }
 
-/// What a socket answers to bytes in which no message of a server stands.
+/// What a socket answers to these bytes.
 fn fault(rt: &(impl Abort + AllocGlobal), bytes: &[u8]) -> &'static str {
     let stream = Duplex {
         reader: bytes,

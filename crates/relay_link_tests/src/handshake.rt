@@ -29,7 +29,7 @@ fn opens_and_ends(rt: HostRuntime) {
     assert_eq!(rt; hub.waiting(1), None);
 }
 
-/// A hub with the maximum number of sessions.
+/// A hub with as many sessions as it allows.
 fn full_hub(rt: &(impl Abort + AllocGlobal)) -> Hub {
     let mut hub = Hub::new(rt.alloc(), 1, 1, 64, 1).expect(rt, "a hub");
     for _ in 0..DEFAULT_SESSIONS {

@@ -1,7 +1,7 @@
 //! Tests of links: the cause of each turn, the bytes written, and that links keep working beside one that fails;
 //! and what a client makes of what a link wrote.
 //!
-//! Each test is a table of rows, played to a link over a scripted wire: the input, and the expected result of the turn.
+//! Most tests are a table of rows, played to a link over a scripted wire: the input, and the expected result of the turn.
 #![tactic(auto)]
 
 #[cfg(test)]

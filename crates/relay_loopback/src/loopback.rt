@@ -24,7 +24,8 @@ pub struct Loopback<'n, N: Net> {
 }
 
 impl<'n, N: Net> Loopback<'n, N> {
-    /// Creates a hub behind a port that the system chooses, with no sessions. The limits are those of [`Hub::with_config`].
+    /// Creates a hub behind a port that the system chooses, with no sessions. Fails with `BadLimit` or `NoMemory` as [`Hub::with_config`]
+    /// does, before a port is opened, and with [`ServeFault::Listen`] if no port can be.
     pub fn new(alloc: Global, net: &'n N, made: HubConfig) -> Result<Loopback<'n, N>, ServeFault>
         ensures fault { IfErr result (λ fault. IsListen fault ⊎ (fault ≡ Ended script.NoMemory) ⊎ (fault ≡ Ended script.BadLimit)) }
         ensures bad_limit { IsErrOf result (Ended script.BadLimit) ↔ BadLimits made }

@@ -5,7 +5,8 @@ ghost use Rattle.relay_loopback.specs.Faults.{IsListen};
 use crate::fault::ServeFault;
 use std::net::{Ipv4Addr, Net, OpenListener, SocketAddr};
 
-/// Opens a non-blocking listener on 127.0.0.1. For port 0 the system chooses the port.
+/// Opens a non-blocking listener on 127.0.0.1. For port 0 the system chooses the port. Fails with [`ServeFault::Listen`] if the port cannot
+/// be bound, or the listener not be made non-blocking; nothing is open then.
 pub fn listen<N: Net>(net: &N, port: u16) -> Result<N::Listener, ServeFault>
     ensures { IfErr result IsListen }
 {

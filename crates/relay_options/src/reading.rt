@@ -65,7 +65,8 @@ const WAITING_WEIGHT: &str = "65536";
 /// The default of `--max-telling-weight` for a server: the weight of four largest documents.
 const TELLING_WEIGHT: &str = "1048576";
 
-/// Parses the arguments `words`, of which the first is the program's name. Each number of the job is in range.
+/// Parses the arguments `words`, of which the first is the program's name. Each number of the job is in range. Otherwise the reason is help
+/// or the version that was asked for, words that name no job or a number out of range, or that memory ran out ([`Stop`]).
 pub fn job_of(alloc: Global, words: &[String]) -> Result<Job, Stop>
     ensures { IfOk result IsPossible }
 {

@@ -45,8 +45,8 @@ use std::alloc::Global;
 /// A `test`, and a `move` to its own place, change nothing. If the depth is bounded and the old document is within the
 /// bounds, no path of a change has more tokens than that bound and no value is deeper.
 ///
-/// The tree is changed in place. An operation costs its paths, what it removes, and three times its value. An insertion
-/// into a list, or a removal, moves pointers to the elements on its shorter side. A far move within one list does both; a
+/// The tree is changed in place. An operation costs its paths, what it removes, and two copies of its value: one in the change, and one in
+/// the tree, unless it moves within one list. An insertion into a list, or a removal, moves pointers to the elements on its shorter side. A far move within one list does both; a
 /// near one exchanges neighbours. If a later operation is refused, the earlier ones are taken back. One case costs more: if
 /// a member is moved, or if it is removed and either another operation follows or the old document is outside the bounds,
 /// the object is copied without it. If the weight is bounded and the document within its bounds, the objects that a patch copies weigh
@@ -82,7 +82,7 @@ pub struct Applied {
 }
 
 /// Applies a patch as [`apply`] does, to a tree that is within the bounds and has the weight `known`. The document is not
-/// measured, so an edit costs only what it touches.
+/// measured, so an edit costs only what it touches, and the copies that [`apply`] makes of an object that a member leaves.
 pub fn apply_within(
     alloc: Global,
     tree: &mut Tree,

@@ -16,7 +16,7 @@ pub enum Cause {
     /// The index of an insertion is larger than the length of the list.
     #[error("past the end of the list")]
     PastEnd,
-    /// A path continues below a value that has no parts.
+    /// A path continues below a scalar.
     #[error("not a container")]
     NoContainer,
     /// A `remove` of the whole document.

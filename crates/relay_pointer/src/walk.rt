@@ -32,7 +32,8 @@ pub fn child<'t>(tree: &'t Tree, token: &str) -> Option<&'t Tree>
     }
 }
 
-/// Borrows the part that one token names for writing. Only what is written there changes. Allocates nothing.
+/// Borrows the part that one token names for writing, or returns `None` if it names none. Only what is written there changes. Allocates
+/// nothing.
 pub fn child_mut<'t>(node: &'t mut Node, token: &str) -> Option<&'t mut Tree>
     ensures* writes_back { sem 𝓛 (LendsChild node.entry token.now result) }
     ensures value { option_copied_mut result ≡ child (document_of node.old) token.now }

@@ -54,7 +54,7 @@ pub enum Reply {
         id: u64,
         rev: u64,
     },
-    /// A request was refused. `id` is `None` if the text has none. `at` is the place of the operation or pointer at fault,
+    /// A request was refused. `id` is `None` if none was read ([`crate::Refusal`]). `at` is the place of the operation or pointer at fault,
     /// counted from 0. `rev` is the present revision of the room, if the reply names it.
     Refused {
         id: Option<u64>,
@@ -66,7 +66,7 @@ pub enum Reply {
     Watching {
         id: u64,
     },
-    /// The view is held, and continues from the revision that the client named.
+    /// The view is held; `how` says what follows.
     Resumed {
         id: u64,
         how: ResumeOutcome,

@@ -16,8 +16,8 @@ use relay_tree::{Tree, begin_text, end_text};
 use relay_view::View;
 use std::alloc::{AllocError, Global};
 
-/// Returns the text of a patch message: the operations that bring a view to the revision `rev`. Allocates only that text and copies
-/// no value. It reads back as the message if the revision is a count, paths have at most 66 tokens and the text nests at most 127
+/// Returns the text of a patch message: the operations that bring a view to the revision `rev`. Copies no value; the text of each pointer is
+/// allocated briefly. It reads back as the message if the revision is a count, paths have at most 66 tokens and the text nests at most 127
 /// containers.
 pub fn patch_text(alloc: Global, rev: u64, patch: &Patch) -> Result<String, AllocError>
     ensures text { IfOk result (λ text. string_bytes text ≡ text_of (patch_message rev patch.now)) }

@@ -19,7 +19,7 @@ newest_of (changes ∷ older) = changes
 abbrev pub newest_changes : Past → List Change
 newest_changes past = newest_of past.changes
 
--- every watcher that is not in the list, and was at the revision before the newest, missed nothing
+-- if the changes of the newest revision are held: every watcher that is not in the list, and was at the revision before, missed nothing
 abbrev pub OthersMissNothing : State → Watches → List ℕ → Type 0
 OthersMissNothing room watches sessions =
     (session rev : ℕ) (view : View) → map.get watches session ≡ Some view → list_any (nat_eq session) sessions ≡ false

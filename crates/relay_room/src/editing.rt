@@ -22,8 +22,8 @@ impl Room {
     /// present revision, whatever the patch is; then `Apply` if an operation is refused or memory runs out. An error leaves the room
     /// unchanged.
     ///
-    /// Costs what the patch touches; the document is not measured. If the room already holds its limit of revisions, it forgets the
-    /// changes of the oldest one.
+    /// Costs what [`relay_patch::apply_within`] costs; the document is not measured. If the room already holds its limit of revisions, it
+    /// forgets the changes of the oldest one.
     pub fn edit(
         &mut self,
         alloc: Global,

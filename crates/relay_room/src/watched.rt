@@ -13,8 +13,8 @@ use relay_translate::WatchIndex;
 use std::alloc::{AllocError, Global};
 
 impl Room {
-    /// Returns the sessions whose views the newest revision touched, in ascending order, each once. Every other watcher that was at
-    /// the revision before missed nothing. The list is empty if the history does not hold the changes of the newest revision.
+    /// Returns the sessions whose views the newest revision touched, in ascending order, each once. If the history holds the changes of
+    /// that revision, every other watcher that was at the revision before missed nothing; if it does not, the list is empty.
     ///
     /// Costs a copy of the list of its changes, and a lookup of each of them ([`WatchIndex::touched`]).
     pub fn touched(&self, alloc: Global, watched: &WatchIndex) -> Result<Vec<u64>, AllocError>

@@ -22,8 +22,9 @@ const SHARED_EPOCH: &str =
     "relay: epoch 1, as without --epoch: a client of an earlier run may be told that nothing changed\nrelay: give --epoch a number not used before, as --epoch $(date +%s)\n";
 
 /// Runs the job that the arguments `words` ask for, over a reader and a writer, and reports faults on `errors`. The first word is the
-/// program's name. Returns the exit status: 0 if all was done, 1 for a fault of input, output or a line, 2 for a fault of the
-/// arguments, 3 if out of memory. Requested help goes to the writer. If the arguments ask for no job, nothing is read.
+/// program's name. Returns the exit status: 0 if all was done or help was asked for, 1 for a fault of input, output, a line, a port or
+/// sockets, 2 for a fault of the arguments, 3 if out of memory. Requested help goes to the writer. If the arguments ask for no job,
+/// nothing is read.
 pub fn start<H: AllocGlobal + Clock + Net, R: Read, W: Write, E: Write>(
     rt: &H,
     words: &[String],

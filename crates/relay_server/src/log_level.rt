@@ -9,7 +9,7 @@ use std::fmt::{Display, Formatter};
 pub(crate) enum LogLevel {
     /// The relay does what it is there for.
     Info,
-    /// A limit was reached, or memory is short.
+    /// A limit was reached, memory is short, or lines of the log were dropped.
     Warn,
 }
 

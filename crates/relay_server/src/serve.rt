@@ -36,7 +36,8 @@ pub struct Served {
 }
 
 /// Listens on 127.0.0.1, prints `listening PORT`, runs the rounds, ends every connection, and prints `turns N` with how many rounds were
-/// run: all, unless an operator asked for the stop. The log goes to `errors`. At `BadLimit`, `Listen` and `Wait` nothing was printed. At `NoMemory` no line is cut; at `Output` one may be.
+/// run: all, unless an operator asked for the stop. The log goes to `errors`. At `BadLimit`, `Listen` and `Wait` nothing was printed. At
+/// `NoMemory` no line is cut; at `Output` one may be.
 pub fn serve<N: Clock + Net, W: Write, E: Write>(
     alloc: Global,
     net: &N,

@@ -69,7 +69,7 @@ fn counts_empty_lines(rt: HostRuntime) {
 
 /// A history has 1 to 1,024 revisions, and an outbox 1 to 256 patches.
 #[test]
-fn reads_nothing_where_a_limit_is_out_of_range(rt: HostRuntime) {
+fn refuses_script_limits_out_of_range(rt: HostRuntime) {
     for (history, max_waiting_patches, wanted) in [
         (0, 32, "fault: a limit out of range"),
         (1_025, 32, "fault: a limit out of range"),

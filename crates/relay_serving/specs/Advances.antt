@@ -71,7 +71,7 @@ module _ {S R : Type 0} (remaining : S → Option (List ℕ)) where
   abbrev pub Keeps : Server S R → Server S R → Type 0
   Keeps old new = (new.most ≡ old.most) × Advances (left_of remaining) old.hub (links_of old.connections) new.hub (links_of new.connections)
 
-  -- no connection is added
+  -- it holds no more connections than before
   abbrev pub KeepsFewer : Server S R → Server S R → Type 0
   KeepsFewer old new = Keeps old new × (connections_of new ≤ connections_of old)
 

@@ -45,7 +45,7 @@ where
         }
     }
 
-    /// Accepts connections that wait, at most as many as are held. Returns whether more may wait. A connection that cannot be held is
+    /// Accepts connections that wait, at most as many as may be held. Returns whether more may wait. A connection that cannot be held is
     /// dropped.
     pub(crate) fn accept<R: Readiness<L::Stream>>(
         &mut self,

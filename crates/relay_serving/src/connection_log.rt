@@ -130,7 +130,7 @@ impl Display for Refusal {
     }
 }
 
-/// The word for a cause, as in the metric `relay_connections_ended_total`.
+/// The word for a cause, as in the metric `relay_connections_ended_total`; a refused handshake is none of its causes.
 fn cause_word(cause: Cause) -> &'static str {
     match cause {
         Cause::Peer => "peer",
@@ -145,7 +145,7 @@ fn cause_word(cause: Cause) -> &'static str {
     }
 }
 
-/// Receives an entry for each connection that opens, is refused or ends.
+/// Receives an entry for each connection that opens, is refused, ends or makes place, and if memory was refused.
 pub trait ConnectionLog {
     fn record(&mut self, entry: LogEntry<'_>);
 }

@@ -77,7 +77,7 @@ impl Polling {
         Ok(Polling { poll, events })
     }
 
-    /// Watches the listener of the admin port too.
+    /// Watches the listener of the admin port too. After an error it is not watched.
     pub fn watch_admin<L: AsRawFd>(&self, listener: &L) -> io::Result<()> {
         let listener = listener.as_raw_fd();
         self.poll.registry().register(

@@ -100,7 +100,7 @@ impl Known {
 }
 
 impl<S> Watched<S> {
-    /// A stream that counts as ready until it returns `WouldBlock`, and what is known of it.
+    /// A stream that counts as ready until a call shows that it is not, and what is known of it.
     pub(crate) fn new(alloc: Global, stream: S) -> Result<(Watched<S>, Known), AllocError>
     where
         S: Drop,

@@ -4,7 +4,7 @@ use relay_link::Turn;
 use std::alloc::{AllocError, Global};
 use std::hash::{DefaultHasher, Hash, Hasher};
 
-/// The most rooms in which texts are heard between two walks over their connections: more than a round hears texts.
+/// The most rooms in which texts are heard between two walks over their connections: more than the 16 texts that are read before a write.
 const MAX_HEARD: usize = 32;
 
 /// The keys of connections by the room of their session, so that those of one room are found without a walk over all. A room stands for

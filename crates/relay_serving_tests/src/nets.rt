@@ -9,7 +9,7 @@ use std::process::Abort;
 use std::time::{Clock, Duration};
 use std::{io, str};
 
-/// What a listener fault.
+/// What is wrong with a listener.
 #[derive(Clone, Copy, Debug, PartialEq, Eq)]
 enum NetFault {
     /// The listener cannot be bound to its port.

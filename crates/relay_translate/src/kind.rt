@@ -1,15 +1,15 @@
-//! The three ways a change can touch what a pointer leads to.
+//! The three ways a change can touch what a slot shows.
 ghost use Rattle.std.specs.Prelude.{◌≡◌};
 ghost use Rattle.relay_translate.specs.Translate.{is_reset};
 
-/// How a change touches what a pointer leads to.
+/// How a change touches what a slot shows.
 #[derive(Clone, Copy, Debug, PartialEq, Eq)]
 pub enum Touch {
-    /// The value is unchanged, or there is still none.
+    /// The slot shows what it showed before.
     Apart,
-    /// Something within the value changed.
+    /// Something within the value that the slot shows changed. Never for a size.
     Inside,
-    /// There may be another value now, or none.
+    /// The slot may show another value or another size now, or nothing.
     Reset,
 }
 

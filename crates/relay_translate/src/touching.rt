@@ -10,8 +10,8 @@ use relay_pointer::{Pointer, index_of};
 use relay_view::SlotKind;
 
 /// Returns how a change touches what a slot with this pointer and kind shows. A move is judged as a removal and an insertion, a copy
-/// at its target. For a size only the parts that the value gains or loses count, and no change is `Inside`. Costs a comparison of the
-/// paths. Allocates nothing. See `docs/PROTOCOL.md`, "What a change means to a slot".
+/// at its target. For a size, a change within the value is a `Reset` if the value gains or loses a part, and else `Apart`; none is `Inside`.
+/// Costs a comparison of the paths. Allocates nothing. See `docs/PROTOCOL.md`, "What a change means to a slot".
 pub fn touch(change: &Change, pointer: &Pointer, kind: SlotKind) -> Touch
     ensures exact { result ≡ touch change.now pointer.now kind }
     ensures table { result ≡ touch_by_table change.now pointer.now kind }

@@ -1,7 +1,7 @@
 //! An index of the views of all sessions, which finds the sessions that an edit touches without checking every view.
 //!
-//! The slots of all views are ordered by pointer, so those that a change can touch are contiguous. Binary searches find them, and
-//! only they are compared with the change.
+//! The slots of all views are ordered by pointer, so those that begin with one path are contiguous, and so are those that equal one. Binary
+//! searches find them for each place of a change and its prefixes, and only they are compared with the change.
 ghost use Rattle.std.specs.Prelude.{◌≡◌, ℕ, map, IfOk};
 ghost use Rattle.std.specs.List.Sorted.{IsStrictlySortedBy};
 ghost use Rattle.std.specs.Ordering.{nat_cmp};

@@ -1,5 +1,5 @@
 //! The parts of a tree one level down, which one token of a path can name.
-ghost use Rattle.std.specs.Prelude.{◌≡◌, ◌<◌, ◌^◌, ℕ, List as list_of, false, bytes_eq, IfSome, option_copied};
+ghost use Rattle.std.specs.Prelude.{◌≡◌, ◌<◌, ◌^◌, ℕ, List as list_of, None, false, bytes_eq, IfSome, option_copied};
 ghost use Rattle.std.specs.Option.{option_map, option_copied_mut};
 ghost use Rattle.std.specs.Borrow.{LendsIf, sem};
 ghost use Rattle.relay_tree.specs.Part.{list_len, list_item, object_member, text_in};
@@ -39,6 +39,7 @@ impl Tree {
     /// member or the tree is not an object. Allocates nothing.
     pub fn take_member(&mut self, name: &str) -> Option<Tree>
         ensures value { result ≡ object_member self.old name.now }
+        ensures missing { result ≡ None → self.new ≡ self.old }
         ensures others { (other : list_of ℕ) → bytes_eq name.now other ≡ false → object_member self.new other ≡ object_member self.old other }
     {
         match &mut self.node {
@@ -70,7 +71,8 @@ impl Node {
         }
     }
 
-    /// Borrows the element at `index` of a list for writing. Only what is written there changes.
+    /// Borrows the element at `index` of a list, counted from 0, for writing. Only what is written there changes. Returns `None` if the index
+    /// is past the end or the node is not a list.
     pub fn item_mut(&mut self, index: usize) -> Option<&mut Tree>
         ensures* writes_back { sem 𝓛 (LendsItem self.entry index result) }
         ensures value { option_copied_mut result ≡ list_item (document_of self.old) index }
@@ -81,7 +83,8 @@ impl Node {
         }
     }
 
-    /// Borrows the value of the member `name` of an object for writing. Only what is written there changes.
+    /// Borrows the value of the member `name` of an object for writing. Only what is written there changes. Returns `None` if there is no such
+    /// member or the node is not an object.
     pub fn member_mut(&mut self, name: &str) -> Option<&mut Tree>
         ensures* writes_back { sem 𝓛 (LendsMember self.entry name.now result) }
         ensures value { option_copied_mut result ≡ object_member (document_of self.old) name.now }

@@ -20,7 +20,7 @@ pub enum TreeFault {
     /// `serde_json` rejects the text: it is not JSON, or it nests more than 127 containers.
     #[error("not a JSON text")]
     NotJson,
-    /// A number has a fraction or an exponent, or does not fit in `i64`.
+    /// A number has a fraction or an exponent, is `-0`, or does not fit in `i64`.
     #[error("a number that is not whole in 64 bits")]
     Number,
     #[error("out of memory")]

@@ -8,7 +8,7 @@ use std::alloc::{AllocError, Global};
 use std::collections::VecDeque;
 
 impl View {
-    /// Returns the list of slots. Copies each value that the pointers lead to.
+    /// Returns the list of slots. Copies each value that a slot shows; a size needs no copy.
     pub fn of(&self, alloc: Global, document: &Tree) -> Result<Tree, AllocError>
         ensures { IfOk result (λ seen. seen ≡ view self.now document.now) }
     {

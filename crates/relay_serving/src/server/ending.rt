@@ -16,7 +16,7 @@ use std::net::OpenStream;
 const SHED_ROUNDS: u64 = 1_024;
 
 impl<S: Read + Write + OpenStream + Drop, R: Readiness<S>> Server<S, R> {
-    /// Ends every connection, by rising key.
+    /// Ends every connection, by rising key. If memory is refused for the end of one, it stays, with its session.
     #[tactic(auto, using(crate::proofs::Rules::rounds))]
     pub fn end<J: ConnectionLog>(&mut self, alloc: Global, log: &mut J)
         ensures rounds { RoundsOf S.remaining self.old self.new }
