@@ -45,13 +45,15 @@ use std::alloc::Global;
 /// A `test`, and a `move` to its own place, change nothing. If the depth is bounded and the old document is within the
 /// bounds, no path of a change has more tokens than that bound and no value is deeper.
 ///
-/// The tree is changed in place. An operation costs its paths, what it removes, and two copies of its value: one in the change, and one in
-/// the tree, unless it moves within one list. An insertion into a list, or a removal, moves pointers to the elements on its shorter side. A far move within one list does both; a
-/// near one exchanges neighbours. If a later operation is refused, the earlier ones are taken back. One case costs more: if
-/// a member is moved, or if it is removed and either another operation follows or the old document is outside the bounds,
-/// the object is copied without it. If the weight is bounded and the document within its bounds, the objects that a patch copies weigh
-/// no more than the document; for the next, the whole document is copied once, and then no more. The document is measured once, as far
-/// as there are bounds, and again after the first change if it was outside them. After that, only what an operation changed is measured.
+/// The tree is changed in place. An operation costs its paths, what it removes, and two copies of its value: one in the
+/// change, and one in the tree, unless it moves within one list. An insertion into a list, or a removal, moves pointers
+/// to the elements on its shorter side. A far move within one list does both; a near one exchanges neighbours. If a
+/// later operation is refused, the earlier ones are taken back. One case costs more: if a member is moved, or if it is
+/// removed and either another operation follows or the old document is outside the bounds, the object is copied without
+/// it. If the weight is bounded and the document within its bounds, the objects that a patch copies weigh no more than
+/// the document; for the next, the whole document is copied once, and then no more. The document is measured once, as
+/// far as there are bounds, and again after the first change if it was outside them. After that, only what an operation
+/// changed is measured.
 pub fn apply(
     alloc: Global,
     tree: &mut Tree,
