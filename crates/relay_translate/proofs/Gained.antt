@@ -1,89 +1,80 @@
--- The sessions that a set gains from entries.
-use Rattle.std.proofs.Common.{◌≡◌, ℕ, ◌==◌, List, [], ◌∷◌, filter, Bool, true, false, not, ◌&&◌, ◌||◌, if◌then◌else◌, refl, sym, ap, ◌∙◌, nat_cmp}
+-- The sessions that a list gains from the index.
+use Rattle.std.proofs.Common.{◌≡◌, ℕ, ◌⊎◌, inl, inr, List, [], ◌∷◌, map, Bool, true, false, not, ◌||◌, refl, sym, ap, ◌∙◌}
 use Rattle.std.specs.List.{list_any}
-use Rattle.std.specs.BTreeSet.{BTreeSet, contains}
+use Rattle.std.specs.Cmp.{both_ways}
+use Rattle.std.specs.FinMap as map
 use Rattle.relay_pointer.specs.Path.{Path}
 use Rattle.relay_patch.specs.declared.change.Change.{Change}
-use Rattle.relay_translate.specs.declared.entry.Entry.{Entry}
+use Rattle.relay_pointer.proofs.Prefixes.{same_itself}
+use Rattle.relay_view.specs.declared.slot.Slot.{Slot}
+use Rattle.relay_view.specs.declared.slot.SlotKind.{SlotKind}
+use Rattle.relay_view.specs.declared.slot.SlotKind.TheVariants.{Value, Size}
 use Rattle.relay_translate.specs.Touch.{touch_slot}
 use Rattle.relay_translate.specs.Local.{is_apart}
-use Rattle.relay_translate.specs.Entries.{Gains, tells}
+use Rattle.relay_translate.specs.Watches.{Watches, slots_of, touches}
+use Rattle.relay_translate.specs.SlotIndex.{SlotIndex, Found, named, IsIndex, Gains, same_kind, same_slot, stands}
 use Rattle.relay_translate.proofs.Near.{near_places, touched_near}
+use Rattle.relay_translate.proofs.Standing.{slots_same}
+use Rattle.relay_translate.proofs.Watched.{any_some}
 
-or_assoc : (a b c : Bool) → ((a || b) || c) ≡ (a || (b || c))
-or_assoc true b c = refl
-or_assoc false b c = refl
-
-pub any_agree : {X : Type 0} (p q : X → Bool) → ((x : X) → p x ≡ q x) → (xs : List X) → list_any p xs ≡ list_any q xs
-any_agree p q same [] = refl
-any_agree p q same (x ∷ xs) = rw (same x, any_agree p q same xs) refl
-
--- the elements that pass one of two tests
-any_either : {X : Type 0} (f g p : X → Bool) (xs : List X) → list_any (λ x. (f x || g x) && p x) xs ≡ (list_any (λ x. f x && p x) xs || list_any p (filter g xs))
-any_either f g p [] = refl
-any_either f g p (x ∷ xs) = ap (λ l. ((f x || g x) && p x) || l) (any_either f g p xs) ∙ go (g x)
+-- two gains, one after the other
+pub gains_either : (f g : Path → Bool) (c : Change) (index : SlotIndex) (old between new : List ℕ) → Gains f c index old between → Gains g c index between new → Gains (λ q. f q || g q) c index old new
+gains_either f g c index old between new h k =
+    record {
+      kept = λ s there. k.kept s (h.kept s there);
+      found = λ v s there touched near. either v s there touched (f v.pointer) (g v.pointer) refl refl near;
+      only = λ s there. back s (k.only s there);
+    }
   where
-    both : (a b c d : Bool) → (((a || true) && b) || (c || d)) ≡ (((a && b) || c) || (b || d))
-    both true true c d = refl
-    both true false c d = refl
-    both false true true d = refl
-    both false true false d = refl
-    both false false c d = refl
+    either : (v : Slot) (s : ℕ) → stands index v s ≡ true → touches c v ≡ true → (x y : Bool) → f v.pointer ≡ x → g v.pointer ≡ y → (x || y) ≡ true → named new s ≡ true
+    either v s there touched true y is also near = k.kept s (h.found v s there touched is)
+    either v s there touched false true is also near = k.found v s there touched also
+    either v s there touched false false is also near = cc
 
-    first : (a b c d : Bool) → (((a || false) && b) || (c || d)) ≡ (((a && b) || c) || d)
-    first true false c d = refl
-    first _ _ c d = refl
+    back : (s : ℕ) → (named between s ≡ true) ⊎ ((v : Slot) × (stands index v s ≡ true) × (touches c v ≡ true)) → (named old s ≡ true) ⊎ ((v : Slot) × (stands index v s ≡ true) × (touches c v ≡ true))
+    back s (inl there) = h.only s there
+    back s (inr some) = inr some
 
-    go : (b : Bool) → (((f x || b) && p x) || (list_any (λ x. f x && p x) xs || list_any p (filter g xs))) ≡ (((f x && p x) || list_any (λ x. f x && p x) xs) || list_any p (if b then x ∷ filter g xs else filter g xs))
-    go true = both (f x) (p x) (list_any (λ x. f x && p x) xs) (list_any p (filter g xs))
-    go false = first (f x) (p x) (list_any (λ x. f x && p x) xs) (list_any p (filter g xs))
-
-pub any_filter : {X : Type 0} (g p : X → Bool) (xs : List X) → list_any (λ x. g x && p x) xs ≡ list_any p (filter g xs)
-any_filter g p [] = refl
-any_filter g p (x ∷ xs) = ap (λ l. (g x && p x) || l) (any_filter g p xs) ∙ go (g x)
+-- checking the slots near the places of a change finds all sessions that it touches
+pub gains_all : (c : Change) (near : Path → Bool) (index : SlotIndex) (old new : List ℕ) → ((q : Path) → near_places c q ≡ near q) → Gains near c index old new → Gains (λ q. true) c index old new
+gains_all c near index old new same h =
+    record {
+      kept = h.kept;
+      found = λ v s there touched all. h.found v s there touched (sym (same v.pointer) ∙ touched_near c v.pointer v.kind (not_apart (is_apart (touch_slot c v)) touched));
+      only = h.only;
+    }
   where
-    go : (b : Bool) → ((b && p x) || list_any p (filter g xs)) ≡ list_any p (if b then x ∷ filter g xs else filter g xs)
-    go true = refl
-    go false = refl
+    not_apart : (b : Bool) → not b ≡ true → b ≡ false
+    not_apart true k = cc
+    not_apart false k = refl
 
-pub gains_either : (f g : Entry → Bool) (test : ℕ → Entry → Bool) (es : List Entry) (old between new : BTreeSet ℕ) → Gains (λ s e. f e && test s e) es old between → Gains test (filter g es) between new → Gains (λ s e. (f e || g e) && test s e) es old new
-gains_either f g test es old between new h k s =
-    k s ∙ ap (λ b. b || list_any (test s) (filter g es)) (h s)
-    ∙ or_assoc (contains nat_cmp old s) (list_any (λ e. f e && test s e) es) (list_any (test s) (filter g es))
-    ∙ ap (λ b. contains nat_cmp old s || b) (sym (any_either f g (test s) es))
+-- ---- one change after the other
 
-pub or_false : (x : Bool) → (x || false) ≡ x
-or_false true = refl
-or_false false = refl
+pub any_map : {A B : Type 0} (f : A → B) (p : B → Bool) (xs : List A) → list_any p (map f xs) ≡ list_any (λ x. p (f x)) xs
+any_map f p [] = refl
+any_map f p (x ∷ xs) = ap (λ b. p (f x) || b) (any_map f p xs)
 
-any_never : {X : Type 0} (p : X → Bool) (xs : List X) → list_any (λ x. false && p x) xs ≡ false
-any_never p [] = refl
-any_never p (x ∷ xs) = any_never p xs
-
-pub gains_none : (test : ℕ → Entry → Bool) (es : List Entry) (old : BTreeSet ℕ) → Gains (λ s e. false && test s e) es old old
-gains_none test es old s = sym (ap (λ b. contains nat_cmp old s || b) (any_never (test s) es) ∙ or_false (contains nat_cmp old s))
-
--- two gains by the same test, one after the other
-pub gains_twice : (f g : Entry → Bool) (test : ℕ → Entry → Bool) (es : List Entry) (old between new : BTreeSet ℕ) → Gains (λ s e. f e && test s e) es old between → Gains (λ s e. g e && test s e) es between new → Gains (λ s e. (f e || g e) && test s e) es old new
-gains_twice f g test es old between new h k = gains_either f g test es old between new h (λ s. k s ∙ ap (λ b. contains nat_cmp between s || b) (any_filter g (test s) es))
-
--- a change touches only entries near its places
-told_near : (c : Change) (s : ℕ) (e : Entry) → (near_places c e.slot.pointer && tells c s e) ≡ tells c s e
-told_near c s e = go (is_apart (touch_slot c e.slot)) refl (e.session == s)
+slot_itself : (v : Slot) → same_slot v v ≡ true
+slot_itself v = rw (same_itself v.pointer) (go v.kind)
   where
-    never : (a b : Bool) → (a && (b && false)) ≡ (b && false)
-    never true b = refl
-    never false true = refl
-    never false false = refl
+    go : (kind : SlotKind) → same_kind kind kind ≡ true
+    go Value = refl
+    go Size = refl
 
-    go : (b : Bool) → is_apart (touch_slot c e.slot) ≡ b → (x : Bool) → (near_places c e.slot.pointer && (x && not b)) ≡ (x && not b)
-    go true is x = never (near_places c e.slot.pointer) x
-    go false is x = rw (touched_near c e.slot.pointer e.slot.kind is) refl
+-- what stands in the index are the slots of the views
+pub found_exactly : (test : Slot → Bool) (index : SlotIndex) (watches : Watches) (sessions : List ℕ) → IsIndex index watches → Found test index sessions → (s : ℕ) → named sessions s ≡ list_any test (slots_of (map.get watches s))
+found_exactly test index watches sessions is h s = both_ways _ _ seen there
+  where
+    view : List Slot
+    view = slots_of (map.get watches s)
 
-gains_near : (c : Change) (es : List Entry) (old new : BTreeSet ℕ) → Gains (λ s e. near_places c e.slot.pointer && tells c s e) es old new → Gains (tells c) es old new
-gains_near c es old new h s = h s ∙ ap (λ b. contains nat_cmp old s || b) (any_agree _ _ (told_near c s) es)
+    seen : named sessions s ≡ true → list_any test view ≡ true
+    seen k =
+        let some = h.only s k in
+        let slot = any_some (same_slot some.0) view (sym (is some.0 s) ∙ some.1) in
+        slot.2 test (ap test (sym (slots_same some.0 slot.0 slot.1)) ∙ some.2)
 
--- checking the entries near the places of a change finds all sessions that it touches
-pub gains_all : (c : Change) (near : Path → Bool) (es : List Entry) (old new : BTreeSet ℕ) → ((q : Path) → near_places c q ≡ near q) → Gains (λ s e. near e.slot.pointer && tells c s e) es old new → Gains (tells c) es old new
-gains_all c near es old new same h =
-    gains_near c es old new (λ s. h s ∙ ap (λ b. contains nat_cmp old s || b) (any_agree _ _ (λ (e : Entry). ap (λ b. b && tells c s e) (sym (same e.slot.pointer))) es))
+    there : list_any test view ≡ true → named sessions s ≡ true
+    there k =
+        let slot = any_some test view k in
+        h.found slot.0 s (is slot.0 s ∙ slot.2 (same_slot slot.0) (slot_itself slot.0)) slot.1

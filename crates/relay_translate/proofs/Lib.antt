@@ -12,9 +12,11 @@ pub mod Local
 pub mod Table
 pub mod Lent
 pub mod Paths
-pub mod Ordered
+pub mod Keys
+pub mod Standing
 pub mod Near
-pub mod Gained
 pub mod Watched
+pub mod Gained
+pub mod Runs
 pub mod Untold
 pub mod Rows

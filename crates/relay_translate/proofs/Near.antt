@@ -4,7 +4,7 @@ use Rattle.std.proofs.Common.{◌≡◌, ℕ, zero, suc, ◌<◌, ◌⊎◌, inl
 use Rattle.std.proofs.lemmas.Bool.Decides.{nat_tests}
 use Rattle.relay_tree.specs.Document.{Document}
 use Rattle.relay_pointer.specs.Index.{Token}
-use Rattle.relay_pointer.specs.Path.{Path}
+use Rattle.relay_pointer.specs.Path.{Path, same_path, is_prefix}
 use Rattle.relay_patch.specs.Place.{parent}
 use Rattle.relay_patch.specs.declared.change.Change.{Change}
 use Rattle.relay_patch.specs.declared.change.Change.TheVariants as change
@@ -12,26 +12,26 @@ use Rattle.relay_view.specs.declared.slot.SlotKind.{SlotKind}
 use Rattle.relay_view.specs.declared.slot.SlotKind.TheVariants.{Value, Size}
 use Rattle.relay_translate.specs.Touch.{Touch, Apart, Reset, touch, touch_path, touch_below, touch_place, touch_place_size, touch_either, size_touch, exchange_touch}
 use Rattle.relay_translate.specs.Local.{is_apart}
-use Rattle.relay_translate.specs.Entries.{leads, container, scope, is_above, is_near}
+use Rattle.relay_translate.specs.SlotIndex.{container, scope, is_above, is_near}
 
 or_true : (x : Bool) → (x || true) ≡ true
 or_true true = refl
 or_true false = refl
 
-above_at : (n k : ℕ) (path q : Path) → k < n → leads (suc k) (take k path) q ≡ true → is_above n path q ≡ true
+above_at : (n k : ℕ) (path q : Path) → k < n → same_path (take k path) q ≡ true → is_above n path q ≡ true
 above_at zero k path q less h = absurd (omega arith)
 above_at (suc n) k path q less h = go (nat_lt k n) refl (above_at n k path q)
   where
-    go : (b : Bool) → nat_lt k n ≡ b → (k < n → leads (suc k) (take k path) q ≡ true → is_above n path q ≡ true) → (is_above n path q || leads (suc n) (take n path) q) ≡ true
+    go : (b : Bool) → nat_lt k n ≡ b → (k < n → same_path (take k path) q ≡ true → is_above n path q ≡ true) → (is_above n path q || same_path (take n path) q) ≡ true
     go true e more = rw (more (grind (arith, nat_tests)) h) refl
     go false e more =
         let same : k ≡ n = grind (arith, nat_tests) in
-        let here : leads (suc n) (take n path) q ≡ true = rw (← same) h in
+        let here : same_path (take n path) q ≡ true = rw (← same) h in
         rw here (or_true (is_above n path q))
 
 -- the pointer q begins with the path, or is a proper prefix of it
 abbrev Meets : Path → Path → Type 0
-Meets path q = (leads (length path) path q ≡ true) ⊎ ((k : ℕ) × (k < length path) × (leads (suc k) (take k path) q ≡ true))
+Meets path q = (is_prefix path q ≡ true) ⊎ ((k : ℕ) × (k < length path) × (same_path (take k path) q ≡ true))
 
 near_meets : (path q : Path) → Meets path q → is_near path q ≡ true
 near_meets path q (inl h) = rw h (or_true (is_above (length path) path q))

@@ -1,14 +1,31 @@
--- The order of paths, and of their first tokens.
-use Rattle.std.proofs.Common.{◌≡◌, ℕ, zero, suc, [], ◌∷◌, take, true, false, ◌&&◌, refl, sym, ap, ◌∙◌, is_eq, is_lt, is_gt, Ordering, Less, Equal, Greater, nat_cmp}
-use Rattle.std.specs.Ordering.{ordering_then}
-use Rattle.std.specs.Cmp.{IsTotalOrder, upto}
-use Rattle.std.specs.Cmp.Lexicographic.{slice_cmp, lists_total, nat_list_cmp_total}
-use Rattle.relay_tree.proofs.Names.{bytes_eq-slice_cmp}
-use Rattle.relay_pointer.specs.Path.{Path, same_path}
-use Rattle.relay_translate.specs.Entries.{path_cmp}
+-- The order of paths, and the run of those that begin with one.
+use Rattle.std.proofs.Common.{◌≡◌, [], ◌∷◌, true, false, ◌&&◌, refl, sym, ap, subst, is_eq, is_gt, Ordering, Less, Equal, Greater, nat_cmp, List, String, Global, string_bytes, Bool, bytes_eq, string_eq}
+use Rattle.std.specs.List.{starts_with}
+use Rattle.std.specs.Ordering.{ordering_then, ordering_reverse}
+use Rattle.std.specs.Cmp.{tied_itself}
+use Rattle.std.specs.Cmp.Lexicographic.{slice_cmp, nat_list_cmp_total}
+use Rattle.relay_tree.proofs.Names.{bytes_eq-slice_cmp, equal_bytes}
+use Rattle.relay_pointer.specs.Path.{Path, path_of, same_path, is_prefix}
 
-pub paths_total : IsTotalOrder path_cmp
-paths_total = lists_total nat_list_cmp_total
+-- compares paths token by token, and tokens byte by byte; a path is less than those of which it is a proper prefix
+abbrev pub path_cmp : Path → Path → Ordering
+path_cmp p q = slice_cmp (slice_cmp nat_cmp) p q
+
+abbrev pub text_cmp : String Global → String Global → Ordering
+text_cmp a b = slice_cmp nat_cmp (string_bytes a) (string_bytes b)
+
+-- lists of texts compare as their paths
+pub texts_cmp : (ts us : List (String Global)) → slice_cmp text_cmp ts us ≡ path_cmp (path_of ts) (path_of us)
+texts_cmp [] [] = refl
+texts_cmp [] (u ∷ us) = refl
+texts_cmp (t ∷ ts) [] = refl
+texts_cmp (t ∷ ts) (u ∷ us) = ap (ordering_then (text_cmp t u)) (texts_cmp ts us)
+
+-- a list of texts starts with another exactly if its path begins with that one's
+pub starts_with-is_prefix : (others own : List (String Global)) → starts_with string_eq others own ≡ is_prefix (path_of own) (path_of others)
+starts_with-is_prefix others [] = refl
+starts_with-is_prefix [] (t ∷ own) = refl
+starts_with-is_prefix (u ∷ others) (t ∷ own) = ap (λ x. string_eq t u && x) (starts_with-is_prefix others own)
 
 then_equal : (r s : Ordering) → is_eq (ordering_then r s) ≡ (is_eq r && is_eq s)
 then_equal Less s = refl
@@ -22,37 +39,36 @@ same_path-cmp (t ∷ p) [] = refl
 same_path-cmp (t ∷ p) (u ∷ q) =
     rw (bytes_eq-slice_cmp t u, same_path-cmp p q) (sym (then_equal (slice_cmp nat_cmp u t) (path_cmp q p)))
 
--- cutting paths to their first n tokens keeps their order
-pub first_ordered : (n : ℕ) (p q : Path) → is_gt (path_cmp p q) ≡ false → is_gt (path_cmp (take n p) (take n q)) ≡ false
-first_ordered zero p q h = refl
-first_ordered (suc n) [] [] h = refl
-first_ordered (suc n) [] (u ∷ q) h = refl
-first_ordered (suc n) (t ∷ p) [] h = h
-first_ordered (suc n) (t ∷ p) (u ∷ q) h = go (slice_cmp nat_cmp t u) (first_ordered n p q) h
+-- a path is not greater than one that begins with it
+pub prefix_first : (p q : Path) → is_prefix p q ≡ true → is_gt (path_cmp p q) ≡ false
+prefix_first [] [] h = refl
+prefix_first [] (u ∷ q) h = refl
+prefix_first (t ∷ p) [] h = cc
+prefix_first (t ∷ p) (u ∷ q) h = go (bytes_eq t u) refl h (prefix_first p q)
   where
-    go : (r : Ordering) → (is_gt (path_cmp p q) ≡ false → is_gt (path_cmp (take n p) (take n q)) ≡ false) → is_gt (ordering_then r (path_cmp p q)) ≡ false → is_gt (ordering_then r (path_cmp (take n p) (take n q))) ≡ false
-    go Less rest k = refl
-    go Equal rest k = rest k
-    go Greater rest k = k
+    go : (x : Bool) → bytes_eq t u ≡ x → (x && is_prefix p q) ≡ true → (is_prefix p q ≡ true → is_gt (path_cmp p q) ≡ false) → is_gt (ordering_then (slice_cmp nat_cmp t u) (path_cmp p q)) ≡ false
+    go true e k rest = rw (← equal_bytes t u e, tied_itself nat_list_cmp_total t) (rest k)
+    go false e k rest = cc
 
--- p ≤ q and q < r give p < r
-pub before_more : (p q r : Path) → is_gt (path_cmp p q) ≡ false → is_lt (path_cmp q r) ≡ true → is_lt (path_cmp p r) ≡ true
-before_more p q r h k = go (path_cmp p q) (path_cmp q r) refl refl h k
-  where
-    go : (x y : Ordering) → path_cmp p q ≡ x → path_cmp q r ≡ y → is_gt x ≡ false → is_lt y ≡ true → is_lt (path_cmp p r) ≡ true
-    go Less Less e f h k = ap is_lt (paths_total.trans p q r e f)
-    go Less Equal e f h k = cc
-    go Less Greater e f h k = cc
-    go Equal y e f h k = ap is_lt (paths_total.congr p q r e ∙ f) ∙ k
-    go Greater y e f h k = cc
+abbrev pub Between : Path → Path → Path → Type 0
+Between p a b = is_gt (path_cmp p a) ≡ false → path_cmp a b ≡ Less → is_prefix p b ≡ true → is_prefix p a ≡ true
 
--- p ≤ q, q = r and not p < r give p = r
-pub tied_more : (p q r : Path) → is_gt (path_cmp p q) ≡ false → is_lt (path_cmp p r) ≡ false → is_eq (path_cmp q r) ≡ true → is_eq (path_cmp p r) ≡ true
-tied_more p q r h late k = go (path_cmp p r) refl (path_cmp q r) refl
+-- what is between a path and one that begins with it begins with it too
+pub between_prefix : (p a b : Path) → Between p a b
+between_prefix [] a b low high h = refl
+between_prefix (t ∷ p) [] b low high h = cc
+between_prefix (t ∷ p) (x ∷ a) [] low high h = cc
+between_prefix (t ∷ p) (x ∷ a) (y ∷ b) low high h = go (bytes_eq t y) refl h (between_prefix p a b)
   where
-    go : (x : Ordering) → path_cmp p r ≡ x → (y : Ordering) → path_cmp q r ≡ y → is_eq (path_cmp p r) ≡ true
-    go Less e y f = cc
-    go Equal e y f = ap is_eq e
-    go Greater e Equal f = let no : is_gt (path_cmp p r) ≡ false = upto paths_total p q r h (ap is_gt f) in cc
-    go Greater e Less f = cc
-    go Greater e Greater f = cc
+    by_order : Between p a b → (r : Ordering) → slice_cmp nat_cmp x t ≡ r → is_gt (ordering_then (ordering_reverse r) (path_cmp p a)) ≡ false → ordering_then r (path_cmp a b) ≡ Less → is_prefix p b ≡ true → (bytes_eq t x && is_prefix p a) ≡ true
+    by_order rest Less e k l m = cc
+    by_order rest Equal e k l m = rw (bytes_eq-slice_cmp t x, e) (rest k l m)
+    by_order rest Greater e k l m = cc
+
+    go : (z : Bool) → bytes_eq t y ≡ z → (z && is_prefix p b) ≡ true → Between p a b → (bytes_eq t x && is_prefix p a) ≡ true
+    go true e k rest =
+        let same : t ≡ y = equal_bytes t y e in
+        by_order rest (slice_cmp nat_cmp x t) refl
+        (subst (λ r. is_gt (ordering_then r (path_cmp p a)) ≡ false) (nat_list_cmp_total.antisymm t x) low)
+        (subst (λ u. ordering_then (slice_cmp nat_cmp x u) (path_cmp a b) ≡ Less) (sym same) high) k
+    go false e k rest = cc

@@ -5,7 +5,7 @@ use Rattle.std.proofs.lemmas.List.Folds.{drop_split}
 use Rattle.relay_pointer.specs.Index.{Token}
 use Rattle.relay_pointer.specs.Path.{Path, path_of}
 use Rattle.relay_patch.proofs.Tokens.{parent_end}
-use Rattle.relay_translate.specs.Entries.{container}
+use Rattle.relay_translate.specs.SlotIndex.{container}
 
 pub path_of-drop : (n : ℕ) (ts : List (String Global)) → path_of (drop n ts) ≡ drop n (path_of ts)
 path_of-drop (suc n) (t ∷ ts) = path_of-drop n ts

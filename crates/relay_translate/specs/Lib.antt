@@ -4,4 +4,4 @@ pub mod Translate
 pub mod Sizes
 pub mod Local
 pub mod Watches
-pub mod Entries
+pub mod SlotIndex

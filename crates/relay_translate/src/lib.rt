@@ -7,16 +7,16 @@
 //! changed. A [`WatchIndex`] finds the sessions whose views the changes touch without checking every view.
 #![tactic(auto)]
 
-mod entries;
-mod entry;
 mod kind;
 mod nearby;
 mod operation;
-mod order;
 mod site;
+mod slot_index;
 mod touching;
 mod translating;
+mod view_copy;
 mod watch_index;
+mod watchers;
 
 pub use kind::Touch;
 pub use touching::touch;

@@ -42,7 +42,7 @@ impl Site<'_> {
             | Change::AddMember { value, .. }
             | Change::AddItem { value, .. } => Some(value),
             Change::DropMember { .. } | Change::DropItem { .. } => None,
-            Change::Move { from, value, .. } => match touch_place(from, self.pointer) {
+            Change::Move { from, value, .. } => match touch_place(from, self.pointer.tokens()) {
                 Touch::Inside => None,
                 Touch::Apart | Touch::Reset => Some(value),
             },
@@ -73,8 +73,8 @@ impl Site<'_> {
         ensures { IfOk result (λ o. o ≡ in_view self.now.number self.now.pointer.now (move_op (touch_place from.now self.now.pointer.now) (touch_place to.now self.now.pointer.now) from.now.path to.now.path value.now)) }
     {
         match (
-            touch_place(from, self.pointer),
-            touch_place(to, self.pointer),
+            touch_place(from, self.pointer.tokens()),
+            touch_place(to, self.pointer.tokens()),
         ) {
             (Touch::Inside, Touch::Inside) => Ok(Op::Move {
                 from: self.path(alloc, &from.path)?,

@@ -16,21 +16,28 @@ pub fn touch(change: &Change, pointer: &Pointer, kind: SlotKind) -> Touch
     ensures exact { result ≡ touch change.now pointer.now kind }
     ensures table { result ≡ touch_by_table change.now pointer.now kind }
 {
+    touch_tokens(change, pointer.tokens(), kind)
+}
+
+/// [`touch`], by the pointer's tokens.
+pub(crate) fn touch_tokens(change: &Change, pointer: &[String], kind: SlotKind) -> Touch
+    ensures { result ≡ touch change.now (path_of pointer.now) kind }
+{
     match kind {
         SlotKind::Value => touch_value(change, pointer),
         SlotKind::Size => touch_size(change, pointer),
     }
 }
 
-fn touch_value(change: &Change, pointer: &Pointer) -> Touch
-    ensures { result ≡ touch_value change.now pointer.now }
+fn touch_value(change: &Change, pointer: &[String]) -> Touch
+    ensures { result ≡ touch_value change.now (path_of pointer.now) }
 {
     match change {
         Change::Set { path, .. } | Change::AddMember { path, .. } | Change::DropMember { path } => {
-            touch_path(false, path.tokens(), pointer.tokens())
+            touch_path(false, path.tokens(), pointer)
         }
         Change::AddItem { path, .. } | Change::DropItem { path } => {
-            touch_path(true, path.tokens(), pointer.tokens())
+            touch_path(true, path.tokens(), pointer)
         }
         Change::Move { from, to, .. } => {
             touch_either(touch_place(from, pointer), touch_place(to, pointer))
@@ -39,13 +46,11 @@ fn touch_value(change: &Change, pointer: &Pointer) -> Touch
     }
 }
 
-fn touch_size(change: &Change, pointer: &Pointer) -> Touch
-    ensures { result ≡ touch_size change.now pointer.now }
+fn touch_size(change: &Change, pointer: &[String]) -> Touch
+    ensures { result ≡ touch_size change.now (path_of pointer.now) }
 {
     match change {
-        Change::Set { path, .. } => {
-            exchange_touch(touch_path(false, path.tokens(), pointer.tokens()))
-        }
+        Change::Set { path, .. } => exchange_touch(touch_path(false, path.tokens(), pointer)),
         Change::AddMember { path, .. } | Change::DropMember { path } => {
             touch_part(false, path, pointer)
         }
@@ -59,11 +64,11 @@ fn touch_size(change: &Change, pointer: &Pointer) -> Touch
 }
 
 /// Returns how an insertion or a removal at a path touches the size of the value at the pointer.
-fn touch_part(is_item: bool, path: &Pointer, pointer: &Pointer) -> Touch
-    ensures { result ≡ size_touch path.now pointer.now (touch_path is_item path.now pointer.now) }
+fn touch_part(is_item: bool, path: &Pointer, pointer: &[String]) -> Touch
+    ensures { result ≡ size_touch path.now (path_of pointer.now) (touch_path is_item path.now (path_of pointer.now)) }
 {
-    match touch_path(is_item, path.tokens(), pointer.tokens()) {
-        Touch::Inside if path.tokens().len() != pointer.tokens().len() + 1 => Touch::Apart,
+    match touch_path(is_item, path.tokens(), pointer) {
+        Touch::Inside if path.tokens().len() != pointer.len() + 1 => Touch::Apart,
         Touch::Inside | Touch::Reset => Touch::Reset,
         Touch::Apart => Touch::Apart,
     }
@@ -80,10 +85,10 @@ fn exchange_touch(touch: Touch) -> Touch
 }
 
 /// Returns how a change at a place touches the value at the pointer.
-pub(crate) fn touch_place(place: &Place, pointer: &Pointer) -> Touch
-    ensures { result ≡ touch_place place.now pointer.now }
+pub(crate) fn touch_place(place: &Place, pointer: &[String]) -> Touch
+    ensures { result ≡ touch_place place.now (path_of pointer.now) }
 {
-    touch_path(place.item, place.path.tokens(), pointer.tokens())
+    touch_path(place.item, place.path.tokens(), pointer)
 }
 
 /// Returns `Reset` if either is, else `Inside` if either is, else `Apart`.

@@ -1,51 +1,47 @@
 //! An index of the views of all sessions, which finds the sessions that an edit touches without checking every view.
 //!
-//! The slots of all views are ordered by pointer, so those that begin with one path are contiguous, and so are those that equal one. Binary
-//! searches find them for each place of a change and its prefixes, and only they are compared with the change.
-ghost use Rattle.std.specs.Prelude.{◌≡◌, ℕ, map, IfOk};
-ghost use Rattle.std.specs.List.Sorted.{IsStrictlySortedBy};
-ghost use Rattle.std.specs.Ordering.{nat_cmp};
-ghost use Rattle.std.specs.BTreeSet.{contains, keys};
-ghost use Rattle.relay_translate.specs.Entries.{IsOrdered, has};
-ghost use Rattle.relay_translate.specs.Watches.{is_touched};
+//! It has the watchers of each pointer, in the order of the pointers, so those that begin with one path stand side by side. For each place of
+//! a change, one look-up for each of its prefixes and one for all that begins with it find the slots that are compared with the change.
+ghost use Rattle.std.specs.Prelude.{◌≡◌, ℕ, map as each, IfOk, OnOk, OnErr};
+ghost use Rattle.std.specs.List.Sorted.{IsStrictlyIncreasing};
+ghost use Rattle.std.specs.FinMap as map;
+ghost use Rattle.relay_translate.specs.SlotIndex.{Found, IsIndex, Leaves, named, watches_of};
+ghost use Rattle.relay_translate.specs.Watches.{is_touched, slots_of};
 
-use crate::entries::{copy_view, entries_of, exchange, leave};
-use crate::entry::Entry;
 use crate::nearby::add_touched;
+use crate::slot_index::{SlotIndex, enter, leave};
+use crate::view_copy::copy_view;
 use relay_patch::Change;
 use relay_view::View;
 use std::alloc::{AllocError, Global};
-use std::collections::{BTreeMap, BTreeSet};
+use std::collections::BTreeMap;
 use std::marker::Model;
 
-/// The view of each session that watches. Contracts see it as a map from session numbers to views. It holds each pointer twice:
-/// in its view, and in the ordered list of all slots.
+/// The view of each session that watches. Contracts see it as a map from session numbers to views. It holds each view, and each
+/// pointer of all views once more.
 #[derive(Drop)]
 pub struct WatchIndex {
     views: BTreeMap<u64, View>,
-    entries: Vec<Entry>,
+    slots: SlotIndex,
 }
 
 impl Model for WatchIndex {
-    ghost use Rattle.std.specs.FinMap as map;
     ghost use Rattle.relay_view.specs.contracts.slot.Slot as slot;
-    ghost use Rattle.relay_translate.specs.Entries.{IsIndex};
+    ghost use Rattle.relay_translate.specs.SlotIndex.{IsIndex, watches_of};
     ghost use Rattle.relay_translate.specs.Watches.{Watches, watches_code};
 
     ghost Value = { Watches };
 
     ghost coded = { watches_code slot.the_row.coded };
 
-    ghost view = { λ i. map.from_entries i.views.entries };
+    ghost view = { λ i. watches_of i.views };
 
-    ghost invariant = { λ i. IsIndex i.entries.items (map.from_entries i.views.entries) };
+    ghost invariant = { λ i. IsIndex i.slots (watches_of i.views) };
 }
 
 impl WatchIndex {
-    ghost use Rattle.std.specs.Prelude.{◌≡◌, ℕ, map as each, nat_eq, IfOk, OnOk, OnErr};
+    ghost use Rattle.std.specs.Prelude.{nat_eq};
     ghost use Rattle.std.specs.List.{list_any};
-    ghost use Rattle.std.specs.List.Sorted.{IsStrictlyIncreasing};
-    ghost use Rattle.std.specs.FinMap as map;
     ghost use Rattle.relay_translate.specs.Watches.{OthersStay, sees};
 
     /// Creates an index without views. Allocates nothing.
@@ -54,31 +50,25 @@ impl WatchIndex {
     {
         WatchIndex {
             views: BTreeMap::new(alloc),
-            entries: Vec::new(alloc),
+            slots: BTreeMap::new(alloc),
         }
     }
 
-    /// Sets the view of a session, replacing any earlier one. If memory runs out, nothing changes. Costs two copies of the view's
-    /// pointers, a walk over the slots of all views, and for each new slot a move of the slots after it.
+    /// Sets the view of a session, replacing any earlier one. If memory runs out, nothing changes. Costs a copy of the view, one of each
+    /// pointer that is new, and a look-up for each slot of both views.
     pub fn put(&mut self, alloc: Global, session: u64, view: &View) -> Result<(), AllocError>
         ensures ok { OnOk result (self.new ≡ map.insert self.old session view.now) }
         ensures err { OnErr result (self.new ≡ self.old) }
     {
-        let copy = copy_view(alloc, view)?;
-        let fresh = entries_of(alloc, session, view)?;
-        self.entries.reserve(fresh.len())?;
-        self.views.insert(session, copy)?;
-        exchange(&mut self.entries, session, fresh);
-        Ok(())
+        put_view(alloc, &mut self.views, &mut self.slots, session, view)
     }
 
-    /// Removes the view of a session; changes nothing if it has none. Allocates nothing. Costs a walk over the slots of all views
-    /// if the session had one.
+    /// Removes the view of a session; changes nothing if it has none. Allocates nothing. Costs a look-up for each of its slots.
     pub fn take_out(&mut self, session: u64)
         ensures { self.new ≡ map.remove self.old session }
     {
-        if self.views.remove(&session).is_some() {
-            leave(&mut self.entries, session);
+        if let Some(view) = self.views.remove(&session) {
+            leave(&mut self.slots, session, view.slots(), &[]);
         }
     }
 
@@ -86,38 +76,79 @@ impl WatchIndex {
     /// changes translate to no operation.
     ///
     /// For each place at which a change adds or removes something, it checks only the slots whose pointers are a prefix of the place
-    /// or begin with it and, if the place is an item, those that begin with the path of its list; at the root, all slots. Costs two
-    /// binary searches for each token of a place, and a comparison for each slot checked.
+    /// or begin with it and, if the place is an item, those that begin with the path of its list; at the root, all slots. Costs a look-up
+    /// for each token of a place, and a comparison for each pointer checked; a copy of the place too, if nobody watches it.
     pub fn touched(&self, alloc: Global, changes: &[&Change]) -> Result<Vec<u64>, AllocError>
         ensures rising { IfOk result (λ sessions. IsStrictlyIncreasing sessions.items) }
         ensures exact { IfOk result (λ sessions. (s : ℕ) → list_any (nat_eq s) sessions.items ≡ sees (each (λ c. c.now) changes.now) self.now s) }
         ensures others { IfOk result (λ sessions. OthersStay (each (λ c. c.now) changes.now) self.now sessions.items) }
     {
-        let sessions = sessions_touched(alloc, self.entries.as_slice(), changes)?;
-        numbers(alloc, &sessions)
+        Ok(in_order(sessions_touched(alloc, &self.slots, changes)?))
     }
 }
 
-/// Returns the sessions of the entries that some change touches.
+/// Sets the view of a session. The slots of both views stand in the index until the new view is there.
+fn put_view(
+    alloc: Global,
+    views: &mut BTreeMap<u64, View>,
+    slots: &mut SlotIndex,
+    session: u64,
+    view: &View,
+) -> Result<(), AllocError>
+    requires { IsIndex slots.old (watches_of views.old) }
+    ensures views { OnOk result (watches_of views.new ≡ map.insert (watches_of views.old) session view.now) }
+    ensures err { OnErr result (watches_of views.new ≡ watches_of views.old) }
+    ensures index { IsIndex slots.new (watches_of views.new) }
+{
+    let copy = copy_view(alloc, view)?;
+    if let Err(fault) = enter(alloc, slots, session, view.slots()) {
+        withdraw(views, slots, session, view);
+        return Err(fault);
+    }
+    match views.insert(session, copy) {
+        Ok(Some(former)) => {
+            leave(slots, session, former.slots(), view.slots());
+            Ok(())
+        }
+        Ok(None) => Ok(()),
+        Err(_) => {
+            withdraw(views, slots, session, view);
+            Err(AllocError)
+        }
+    }
+}
+
+/// Removes those slots of a view that are not the session's.
+fn withdraw(views: &BTreeMap<u64, View>, slots: &mut SlotIndex, session: u64, view: &View)
+    ensures { Leaves slots.old slots.new session view.now (slots_of (map.get (watches_of views.now) session)) }
+{
+    match views.get(&session) {
+        Some(kept) => leave(slots, session, view.slots(), kept.slots()),
+        None => leave(slots, session, view.slots(), &[]),
+    }
+}
+
+/// Returns the sessions with a slot that some change touches.
 fn sessions_touched(
     alloc: Global,
-    entries: &[Entry],
+    index: &SlotIndex,
     changes: &[&Change],
-) -> Result<BTreeSet<u64>, AllocError>
-    requires { IsOrdered entries.now }
-    ensures { IfOk result (λ sessions. (s : ℕ) → contains nat_cmp sessions s ≡ has entries.now s (is_touched (map (λ c. c.now) changes.now))) }
+) -> Result<Vec<u64>, AllocError>
+    ensures { IfOk result (λ sessions. Found (is_touched (each (λ c. c.now) changes.now)) index.now sessions.items) }
 {
-    let mut sessions = BTreeSet::new(alloc);
+    let mut sessions = Vec::new(alloc);
     for change in changes {
-        add_touched(&mut sessions, entries, change)?;
+        add_touched(alloc, &mut sessions, index, change)?;
     }
     Ok(sessions)
 }
 
-/// Returns the numbers of a set, in ascending order.
-fn numbers(alloc: Global, set: &BTreeSet<u64>) -> Result<Vec<u64>, AllocError>
-    ensures numbers { IfOk result (λ numbers. numbers.items ≡ keys set.now) }
-    ensures rising { IsStrictlySortedBy nat_cmp (keys set.now) }
+/// Returns the numbers of a list in ascending order, each once.
+fn in_order(mut sessions: Vec<u64>) -> Vec<u64>
+    ensures same { (s : ℕ) → named result.items s ≡ named sessions.items s }
+    ensures rising { IsStrictlyIncreasing result.items }
 {
-    Ok(set.iter().copied().collect(alloc)?)
+    sessions.sort_unstable();
+    sessions.dedup();
+    sessions
 }

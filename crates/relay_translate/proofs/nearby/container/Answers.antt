@@ -1,7 +1,7 @@
 use Rattle.std.proofs.Common.{◌∙◌, ◌-◌, take, length, sym, ap}
 use Rattle.relay_pointer.specs.Path.{path_of}
 use Rattle.relay_pointer.proofs.Tokens.{tokens_last}
-use Rattle.relay_translate.specs.Entries.{container}
+use Rattle.relay_translate.specs.SlotIndex.{container}
 use Rattle.relay_translate.proofs.Tokens.{container_end}
 use Rattle.relay_translate.proofs.nearby.container.Goals as goal
 

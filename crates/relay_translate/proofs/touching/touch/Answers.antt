@@ -1,14 +1,7 @@
-use Rattle.std.proofs.Common.{rules, ◌≡◌, ◌∙◌}
+use Rattle.std.proofs.Common.{◌∙◌, ap}
 use Rattle.relay_translate.specs.Touch.{touch}
 use Rattle.relay_translate.proofs.Table.{change_table}
 use Rattle.relay_translate.proofs.touching.touch.Goals as goal
 
-pub returns-in-Value-clause-table : goal.returns-in-Value-clause-table
-returns-in-Value-clause-table c =
-    let exact : c.touch_value.result ≡ touch c.args.change.now c.args.pointer.now c.args.kind = search rules in
-    exact ∙ change_table c.args.change.now c.args.pointer.now c.args.kind
-
-pub returns-in-Size-clause-table : goal.returns-in-Size-clause-table
-returns-in-Size-clause-table c =
-    let exact : c.touch_size.result ≡ touch c.args.change.now c.args.pointer.now c.args.kind = search rules in
-    exact ∙ change_table c.args.change.now c.args.pointer.now c.args.kind
+pub returns-clause-table : goal.returns-clause-table
+returns-clause-table c = c.touch_tokens.ensures ∙ ap (λ q. touch c.args.change.now q c.args.kind) c.tokens.ensures ∙ change_table c.args.change.now c.args.pointer.now c.args.kind

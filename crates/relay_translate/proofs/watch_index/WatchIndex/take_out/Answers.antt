@@ -1,18 +1,23 @@
-use Rattle.std.proofs.Common.{◌∙◌, ap}
+use Rattle.std.proofs.Common.{◌∙◌, Some, [], sym, ap, subst}
 use Rattle.std.specs.FinMap as fin
-use Rattle.std.specs.FinMap.{from_entries}
-use Rattle.relay_translate.proofs.Watched.{index_left, left}
+use Rattle.relay_translate.specs.SlotIndex.{IsIndex, Leaves, watches_of}
+use Rattle.relay_translate.proofs.Watched.{get_seen, index_left, left}
 use Rattle.relay_translate.proofs.watch_index.WatchIndex.take_out.Goals as goal
 
 pub invariant_of-self : goal.invariant_of-self
 invariant_of-self c =
-    rw (c.leave.ensures.items, left c.self.inside.views c.remove.new.self c.args.session c.remove.ensures.updates)
-    (index_left c.self.inside.entries.items (from_entries c.self.inside.views.entries) c.args.session c.self.invariant)
+    let views = c.self.inside.views in
+    let slots = c.self.inside.slots in
+    let new = c.leave.new.index in
+    let session = c.args.session in
+    subst (IsIndex new) (sym (left views c.remove.new.self session c.remove.ensures.updates))
+    (index_left slots new (watches_of views) session (Some c.in-Some.view) (get_seen views session ∙ sym c.in-Some.ensures.value) c.self.invariant
+    (subst (λ list. Leaves slots new session list []) c.slots.ensures c.leave.ensures))
 
-pub returns-then-is_some : goal.returns-then-is_some
-returns-then-is_some c =
+pub returns-in-Some : goal.returns-in-Some
+returns-in-Some c =
     left c.self.inside.views c.remove.new.self c.args.session c.remove.ensures.updates ∙ ap (λ m. fin.remove m c.args.session) c.self.view_is
 
-pub returns-else-is_some : goal.returns-else-is_some
-returns-else-is_some c =
+pub returns-in_default : goal.returns-in_default
+returns-in_default c =
     left c.self.inside.views c.remove.new.self c.args.session c.remove.ensures.updates ∙ ap (λ m. fin.remove m c.args.session) c.self.view_is

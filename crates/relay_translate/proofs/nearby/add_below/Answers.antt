@@ -1,0 +1,12 @@
+use Rattle.std.proofs.lemmas.Result.{on_ok_weaker}
+use Rattle.std.proofs.Common.{subst}
+use Rattle.relay_pointer.specs.Path.{is_prefix}
+use Rattle.relay_translate.specs.SlotIndex.{Gains}
+use Rattle.relay_translate.proofs.Keys.{key_path}
+use Rattle.relay_translate.proofs.nearby.add_below.Goals as goal
+
+pub returns-in-Some : goal.returns-in-Some
+returns-in-Some c =
+    on_ok_weaker c.add_run.result
+    (subst (λ path. Gains (is_prefix path) c.args.change.now c.args.index.now c.args.sessions.now.items c.add_run.new.sessions.items) (key_path c.args.path.now c.in-Some.first.now c.in-Some.ensures.same_key))
+    c.add_run.ensures

@@ -1,0 +1,26 @@
+use Rattle.std.proofs.Common.{◌∙◌, ap, ◌||◌, ◌&&◌, ◌==◌}
+use Rattle.std.specs.BTreeMap.{insert_entry}
+use Rattle.std.proofs.lemmas.Result.{on_ok_weaker, on_err_weaker}
+use Rattle.relay_translate.specs.SlotIndex.{SlotIndex, same_kind}
+use Rattle.relay_translate.proofs.Keys.{against}
+use Rattle.relay_translate.proofs.Standing.{joins_written, same_written, joins_inserted}
+use Rattle.relay_translate.proofs.slot_index.enter_slot.Goals as goal
+
+pub returns-in-Some-clause-ok : goal.returns-in-Some-clause-ok
+returns-in-Some-clause-ok c =
+    let new = c.get_mut.follows.lender c.insert.new.self in
+    on_ok_weaker c.insert.result
+    (joins_written c.tokens-tokens.result.now c.args.slot.now c.tokens-tokens.ensures c.args.index.now new c.in-Some.watchers.now c.insert.new.self c.in-Some.ensures.value (c.get_mut.follows.holds c.insert.new.self).0 c.args.session)
+    c.insert.ensures.ok
+
+pub returns-in-Some-clause-err : goal.returns-in-Some-clause-err
+returns-in-Some-clause-err c =
+    let new = c.get_mut.follows.lender c.insert.new.self in
+    on_err_weaker c.insert.result
+    (same_written c.tokens-tokens.result.now c.args.slot.now c.tokens-tokens.ensures c.args.index.now new c.in-Some.watchers.now c.insert.new.self c.in-Some.ensures.value (c.get_mut.follows.holds c.insert.new.self).0)
+    c.insert.ensures.err
+
+pub returns-clause-ok : goal.returns-clause-ok
+returns-clause-ok c =
+    joins_inserted c.tokens-tokens.result.now c.args.slot.now c.tokens-tokens.ensures c.args.index.now c.insert-3.new.self c.in_ok-copy_tokens.field-0 c.insert-2.new.self c.args.session c.in_ok-copy_tokens.ensures c.in_default.ensures.value (c.in_ok-insert-2.ensures.entries ∙ ap (λ (m : SlotIndex). insert_entry (λ a b. against a.items b) m.entries c.in_ok-copy_tokens.field-0 c.insert-2.new.self) c.get_mut.follows.holds-at-none) c.in_ok-insert-2.ensures.updates.1
+    (λ kind s. c.in_ok-insert.ensures.ok kind s ∙ ap (λ b. b || (same_kind kind c.args.slot.now.kind && (s == c.args.session))) (c.new-watchers.ensures kind s))
