@@ -194,3 +194,25 @@ fn finds_those_behind_an_item(rt: HostRuntime) {
         ],
     );
 }
+
+#[test]
+fn keeps_the_slots_that_stay(rt: HostRuntime) {
+    let mut index = index_of(
+        &rt,
+        &[(1, r#"["/a","/b"]"#), (2, r#"["/a",{"size":"/a"}]"#)],
+    );
+    put(&rt, &mut index, 1, r#"["/a","/c/d"]"#);
+    finds(
+        &rt,
+        &index,
+        &[
+            (set(&rt, "/a"), &[1, 2]),
+            (set(&rt, "/b"), &[]),
+            (set(&rt, "/c"), &[1]),
+        ],
+    );
+    index.take_out(2);
+    finds(&rt, &index, &[(set(&rt, "/a"), &[1]), (set(&rt, ""), &[1])]);
+    index.take_out(1);
+    finds(&rt, &index, &[(set(&rt, ""), &[])]);
+}

@@ -1,9 +1,9 @@
 -- The sessions that a list gains from the index.
-use Rattle.std.proofs.Common.{◌≡◌, ℕ, ◌⊎◌, inl, inr, List, [], ◌∷◌, map, Bool, true, false, not, ◌||◌, refl, sym, ap, ◌∙◌}
+use Rattle.std.proofs.Common.{◌≡◌, ◌<◌, length, arith, ℕ, ◌⊎◌, inl, inr, List, [], ◌∷◌, map, Bool, true, false, not, ◌||◌, refl, sym, ap, ◌∙◌}
 use Rattle.std.specs.List.{list_any}
 use Rattle.std.specs.Cmp.{both_ways}
 use Rattle.std.specs.FinMap as map
-use Rattle.relay_pointer.specs.Path.{Path}
+use Rattle.relay_pointer.specs.Path.{Path, is_prefix}
 use Rattle.relay_patch.specs.declared.change.Change.{Change}
 use Rattle.relay_pointer.proofs.Prefixes.{same_itself}
 use Rattle.relay_view.specs.declared.slot.Slot.{Slot}
@@ -12,10 +12,20 @@ use Rattle.relay_view.specs.declared.slot.SlotKind.TheVariants.{Value, Size}
 use Rattle.relay_translate.specs.Touch.{touch_slot}
 use Rattle.relay_translate.specs.Local.{is_apart}
 use Rattle.relay_translate.specs.Watches.{Watches, slots_of, touches}
-use Rattle.relay_translate.specs.SlotIndex.{SlotIndex, Found, named, IsIndex, Gains, same_kind, same_slot, stands}
+use Rattle.relay_translate.specs.SlotIndex.{SlotIndex, Found, IsWithin, named, IsIndex, Gains, same_kind, same_slot, stands}
+use Rattle.relay_translate.proofs.Paths.{prefix_length}
 use Rattle.relay_translate.proofs.Near.{near_places, touched_near}
 use Rattle.relay_translate.proofs.Standing.{slots_same}
 use Rattle.relay_translate.proofs.Watched.{any_some}
+
+-- nothing begins with a path that is longer than all pointers
+pub gains_beyond : (c : Change) (path : Path) (deepest : ℕ) (index : SlotIndex) (sessions : List ℕ) → IsWithin deepest index → deepest < length path → Gains (is_prefix path) c index sessions sessions
+gains_beyond c path deepest index sessions within beyond =
+    record {
+      kept = λ s h. h;
+      found = λ v s there touched begins. absurd (omega (arith, within v s there, prefix_length path v.pointer begins, beyond));
+      only = λ s h. inl h;
+    }
 
 -- two gains, one after the other
 pub gains_either : (f g : Path → Bool) (c : Change) (index : SlotIndex) (old between new : List ℕ) → Gains f c index old between → Gains g c index between new → Gains (λ q. f q || g q) c index old new

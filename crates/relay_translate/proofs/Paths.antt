@@ -1,5 +1,5 @@
 -- The order of paths, and the run of those that begin with one.
-use Rattle.std.proofs.Common.{◌≡◌, [], ◌∷◌, true, false, ◌&&◌, refl, sym, ap, subst, is_eq, is_gt, Ordering, Less, Equal, Greater, nat_cmp, List, String, Global, string_bytes, Bool, bytes_eq, string_eq}
+use Rattle.std.proofs.Common.{◌≡◌, ◌≤◌, length, arith, [], ◌∷◌, true, false, ◌&&◌, refl, sym, ap, subst, is_eq, is_gt, Ordering, Less, Equal, Greater, nat_cmp, List, String, Global, string_bytes, Bool, bytes_eq, string_eq}
 use Rattle.std.specs.List.{starts_with}
 use Rattle.std.specs.Ordering.{ordering_then, ordering_reverse}
 use Rattle.std.specs.Cmp.{tied_itself}
@@ -72,3 +72,13 @@ between_prefix (t ∷ p) (x ∷ a) (y ∷ b) low high h = go (bytes_eq t y) refl
         (subst (λ r. is_gt (ordering_then r (path_cmp p a)) ≡ false) (nat_list_cmp_total.antisymm t x) low)
         (subst (λ u. ordering_then (slice_cmp nat_cmp x u) (path_cmp a b) ≡ Less) (sym same) high) k
     go false e k rest = cc
+
+-- what begins with a path is as long
+pub prefix_length : (p q : Path) → is_prefix p q ≡ true → length p ≤ length q
+prefix_length [] q h = omega arith
+prefix_length (t ∷ p) [] h = cc
+prefix_length (t ∷ p) (u ∷ q) h = go (bytes_eq t u) h (prefix_length p q)
+  where
+    go : (x : Bool) → (x && is_prefix p q) ≡ true → (is_prefix p q ≡ true → length p ≤ length q) → length (t ∷ p) ≤ length (u ∷ q)
+    go true k rest = let less = rest k in omega (arith, less)
+    go false k rest = cc

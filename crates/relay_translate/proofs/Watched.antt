@@ -1,5 +1,5 @@
 -- The views of sessions, and the slots that stand for them in the index.
-use Rattle.std.proofs.Common.{◌≡◌, ℕ, ◌==◌, zero, suc, List, [], ◌∷◌, take, Option, Some, None, Bool, true, false, not, ◌&&◌, ◌||◌, cond, refl, sym, ap, ◌∙◌, arith, nat_cmp}
+use Rattle.std.proofs.Common.{subst, ◌≡◌, ◌≤◌, length, ℕ, ◌==◌, zero, suc, List, [], ◌∷◌, take, Option, Some, None, Bool, true, false, not, ◌&&◌, ◌||◌, cond, refl, sym, ap, ◌∙◌, arith, nat_cmp}
 use Rattle.std.specs.List.{list_any}
 use Rattle.std.specs.Ordering.{eq_by_cmp}
 use Rattle.std.specs.Cmp.{nat_cmp_total, unsigned_ties, eq_by_cmp_equiv}
@@ -10,8 +10,14 @@ use Rattle.std.specs.FinMap as fin
 use Rattle.std.specs.FinMap.{find, get-from_entries, get-insert, get-remove, get-empty, same_map, nat_cmp-IsAntisymmetric}
 use Rattle.std.proofs.lemmas.Bool.Decides.{nat_tests}
 use Rattle.relay_view.specs.View.{View}
+use Rattle.std.specs.Option.{option_map_or}
+use Rattle.relay_pointer.specs.Path.{path_of, same_path}
+use Rattle.relay_translate.specs.declared.watchers.Watchers.{Watchers}
 use Rattle.relay_translate.specs.Watches.{Watches, slots_of}
-use Rattle.relay_translate.specs.SlotIndex.{SlotIndex, IsIndex, Joins, Leaves, same_slot, watches_of}
+use Rattle.relay_translate.proofs.Keys.{Key}
+use Rattle.relay_translate.proofs.Standing.{slots_same}
+use Rattle.relay_view.specs.declared.slot.Slot.{Slot}
+use Rattle.relay_translate.specs.SlotIndex.{SlotIndex, IsIndex, IsWithin, AreWithin, Joins, Leaves, same_slot, watches_by, watches_of}
 
 -- ---- the map
 
@@ -116,6 +122,46 @@ index_left old new watches session former was h leaves v s =
         let got : fin.get watches s ≡ former = ap (fin.get watches) same ∙ was in
         rw (got, get-remove nat_cmp_total watches session s, tied session s, is) (own (list_any (same_slot v) (slots_of former)))
     go false is = rw (get-remove nat_cmp_total watches session s, tied session s, is) (other (list_any (same_slot v) (slots_of (fin.get watches s))) (list_any (same_slot v) (slots_of former)))
+
+-- ---- the longest pointer
+
+-- one slot more
+pub within_more : (deepest most : ℕ) (us more : List Slot) (u : Slot) → ((p : Slot → Bool) → list_any p more ≡ (list_any p us || p u)) → deepest ≤ most → length u.pointer ≤ most → AreWithin deepest us → AreWithin most more
+within_more deepest most us more u next le fits h v there = go (list_any (same_slot v) us) refl (sym (next (same_slot v)) ∙ there)
+  where
+    go : (b : Bool) → list_any (same_slot v) us ≡ b → (b || same_slot v u) ≡ true → length v.pointer ≤ most
+    go true is k = omega (arith, h v is, le)
+    go false is k = subst (λ w. length w.pointer ≤ most) (sym (slots_same v u k)) fits
+
+pub within_put : (old new : SlotIndex) (watches : Watches) (session : ℕ) (view : View) (deepest depth most : ℕ) → IsIndex old watches → IsIndex new (fin.insert watches session view) → IsWithin deepest old → AreWithin depth view → deepest ≤ most → depth ≤ most → IsWithin most new
+within_put old new watches session view deepest depth most was is within fits le less v s there = go (s == session) refl (sym (is v s) ∙ there)
+  where
+    go : (b : Bool) → (s == session) ≡ b → list_any (same_slot v) (slots_of (fin.get (fin.insert watches session view) s)) ≡ true → length v.pointer ≤ most
+    go true same h =
+        let mine : list_any (same_slot v) view ≡ true = subst (λ o. list_any (same_slot v) (slots_of o) ≡ true) (get-insert nat_cmp_total watches session view s ∙ ap (λ b. cond b (Some view) (fin.get watches s)) (tied session s ∙ same)) h in
+        omega (arith, fits v mine, less)
+    go false other h =
+        let old_one : list_any (same_slot v) (slots_of (fin.get watches s)) ≡ true = subst (λ o. list_any (same_slot v) (slots_of o) ≡ true) (get-insert nat_cmp_total watches session view s ∙ ap (λ b. cond b (Some view) (fin.get watches s)) (tied session s ∙ other)) h in
+        omega (arith, within v s (was v s ∙ old_one), le)
+
+pub within_left : (old new : SlotIndex) (watches : Watches) (session deepest : ℕ) → IsIndex old watches → IsIndex new (fin.remove watches session) → IsWithin deepest old → IsWithin deepest new
+within_left old new watches session deepest was is within v s there = go (s == session) refl (sym (is v s) ∙ there)
+  where
+    go : (b : Bool) → (s == session) ≡ b → list_any (same_slot v) (slots_of (fin.get (fin.remove watches session) s)) ≡ true → length v.pointer ≤ deepest
+    go true same h =
+        let gone : false ≡ true = subst (λ o. list_any (same_slot v) (slots_of o) ≡ true) (get-remove nat_cmp_total watches session s ∙ ap (λ b. cond b None (fin.get watches s)) (tied session s ∙ same)) h in
+        cc
+    go false other h =
+        let old_one : list_any (same_slot v) (slots_of (fin.get watches s)) ≡ true = subst (λ o. list_any (same_slot v) (slots_of o) ≡ true) (get-remove nat_cmp_total watches session s ∙ ap (λ b. cond b None (fin.get watches s)) (tied session s ∙ other)) h in
+        within v s (was v s ∙ old_one)
+
+pub within_same : (old new : SlotIndex) (watches : Watches) (deepest : ℕ) → IsIndex old watches → IsIndex new watches → IsWithin deepest old → IsWithin deepest new
+within_same old new watches deepest was is within v s there = within v s (was v s ∙ sym (is v s) ∙ there)
+
+pub within_none : (index : SlotIndex) (deepest : ℕ) → index.entries ≡ [] → IsWithin deepest index
+within_none index deepest none v s there =
+    let no : false ≡ true = sym (ap (λ (es : List (Key × Watchers)). option_map_or (watches_by v.kind s) (lookup (λ key. same_path (path_of key.items) v.pointer) es) false) none) ∙ there in
+    cc
 
 -- ---- slots that pass a test
 

@@ -1,5 +1,5 @@
 -- Which sessions watch each pointer, and which pointers lie near a change.
-use Rattle.std.specs.Prelude.{◌≡◌, ℕ, nat_eq, zero, suc, ◌==◌, List, [], ◌∷◌, length, take, String, Bool, true, false, not, ◌&&◌, ◌||◌, ◌⊎◌, Option}
+use Rattle.std.specs.Prelude.{◌≡◌, ℕ, nat_eq, zero, suc, ◌==◌, ◌≤◌, List, [], ◌∷◌, length, take, String, Bool, true, false, not, ◌&&◌, ◌||◌, ◌⊎◌, Option}
 use Rattle.std.specs.List.{list_any}
 use Rattle.std.specs.Option.{option_map_or}
 use Rattle.std.specs.Ordering.{nat_cmp}
@@ -67,6 +67,14 @@ watches_of views = map.from_entries views.entries
 -- the invariant of an index: the slots of each session are those of its view
 abbrev pub IsIndex : SlotIndex → Watches → Type 0
 IsIndex index watches = (v : Slot) (session : ℕ) → stands index v session ≡ list_any (same_slot v) (slots_of (map.get watches session))
+
+-- no pointer that some session watches has more tokens
+abbrev pub IsWithin : ℕ → SlotIndex → Type 0
+IsWithin deepest index = (v : Slot) (session : ℕ) → stands index v session ≡ true → length v.pointer ≤ deepest
+
+-- no slot of the list has a pointer with more tokens
+abbrev pub AreWithin : ℕ → List Slot → Type 0
+AreWithin deepest slots = (v : Slot) → list_any (same_slot v) slots ≡ true → length v.pointer ≤ deepest
 
 -- the path without its last token
 abbrev pub container : Path → Path

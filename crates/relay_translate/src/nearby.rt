@@ -4,7 +4,7 @@ ghost use Rattle.std.specs.Prelude.{◌≡◌, ◌||◌, ℕ, true, take, OnOk};
 ghost use Rattle.std.specs.Ordering.{nat_cmp};
 ghost use Rattle.std.specs.BTreeSet.{contains};
 ghost use Rattle.relay_pointer.specs.Path.{path_of, same_path, is_prefix};
-ghost use Rattle.relay_translate.specs.SlotIndex.{Gains, named, container, is_near, scope, slot_of, tells};
+ghost use Rattle.relay_translate.specs.SlotIndex.{Gains, IsWithin, container, is_near, named, scope, slot_of, tells};
 ghost use Rattle.relay_translate.specs.Watches.{touches};
 
 use crate::kind::Touch;
@@ -17,27 +17,36 @@ use relay_view::SlotKind;
 use std::alloc::{AllocError, Global};
 use std::collections::BTreeSet;
 
-/// Adds the sessions with a slot that the change touches.
+/// Adds the sessions with a slot that the change touches. `deepest`: no pointer has more tokens.
 pub(crate) fn add_touched(
     alloc: Global,
     sessions: &mut Vec<u64>,
     index: &SlotIndex,
+    deepest: usize,
     change: &Change,
 ) -> Result<(), AllocError>
+    requires { IsWithin deepest index.now }
     ensures { OnOk result (Gains (λ q. true) change.now index.now sessions.old.items sessions.new.items) }
 {
     match change {
         Change::Set { path, .. } | Change::AddMember { path, .. } | Change::DropMember { path } => {
-            add_near(alloc, sessions, index, path.tokens(), change)
+            add_near(alloc, sessions, index, deepest, path.tokens(), change)
         }
         Change::AddItem { path, .. } | Change::DropItem { path } => {
-            add_near(alloc, sessions, index, container(path.tokens()), change)
+            add_near(
+                alloc,
+                sessions,
+                index,
+                deepest,
+                container(path.tokens()),
+                change,
+            )
         }
         Change::Move { from, to, .. } => {
-            add_near(alloc, sessions, index, scope(from), change)?;
-            add_near(alloc, sessions, index, scope(to), change)
+            add_near(alloc, sessions, index, deepest, scope(from), change)?;
+            add_near(alloc, sessions, index, deepest, scope(to), change)
         }
-        Change::Copy { to, .. } => add_near(alloc, sessions, index, scope(to), change),
+        Change::Copy { to, .. } => add_near(alloc, sessions, index, deepest, scope(to), change),
     }
 }
 
@@ -46,15 +55,17 @@ fn add_near(
     alloc: Global,
     sessions: &mut Vec<u64>,
     index: &SlotIndex,
+    deepest: usize,
     path: &[String],
     change: &Change,
 ) -> Result<(), AllocError>
+    requires { IsWithin deepest index.now }
     ensures { OnOk result (Gains (is_near (path_of path.now)) change.now index.now sessions.old.items sessions.new.items) }
 {
     for depth in 0..path.len() {
         add_at(sessions, index, first_tokens(path, depth), change)?;
     }
-    add_below(alloc, sessions, index, path, change)
+    add_below(alloc, sessions, index, deepest, path, change)
 }
 
 /// Like [`add_touched`], for the slots whose pointer is the path.
@@ -72,16 +83,21 @@ fn add_at(
     }
 }
 
-/// Like [`add_touched`], for the slots whose pointers begin with the path.
+/// Like [`add_touched`], for the slots whose pointers begin with the path. There are none if no pointer is as long.
 fn add_below(
     alloc: Global,
     sessions: &mut Vec<u64>,
     index: &SlotIndex,
+    deepest: usize,
     path: &[String],
     change: &Change,
 ) -> Result<(), AllocError>
+    requires { IsWithin deepest index.now }
     ensures { OnOk result (Gains (is_prefix (path_of path.now)) change.now index.now sessions.old.items sessions.new.items) }
 {
+    if path.len() > deepest {
+        return Ok(());
+    }
     match index.get_key_value(path) {
         Some((first, _)) => add_run(sessions, index, first, change),
         None => add_run(sessions, index, &copy_tokens(alloc, path)?, change),

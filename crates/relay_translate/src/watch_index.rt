@@ -5,7 +5,7 @@
 ghost use Rattle.std.specs.Prelude.{◌≡◌, ℕ, map as each, IfOk, OnOk, OnErr};
 ghost use Rattle.std.specs.List.Sorted.{IsStrictlyIncreasing};
 ghost use Rattle.std.specs.FinMap as map;
-ghost use Rattle.relay_translate.specs.SlotIndex.{Found, IsIndex, Leaves, named, watches_of};
+ghost use Rattle.relay_translate.specs.SlotIndex.{AreWithin, Found, IsIndex, IsWithin, Leaves, named, watches_of};
 ghost use Rattle.relay_translate.specs.Watches.{is_touched, slots_of};
 
 use crate::nearby::add_touched;
@@ -23,11 +23,13 @@ use std::marker::Model;
 pub struct WatchIndex {
     views: BTreeMap<u64, View>,
     slots: SlotIndex,
+    /// No pointer has had more tokens.
+    deepest: usize,
 }
 
 impl Model for WatchIndex {
     ghost use Rattle.relay_view.specs.contracts.slot.Slot as slot;
-    ghost use Rattle.relay_translate.specs.SlotIndex.{IsIndex, watches_of};
+    ghost use Rattle.relay_translate.specs.SlotIndex.{IsIndex, IsWithin, watches_of};
     ghost use Rattle.relay_translate.specs.Watches.{Watches, watches_code};
 
     ghost Value = { Watches };
@@ -36,7 +38,7 @@ impl Model for WatchIndex {
 
     ghost view = { λ i. watches_of i.views };
 
-    ghost invariant = { λ i. IsIndex i.slots (watches_of i.views) };
+    ghost invariant = { λ i. IsIndex i.slots (watches_of i.views) × IsWithin i.deepest i.slots };
 }
 
 impl WatchIndex {
@@ -51,6 +53,7 @@ impl WatchIndex {
         WatchIndex {
             views: BTreeMap::new(alloc),
             slots: BTreeMap::new(alloc),
+            deepest: 0,
         }
     }
 
@@ -60,7 +63,9 @@ impl WatchIndex {
         ensures ok { OnOk result (self.new ≡ map.insert self.old session view.now) }
         ensures err { OnErr result (self.new ≡ self.old) }
     {
-        put_view(alloc, &mut self.views, &mut self.slots, session, view)
+        put_view(alloc, &mut self.views, &mut self.slots, session, view)?;
+        self.deepest = self.deepest.max(depth_of(view));
+        Ok(())
     }
 
     /// Removes the view of a session; changes nothing if it has none. Allocates nothing. Costs a look-up for each of its slots.
@@ -77,13 +82,14 @@ impl WatchIndex {
     ///
     /// For each place at which a change adds or removes something, it checks only the slots whose pointers are a prefix of the place
     /// or begin with it and, if the place is an item, those that begin with the path of its list; at the root, all slots. Costs a look-up
-    /// for each token of a place, and a comparison for each pointer checked; a copy of the place too, if nobody watches it.
+    /// for each token of a place, and a comparison for each pointer checked; a copy of the place too, if nobody watches it, and pointers
+    /// that are as long were watched.
     pub fn touched(&self, alloc: Global, changes: &[&Change]) -> Result<Vec<u64>, AllocError>
         ensures rising { IfOk result (λ sessions. IsStrictlyIncreasing sessions.items) }
         ensures exact { IfOk result (λ sessions. (s : ℕ) → list_any (nat_eq s) sessions.items ≡ sees (each (λ c. c.now) changes.now) self.now s) }
         ensures others { IfOk result (λ sessions. OthersStay (each (λ c. c.now) changes.now) self.now sessions.items) }
     {
-        Ok(in_order(sessions_touched(alloc, &self.slots, changes)?))
+        Ok(in_order(sessions_touched(alloc, &self.slots, self.deepest, changes)?))
     }
 }
 
@@ -128,17 +134,30 @@ fn withdraw(views: &BTreeMap<u64, View>, slots: &mut SlotIndex, session: u64, vi
     }
 }
 
+/// Returns the number of tokens of the view's longest pointer.
+fn depth_of(view: &View) -> usize
+    ensures { AreWithin result view.now }
+{
+    let mut deepest = 0;
+    for slot in view.slots() {
+        deepest = deepest.max(slot.pointer.tokens().len());
+    }
+    deepest
+}
+
 /// Returns the sessions with a slot that some change touches.
 fn sessions_touched(
     alloc: Global,
     index: &SlotIndex,
+    deepest: usize,
     changes: &[&Change],
 ) -> Result<Vec<u64>, AllocError>
+    requires { IsWithin deepest index.now }
     ensures { IfOk result (λ sessions. Found (is_touched (each (λ c. c.now) changes.now)) index.now sessions.items) }
 {
     let mut sessions = Vec::new(alloc);
     for change in changes {
-        add_touched(alloc, &mut sessions, index, change)?;
+        add_touched(alloc, &mut sessions, index, deepest, change)?;
     }
     Ok(sessions)
 }

@@ -1,7 +1,7 @@
 use Rattle.std.proofs.Common.{◌∙◌, Some, [], sym, ap, subst}
 use Rattle.std.specs.FinMap as fin
 use Rattle.relay_translate.specs.SlotIndex.{IsIndex, Leaves, watches_of}
-use Rattle.relay_translate.proofs.Watched.{get_seen, index_left, left}
+use Rattle.relay_translate.proofs.Watched.{get_seen, index_left, left, within_left}
 use Rattle.relay_translate.proofs.watch_index.WatchIndex.take_out.Goals as goal
 
 pub invariant_of-self : goal.invariant_of-self
@@ -10,9 +10,12 @@ invariant_of-self c =
     let slots = c.self.inside.slots in
     let new = c.leave.new.index in
     let session = c.args.session in
-    subst (IsIndex new) (sym (left views c.remove.new.self session c.remove.ensures.updates))
-    (index_left slots new (watches_of views) session (Some c.in-Some.view) (get_seen views session ∙ sym c.in-Some.ensures.value) c.self.invariant
-    (subst (λ list. Leaves slots new session list []) c.slots.ensures c.leave.ensures))
+    let is =
+    index_left slots new (watches_of views) session (Some c.in-Some.view) (get_seen views session ∙ sym c.in-Some.ensures.value) c.self.invariant.0
+    (subst (λ list. Leaves slots new session list []) c.slots.ensures c.leave.ensures) in (
+      subst (IsIndex new) (sym (left views c.remove.new.self session c.remove.ensures.updates)) is,
+      within_left slots new (watches_of views) session c.self.inside.deepest c.self.invariant.0 is c.self.invariant.1,
+    )
 
 pub returns-in-Some : goal.returns-in-Some
 returns-in-Some c =
