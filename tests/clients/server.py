@@ -1,15 +1,26 @@
 """The relay, started again and again, behind a proxy that cuts connections."""
-import asyncio, contextlib, json, os
+import asyncio, contextlib, json, os, random, socket
 import websockets
+
+
+def free_port():
+    """A port on which a relay can begin again and again: below those that the system gives to connections."""
+    while True:
+        port = random.randrange(20_000, 30_000)
+        with socket.socket() as trial:
+            trial.setsockopt(socket.SOL_SOCKET, socket.SO_REUSEADDR, 1)
+            with contextlib.suppress(OSError):
+                trial.bind(("127.0.0.1", port))
+                return port
 
 
 class Relay:
     """One run of `relay serve`."""
 
     @classmethod
-    async def begin(cls, program, epoch, history, outbox):
+    async def begin(cls, program, epoch, history, outbox, port=0):
         relay = cls()
-        words = ["serve", "--port", "0", "--turns", "1000000000000", "--epoch", str(epoch)]
+        words = ["serve", "--port", str(port), "--turns", "1000000000000", "--epoch", str(epoch)]
         words += ["--history", str(history), "--outbox", str(outbox)]
         relay.process = await asyncio.create_subprocess_exec(program, *words, stdout=asyncio.subprocess.PIPE)
         relay.port = int((await relay.process.stdout.readline()).split()[1])

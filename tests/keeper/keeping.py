@@ -4,7 +4,7 @@ import asyncio, itertools, json, os, pathlib, signal, sys, tempfile
 ROOT = os.path.dirname(os.path.dirname(os.path.dirname(os.path.abspath(__file__))))
 sys.path.insert(0, f"{ROOT}/tests/clients")
 from keeper import Keeper, Manager, says
-from server import Proxy, Relay
+from server import Relay, free_port
 
 FIRST, SECOND, THIRD = {"cards": ["milk"]}, {"cards": ["milk", "bread"]}, {"cards": ["somebody was faster"]}
 
@@ -13,20 +13,11 @@ class Play:
     def __init__(self, folder):
         self.folder, self.epochs = pathlib.Path(folder, "kept"), itertools.count(1)
         self.manager = Manager(folder)
-        self.relay = self.keeper = None
-
-    async def begin(self):
-        self.proxy = Proxy()
-        self.port = await self.proxy.begin()
+        self.port, self.relay, self.keeper = free_port(), None, None
 
     async def start_relay(self):
         self.epoch = next(self.epochs)
-        self.relay = await Relay.begin(os.environ["RELAY"], self.epoch, 64, 32)
-        self.proxy.port = self.relay.port
-
-    async def end_relay(self):
-        self.proxy.port = None
-        await self.relay.end()
+        self.relay = await Relay.begin(os.environ["RELAY"], self.epoch, 64, 32, self.port)
 
     async def start_keeper(self, *options, rooms=("one", "two")):
         self.keeper = await Keeper.begin(self.port, self.folder, self.manager, rooms, *options)
@@ -74,8 +65,7 @@ class Play:
         if self.keeper and self.keeper.process.returncode is None:
             await self.keeper.end()
         if self.relay and self.relay.process.returncode is None:
-            await self.end_relay()
-        await self.proxy.end()
+            await self.relay.end()
         self.manager.close()
 
 
@@ -93,7 +83,7 @@ async def restarts(play):
     await play.kept("two", FIRST)
     print("a change is written")
 
-    await play.end_relay()
+    await play.relay.end()
     await play.start_relay()
     await play.put_back("one", FIRST)
     await play.put_back("two", FIRST)
@@ -106,7 +96,7 @@ async def restarts(play):
     assert await play.aside("one") == []
     print("a keeper that was ended catches up before it is ready")
 
-    await play.end_relay()
+    await play.relay.end()
     await play.keeper.end()
     await play.start_relay()
     await play.set("two", THIRD)
@@ -156,7 +146,7 @@ async def states(play):
     told, status = await says("restore", str(play.folder), "one", time)
     assert status == 0 and await play.read(play.folder / "one.json") == "d", told
     assert sorted(await play.aside("one")) == ["c", "d"]
-    await play.end_relay()
+    await play.relay.end()
     await play.start_relay()
     await play.start_ready("--snapshots", "2", "--apart", "0", rooms=["one"])
     await play.has("one", "d")
@@ -201,7 +191,6 @@ async def main():
     for story in (restarts, states, bad_files):
         with tempfile.TemporaryDirectory() as folder:
             play = Play(folder)
-            await play.begin()
             try:
                 await asyncio.wait_for(story(play), 180)
             finally:

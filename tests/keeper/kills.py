@@ -11,7 +11,7 @@ ROOT = os.path.dirname(os.path.dirname(os.path.dirname(os.path.abspath(__file__)
 sys.path.insert(0, f"{ROOT}/tests/clients")
 import websockets
 from keeper import Keeper, Manager
-from server import Proxy, Relay
+from server import Relay, free_port
 
 OLDEST = 0.1
 """How many seconds before a kill the state of a file may be, beside two writes."""
@@ -74,7 +74,7 @@ class Play:
     def __init__(self, folder, seed, slow):
         self.folder, self.slow = pathlib.Path(folder, "kept"), slow
         self.manager, self.random = Manager(folder), random.Random(seed)
-        self.epochs = itertools.count(1)
+        self.port, self.epochs = free_port(), itertools.count(1)
         self.editors = {room: Editor(room) for room in SIZES}
         self.editing = []
         self.oldest, self.looks, self.edits = 0.0, 0, 0
@@ -85,8 +85,6 @@ class Play:
         return self.folder / f"{room}.json"
 
     async def begin(self):
-        self.proxy = Proxy()
-        self.port = await self.proxy.begin()
         await self.start_relay()
         await self.start_keeper()
         for room in SIZES:
@@ -98,8 +96,7 @@ class Play:
 
     async def start_relay(self):
         self.epoch = next(self.epochs)
-        self.relay = await Relay.begin(os.environ["RELAY"], self.epoch, 64, 32)
-        self.proxy.port = self.relay.port
+        self.relay = await Relay.begin(os.environ["RELAY"], self.epoch, 64, 32, self.port)
 
     async def start_keeper(self):
         self.keeper = await Keeper.begin(self.port, self.folder, self.manager, SIZES, errors=asyncio.subprocess.DEVNULL)
@@ -133,7 +130,6 @@ class Play:
         if what != "relay":
             self.keeper.process.kill()
         if what != "keeper":
-            self.proxy.port = None
             self.relay.process.kill()
         self.counts[what] += 1
         self.time_write()
@@ -249,7 +245,6 @@ class Play:
             task.cancel()
         await self.keeper.end()
         await self.relay.end()
-        await self.proxy.end()
         self.manager.close()
 
 

@@ -1,0 +1,103 @@
+#!/usr/bin/env python3
+"""What it costs that a crowd of one room watches, and then leaves all at once.
+
+    python3 benches/leaving.py [SESSIONS..]                   (1,000, 4,000 and 16,000, if none is named)
+
+Starts `./relay serve` (or the program that RELAY names) with room for so many sessions. All enter one room, and each watches 16 members
+of its own; then all connections are closed at once. Printed are the microseconds of the server's processor for a session that watches
+and for one that leaves, with what its socket costs, and the longest that a client of another room waited for an answer meanwhile. It
+wants nothing but Python, and as many open files a process as there are sessions.
+"""
+import argparse
+import multiprocessing
+import os
+import resource
+import subprocess
+import time
+
+from edits import Client, Microseconds, ROOT, edit, frame
+
+SLOTS = 16
+ROUND = edit({"op": "add", "path": "", "value": 0})
+
+
+def beside(port, ended, waits):
+    """A client of another room, whose edits are answered one after the other: the longest that it waited."""
+    client, longest = Client(port, "beside"), 0.0
+    while not ended.is_set():
+        begun = time.monotonic()
+        client.edit([ROUND], b'"kind":"done"')
+        longest = max(longest, time.monotonic() - begun)
+        time.sleep(0.01)
+    waits.put(longest)
+
+
+class Beside:
+    def __init__(self, port):
+        self.ended, self.waits = multiprocessing.Event(), multiprocessing.Queue()
+        self.process = multiprocessing.Process(target=beside, args=(port, self.ended, self.waits))
+
+    def __enter__(self):
+        self.process.start()
+        return self
+
+    def __exit__(self, *_):
+        self.ended.set()
+        self.longest = self.waits.get()
+        self.process.join()
+
+
+def watched(crowd):
+    """Each of the crowd watches 16 members of its own."""
+    for number, client in enumerate(crowd):
+        client.stream.sendall(frame({"do": "watch", "id": 1, "view": [f"/{number}/{slot}" for slot in range(SLOTS)]}))
+    for client in crowd:
+        client.until(b'"kind":"snapshot"', 1)
+
+
+def left(crowd):
+    for client in crowd:
+        client.stream.close()
+
+
+def settled(pid):
+    """What the process spent, once it does next to nothing but answer the client beside."""
+    spent = Microseconds().spent(pid)
+    while True:
+        time.sleep(0.5)
+        before, spent = spent, Microseconds().spent(pid)
+        if spent - before < 25_000:
+            return before
+
+
+def part(pid, port, work, count):
+    """Microseconds of the processor for each of the crowd, and the longest wait of a client beside, in milliseconds."""
+    with Beside(port) as other:
+        begun = Microseconds().spent(pid)
+        work()
+        spent = settled(pid) - begun
+    return f"{spent / count:12.0f} µs {other.longest * 1000:8.0f} ms"
+
+
+def measure(sessions):
+    program = os.environ.get("RELAY", f"{ROOT}/relay")
+    words = [program, "serve", "--port", "0", "--turns", "1000000000000", "--sessions", str(sessions + 8)]
+    serve = subprocess.Popen(words, stdout=subprocess.PIPE, text=True)
+    try:
+        port = int(serve.stdout.readline().split()[1])
+        crowd = [Client(port, "crowd") for _ in range(sessions)]
+        watch = part(serve.pid, port, lambda: watched(crowd), sessions)
+        leave = part(serve.pid, port, lambda: left(crowd), sessions)
+        print(f"{sessions:8} | {watch} | {leave}", flush=True)
+    finally:
+        serve.kill()
+        serve.wait()
+
+
+words = argparse.ArgumentParser(description=__doc__, formatter_class=argparse.RawDescriptionHelpFormatter)
+words.add_argument("sessions", nargs="*", type=int, default=[1000, 4000, 16000])
+most = resource.getrlimit(resource.RLIMIT_NOFILE)[1]
+resource.setrlimit(resource.RLIMIT_NOFILE, (most, most))
+print("sessions | watches: processor, wait | leaves: processor, wait")
+for sessions in words.parse_args().sessions:
+    measure(sessions)
