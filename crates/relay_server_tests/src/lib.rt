@@ -1,4 +1,5 @@
-//! Tests of the command line and of the program: its statuses and texts, the limits on lines, failing streams, `serve`, and its log.
+//! Tests of the command line and of the program: its statuses and texts, the limits on lines, failing streams, a faulty network, `serve`,
+//! and its log.
 //!
 //! They test what no script can. The answers to lines are data in `tests/scripts`.
 #![tactic(auto)]
@@ -7,6 +8,8 @@
 mod lines;
 #[cfg(test)]
 mod log_lines;
+#[cfg(test)]
+mod nets;
 #[cfg(test)]
 mod options;
 #[cfg(test)]

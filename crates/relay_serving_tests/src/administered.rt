@@ -2,7 +2,7 @@
 use crate::memory_server::{MemoryListener, ReadinessScript, ScriptedReadiness};
 use crate::pair::{HANDSHAKE, lent};
 use relay_hub::{Hub, HubConfig};
-use relay_server::{AdminPort, AdminReadiness, NoLog, ReadyEvent, Server};
+use relay_serving::{AdminPort, AdminReadiness, NoLog, ReadyEvent, Server};
 use relay_wire::Wire;
 use std::alloc::AllocGlobal;
 use std::cell::RefCell;

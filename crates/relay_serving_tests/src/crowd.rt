@@ -2,7 +2,7 @@
 use crate::memory_server::{MemoryServer, ReadinessScript};
 use crate::pair::{HANDSHAKE, lent};
 use relay_hub::HubConfig;
-use relay_server::connection_limit;
+use relay_serving::connection_limit;
 use relay_wire::Wire;
 use std::alloc::AllocGlobal;
 use std::cell::RefCell;

@@ -2,7 +2,7 @@
 use crate::memory_server::ReadinessScript;
 use crate::pair::lent;
 use crate::senders::{COSTLY_EDIT, EDIT, Senders, WATCH, long_edit, readable, wires};
-use relay_server::{ReadyEvent, StreamReady};
+use relay_serving::{ReadyEvent, StreamReady};
 use relay_wire::InjectedFault;
 use std::alloc::AllocGlobal;
 use std::process::Abort;

@@ -1,5 +1,4 @@
-//! Tests of a server's rounds: over in-memory streams whose readiness the test controls, over loopback sockets, and on a faulty
-//! network.
+//! Tests of a server's rounds: over in-memory streams whose readiness the test controls, and over loopback sockets.
 //!
 //! They are a crate of their own and use only public calls, since a crate with tests is proved twice.
 #![tactic(auto)]
@@ -16,8 +15,6 @@ mod logging;
 mod loopback_fixture;
 #[cfg(test)]
 mod memory_server;
-#[cfg(test)]
-mod nets;
 #[cfg(test)]
 mod pair;
 #[cfg(test)]

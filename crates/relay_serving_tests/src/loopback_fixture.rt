@@ -1,6 +1,7 @@
 //! A server behind a loopback socket, with two clients of its room.
 use relay_hub::Hub;
-use relay_server::{Client, ClientHandshake, NoLog, Polling, Server};
+use relay_loopback::{Client, ClientHandshake};
+use relay_serving::{NoLog, Polling, Server};
 use std::alloc::AllocGlobal;
 use std::io::{Read, Write};
 use std::net::{Ipv4Addr, Net, OpenListener, OpenStream, SocketAddr};

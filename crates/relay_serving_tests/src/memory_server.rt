@@ -1,6 +1,6 @@
 //! A server over in-memory streams, whose readiness the test controls.
 use relay_hub::{Hub, HubConfig};
-use relay_server::{ConnectionLog, LogEntry, Readiness, ReadyEvent, Server};
+use relay_serving::{ConnectionLog, LogEntry, Readiness, ReadyEvent, Server};
 use relay_wire::{End, Wire};
 use std::alloc::{AllocGlobal, Global};
 use std::cell::{RefCell, RefMut};

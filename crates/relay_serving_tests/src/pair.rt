@@ -1,6 +1,6 @@
 //! The fixture that plays rows to a server with two streams.
 use crate::memory_server::MemoryServer;
-use relay_server::{ReadyEvent, StreamReady};
+use relay_serving::{ReadyEvent, StreamReady};
 use relay_wire::{InjectedFault, Wire};
 use std::alloc::AllocGlobal;
 use std::cell::{RefCell, RefMut};

@@ -2,7 +2,7 @@
 use crate::memory_server::{MemoryServer, ReadinessScript};
 use crate::pair::{HANDSHAKE, lent};
 use relay_hub::HubConfig;
-use relay_server::{ReadyEvent, StreamReady};
+use relay_serving::{ReadyEvent, StreamReady};
 use relay_wire::Wire;
 use std::alloc::{AllocGlobal, Global};
 use std::cell::RefCell;
