@@ -1,7 +1,7 @@
 #!/usr/bin/env python3
 """What it costs that a crowd of one room watches, and then leaves all at once.
 
-    python3 benches/leaving.py [SESSIONS..]                   (1,000, 4,000 and 16,000, if none is named)
+    python3 benches/one_room.py [SESSIONS..]                   (256, 1,000 and 4,000, if none is named)
 
 Starts `./relay serve` (or the program that RELAY names) with room for so many sessions. All enter one room, and each watches 16 members
 of its own; then all connections are closed at once. Printed are the microseconds of the server's processor for a session that watches
@@ -21,9 +21,10 @@ SLOTS = 16
 ROUND = edit({"op": "add", "path": "", "value": 0})
 
 
-def beside(port, ended, waits):
+def beside(port, entered, ended, waits):
     """A client of another room, whose edits are answered one after the other: the longest that it waited."""
     client, longest = Client(port, "beside"), 0.0
+    entered.set()
     while not ended.is_set():
         begun = time.monotonic()
         client.edit([ROUND], b'"kind":"done"')
@@ -34,11 +35,13 @@ def beside(port, ended, waits):
 
 class Beside:
     def __init__(self, port):
-        self.ended, self.waits = multiprocessing.Event(), multiprocessing.Queue()
-        self.process = multiprocessing.Process(target=beside, args=(port, self.ended, self.waits))
+        apart = multiprocessing.get_context("spawn")  # a fork would keep the crowd's sockets open
+        self.entered, self.ended, self.waits = apart.Event(), apart.Event(), apart.Queue()
+        self.process = apart.Process(target=beside, args=(port, self.entered, self.ended, self.waits))
 
     def __enter__(self):
         self.process.start()
+        self.entered.wait()
         return self
 
     def __exit__(self, *_):
@@ -81,7 +84,7 @@ def part(pid, port, work, count):
 
 def measure(sessions):
     program = os.environ.get("RELAY", f"{ROOT}/relay")
-    words = [program, "serve", "--port", "0", "--turns", "1000000000000", "--sessions", str(sessions + 8)]
+    words = [program, "serve", "--port", "0", "--epoch", "1", "--turns", "1000000000000", "--sessions", str(sessions + 8)]
     serve = subprocess.Popen(words, stdout=subprocess.PIPE, text=True)
     try:
         port = int(serve.stdout.readline().split()[1])
@@ -94,10 +97,15 @@ def measure(sessions):
         serve.wait()
 
 
-words = argparse.ArgumentParser(description=__doc__, formatter_class=argparse.RawDescriptionHelpFormatter)
-words.add_argument("sessions", nargs="*", type=int, default=[1000, 4000, 16000])
-most = resource.getrlimit(resource.RLIMIT_NOFILE)[1]
-resource.setrlimit(resource.RLIMIT_NOFILE, (most, most))
-print("sessions | watches: processor, wait | leaves: processor, wait")
-for sessions in words.parse_args().sessions:
-    measure(sessions)
+def main():
+    words = argparse.ArgumentParser(description=__doc__, formatter_class=argparse.RawDescriptionHelpFormatter)
+    words.add_argument("sessions", nargs="*", type=int, default=[256, 1000, 4000])
+    most = resource.getrlimit(resource.RLIMIT_NOFILE)[1]
+    resource.setrlimit(resource.RLIMIT_NOFILE, (most, most))
+    print("sessions | watches: processor, wait | leaves: processor, wait", flush=True)
+    for sessions in words.parse_args().sessions:
+        measure(sessions)
+
+
+if __name__ == "__main__":
+    main()
