@@ -84,7 +84,7 @@ def part(pid, port, work, count):
 
 def measure(sessions):
     program = os.environ.get("RELAY", f"{ROOT}/relay")
-    words = [program, "serve", "--port", "0", "--epoch", "1", "--turns", "1000000000000", "--sessions", str(sessions + 8)]
+    words = [program, "serve", "--port", "0", "--epoch", "2", "--turns", "1000000000000", "--sessions", str(sessions + 8)]
     serve = subprocess.Popen(words, stdout=subprocess.PIPE, text=True)
     try:
         port = int(serve.stdout.readline().split()[1])
