@@ -1,8 +1,9 @@
 -- Paths that are the same, and paths that begin with one another.
-use Rattle.std.proofs.Common.{◌≡◌, [], ◌∷◌, ◌++◌, Bool, true, false, ◌&&◌, refl, sym, ap, ◌∙◌, bytes_eq}
+use Rattle.std.proofs.Common.{◌≡◌, List, [], ◌∷◌, ◌++◌, Bool, true, false, ◌&&◌, String, Global, string_eq, refl, sym, ap, ◌∙◌, bytes_eq}
+use Rattle.std.specs.List.{starts_with}
 use Rattle.relay_tree.proofs.Names.{bytes_same, equal_bytes}
 use Rattle.relay_pointer.specs.Index.{Token}
-use Rattle.relay_pointer.specs.Path.{Path, same_path, is_proper_prefix}
+use Rattle.relay_pointer.specs.Path.{Path, path_of, same_path, is_prefix, is_proper_prefix}
 use Rattle.relay_tree.proofs.Equal.{both}
 
 pub same_path-end : (a b : Path) (t u : Token) → same_path (a ++ t ∷ []) (b ++ u ∷ []) ≡ (same_path a b && bytes_eq t u)
@@ -63,3 +64,9 @@ proper_prefix_last [] (t ∷ before) a b = refl
 proper_prefix_last (u ∷ []) [] a b = rw (and_false (bytes_eq u a), and_false (bytes_eq u b)) refl
 proper_prefix_last (u ∷ w ∷ f) [] a b = rw (and_false (bytes_eq u a), and_false (bytes_eq u b)) refl
 proper_prefix_last (u ∷ f) (t ∷ before) a b = ap (λ x. bytes_eq u t && x) (proper_prefix_last f before a b)
+
+-- a list of texts starts with another exactly if its path begins with that one's
+pub starts_with-is_prefix : (others own : List (String Global)) → starts_with string_eq others own ≡ is_prefix (path_of own) (path_of others)
+starts_with-is_prefix others [] = refl
+starts_with-is_prefix [] (t ∷ own) = refl
+starts_with-is_prefix (u ∷ others) (t ∷ own) = ap (λ x. string_eq t u && x) (starts_with-is_prefix others own)

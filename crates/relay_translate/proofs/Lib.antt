@@ -14,6 +14,7 @@ pub mod Lent
 pub mod Paths
 pub mod Keys
 pub mod Standing
+pub mod EachWatched
 pub mod Near
 pub mod Watched
 pub mod Gained

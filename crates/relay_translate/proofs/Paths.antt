@@ -1,6 +1,5 @@
 -- The order of paths, and the run of those that begin with one.
-use Rattle.std.proofs.Common.{◌≡◌, ◌≤◌, length, arith, [], ◌∷◌, true, false, ◌&&◌, refl, sym, ap, subst, is_eq, is_gt, Ordering, Less, Equal, Greater, nat_cmp, List, String, Global, string_bytes, Bool, bytes_eq, string_eq}
-use Rattle.std.specs.List.{starts_with}
+use Rattle.std.proofs.Common.{◌≡◌, ◌≤◌, length, arith, [], ◌∷◌, true, false, ◌&&◌, refl, sym, ap, subst, is_eq, is_gt, Ordering, Less, Equal, Greater, nat_cmp, List, String, Global, string_bytes, Bool, bytes_eq}
 use Rattle.std.specs.Ordering.{ordering_then, ordering_reverse}
 use Rattle.std.specs.Cmp.{tied_itself}
 use Rattle.std.specs.Cmp.Lexicographic.{slice_cmp, nat_list_cmp_total}
@@ -20,12 +19,6 @@ texts_cmp [] [] = refl
 texts_cmp [] (u ∷ us) = refl
 texts_cmp (t ∷ ts) [] = refl
 texts_cmp (t ∷ ts) (u ∷ us) = ap (ordering_then (text_cmp t u)) (texts_cmp ts us)
-
--- a list of texts starts with another exactly if its path begins with that one's
-pub starts_with-is_prefix : (others own : List (String Global)) → starts_with string_eq others own ≡ is_prefix (path_of own) (path_of others)
-starts_with-is_prefix others [] = refl
-starts_with-is_prefix [] (t ∷ own) = refl
-starts_with-is_prefix (u ∷ others) (t ∷ own) = ap (λ x. string_eq t u && x) (starts_with-is_prefix others own)
 
 then_equal : (r s : Ordering) → is_eq (ordering_then r s) ≡ (is_eq r && is_eq s)
 then_equal Less s = refl

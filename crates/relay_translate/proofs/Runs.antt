@@ -126,48 +126,60 @@ not_there path q (e ∷ es) others h = go (same_path (at_entry e) q) refl (not_t
         cc
     go false is rest = rest
 
--- no other entry begins with the path
-pub walked_past : (c : Change) (path : Path) (index : SlotIndex) (rest : List Entry) (old now : List ℕ) → Walked c path index rest old now → Others path rest → Gains (is_prefix path) c index old now
-walked_past c path index rest old now w others =
-    record {
-      kept = w.kept;
-      found = λ v s h k at. by_found v s h at (w.found v s h k at);
-      only = w.only;
-    }
-  where
-    by_found : (v : Slot) (s : ℕ) → stands index v s ≡ true → is_prefix path v.pointer ≡ true → (named now s ≡ true) ⊎ (lookup (λ key. same_path (path_of key.items) v.pointer) rest ≡ watchers_at index v.pointer) → named now s ≡ true
-    by_found v s h at (inl there) = there
-    by_found v s h at (inr same) =
-        let none : watchers_at index v.pointer ≡ None = sym same ∙ not_there path v.pointer rest others at in
-        let no : false ≡ true = sym (ap (λ o. option_map_or (watches_by v.kind s) o false) none) ∙ h in
-        cc
+module _ {c : Change} {path : Path} {index : SlotIndex} {rest : List Entry} {old now : List ℕ} (w : Walked c path index rest old now) where
+  -- no other entry begins with the path
+  walked_past : Others path rest → Gains (is_prefix path) c index old now
+  walked_past others =
+      record {
+        kept = w.kept;
+        found = λ v s h k at. by_found v s h at (w.found v s h k at);
+        only = w.only;
+      }
+    where
+      by_found : (v : Slot) (s : ℕ) → stands index v s ≡ true → is_prefix path v.pointer ≡ true → (named now s ≡ true) ⊎ (lookup (λ key. same_path (path_of key.items) v.pointer) rest ≡ watchers_at index v.pointer) → named now s ≡ true
+      by_found v s h at (inl there) = there
+      by_found v s h at (inr same) =
+          let none : watchers_at index v.pointer ≡ None = sym same ∙ not_there path v.pointer rest others at in
+          let no : false ≡ true = sym (ap (λ o. option_map_or (watches_by v.kind s) o false) none) ∙ h in
+          cc
 
--- the next entry is passed over
-pub walked_all : (c : Change) (path : Path) (index : SlotIndex) (e : Entry) (rest : List Entry) (old now : List ℕ) → Walked c path index (e ∷ rest) old now → is_prefix path (at_entry e) ≡ false → Gains (is_prefix path) c index old now
-walked_all c path index e rest old now w past = walked_past c path index (e ∷ rest) old now w (past, w.settled.0 past)
+  -- there are no other entries
+  pub walked_end : rest ≡ [] → Gains (is_prefix path) c index old now
+  walked_end none = walked_past (subst (λ es. Others path es) (sym none) tt)
 
--- the next entry's watchers are told
-pub walked_more : (c : Change) (path : Path) (index : SlotIndex) (e : Entry) (rest : List Entry) (old between now : List ℕ) → Walked c path index (e ∷ rest) old between → Told c (at_entry e) e.1 between now → Walked c path index rest old now
-walked_more c path index e rest old between now w told =
-    record {
-      kept = λ s h. told_kept c (at_entry e) e.1 index between now w.among.0 told s (w.kept s h);
-      found = λ v s h k at. by_found v s h k (w.found v s h k at);
-      only = λ s h. back s (told_only c (at_entry e) e.1 index between now w.among.0 told s h);
-      settled = w.settled.1;
-      among = w.among.1;
-    }
-  where
-    by_found : (v : Slot) (s : ℕ) → stands index v s ≡ true → touches c v ≡ true → (named between s ≡ true) ⊎ (lookup (λ key. same_path (path_of key.items) v.pointer) (e ∷ rest) ≡ watchers_at index v.pointer) → (named now s ≡ true) ⊎ (lookup (λ key. same_path (path_of key.items) v.pointer) rest ≡ watchers_at index v.pointer)
-    by_found v s h k (inl there) = inl (told_kept c (at_entry e) e.1 index between now w.among.0 told s there)
-    by_found v s h k (inr same) = go (same_path (at_entry e) v.pointer) refl same
+  module _ (e : Entry) (more : List Entry) (next : rest ≡ e ∷ more) where
+    -- the next entry is passed over
+    pub walked_all : is_prefix path (at_entry e) ≡ false → Gains (is_prefix path) c index old now
+    walked_all past =
+        let settled : Settled path (e ∷ more) = subst (λ es. Settled path es) next w.settled in
+        walked_past (subst (λ es. Others path es) (sym next) (past, settled.0 past))
+
+    among_next : AllByRecursion (λ f. watchers_at index (at_entry f) ≡ Some f.1) (e ∷ more)
+    among_next = subst (λ es. AllByRecursion (λ f. watchers_at index (at_entry f) ≡ Some f.1) es) next w.among
+
+    -- the next entry's watchers are told
+    pub walked_more : (new : List ℕ) → Told c (at_entry e) e.1 now new → Walked c path index more old new
+    walked_more new told =
+        let settled : Settled path (e ∷ more) = subst (λ es. Settled path es) next w.settled in
+        record {
+          kept = λ s h. told_kept c (at_entry e) e.1 index now new among_next.0 told s (w.kept s h);
+          found = λ v s h k at. by_found v s h k (w.found v s h k at);
+          only = λ s h. back s (told_only c (at_entry e) e.1 index now new among_next.0 told s h);
+          settled = settled.1;
+          among = among_next.1;
+        }
       where
-        go : (b : Bool) → same_path (at_entry e) v.pointer ≡ b → cond b (Some e.1) (lookup (λ key. same_path (path_of key.items) v.pointer) rest) ≡ watchers_at index v.pointer → (named now s ≡ true) ⊎ (lookup (λ key. same_path (path_of key.items) v.pointer) rest ≡ watchers_at index v.pointer)
-        go true is j = inl (told_found c (at_entry e) e.1 index between now w.among.0 told v s (equal_paths (at_entry e) v.pointer is) h k)
-        go false is j = inr j
+        by_found : (v : Slot) (s : ℕ) → stands index v s ≡ true → touches c v ≡ true → (named now s ≡ true) ⊎ (lookup (λ key. same_path (path_of key.items) v.pointer) rest ≡ watchers_at index v.pointer) → (named new s ≡ true) ⊎ (lookup (λ key. same_path (path_of key.items) v.pointer) more ≡ watchers_at index v.pointer)
+        by_found v s h k (inl there) = inl (told_kept c (at_entry e) e.1 index now new among_next.0 told s there)
+        by_found v s h k (inr same) = go (same_path (at_entry e) v.pointer) refl (sym (ap (lookup (λ key. same_path (path_of key.items) v.pointer)) next) ∙ same)
+          where
+            go : (b : Bool) → same_path (at_entry e) v.pointer ≡ b → cond b (Some e.1) (lookup (λ key. same_path (path_of key.items) v.pointer) more) ≡ watchers_at index v.pointer → (named new s ≡ true) ⊎ (lookup (λ key. same_path (path_of key.items) v.pointer) more ≡ watchers_at index v.pointer)
+            go true is j = inl (told_found c (at_entry e) e.1 index now new among_next.0 told v s (equal_paths (at_entry e) v.pointer is) h k)
+            go false is j = inr j
 
-    back : (s : ℕ) → (named between s ≡ true) ⊎ ((v : Slot) × (stands index v s ≡ true) × (touches c v ≡ true)) → (named old s ≡ true) ⊎ ((v : Slot) × (stands index v s ≡ true) × (touches c v ≡ true))
-    back s (inl there) = w.only s there
-    back s (inr some) = inr some
+        back : (s : ℕ) → (named now s ≡ true) ⊎ ((v : Slot) × (stands index v s ≡ true) × (touches c v ≡ true)) → (named old s ≡ true) ⊎ ((v : Slot) × (stands index v s ≡ true) × (touches c v ≡ true))
+        back s (inl there) = w.only s there
+        back s (inr some) = inr some
 
 -- ---- where the walk begins
 

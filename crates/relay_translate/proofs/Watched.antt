@@ -123,6 +123,16 @@ index_left old new watches session former was h leaves v s =
         rw (got, get-remove nat_cmp_total watches session s, tied session s, is) (own (list_any (same_slot v) (slots_of former)))
     go false is = rw (get-remove nat_cmp_total watches session s, tied session s, is) (other (list_any (same_slot v) (slots_of (fin.get watches s))) (list_any (same_slot v) (slots_of former)))
 
+-- a copy of the view was put, and the slots of the former view that the new one lacks left
+module _ (views after : BTreeMap ℕ View) (session : ℕ) (copy view : View) (same : copy ≡ view) (updates : Updates nat_cmp views after session (Some copy)) where
+  pub put_copy : watches_of after ≡ fin.insert (watches_of views) session view
+  put_copy = watched views after session copy updates ∙ ap (fin.insert (watches_of views) session) same
+
+  pub index_replaced : (former : Option View) → former ≡ lookup (is_at (nat_cmp session)) views.entries → (old between new : SlotIndex) (slots : List Slot) → slots ≡ view → IsIndex old (watches_of views) → Joins old between session slots → Leaves between new session (slots_of former) view → IsIndex new (watches_of after)
+  index_replaced former was old between new slots listed h joins leaves =
+      subst (IsIndex new) (sym put_copy)
+      (index_put old between new (watches_of views) session former view (get_seen views session ∙ sym was) h (subst (λ us. Joins old between session us) listed joins) leaves)
+
 -- ---- the longest pointer
 
 -- one slot more
@@ -154,9 +164,6 @@ within_left old new watches session deepest was is within v s there = go (s == s
     go false other h =
         let old_one : list_any (same_slot v) (slots_of (fin.get watches s)) ≡ true = subst (λ o. list_any (same_slot v) (slots_of o) ≡ true) (get-remove nat_cmp_total watches session s ∙ ap (λ b. cond b None (fin.get watches s)) (tied session s ∙ other)) h in
         within v s (was v s ∙ old_one)
-
-pub within_same : (old new : SlotIndex) (watches : Watches) (deepest : ℕ) → IsIndex old watches → IsIndex new watches → IsWithin deepest old → IsWithin deepest new
-within_same old new watches deepest was is within v s there = within v s (was v s ∙ sym (is v s) ∙ there)
 
 pub within_none : (index : SlotIndex) (deepest : ℕ) → index.entries ≡ [] → IsWithin deepest index
 within_none index deepest none v s there =

@@ -1,11 +1,11 @@
 -- Which sessions watch each pointer, and which pointers lie near a change.
 use Rattle.std.specs.Prelude.{◌≡◌, ℕ, nat_eq, zero, suc, ◌==◌, ◌≤◌, List, [], ◌∷◌, length, take, String, Bool, true, false, not, ◌&&◌, ◌||◌, ◌⊎◌, Option}
-use Rattle.std.specs.List.{list_any}
+use Rattle.std.specs.List.{All, list_any}
 use Rattle.std.specs.Option.{option_map_or}
 use Rattle.std.specs.Ordering.{nat_cmp}
 use Rattle.std.specs.FinMap as map
 use Rattle.std.specs.Global.{Vec, Global}
-use Rattle.std.specs.Map.{lookup}
+use Rattle.std.specs.Map.{lookup, values_of}
 use Rattle.std.specs.BTreeMap.{BTreeMap}
 use Rattle.std.specs.BTreeSet.{BTreeSet, contains}
 use Rattle.relay_pointer.specs.Path.{Path, path_of, same_path, is_prefix}
@@ -38,6 +38,14 @@ of_kind Size w = w.sizes
 -- the session has a slot of the kind
 abbrev pub watches_by : SlotKind → ℕ → Watchers → Bool
 watches_by kind session w = contains nat_cmp (of_kind kind w) session
+
+-- some session watches by these watchers
+abbrev pub IsWatched : Watchers → Type 0
+IsWatched w = (kind : SlotKind) × (session : ℕ) × (watches_by kind session w ≡ true)
+
+-- each pointer of the index has a watcher
+abbrev pub EachIsWatched : SlotIndex → Type 0
+EachIsWatched index = All IsWatched (values_of index.entries)
 
 -- the watchers of the path, if there are any
 abbrev pub watchers_at : SlotIndex → Path → Option Watchers

@@ -2,7 +2,7 @@
 ghost use Rattle.std.specs.Prelude.{◌≡◌, ℕ, [], ◌∷◌, take, option_copied, OnOk, OnErr};
 ghost use Rattle.std.specs.List.{list_any};
 ghost use Rattle.relay_pointer.specs.Path.{path_of};
-ghost use Rattle.relay_translate.specs.SlotIndex.{Joins, Leaves, IsSameIndex, same_slot, watchers_at};
+ghost use Rattle.relay_translate.specs.SlotIndex.{EachIsWatched, Joins, Leaves, IsSameIndex, same_slot, watchers_at};
 
 use crate::watchers::Watchers;
 use relay_pointer::{copy_tokens, same_path};
@@ -27,8 +27,10 @@ pub(crate) fn enter(
     session: u64,
     slots: &[Slot],
 ) -> Result<(), AllocError>
+    requires watched { EachIsWatched index.old }
     ensures ok { OnOk result (Joins index.old index.new session slots.now) }
     ensures err { OnErr result ((n : ℕ) × Joins index.old index.new session (take n slots.now)) }
+    ensures watched { EachIsWatched index.new }
 {
     for slot in slots {
         enter_slot(alloc, index, session, slot)?;
@@ -43,8 +45,10 @@ fn enter_slot(
     session: u64,
     slot: &Slot,
 ) -> Result<(), AllocError>
+    requires watched { EachIsWatched index.old }
     ensures ok { OnOk result (Joins index.old index.new session (slot.now ∷ [])) }
     ensures err { OnErr result (IsSameIndex index.old index.new) }
+    ensures watched { EachIsWatched index.new }
 {
     let tokens = slot.pointer.tokens();
     if let Some(watchers) = index.get_mut(tokens) {
@@ -58,7 +62,9 @@ fn enter_slot(
 
 /// Removes slots of a session, but for those that are among `kept`. Allocates nothing.
 pub(crate) fn leave(index: &mut SlotIndex, session: u64, slots: &[Slot], kept: &[Slot])
-    ensures { Leaves index.old index.new session slots.now kept.now }
+    requires watched { EachIsWatched index.old }
+    ensures left { Leaves index.old index.new session slots.now kept.now }
+    ensures watched { EachIsWatched index.new }
 {
     for slot in slots {
         if !is_among(slot, kept) {
@@ -67,8 +73,11 @@ pub(crate) fn leave(index: &mut SlotIndex, session: u64, slots: &[Slot], kept: &
     }
 }
 
+/// Removes a slot of a session, and the pointer with its last watcher. Allocates nothing.
 fn leave_slot(index: &mut SlotIndex, session: u64, slot: &Slot)
-    ensures { Leaves index.old index.new session (slot.now ∷ []) [] }
+    requires watched { EachIsWatched index.old }
+    ensures left { Leaves index.old index.new session (slot.now ∷ []) [] }
+    ensures watched { EachIsWatched index.new }
 {
     let tokens = slot.pointer.tokens();
     let Some(watchers) = index.get_mut(tokens) else {

@@ -5,7 +5,7 @@
 ghost use Rattle.std.specs.Prelude.{◌≡◌, ℕ, map as each, IfOk, OnOk, OnErr};
 ghost use Rattle.std.specs.List.Sorted.{IsStrictlyIncreasing};
 ghost use Rattle.std.specs.FinMap as map;
-ghost use Rattle.relay_translate.specs.SlotIndex.{AreWithin, Found, IsIndex, IsWithin, Leaves, named, watches_of};
+ghost use Rattle.relay_translate.specs.SlotIndex.{AreWithin, EachIsWatched, Found, IsIndex, IsWithin, Leaves, named, watches_of};
 ghost use Rattle.relay_translate.specs.Watches.{is_touched, slots_of};
 
 use crate::nearby::add_touched;
@@ -29,7 +29,7 @@ pub struct WatchIndex {
 
 impl Model for WatchIndex {
     ghost use Rattle.relay_view.specs.contracts.slot.Slot as slot;
-    ghost use Rattle.relay_translate.specs.SlotIndex.{IsIndex, IsWithin, watches_of};
+    ghost use Rattle.relay_translate.specs.SlotIndex.{EachIsWatched, IsIndex, IsWithin, watches_of};
     ghost use Rattle.relay_translate.specs.Watches.{Watches, watches_code};
 
     ghost Value = { Watches };
@@ -38,7 +38,7 @@ impl Model for WatchIndex {
 
     ghost view = { λ i. watches_of i.views };
 
-    ghost invariant = { λ i. IsIndex i.slots (watches_of i.views) × IsWithin i.deepest i.slots };
+    ghost invariant = { λ i. IsIndex i.slots (watches_of i.views) × IsWithin i.deepest i.slots × EachIsWatched i.slots };
 }
 
 impl WatchIndex {
@@ -101,10 +101,12 @@ fn put_view(
     session: u64,
     view: &View,
 ) -> Result<(), AllocError>
-    requires { IsIndex slots.old (watches_of views.old) }
+    requires index { IsIndex slots.old (watches_of views.old) }
+    requires watched { EachIsWatched slots.old }
     ensures views { OnOk result (watches_of views.new ≡ map.insert (watches_of views.old) session view.now) }
     ensures err { OnErr result (watches_of views.new ≡ watches_of views.old) }
     ensures index { IsIndex slots.new (watches_of views.new) }
+    ensures watched { EachIsWatched slots.new }
 {
     let copy = copy_view(alloc, view)?;
     if let Err(fault) = enter(alloc, slots, session, view.slots()) {
@@ -126,7 +128,9 @@ fn put_view(
 
 /// Removes those slots of a view that are not the session's.
 fn withdraw(views: &BTreeMap<u64, View>, slots: &mut SlotIndex, session: u64, view: &View)
-    ensures { Leaves slots.old slots.new session view.now (slots_of (map.get (watches_of views.now) session)) }
+    requires watched { EachIsWatched slots.old }
+    ensures left { Leaves slots.old slots.new session view.now (slots_of (map.get (watches_of views.now) session)) }
+    ensures watched { EachIsWatched slots.new }
 {
     match views.get(&session) {
         Some(kept) => leave(slots, session, view.slots(), kept.slots()),

@@ -1,7 +1,8 @@
 //! The sessions that watch one pointer.
-ghost use Rattle.std.specs.Prelude.{◌≡◌, ℕ, ◌==◌, ◌&&◌, ◌||◌, not, false, OnOk, OnErr, IsTrue};
+ghost use Rattle.std.specs.Prelude.{◌≡◌, ℕ, ◌==◌, ◌&&◌, ◌||◌, not, false, OnOk, OnErr};
+ghost use Rattle.std.specs.Bool.{MatchBool};
 ghost use Rattle.relay_view.specs.declared.slot.SlotKind.{SlotKind};
-ghost use Rattle.relay_translate.specs.SlotIndex.{same_kind, watches_by};
+ghost use Rattle.relay_translate.specs.SlotIndex.{IsWatched, same_kind, watches_by};
 
 use relay_view::SlotKind;
 use std::alloc::{AllocError, Global};
@@ -47,8 +48,9 @@ impl Watchers {
         };
     }
 
+    /// Whether no session watches.
     pub fn is_empty(&self) -> bool
-        ensures { IsTrue result → (k : SlotKind) (s : ℕ) → watches_by k s self.now ≡ false }
+        ensures { MatchBool result ((k : SlotKind) (s : ℕ) → watches_by k s self.now ≡ false) (IsWatched self.now) }
     {
         self.values.is_empty() && self.sizes.is_empty()
     }

@@ -1,8 +1,8 @@
-use Rattle.std.proofs.Common.{◌≡◌, ◌∙◌, [], false, refl, sym, ap, subst, string_eq}
+use Rattle.std.proofs.Common.{◌≡◌, ◌∙◌, false, refl, sym, ap, subst, string_eq}
 use Rattle.std.specs.List.{starts_with}
 use Rattle.relay_pointer.specs.Path.{path_of, is_prefix}
-use Rattle.relay_translate.proofs.Paths.{starts_with-is_prefix}
-use Rattle.relay_translate.proofs.Runs.{Told, Walked, walk_begins, walked_more, walked_all, walked_past}
+use Rattle.relay_pointer.proofs.Prefixes.{starts_with-is_prefix}
+use Rattle.relay_translate.proofs.Runs.{Told, Walked, walk_begins, walked_more, walked_all, walked_end}
 use Rattle.relay_translate.proofs.nearby.add_run.Goals as goal
 
 pub loop-pointer-init : goal.loop-pointer-init
@@ -17,34 +17,17 @@ loop-pointer-init c =
 
 pub loop-pointer-preserved : goal.loop-pointer-preserved
 loop-pointer-preserved c =
-    let change = c.args.change.now in
-    let path = path_of c.args.first.now.items in
-    let index = c.args.index.now in
-    let old = c.args.sessions.now.items in
-    let between = c.loop-pointer.sessions.items in
     let new = c.add_told.new.sessions.items in
-    walked_more change path index (c.in-Some.pointer.now, c.in-Some.watchers.now) c.next.new.self old between new
-    (subst (λ rest. Walked change path index rest old between) c.in-Some.ensures.steps c.loop-pointer.invariant)
-    (subst (λ ts. Told change (path_of ts) c.in-Some.watchers.now between new) c.as_slice-in-loop-pointer.ensures.value c.in_ok-add_told.ensures)
+    walked_more c.loop-pointer.invariant (c.in-Some.pointer.now, c.in-Some.watchers.now) c.next.new.self c.in-Some.ensures.steps new
+    (subst (λ ts. Told c.args.change.now (path_of ts) c.in-Some.watchers.now c.loop-pointer.sessions.items new) c.as_slice-in-loop-pointer.ensures.value c.in_ok-add_told.ensures)
 
 pub returns-in-None : goal.returns-in-None
-returns-in-None c =
-    let change = c.args.change.now in
-    let path = path_of c.args.first.now.items in
-    let index = c.args.index.now in
-    let old = c.args.sessions.now.items in
-    let new = c.loop-pointer.sessions.items in
-    walked_past change path index [] old new (subst (λ rest. Walked change path index rest old new) c.in-None.ensures.steps.0 c.loop-pointer.invariant) tt
+returns-in-None c = walked_end c.loop-pointer.invariant c.in-None.ensures.steps.0
 
 pub returns-then-not-starts_with : goal.returns-then-not-starts_with
 returns-then-not-starts_with c =
-    let change = c.args.change.now in
     let first = c.args.first.now.items in
     let pointer = c.in-Some.pointer.now in
-    let path = path_of first in
-    let index = c.args.index.now in
-    let old = c.args.sessions.now.items in
-    let new = c.loop-pointer.sessions.items in
-    let begins : is_prefix path (path_of pointer.items) ≡ false =
+    let begins : is_prefix (path_of first) (path_of pointer.items) ≡ false =
     sym (starts_with-is_prefix pointer.items first) ∙ ap (λ ts. starts_with string_eq ts first) (sym c.deref.ensures.value) ∙ ap (starts_with string_eq c.deref.result.now) (sym c.as_slice.ensures.value) ∙ sym c.starts_with.ensures.value ∙ c.if-not-starts_with.true in
-    walked_all change path index (pointer, c.in-Some.watchers.now) c.next.new.self old new (subst (λ rest. Walked change path index rest old new) c.in-Some.ensures.steps c.loop-pointer.invariant) begins
+    walked_all c.loop-pointer.invariant (pointer, c.in-Some.watchers.now) c.next.new.self c.in-Some.ensures.steps begins

@@ -2,7 +2,7 @@ use Rattle.std.proofs.Common.{◌≡◌, ◌+◌, ◌||◌, ◌∙◌, take, sym
 use Rattle.std.specs.List.{list_any}
 use Rattle.std.proofs.lemmas.List.Folds.{list_any_more}
 use Rattle.relay_view.specs.declared.slot.Slot.{Slot}
-use Rattle.relay_translate.specs.SlotIndex.{Leaves}
+use Rattle.relay_translate.specs.SlotIndex.{EachIsWatched, Leaves}
 use Rattle.relay_translate.proofs.Standing.{leaves_more, leaves_kept}
 use Rattle.relay_translate.proofs.slot_index.leave.Goals as goal
 use Rattle.relay_translate.proofs.slot_index.leave.Goals.{then-not-is_among, else-not-is_among}
@@ -19,9 +19,17 @@ loop-slot-preserved c =
     λ p. list_any_more p slots i slot c.loop-slot-test.true ∙ ap (λ x. list_any p (take i slots) || p x) (sym c.slot-item.is) in
     elim c.if-not-is_among.branch [
       | then-not-is_among w ↦
-          subst (λ new. Leaves old new session (take (i + 1) slots) kept) (sym w.index-is)
-          (leaves_more old c.loop-slot.index session (take i slots) (take (i + 1) slots) kept slot next c.loop-slot.invariant w.leave_slot.new.index (sym c.is_among.ensures ∙ w.if-not-is_among.true) w.leave_slot.ensures)
+          record {
+            left =
+                subst (λ new. Leaves old new session (take (i + 1) slots) kept) (sym w.index-is)
+                (leaves_more old c.loop-slot.index session (take i slots) (take (i + 1) slots) kept slot next c.loop-slot.invariant.left w.leave_slot.new.index (sym c.is_among.ensures ∙ w.if-not-is_among.true) w.leave_slot.ensures.left);
+            watched = subst EachIsWatched (sym w.index-is) w.leave_slot.ensures.watched;
+          }
       | else-not-is_among w ↦
-          subst (λ new. Leaves old new session (take (i + 1) slots) kept) (sym w.index-is)
-          (leaves_kept old c.loop-slot.index session (take i slots) (take (i + 1) slots) kept slot next c.loop-slot.invariant (sym c.is_among.ensures ∙ w.if-not-is_among.false))
+          record {
+            left =
+                subst (λ new. Leaves old new session (take (i + 1) slots) kept) (sym w.index-is)
+                (leaves_kept old c.loop-slot.index session (take i slots) (take (i + 1) slots) kept slot next c.loop-slot.invariant.left (sym c.is_among.ensures ∙ w.if-not-is_among.false));
+            watched = subst EachIsWatched (sym w.index-is) c.loop-slot.invariant.watched;
+          }
     ]
