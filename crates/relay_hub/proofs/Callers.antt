@@ -8,12 +8,15 @@ use Rattle.relay_hub.specs.Caller.{IsCaller}
 use Rattle.relay_hub.specs.Session.{Session}
 use Rattle.relay_hub.specs.State.{IsRising, numbers, session_in}
 use Rattle.relay_hub.specs.Step.{OnlyAt}
+use Rattle.relay_hub.specs.Told.{ChangesToldAnd}
 use Rattle.relay_hub.specs.Watched.{IsIndexed}
 use Rattle.relay_hub.specs.declared.caller.Caller.{Caller}
+use Rattle.relay_hub.specs.declared.told.Told.{Told}
 use Rattle.relay_hub.proofs.Indexed.{shown, same_indexed, put_indexed, out_indexed}
 use Rattle.relay_hub.proofs.Lists.{slice_set_same}
 use Rattle.relay_hub.proofs.Rising.{numbers_set, same_rises}
 use Rattle.relay_hub.proofs.Sessions.{found, same_session, set_only}
+use Rattle.relay_hub.proofs.Untold.{only_told}
 
 -- the session x of the caller, as it was
 module _ (xs : List Session) (caller : Caller) (at : IsCaller xs caller) (x : Session)
@@ -29,6 +32,9 @@ module _ (xs : List Session) (caller : Caller) (at : IsCaller xs caller) (x : Se
     pub written_numbers : numbers (slice_set xs caller.place y) ≡ numbers xs
     written_numbers =
         numbers_set xs caller.place y x (keeps ∙ ap (λ (z : Session). z.number) (sym (same_session xs caller.number caller.place at x x there)))
+
+    pub written_told : (told : Told) → ChangesToldAnd caller.number told xs (slice_set xs caller.place y)
+    written_told told = only_told caller.number told xs (slice_set xs caller.place y) y written_only
 
     -- what a function makes of it
     pub written_by : (f : Session → Session) → y ≡ f x → ChangesBy caller.number f xs (slice_set xs caller.place y)

@@ -3,6 +3,7 @@ pub mod Lists
 pub mod Sessions
 pub mod Serving
 pub mod Queries
+pub mod Untold
 pub mod Views
 pub mod CachedUpdates
 pub mod Notified

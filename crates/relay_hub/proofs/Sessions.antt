@@ -1,7 +1,7 @@
 -- Finding a session by its number in a list in which one session was changed, removed or added.
-use Rattle.std.proofs.Common.{◌≡◌, ℕ, ◌<◌, ◌≤◌, ◌==◌, Bool, true, false, List, [], ◌∷◌, ◌++◌, length, Option, Some, None, refl, sym, ◌∙◌, ap, subst, arith, inl, inr, get_or, not, zero, suc, IsSome, slice_get, if◌then◌else◌, position, filter, nat_lt, nat_le, slice_set}
+use Rattle.std.proofs.Common.{◌≡◌, ℕ, ◌+◌, ◌<◌, ◌≤◌, ◌==◌, Bool, true, false, List, [], ◌∷◌, ◌++◌, length, Option, Some, None, refl, sym, ◌∙◌, ap, subst, arith, inl, inr, get_or, not, zero, suc, IsSome, slice_get, if◌then◌else◌, position, filter, nat_lt, nat_le, slice_set}
 use Rattle.std.specs.Bool.{MatchBool}
-use Rattle.std.specs.List.{position_or_len}
+use Rattle.std.specs.List.{position_or_len, remove}
 use Rattle.std.specs.Option.{option_or}
 use Rattle.std.proofs.lemmas.Bool.Decides.{eqb_tells, leb_tells, nat_tests}
 use Rattle.std.proofs.lemmas.List.Folds.{find-set, find_past, find_at, find-append}
@@ -156,6 +156,36 @@ once_others (x ∷ xs) s h = go (is_number s x) (once_others xs s h.1)
     go : (b : Bool) → EachOnce (others s xs) → EachOnce (if not b then x ∷ others s xs else others s xs)
     go true rest = rest
     go false rest = (session_in-others xs s x.number ∙ none (s == x.number) h.0, rest)
+
+none_leaves : (xs : List Session) (s : ℕ) → session_in xs s ≡ None → others s xs ≡ xs
+none_leaves [] s h = refl
+none_leaves (x ∷ xs) s h = let n = none_there x xs s h in rw n.0 (ap (λ ys. x ∷ ys) (none_leaves xs s n.1))
+
+leaves_place : (xs : List Session) (s : ℕ) → EachOnce xs → position_or_len (is_number s) xs < length xs → remove xs (position_or_len (is_number s) xs) ≡ others s xs
+leaves_place [] s once within = absurd (omega (arith, within))
+leaves_place (x ∷ xs) s once within = go (is_number s x) refl within (leaves_place xs s once.1)
+  where
+    n : ℕ
+    n = position_or_len (is_number s) xs
+
+    go : (b : Bool) → is_number s x ≡ b → (if not b then 1 + n else 0) < suc (length xs) → (n < length xs → remove xs n ≡ others s xs)
+        → remove (x ∷ xs) (if not b then 1 + n else 0) ≡ (if not b then x ∷ others s xs else others s xs)
+    go true is within rest =
+        let same : x.number ≡ s = grind (arith, nat_tests, is) in
+        sym (none_leaves xs s (subst (λ m. session_in xs m ≡ None) same once.0))
+    go false is within rest =
+        let next : suc n ≡ 1 + n = omega arith in
+        subst (λ m. remove (x ∷ xs) m ≡ x ∷ others s xs) next (ap (λ ys. x ∷ ys) (rest (omega (arith, within))))
+
+-- where no number occurs twice, those of other numbers are left when the one at its place is removed
+pub removed_at : (xs : List Session) (s i : ℕ) → EachOnce xs → position (is_number s) xs ≡ Some i → remove xs i ≡ filter (λ x. not (is_number s x)) xs
+removed_at xs s i once at =
+    let place = place_within xs s i at in
+    subst (λ n. remove xs n ≡ others s xs) (sym place.1) (leaves_place xs s once (subst (λ n. n < length xs) place.1 place.0))
+
+-- where nobody has the number, all are
+pub none_removed : (xs : List Session) (s : ℕ) → position (is_number s) xs ≡ None → xs ≡ filter (λ x. not (is_number s x)) xs
+none_removed xs s none = sym (none_leaves xs s (not_found xs s none))
 
 -- the sessions of other numbers
 pub filter_removes : (xs : List Session) (s : ℕ) → OnlyAt s None xs (filter (λ x. not (is_number s x)) xs)

@@ -14,6 +14,7 @@ pub mod CachedUpdate
 pub mod Watched
 pub mod Queries
 pub mod Summary
+pub mod Told
 pub mod Call
 pub mod Stands
 pub mod Shed

@@ -9,25 +9,28 @@ ghost use Rattle.relay_tree.specs.Document.{Document};
 ghost use Rattle.relay_hub.specs.State.{IsRising};
 ghost use Rattle.relay_hub.specs.CachedUpdate.{IsKept, allowance_of};
 ghost use Rattle.relay_hub.specs.Step.{Notified, after_notified, NotifiedFrom, AllNotified};
+ghost use Rattle.relay_hub.specs.Told.{ChangesAmong, ChangesTold};
 ghost use Rattle.relay_hub.specs.Watched.{IsIndexed, NotifiedAmong};
 
 use crate::cached_update::{UpdateCache, update_for};
 use crate::caller::position_of;
 use crate::config::HubConfig;
 use crate::session::Session;
+use crate::told::Told;
 use crate::update::Update;
 use relay_room::Room;
 use relay_translate::WatchIndex;
 use std::alloc::{AllocError, Global};
 
-/// Notifies the watchers of the newest edit, within the hub's bounds. Then the room drops the oldest changes that may not be kept. Returns
-/// how many outboxes folded because memory ran out.
+/// Notifies the watchers of the newest edit, within the hub's bounds, and writes down whom it told. Then the room drops the oldest changes
+/// that may not be kept. Returns how many outboxes folded because memory ran out.
 pub fn broadcast_and_trim(
     alloc: Global,
     made: HubConfig,
     room: &mut Room,
     watches: &WatchIndex,
     sessions: &mut [Session],
+    told: &mut Told,
 ) -> u64
     requires room { IsRoom room.old }
     requires edited { 0 < revision room.old }
@@ -35,10 +38,11 @@ pub fn broadcast_and_trim(
     requires indexed { IsIndexed watches.now sessions.old }
     ensures notified { (d : Document) (changes : List Change) → changes ≡ changes_since (revision room.old - 1) room.old.history
         → Leads d changes room.old.document → AllNotified d changes room.old made.telling_weight sessions.old sessions.new result }
+    ensures told { ChangesTold told.new sessions.old sessions.new }
     ensures trimmed { room.new ≡ trimmed made.history_weight room.old }
 {
     let mut cache = UpdateCache::new(alloc, made.telling_weight);
-    let short = broadcast(alloc, room, watches, sessions, &mut cache);
+    let short = broadcast(alloc, room, watches, sessions, &mut cache, told);
     room.trim(made.history_weight);
     short
 }
@@ -56,19 +60,24 @@ fn broadcast(
     watches: &WatchIndex,
     sessions: &mut [Session],
     cache: &mut UpdateCache,
+    told: &mut Told,
 ) -> u64
     requires room { IsRoom room.now }
     requires edited { 0 < revision room.now }
     requires reaches { Reaches room.now.history (revision room.now - 1) }
     requires indexed { IsIndexed watches.now sessions.old }
     requires kept { IsKept room.now cache.old }
-    ensures { (d : Document) (changes : List Change) → changes ≡ changes_since (revision room.now - 1) room.now.history
+    ensures told { ChangesTold told.new sessions.old sessions.new }
+    ensures notified { (d : Document) (changes : List Change) → changes ≡ changes_since (revision room.now - 1) room.now.history
         → Leads d changes room.now.document → NotifiedFrom d changes room.now (allowance_of cache.old) (allowance_of cache.new) sessions.old sessions.new result }
 {
-    match room.touched(alloc, watches) {
-        Ok(numbers) => notify_those(alloc, room, sessions, numbers.as_slice(), cache),
-        Err(_) => notify_all(alloc, room, sessions, cache),
-    }
+    let Ok(numbers) = room.touched(alloc, watches) else {
+        *told = Told::All;
+        return notify_all(alloc, room, sessions, cache);
+    };
+    let short = notify_those(alloc, room, sessions, numbers.as_slice(), cache);
+    *told = Told::Sessions(numbers);
+    short
 }
 
 /// Notifies the sessions with these numbers, which rise.
@@ -85,7 +94,8 @@ fn notify_those(
     requires ordered { IsRising sessions.old }
     requires rising { IsStrictlyIncreasing numbers.now }
     requires kept { IsKept room.now cache.old }
-    ensures { (d : Document) (changes : List Change) → changes ≡ changes_since (revision room.now - 1) room.now.history
+    ensures others { ChangesAmong numbers.now sessions.old sessions.new }
+    ensures notified { (d : Document) (changes : List Change) → changes ≡ changes_since (revision room.now - 1) room.now.history
         → Leads d changes room.now.document → NotifiedAmong numbers.now d changes room.now (allowance_of cache.old) (allowance_of cache.new) sessions.old sessions.new result }
 {
     let mut short: u64 = 0;
@@ -112,6 +122,7 @@ fn notify_one(
     requires kept { IsKept room.now cache.old }
     ensures kept { IsKept room.now cache.new }
     ensures ordered { IsRising sessions.new }
+    ensures others { ChangesAmong (number ∷ []) sessions.old sessions.new }
     ensures notified { (d : Document) (changes : List Change) → changes ≡ changes_since (revision room.now - 1) room.now.history
         → Leads d changes room.now.document
         → NotifiedAmong (number ∷ []) d changes room.now (allowance_of cache.old) (allowance_of cache.new) sessions.old sessions.new (if is_err result then 1 else 0) }

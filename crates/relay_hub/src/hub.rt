@@ -28,6 +28,7 @@ use crate::session::Session;
 use crate::shed::{shed_budget, shed_rooms};
 use crate::summary::{RoomSummary, summary_of};
 use crate::text::Text;
+use crate::told::Told;
 use crate::work::most_work;
 use indexmap::IndexMap;
 use relay_proto::is_room_name;
@@ -47,6 +48,8 @@ pub struct Hub {
     /// The place of each open session's room, by the session's number.
     homes: IndexMap<u64, usize>,
     counts: MessageCounts,
+    /// Whom the last text told something.
+    told: Told,
 }
 
 impl Model for Hub {
@@ -99,6 +102,7 @@ impl Hub {
             rooms: IndexMap::new(alloc),
             homes: IndexMap::new(alloc),
             counts: MessageCounts::none(),
+            told: Told::nobody(alloc),
         })
     }
 
@@ -186,7 +190,13 @@ impl Hub {
         let Some(room_sessions) = self.rooms.get_index_mut(*place) else {
             unreachable!()
         };
-        room_sessions.receive(alloc, self.made, session, text)
+        room_sessions.receive(alloc, self.made, session, text, &mut self.told)
+    }
+
+    /// Whom the last text that an open session sent told something, besides that session: no other outbox changed. No clause speaks of
+    /// it. Allocates nothing.
+    pub fn told(&self) -> &Told {
+        &self.told
     }
 
     /// Removes and returns the text at the front of a session's outbox: replies first, then patches, then the due snapshot, which is made

@@ -5,6 +5,7 @@
 //! session belongs to one room.
 #![tactic(auto)]
 
+mod boxed_reply;
 mod broadcast;
 mod cached_update;
 mod caller;
@@ -23,6 +24,7 @@ mod shared_view;
 mod shed;
 mod summary;
 mod text;
+mod told;
 mod update;
 mod work;
 
@@ -33,4 +35,5 @@ pub use hub::Hub;
 pub use message_counts::{FaultCount, MessageCounts, SnapshotCounts};
 pub use summary::RoomSummary;
 pub use text::Text;
+pub use told::Told;
 pub use work::OPERATION_WORK;

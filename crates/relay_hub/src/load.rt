@@ -5,16 +5,16 @@ ghost use Rattle.relay_tree.specs.declared.budget.Budget.TheVariants.{Left};
 ghost use Rattle.relay_hub.specs.Load.{IsLoad};
 ghost use Rattle.relay_hub.specs.Session.{with_patch_within, patches_weight};
 
+use crate::boxed_reply::BoxedReply;
 use crate::encoded_patch::EncodedPatch;
 use crate::message_counts::SnapshotCause;
 use relay_outbox::{Front, Outbox};
-use relay_proto::Reply;
 use relay_tree::Budget;
 
 /// Adds a patch behind the others. The outbox folds instead if the budget does not pay for all of them, or if as many wait as may; a
 /// snapshot that is due already stays. Returns why it folded, if it did. Allocates nothing.
 pub fn put(
-    outbox: &mut Outbox<Reply, EncodedPatch>,
+    outbox: &mut Outbox<BoxedReply, EncodedPatch>,
     load: &mut u64,
     budget: Budget,
     encoded_patch: EncodedPatch,
@@ -34,7 +34,7 @@ pub fn put(
 
 #[tactic(auto, using(crate::proofs::Loads::one_more))]
 fn put_within(
-    outbox: &mut Outbox<Reply, EncodedPatch>,
+    outbox: &mut Outbox<BoxedReply, EncodedPatch>,
     load: &mut u64,
     most: u64,
     encoded_patch: EncodedPatch,
@@ -64,7 +64,7 @@ fn put_within(
 }
 
 /// Drops the patches and makes a snapshot due. Allocates nothing.
-pub fn fold(outbox: &mut Outbox<Reply, EncodedPatch>, load: &mut u64)
+pub fn fold(outbox: &mut Outbox<BoxedReply, EncodedPatch>, load: &mut u64)
     ensures contents { outbox.new ≡ folded outbox.old }
     ensures load { load.new ≡ 0 }
 {
@@ -73,7 +73,7 @@ pub fn fold(outbox: &mut Outbox<Reply, EncodedPatch>, load: &mut u64)
 }
 
 /// Drops the patches and the due snapshot. Allocates nothing.
-pub fn clear(outbox: &mut Outbox<Reply, EncodedPatch>, load: &mut u64)
+pub fn clear(outbox: &mut Outbox<BoxedReply, EncodedPatch>, load: &mut u64)
     ensures contents { outbox.new ≡ cleared outbox.old }
     ensures load { load.new ≡ 0 }
 {
@@ -82,7 +82,7 @@ pub fn clear(outbox: &mut Outbox<Reply, EncodedPatch>, load: &mut u64)
 }
 
 /// Removes the message at the front. Allocates nothing.
-pub fn drop_front(outbox: &mut Outbox<Reply, EncodedPatch>, load: &mut u64, budget: Budget)
+pub fn drop_front(outbox: &mut Outbox<BoxedReply, EncodedPatch>, load: &mut u64, budget: Budget)
     requires { IsLoad budget load.old outbox.old }
     ensures contents { outbox.new ≡ without_front outbox.old }
     ensures load { IsLoad budget load.new outbox.new }
@@ -93,7 +93,7 @@ pub fn drop_front(outbox: &mut Outbox<Reply, EncodedPatch>, load: &mut u64, budg
     }
 }
 
-fn drop_counted(outbox: &mut Outbox<Reply, EncodedPatch>, load: &mut u64)
+fn drop_counted(outbox: &mut Outbox<BoxedReply, EncodedPatch>, load: &mut u64)
     requires counted { load.old ≡ patches_weight outbox.old.patches }
     ensures contents { outbox.new ≡ without_front outbox.old }
     ensures counted { load.new ≡ patches_weight outbox.new.patches }
@@ -106,7 +106,7 @@ fn drop_counted(outbox: &mut Outbox<Reply, EncodedPatch>, load: &mut u64)
 
 /// The weight of the patch at the front; 0 if another message is there, or none.
 #[tactic(auto, using(crate::proofs::Loads::after_reply, crate::proofs::Loads::after_patch, crate::proofs::Loads::after_snapshot, crate::proofs::Loads::after_nothing))]
-fn front_weight(outbox: &Outbox<Reply, EncodedPatch>, load: u64) -> u64
+fn front_weight(outbox: &Outbox<BoxedReply, EncodedPatch>, load: u64) -> u64
     requires { load ≡ patches_weight outbox.now.patches }
     ensures { result + patches_weight (without_front outbox.now).patches ≡ patches_weight outbox.now.patches }
 {

@@ -1,5 +1,5 @@
 //! The work of the hub's calls, on a room, its open sessions and the index of the views that they watch.
-ghost use Rattle.std.specs.Prelude.{◌≡◌, ◌<◌, ◌==◌, Some, None, Ok, IfOk, OnOk, OnErr, IsErrOf, IsSome, IsSomeAnd, option_map, nat_le};
+ghost use Rattle.std.specs.Prelude.{◌≡◌, ◌<◌, ◌==◌, Some, None, Ok, IfOk, OnOk, OnErr, IsErrOf, IsSome, IsSomeAnd, option_map, nat_le, filter, not};
 ghost use Rattle.std.specs.Bool.{MatchBool};
 ghost use Rattle.std.specs.FinMap as map;
 ghost use Rattle.relay_room.specs.Edit.{edited};
@@ -8,18 +8,21 @@ ghost use Rattle.relay_hub.specs.Call.{receiving, drawing, ReceivesIf, DrawsIf, 
 ghost use Rattle.relay_hub.specs.Caller.{IsCaller};
 ghost use Rattle.relay_hub.specs.Refusal.{cause_word, edit_refusal};
 ghost use Rattle.relay_hub.specs.Session.{Session, watches as watching, unwatches, waiting};
-ghost use Rattle.relay_hub.specs.State.{IsRising, room_sessions, numbers, session_in};
+ghost use Rattle.relay_hub.specs.State.{IsRising, is_number, room_sessions, numbers, session_in};
 ghost use Rattle.relay_hub.specs.Step.{EditServed, ResumeServed, Serves, OnlyAt};
+ghost use Rattle.relay_hub.specs.Told.{ChangesToldAnd};
 ghost use Rattle.relay_hub.specs.Watched.{IsIndexed};
 
+use crate::boxed_reply::ReplySlot;
 use crate::broadcast::broadcast_and_trim;
-use crate::caller::{Caller, session_at, session_mut};
+use crate::caller::{Caller, position_of, session_at, session_mut};
 use crate::config::HubConfig;
 use crate::event::Heard;
 use crate::fault::HubFault;
 use crate::message_counts::MessageCounts;
 use crate::session::Session;
 use crate::shared_view::SharedView;
+use crate::told::Told;
 use crate::update::Update;
 use relay_patch::{Cause, Patch};
 use relay_proto::{Refusal, Reply, Request, RequestFault, Word};
@@ -28,7 +31,8 @@ use relay_translate::WatchIndex;
 use relay_view::View;
 use std::alloc::{AllocError, Global};
 
-/// Serves a text from a session that is there. Adds exactly one reply to its outbox, unless 32 replies wait already.
+/// Serves a text from a session that is there, and writes down whom it told something. Adds exactly one reply to the session's outbox,
+/// unless 32 replies wait already.
 pub fn receive(
     alloc: Global,
     made: HubConfig,
@@ -37,21 +41,29 @@ pub fn receive(
     sessions: &mut [Session],
     number: u64,
     text: &str,
+    told: &mut Told,
 ) -> Result<Heard, HubFault>
     requires there { IsSome (session_in sessions.old number) }
     requires indexed { IsIndexed watches.old sessions.old }
+    ensures told { ChangesToldAnd number told.new sessions.old sessions.new }
     ensures step { ReceivesIf made number text.now (receiving result) (room_sessions room.old sessions.old) (room_sessions room.new sessions.new) }
     ensures indexed { IsIndexed watches.new sessions.new }
     ensures no_memory { IsErrOf result HubFault.NoMemory → HasSpace sessions.old number }
 {
+    *told = Told::nobody(alloc);
     let caller = Caller::find(sessions, number);
     if is_full(sessions, caller) {
         return Ok(Heard::Busy);
     }
+    let Ok(slot) = ReplySlot::new(alloc) else {
+        return Err(HubFault::NoMemory);
+    };
     let served = match Request::read(alloc, text) {
-        Ok(request) => perform(alloc, made, room, watches, sessions, caller, request),
+        Ok(request) => perform(
+            alloc, made, room, watches, sessions, caller, slot, request, told,
+        ),
         Err(RequestFault::Refused(refusal)) => {
-            session_mut(sessions, caller).reply(refusal.reply());
+            session_mut(sessions, caller).reply(slot, refusal.reply());
             Ok(0)
         }
         Err(RequestFault::NoMemory) => Err(AllocError),
@@ -78,27 +90,32 @@ fn perform(
     watches: &mut WatchIndex,
     sessions: &mut [Session],
     caller: Caller,
+    slot: ReplySlot,
     request: Request,
+    told: &mut Told,
 ) -> Result<u64, AllocError>
     requires caller { IsCaller sessions.old caller }
     requires space { HasSpace sessions.old caller.number }
     requires indexed { IsIndexed watches.old sessions.old }
     ensures ok { IfOk result (λ short. (x : Session) → session_in sessions.old caller.number ≡ Some x →
         Serves made caller.number x (Ok request) short (room_sessions room.old sessions.old) (room_sessions room.new sessions.new)) }
+    ensures told { ChangesToldAnd caller.number told.new sessions.old sessions.new }
     ensures err { OnErr result (room_sessions room.new sessions.new ≡ room_sessions room.old sessions.old) }
     ensures indexed { IsIndexed watches.new sessions.new }
 {
     match request {
         Request::Edit { id, base, patch } => {
             let request = EditRequest { id, base, patch };
-            edit(alloc, made, room, watches, sessions, caller, &request)
+            edit(
+                alloc, made, room, watches, sessions, caller, slot, &request, told,
+            )
         }
         Request::Watch { id, view } => {
-            watch(alloc, watches, sessions, caller, id, view)?;
+            watch(alloc, watches, sessions, caller, slot, id, view)?;
             Ok(0)
         }
         Request::Unwatch { id } => {
-            unwatch(watches, sessions, caller, id);
+            unwatch(watches, sessions, caller, slot, id);
             Ok(0)
         }
         Request::Resume {
@@ -113,7 +130,7 @@ fn perform(
                 rev,
                 view,
             };
-            resume(alloc, made, room, watches, sessions, caller, request)?;
+            resume(alloc, made, room, watches, sessions, caller, slot, request)?;
             Ok(0)
         }
     }
@@ -145,7 +162,9 @@ fn edit(
     watches: &WatchIndex,
     sessions: &mut [Session],
     caller: Caller,
+    slot: ReplySlot,
     request: &EditRequest,
+    told: &mut Told,
 ) -> Result<u64, AllocError>
     requires caller { IsCaller sessions.old caller }
     requires space { HasSpace sessions.old caller.number }
@@ -153,6 +172,7 @@ fn edit(
     ensures ok { IfOk result (λ short. (x : Session) → session_in sessions.old caller.number ≡ Some x →
         EditServed made caller.number x request.now.id request.now.patch (edited room.old request.now.base request.now.patch) short
         (room_sessions room.old sessions.old) (room_sessions room.new sessions.new)) }
+    ensures told { ChangesToldAnd caller.number told.new sessions.old sessions.new }
     ensures err { OnErr result (room_sessions room.new sessions.new ≡ room_sessions room.old sessions.old) }
     ensures indexed { IsIndexed watches.now sessions.new }
 {
@@ -162,14 +182,14 @@ fn edit(
                 id: request.id,
                 rev,
             };
-            session_mut(sessions, caller).reply(done);
-            Ok(broadcast_and_trim(alloc, made, room, watches, sessions))
+            session_mut(sessions, caller).reply(slot, done);
+            Ok(broadcast_and_trim(alloc, made, room, watches, sessions, told))
         }
         Err(fault) => {
             let Some(reply) = edit_refusal(request.id, fault) else {
                 return Err(AllocError);
             };
-            session_mut(sessions, caller).reply(reply);
+            session_mut(sessions, caller).reply(slot, reply);
             Ok(0)
         }
     }
@@ -216,6 +236,7 @@ fn watch(
     watches: &mut WatchIndex,
     sessions: &mut [Session],
     caller: Caller,
+    slot: ReplySlot,
     id: u64,
     view: View,
 ) -> Result<(), AllocError>
@@ -227,12 +248,18 @@ fn watch(
     ensures indexed { IsIndexed watches.new sessions.new }
 {
     let view = put_view(alloc, watches, caller.number, view)?;
-    session_mut(sessions, caller).watch(id, view);
+    session_mut(sessions, caller).watch(slot, id, view);
     Ok(())
 }
 
 /// Watches nothing from now on.
-fn unwatch(watches: &mut WatchIndex, sessions: &mut [Session], caller: Caller, id: u64)
+fn unwatch(
+    watches: &mut WatchIndex,
+    sessions: &mut [Session],
+    caller: Caller,
+    slot: ReplySlot,
+    id: u64,
+)
     requires caller { IsCaller sessions.old caller }
     requires space { HasSpace sessions.old caller.number }
     requires indexed { IsIndexed watches.old sessions.old }
@@ -240,7 +267,7 @@ fn unwatch(watches: &mut WatchIndex, sessions: &mut [Session], caller: Caller, i
     ensures indexed { IsIndexed watches.new sessions.new }
 {
     watches.take_out(caller.number);
-    session_mut(sessions, caller).unwatch(id);
+    session_mut(sessions, caller).unwatch(slot, id);
 }
 
 /// Resumes a view from the revision that the request names. A resume from another epoch gets a snapshot.
@@ -251,6 +278,7 @@ fn resume(
     watches: &mut WatchIndex,
     sessions: &mut [Session],
     caller: Caller,
+    slot: ReplySlot,
     request: ResumeRequest,
 ) -> Result<(), AllocError>
     requires caller { IsCaller sessions.old caller }
@@ -272,7 +300,7 @@ fn resume(
                     id: Some(request.id),
                     at: None,
                 };
-                session_mut(sessions, caller).reply(refusal.reply());
+                session_mut(sessions, caller).reply(slot, refusal.reply());
                 return Ok(());
             }
             Err(CatchFault::NoMemory) => return Err(AllocError),
@@ -282,7 +310,7 @@ fn resume(
     };
     let update = Update::of(alloc, room.revision(), how)?;
     let view = put_view(alloc, watches, caller.number, request.view)?;
-    session_mut(sessions, caller).resume(request.id, view, update);
+    session_mut(sessions, caller).resume(slot, request.id, view, update);
     Ok(())
 }
 
@@ -330,5 +358,15 @@ pub fn remove(sessions: &mut Vec<Session>, watches: &mut WatchIndex, number: u64
     ensures indexed { IsIndexed watches.new sessions.new.items }
 {
     watches.take_out(number);
-    sessions.retain(|session| session.number() != number);
+    drop_session(sessions, number);
+}
+
+/// Removes the session with that number, if it is there. The later ones move down.
+fn drop_session(sessions: &mut Vec<Session>, number: u64)
+    requires { IsRising sessions.old.items }
+    ensures { sessions.new.items ≡ filter (λ x. not (is_number number x)) sessions.old.items }
+{
+    if let Some(place) = position_of(sessions.as_slice(), number) {
+        let _ = sessions.remove(place);
+    }
 }

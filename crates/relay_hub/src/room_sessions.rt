@@ -7,6 +7,7 @@ use crate::message_counts::MessageCounts;
 use crate::requests;
 use crate::session::Session;
 use crate::shed::shed_sessions;
+use crate::told::Told;
 use relay_room::Room;
 use relay_translate::WatchIndex;
 use relay_tree::Budget;
@@ -44,6 +45,7 @@ impl RoomSessions {
     ghost use Rattle.relay_hub.specs.Shed.{shed_room};
     ghost use Rattle.relay_hub.specs.State.{room_sessions, is_untouched, session_in};
     ghost use Rattle.relay_hub.specs.Step.{ChangesOnly};
+    ghost use Rattle.relay_hub.specs.Told.{ChangesToldAnd};
 
     /// A room with its first session, which watches nothing.
     pub fn begin(alloc: Global, room: Room, first: Session) -> Result<RoomSessions, AllocError>
@@ -132,8 +134,10 @@ impl RoomSessions {
         made: HubConfig,
         number: u64,
         text: &str,
+        told: &mut Told,
     ) -> Result<Heard, HubFault>
         requires { IsSome (session_in self.old.sessions number) }
+        ensures told { ChangesToldAnd number told.new self.old.sessions self.new.sessions }
         ensures step { ReceivesIf made number text.now (receiving result) self.old self.new }
         ensures no_memory { IsErrOf result HubFault.NoMemory → HasSpace self.old.sessions number }
     {
@@ -145,6 +149,7 @@ impl RoomSessions {
             self.sessions.as_mut_slice(),
             number,
             text,
+            told,
         )
     }
 

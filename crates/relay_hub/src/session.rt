@@ -1,4 +1,5 @@
 //! One session: its view and its outbox.
+use crate::boxed_reply::{BoxedReply, ReplySlot};
 use crate::config::HubConfig;
 use crate::encoded_patch::EncodedPatch;
 use crate::load;
@@ -18,7 +19,7 @@ use std::marker::Model;
 pub struct Session {
     number: u64,
     view: Option<SharedView>,
-    outbox: Outbox<Reply, EncodedPatch>,
+    outbox: Outbox<BoxedReply, EncodedPatch>,
     /// The most that the waiting patches may weigh together.
     budget: Budget,
     /// What the waiting patches weigh, counted only if they are bounded.
@@ -68,7 +69,8 @@ impl Session {
             rev,
             session: number,
         };
-        let Ok(()) = outbox.reply(welcome) else {
+        let slot = ReplySlot::new(alloc)?;
+        let Ok(()) = outbox.reply(slot.fill(welcome)) else {
             unreachable!()
         };
         Ok(Session {
@@ -124,47 +126,48 @@ impl Session {
         self.outbox.replies() >= relay_outbox::MAX_REPLIES
     }
 
-    /// Adds a reply to the outbox.
-    pub fn reply(&mut self, reply: Reply)
+    /// Adds a reply to the outbox. Allocates nothing.
+    pub fn reply(&mut self, slot: ReplySlot, reply: Reply)
         requires { length self.old.outbox.replies < MAX_REPLIES }
         ensures { self.new ≡ replied reply self.old }
     {
-        let Ok(()) = self.outbox.reply(reply) else {
+        let Ok(()) = self.outbox.reply(slot.fill(reply)) else {
             unreachable!()
         };
     }
 
     /// Watches the view from now on. Adds the reply, and makes a snapshot due.
-    pub fn watch(&mut self, id: u64, view: SharedView)
+    pub fn watch(&mut self, slot: ReplySlot, id: u64, view: SharedView)
         requires { length self.old.outbox.replies < MAX_REPLIES }
         ensures { self.new ≡ watches id view self.old }
     {
-        self.reply(Reply::Watching { id });
+        self.reply(slot, Reply::Watching { id });
         load::fold(&mut self.outbox, &mut self.load);
         self.due_for = SnapshotCause::Watch;
         self.view = Some(view);
     }
 
     /// Watches nothing from now on. Adds the reply, and only replies are left in the outbox.
-    pub fn unwatch(&mut self, id: u64)
+    pub fn unwatch(&mut self, slot: ReplySlot, id: u64)
         requires { length self.old.outbox.replies < MAX_REPLIES }
         ensures { self.new ≡ unwatches id self.old }
     {
-        self.reply(Reply::Unwatched { id });
+        self.reply(slot, Reply::Unwatched { id });
         load::clear(&mut self.outbox, &mut self.load);
         self.view = None;
     }
 
     /// Watches the view from now on, as a client that holds it at an earlier revision. The update brings it to the present revision.
-    pub fn resume(&mut self, id: u64, view: SharedView, update: Update)
+    pub fn resume(&mut self, slot: ReplySlot, id: u64, view: SharedView, update: Update)
         requires { length self.old.outbox.replies < MAX_REPLIES }
         ensures resumed { (rev : ℕ) (how : CatchUp) → update ≡ update_of rev how → self.new ≡ resumes rev id view how self.old }
         ensures number { self.new.number ≡ self.old.number }
     {
-        self.reply(Reply::Resumed {
+        let resumed = Reply::Resumed {
             id,
             how: update.word(),
-        });
+        };
+        self.reply(slot, resumed);
         load::clear(&mut self.outbox, &mut self.load);
         self.view = Some(view);
         self.take_update(update);
@@ -238,7 +241,7 @@ impl Session {
     {
         match self.outbox.front() {
             Front::Nothing => Ok(None),
-            Front::Reply(reply) => Ok(Some(reply.text(alloc)?)),
+            Front::Reply(reply) => Ok(Some(reply.get().text(alloc)?)),
             Front::Patch(encoded_patch) => Ok(Some(encoded_patch.text(alloc)?)),
             Front::Snapshot => {
                 let Some(view) = &self.view else {
@@ -254,7 +257,7 @@ impl Session {
     fn count_front(&self, counts: &mut MessageCounts) {
         match self.outbox.front() {
             Front::Nothing => {}
-            Front::Reply(reply) => counts.count_reply(reply),
+            Front::Reply(reply) => counts.count_reply(reply.get()),
             Front::Patch(_) => counts.count_patch(),
             Front::Snapshot => counts.count_snapshot(self.due_for),
         }

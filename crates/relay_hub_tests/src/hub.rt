@@ -1,5 +1,7 @@
 //! Tests of a hub's calls with their answers, and of its limits. What sessions send and receive is data in `tests/scripts`.
-use crate::hub::Call::{Close, Counts, Draw, MayHear, Open, RoomAt, Say, Shed, Truth, Waiting};
+use crate::hub::Call::{
+    Close, Counts, Draw, MayHear, Open, RoomAt, Say, Shed, Told, Truth, Waiting,
+};
 use crate::shared::{at_revision, gives, owned, words};
 use relay_history::MAX_REVISIONS;
 use relay_hub::{Hub, HubFault, HubNewFault};
@@ -13,6 +15,8 @@ pub(crate) const WATCH: &str = r#"{"do":"watch","id":1,"view":["/x"]}"#;
 
 pub(crate) const EDIT: &str =
     r#"{"do":"edit","id":2,"patch":[{"op":"add","path":"","value":{"x":1}}]}"#;
+
+const EDIT_Y: &str = r#"{"do":"edit","id":4,"patch":[{"op":"add","path":"/y","value":2}]}"#;
 
 pub(crate) const REFUSED: &str =
     r#"{"do":"edit","id":3,"patch":[{"op":"replace","path":"/x","value":2},{"op":"remove","path":"/y"}]}"#;
@@ -29,6 +33,8 @@ pub(crate) enum Call {
     Truth(u64),
     /// The summary of the room at a place.
     RoomAt(usize),
+    /// Whom the last text told something.
+    Told,
     /// Gives memory back.
     Shed,
     /// What the sessions drew.
@@ -69,6 +75,11 @@ fn counted(rt: &(impl Abort + AllocGlobal), hub: &Hub) -> String {
     ).expect(rt, "memory")
 }
 
+/// Whom the last text told something.
+fn told(rt: &(impl Abort + AllocGlobal), hub: &Hub) -> String {
+    format!(in rt.alloc(); "{:?}", hub.told()).expect(rt, "memory")
+}
+
 /// Gives memory back, which always succeeds.
 fn give_memory_back(rt: &(impl Abort + AllocGlobal), hub: &mut Hub) -> String {
     hub.shed();
@@ -86,6 +97,7 @@ fn answer(rt: &(impl Abort + AllocGlobal), hub: &mut Hub, call: Call) -> String 
         MayHear(session) => words(rt, hub.may_hear(session)),
         Truth(session) => seen(rt, hub.truth(rt.alloc(), session)),
         RoomAt(place) => words(rt, hub.room_at(place)),
+        Told => told(rt, hub),
         Shed => give_memory_back(rt, hub),
         Counts => counted(rt, hub),
     }
@@ -164,6 +176,34 @@ fn shows_each_room_in_the_order_of_opening(rt: HostRuntime) {
                 r#"Some(RoomSummary { name: "q", revision: 0, sessions: 1, weight: 8, history: 0 })"#,
             ),
             (RoomAt(2), "None"),
+        ],
+    );
+}
+
+#[test]
+fn names_those_whom_a_text_told_something(rt: HostRuntime) {
+    tells(
+        &rt,
+        &mut hub_from(&rt, 1),
+        &[
+            (Told, "Sessions([])"),
+            (Open("r"), "Ok(1)"),
+            (Open("r"), "Ok(2)"),
+            (Open("q"), "Ok(3)"),
+            (Open("r"), "Ok(4)"),
+            (Say(2, WATCH), "Ok(Answered { short: 0 })"),
+            (Say(3, WATCH), "Ok(Answered { short: 0 })"),
+            (Say(4, WATCH), "Ok(Answered { short: 0 })"),
+            (Told, "Sessions([])"),
+            (Say(1, EDIT), "Ok(Answered { short: 0 })"),
+            (Told, "Sessions([2, 4])"),
+            (Say(1, EDIT_Y), "Ok(Answered { short: 0 })"),
+            (Told, "Sessions([])"),
+            (Close(2), "Ok(())"),
+            (Say(4, EDIT), "Ok(Answered { short: 0 })"),
+            (Told, "Sessions([4])"),
+            (Say(1, "x"), "Ok(Answered { short: 0 })"),
+            (Told, "Sessions([])"),
         ],
     );
 }

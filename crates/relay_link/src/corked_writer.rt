@@ -8,8 +8,8 @@ use std::alloc::{AllocError, Global};
 use std::cell::Cell;
 use std::io::{BufWriter, Read, Result, Write};
 
-/// The size of an output buffer, in bytes: enough for a reply and a few patches that are written together.
-const OUTPUT_BUFFER: usize = 1_536;
+/// The size of an output buffer, in bytes: enough for a reply and a few short patches that are written together.
+const OUTPUT_BUFFER: usize = 640;
 
 /// What a link has asked of its stream since the stream's last call.
 #[derive(Clone, Copy)]

@@ -137,7 +137,7 @@ impl<S: Read + Write + Drop> Link<S> {
         self.take(alloc, TurnPhase::Both, hub, draws)
     }
 
-    /// Runs the read part of a turn, for a link that reads more than once before it writes. As [`Link::turn`], but up to 1.5 KiB of
+    /// Runs the read part of a turn, for a link that reads more than once before it writes. As [`Link::turn`], but up to 640 bytes of
     /// an open link's output are corked until [`Link::write_turn`]. A link that ends sends its output first.
     ///
     /// A text that may be more than `most_work` ([`Hub::most_work`]) is held: the link passes it to the hub in the first turn that allows

@@ -2,7 +2,7 @@
 use std::io;
 use std::io::{Error, ErrorKind, Read, Write};
 
-/// The maximum number of reads (of 1.5 KiB each) in a turn. So a side that never stops sending, in however small frames, cannot delay
+/// The maximum number of reads (of 1.25 KiB each) in a turn. So a side that never stops sending, in however small frames, cannot delay
 /// the others.
 const MAX_READS: u64 = 128;
 

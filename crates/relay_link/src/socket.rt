@@ -23,7 +23,7 @@ pub(crate) type Socket<S> = WebSocket<CorkedWriter<S>, NoMask>;
 
 /// The size of a socket's read buffer, in bytes, which is also the most that one read gives. Most requests are shorter. The default of
 /// `tungstenite`, 128 KiB, is too much if many sockets are held.
-const READ_BUFFER: usize = 1_536;
+const READ_BUFFER: usize = 1_280;
 
 /// The maximum size of an incoming message and of each of its frames, in bytes. It is a little more than the longest request, so
 /// that a request that is slightly too long still gets a reply. A longer message ends the link with [`Cause::Broken`].

@@ -1,5 +1,5 @@
 -- Lemmas about the output of a server.
-use Rattle.std.proofs.Common.{◌≡◌, ℕ, ◌+◌, ◌≤◌, List, ◌++◌, length, take, Option, Some, None, Result, Ok, Err, OnOk, OnErr, IfErr, refl, sym, subst, arith, length-append, ◌⊎◌, inl, inr}
+use Rattle.std.proofs.Common.{◌≡◌, ◌≢◌, ◌∙◌, ℕ, ◌+◌, ◌≤◌, List, ◌++◌, length, take, Option, Some, None, Result, Ok, Err, OnOk, OnErr, IfErr, refl, sym, subst, arith, length-append, ◌⊎◌, inl, inr}
 use Rattle.std.proofs.lemmas.List.{take-append-le}
 use Rattle.std.proofs.Math.Seq.{take-append-add, take-length}
 use Rattle.std.specs.Io.KnownBytes.{Appends}
@@ -9,7 +9,7 @@ use Rattle.relay_hub.specs.declared.fault.HubNewFault.TheVariants as made
 use Rattle.relay_lines.specs.Faults.{not_made}
 use Rattle.relay_lines.specs.Lines.{AppendsPart}
 use Rattle.relay_server.specs.Printed.{listening_text, served_text, turns_text}
-use Rattle.relay_lines.specs.declared.fault.ScriptFault.TheVariants.{Output, NoMemory}
+use Rattle.relay_lines.specs.declared.fault.ScriptFault.TheVariants.{BadLimit, Output, NoMemory}
 use Rattle.relay_loopback.specs.declared.fault.ServeFault.{ServeFault}
 use Rattle.relay_loopback.specs.declared.fault.ServeFault.TheVariants.{Ended, Listen, Wait}
 use Rattle.relay_loopback.specs.Faults.{IsListen}
@@ -119,3 +119,9 @@ front_made old new port turns part = (0, omega arith, part_front old new (listen
 -- or nothing
 pub none_made : (old : Option (List ℕ)) (port turns : ℕ) → (count : ℕ) × (count ≤ turns) × AppendsPart old old (served_text port count)
 none_made old port turns = front_made old old port turns (part_none old (listening_text port))
+
+-- what ended for its output, or for memory, did not end for a limit
+pub never_limited : {A : Type 0} (r : Result A ServeFault) → IfErr r (λ fault. (fault ≡ Ended Output) ⊎ (fault ≡ Ended NoMemory)) → IfErr r (λ fault. fault ≢ Ended BadLimit)
+never_limited (Ok x) h = tt
+never_limited (Err e) (inl h) = λ limit. let same : Ended Output ≡ Ended BadLimit = sym h ∙ limit in absurd (cc same)
+never_limited (Err e) (inr h) = λ limit. let same : Ended NoMemory ≡ Ended BadLimit = sym h ∙ limit in absurd (cc same)

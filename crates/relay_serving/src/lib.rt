@@ -16,8 +16,8 @@ mod queues;
 mod read_share;
 mod readiness;
 mod ready;
-mod room_index;
 mod server;
+mod session_index;
 
 pub use admin_port::AdminPort;
 pub use admin_readiness::{ADMIN_LISTENER, AdminReadiness};

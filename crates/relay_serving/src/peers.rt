@@ -213,7 +213,7 @@ impl Peers {
 }
 
 /// The room that a turn asked the hub for, if it took a handshake to it.
-pub(crate) fn asked_room(turn: &Turn) -> Option<&str> {
+fn asked_room(turn: &Turn) -> Option<&str> {
     for event in turn.made.iter() {
         if let Event::Open { room } = event {
             return Some(room.as_str());

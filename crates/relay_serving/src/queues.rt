@@ -56,6 +56,11 @@ impl Queues {
         }
     }
 
+    /// Queues a key for a write turn, for messages that wait. Allocates nothing.
+    pub(crate) fn push_writer(&mut self, key: usize) {
+        self.waiting.push(key);
+    }
+
     /// Takes out the first key of the connections of this weight that may be read.
     pub(crate) fn pop_reader(&mut self, weight: Weight) -> Option<usize> {
         match weight {

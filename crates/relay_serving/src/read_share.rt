@@ -6,8 +6,8 @@ use relay_tree::Budget;
 /// The most light texts that a round reads, and the most costly ones, whatever may wait.
 pub(crate) const MAX_TEXTS: u64 = 16;
 
-/// The most bytes of light texts that a round reads, and of costly ones, each counted once for each session in its room. It is three
-/// quarters of what a pass of writes draws, so what is read does not run ahead of what those are sent who are told of it.
+/// The most bytes of light texts that a round reads, and of costly ones, each counted once for each session that it tells something. It is
+/// three quarters of what a pass of writes draws, so what is read does not run ahead of what those are sent.
 const MAX_TOLD: u64 = MAX_WAITING / 4 * 3;
 
 /// How much work the costly texts of a round may be together, but for the last one: sixteen operations on a largest document.
@@ -17,14 +17,14 @@ const MAX_WORK: u64 = 16 * OPERATION_WORK;
 #[derive(Clone, Copy, Debug, PartialEq, Eq)]
 pub(crate) struct TextRead {
     pub bytes: u64,
-    /// How many sessions are in the room, which may be told of it.
-    pub sessions: u64,
+    /// How many sessions it told something.
+    pub told: u64,
     /// How much work it may be ([`relay_hub::Hub::most_work`]).
     pub work: u64,
 }
 
-/// What a round may still read from connections of one weight: so many texts, so many bytes of them, so many bytes by those who may be told
-/// of them, and so much work. One text is read while any of each is left.
+/// What a round may still read from connections of one weight: so many texts, so many bytes of them, so many bytes by those who are told of
+/// them, and so much work. One text is read while any of each is left.
 #[derive(Clone, Copy, Debug, PartialEq, Eq)]
 pub(crate) struct ReadShare {
     texts: u64,
@@ -36,7 +36,7 @@ pub(crate) struct ReadShare {
 impl ReadShare {
     /// Of light texts. Half as many as patches may wait for a session, at least 1 and at most 16, and as many bytes as half of what these
     /// patches may weigh. So the number of a round's texts never folds the outbox of a watcher that keeps up. The weight of their
-    /// changes may, since a short text can make a heavy change. To a crowd, as many bytes as 576 KiB for all who may be told.
+    /// changes may, since a short text can make a heavy change. To a crowd, as many bytes as 576 KiB for all who are told.
     pub(crate) fn of(config: HubConfig) -> ReadShare {
         ReadShare {
             texts: (config.max_waiting_patches / 2).max(1).min(MAX_TEXTS),
@@ -64,7 +64,7 @@ impl ReadShare {
             bytes: self.bytes.saturating_sub(text.bytes),
             told: self
                 .told
-                .saturating_sub(text.bytes.saturating_mul(text.sessions)),
+                .saturating_sub(text.bytes.saturating_mul(text.told)),
             work: self.work.saturating_sub(text.work),
         }
     }

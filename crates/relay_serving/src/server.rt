@@ -19,7 +19,7 @@ use crate::peers::Peers;
 use crate::queues::Queues;
 use crate::read_share::ReadShare;
 use crate::readiness::{Readiness, ReadyEvent};
-use crate::room_index::RoomIndex;
+use crate::session_index::SessionIndex;
 use relay_hub::Hub;
 use slab::Slab;
 use std::alloc::Global;
@@ -52,8 +52,8 @@ pub struct Server<S: Write + Drop, R> {
     share: ReadShare,
     /// The connections that may have a turn.
     queues: Queues,
-    /// Who is in which room, and the rooms in which texts were heard since their sessions were looked at for messages that wait.
-    rooms: RoomIndex,
+    /// Which connection has which session.
+    sessions: SessionIndex,
     /// Who is on the other side of each connection.
     peers: Peers,
     rounds: u64,
@@ -84,7 +84,7 @@ impl<S: Read + Write + OpenStream + Drop, R: Readiness<S>> Server<S, R> {
             failed: false,
             share: ReadShare::of(config),
             queues: Queues::new(alloc),
-            rooms: RoomIndex::new(alloc),
+            sessions: SessionIndex::new(alloc),
             peers: Peers::new(alloc),
             rounds: 0,
             next_shed_entry: 0,

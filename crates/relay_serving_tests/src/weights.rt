@@ -70,18 +70,26 @@ fn receives_costly_texts_before_long_ones(rt: HostRuntime) {
     assert_eq!(&rt; senders.count(&rt, 0, b"\"rev\":2"), 1, "the long one");
 }
 
-/// Of texts of 6,064 bytes, each told to 8 sessions, a round receives those that begin within 576 KiB.
+/// Of 16 texts of 6,064 bytes, each told to so many sessions of a room of 9, a round receives those that begin within 576 KiB.
+fn receives_of_16(rt: &(impl Abort + AllocGlobal), watchers: usize, wanted: u64) {
+    let script = ReadinessScript::new(rt.alloc());
+    let wires = wires(rt, 9);
+    let mut senders = Senders::at(rt, &script, wires.as_slice());
+    senders.enter(rt);
+    for key in 0..watchers {
+        senders.say(rt, key, WATCH, 1);
+    }
+    senders.server.rounds(rt, 2);
+    let edit = long_edit(rt, rt.alloc(), 6_000);
+    senders.say(rt, 8, edit.as_str(), 16);
+    senders.server.round(rt);
+    assert_eq!(rt; senders.accepted(rt, 8), wanted, "for {watchers} watchers");
+}
+
 #[test]
 fn receives_no_more_than_it_sends(rt: HostRuntime) {
-    let script = ReadinessScript::new(rt.alloc());
-    let wires = wires(&rt, 8);
-    let mut senders = Senders::at(&rt, &script, wires.as_slice());
-    senders.enter(&rt);
-    let edit = long_edit(&rt, rt.alloc(), 6_000);
-    senders.say(&rt, 0, edit.as_str(), 16);
-    for wanted in [13, 3] {
-        senders.server.round(&rt);
-        assert_eq!(&rt; senders.accepted(&rt, 0), wanted);
+    for (watchers, wanted) in [(0, 16), (7, 14), (8, 13)] {
+        receives_of_16(&rt, watchers, wanted);
     }
 }
 

@@ -95,7 +95,7 @@ impl<S: Read + Write + OpenStream + Drop, R: Readiness<S>> Server<S, R> {
             return Ok(());
         }
         self.queues.admit(key)?;
-        self.rooms.admit(key)?;
+        self.sessions.admit(key)?;
         self.peers.begin(key, peer)?;
         let place = self.accepted;
         self.accepted = self.accepted.saturating_add(1);

@@ -44,7 +44,7 @@ impl<S: Read + Write + OpenStream + Drop, R: Readiness<S>> Server<S, R> {
         self.settle(key, before, &turn, log);
     }
 
-    /// Logs what a turn did to a connection, and drops the connection if its link is gone.
+    /// Logs what a turn did to a connection, queues those whom its text told something, and drops the connection if its link is gone.
     #[tactic(auto, using(crate::proofs::Rules::advances))]
     pub(super) fn settle<J: ConnectionLog>(
         &mut self,
@@ -62,7 +62,10 @@ impl<S: Read + Write + OpenStream + Drop, R: Readiness<S>> Server<S, R> {
         let rounds = self.rounds.saturating_sub(connection.since);
         let most = self.hub.config().sessions;
         self.peers.note_handshake(key, turn, session, most, log);
-        self.rooms.note_turn(key, turn, session);
+        self.sessions.note(key, session);
+        if turn.has_received() {
+            self.queue_told();
+        }
         self.peers.note_end(key, before, turn, rounds, log);
         if turn.cause == Some(Cause::Memory) || self.peers.lacked_memory(key, turn) {
             self.shed(log);
@@ -92,7 +95,6 @@ impl<S: Read + Write + OpenStream + Drop, R: Readiness<S>> Server<S, R> {
         };
         if connection.link.stage() == Stage::Gone {
             let _ = self.connections.try_remove(key);
-            self.rooms.leave(key);
         }
     }
 }

@@ -40,7 +40,7 @@ impl<S: Read + Write + OpenStream + Drop, R: Readiness<S>> Server<S, R> {
 
     /// Whether there is work without further events.
     fn has_work(&self) -> bool {
-        self.accept_ready || self.rooms.heard() > 0 || !self.queues.is_empty()
+        self.accept_ready || !self.queues.is_empty()
     }
 
     /// The event at an index.

@@ -1,11 +1,13 @@
 //! Which connections are queued for a turn.
 //!
 //! After each round every connection that wants a turn is queued for it ([`Server::unqueued`]). What it wants changes by its own turns and
-//! events, after which it is queued again; and by the texts of other sessions, which bring it messages.
+//! events, after which it is queued again; and by the texts of other sessions, which bring it messages. Of these the hub says whom they told
+//! something ([`relay_hub::Hub::told`]), so no other connection is looked at.
 ghost use Rattle.relay_serving.specs.Advances.{KeepsFewer};
 
 use super::Server;
 use crate::readiness::Readiness;
+use relay_hub::Told;
 use std::io::{Read, Write};
 use std::net::OpenStream;
 
@@ -35,27 +37,44 @@ impl<S: Read + Write + OpenStream + Drop, R: Readiness<S>> Server<S, R> {
         self.queues.push(key, wants);
     }
 
-    /// Queues the connections that got messages by the texts that were received.
+    /// Queues for a write turn the connections that the last text told something.
     #[tactic(auto, using(crate::proofs::Rules::advances))]
     pub(super) fn queue_told(&mut self)
         ensures { KeepsFewer S.remaining self.old self.new }
     {
-        for _ in 0..self.rooms.heard() {
-            if let Some(room) = self.rooms.pop_heard() {
-                self.queue_room(room);
+        for place in 0..self.told() {
+            if let Some(key) = self.told_at(place) {
+                self.queue_writer(key);
             }
         }
     }
 
-    /// Queues the connections of a room.
+    /// How many connections the last text may have told something, besides the one that sent it.
+    pub(super) fn told(&self) -> usize {
+        match self.hub.told() {
+            Told::Sessions(sessions) => sessions.len(),
+            Told::All => self.keys(),
+        }
+    }
+
+    /// The key of one of these.
+    fn told_at(&self, place: usize) -> Option<usize> {
+        match self.hub.told() {
+            Told::Sessions(sessions) => self.sessions.key_of(*sessions.get(place)?),
+            Told::All => Some(place),
+        }
+    }
+
+    /// Queues a connection for a write turn, if it is held and can be written. Allocates nothing.
     #[tactic(auto, using(crate::proofs::Rules::advances))]
-    fn queue_room(&mut self, room: u64)
+    fn queue_writer(&mut self, key: usize)
         ensures { KeepsFewer S.remaining self.old self.new }
     {
-        for place in self.rooms.first(room)..self.rooms.end(room) {
-            if let Some(key) = self.rooms.key_at(place) {
-                self.queue(key);
-            }
+        let Some(connection) = self.connections.get(key) else {
+            return;
+        };
+        if connection.known.is_writable() {
+            self.queues.push_writer(key);
         }
     }
 }

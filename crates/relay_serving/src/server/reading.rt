@@ -148,15 +148,15 @@ impl<S: Read + Write + OpenStream + Drop, R: Readiness<S>> Server<S, R> {
         connection.read_pending = false;
         connection.known.end_turn(received(&turn));
         self.settle(key, before, &turn, log);
-        self.text_read(key, &turn)
+        self.text_read(&turn)
     }
 
-    /// The text that a turn of a connection passed to the hub, if it passed one.
-    fn text_read(&self, key: usize, turn: &Turn) -> Option<TextRead> {
+    /// The text that the last turn passed to the hub, if it passed one.
+    fn text_read(&self, turn: &Turn) -> Option<TextRead> {
         match received(turn) {
             Some(bytes) => Some(TextRead {
                 bytes,
-                sessions: self.rooms.in_room_of(key),
+                told: self.told() as u64,
                 work: turn.work,
             }),
             None => None,

@@ -31,7 +31,6 @@ impl<S: Read + Write + OpenStream + Drop, R: Readiness<S>> Server<S, R> {
     pub(super) fn write<J: ConnectionLog>(&mut self, alloc: Global, log: &mut J)
         ensures { KeepsFewer S.remaining self.old self.new }
     {
-        self.queue_told();
         self.write_each(alloc, Output::Corked, log);
         self.write_each(alloc, Output::Waiting, log);
     }

@@ -1,8 +1,9 @@
-use Rattle.std.proofs.Common.{sym, ◌∙◌, is_err, slice_set}
+use Rattle.std.proofs.Common.{sym, ◌∙◌, is_err, get_or, slice_set}
 use Rattle.relay_hub.specs.CachedUpdate.{allowance_of}
 use Rattle.relay_hub.proofs.Among.{absent_among, place_among}
 use Rattle.relay_hub.proofs.Rising.{once_rising, same_rises, numbers_set}
-use Rattle.relay_hub.proofs.Sessions.{not_found}
+use Rattle.relay_hub.proofs.Sessions.{found_at, not_found}
+use Rattle.relay_hub.proofs.Untold.{one_among}
 use Rattle.relay_hub.proofs.broadcast.notify_one.Goals as goal
 
 pub returns-in-Some-clause-ordered : goal.returns-in-Some-clause-ordered
@@ -10,6 +11,13 @@ returns-in-Some-clause-ordered c =
     let xs = c.args.sessions.now in
     let z = c.index-sessions-place.result in
     same_rises xs (slice_set xs c.in-Some.place c.notify.new.session) (numbers_set xs c.in-Some.place c.notify.new.session z c.notify.ensures.number) c.requires.ordered
+
+pub returns-in-Some-clause-others : goal.returns-in-Some-clause-others
+returns-in-Some-clause-others c =
+    let xs = c.args.sessions.now in
+    let z = c.index-sessions-place.result in
+    let at = sym c.position_of.ensures ∙ c.in-Some.is in
+    one_among xs c.args.number c.in-Some.place (get_or xs c.in-Some.place z) c.notify.new.session at (found_at xs c.args.number c.in-Some.place at z) c.notify.ensures.number
 
 pub returns-in-Some-clause-notified : goal.returns-in-Some-clause-notified
 returns-in-Some-clause-notified c = λ d changes since leads.

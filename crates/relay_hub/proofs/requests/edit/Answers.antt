@@ -1,10 +1,10 @@
-use Rattle.std.proofs.Common.{refl, ap, rules, slice_set}
+use Rattle.std.proofs.Common.{refl, ap, ◌∙◌, rules, slice_set}
 use Rattle.relay_patch.specs.Change.{all_changes}
 use Rattle.relay_proto.specs.declared.reply.Reply.TheVariants.{Done}
 use Rattle.relay_room.specs.Room.{State as Room}
 use Rattle.relay_hub.specs.Session.{Session, replied}
 use Rattle.relay_hub.specs.Step.{GoesOn}
-use Rattle.relay_hub.proofs.Callers.{written_by, written_same}
+use Rattle.relay_hub.proofs.Callers.{written_by, written_same, written_told}
 use Rattle.relay_hub.proofs.Documents.{newest_changes}
 use Rattle.relay_hub.proofs.Indexed.{notified_indexed}
 use Rattle.relay_hub.proofs.requests.edit.Goals as goal
@@ -46,6 +46,21 @@ returns-in-Some-clause-indexed c =
     let number = ap (λ (y : Session). y.number) c.reply-in-Err.ensures in
     let view = ap (λ (y : Session). y.view) c.reply-in-Err.ensures in
     written_same c.args.sessions.now c.args.caller c.requires.caller x there c.reply-in-Err.new.self number c.args.watches.now c.requires.indexed view
+
+pub returns-in-Ok-clause-told : goal.returns-in-Ok-clause-told
+returns-in-Ok-clause-told c = λ t other absent.
+    let xs = c.args.sessions.now in
+    let was = c.session_mut.result.now in
+    let there = c.session_mut.ensures.found in
+    let number = ap (λ (y : Session). y.number) c.reply.ensures in
+    c.broadcast_and_trim.ensures.told t absent ∙ written_told xs c.args.caller c.requires.caller was there c.reply.new.self number c.broadcast_and_trim.new.told t other absent
+
+pub returns-in-Some-clause-told : goal.returns-in-Some-clause-told
+returns-in-Some-clause-told c =
+    let was = c.session_mut-in-Err.result.now in
+    let there = c.session_mut-in-Err.ensures.found in
+    let number = ap (λ (y : Session). y.number) c.reply-in-Err.ensures in
+    written_told c.args.sessions.now c.args.caller c.requires.caller was there c.reply-in-Err.new.self number c.args.told.now
 
 pub returns-in-Ok-clause-ok : goal.returns-in-Ok-clause-ok
 returns-in-Ok-clause-ok c = λ x e.

@@ -3,9 +3,9 @@ use Rattle.relay_hub.proofs.Sessions.{session_there}
 use Rattle.relay_hub.proofs.Serving.{answered}
 use Rattle.relay_hub.specs.Session.{replied}
 use Rattle.relay_hub.specs.State.{room_sessions}
-use Rattle.relay_hub.proofs.Callers.{written_by, written_same}
+use Rattle.relay_hub.proofs.Callers.{written_by, written_same, written_told}
 use Rattle.relay_hub.proofs.requests.receive.Goals as goal
-use Rattle.relay_hub.proofs.requests.receive.Goals.{in-Ok, in-Err-Refused, in-Err-NoMemory}
+use Rattle.relay_hub.proofs.requests.receive.Goals.{in-Ok-read, in-Err-Refused, in-Err-NoMemory}
 
 pub returns-then-is_full-clause-step : goal.returns-then-is_full-clause-step
 returns-then-is_full-clause-step c =
@@ -23,9 +23,9 @@ returns-in-Ok-served-clause-step c =
     let old = room_sessions c.args.room.now c.args.sessions.now in
     let new = room_sessions c.match-read.room c.match-read.sessions in
     rw (← c.find-caller.ensures.number) (elim c.match-read.branch [
-      | in-Ok w ↦
+      | in-Ok-read w ↦
           let serves = rw (sym w.served-is ∙ c.in-Ok-served.is) at w.perform-served.ensures.ok in
-          answered c.args.made number caller.place short text (Ok w.in-Ok.request) old new at c.if-is_full.ensures w.in-Ok.ensures.ok
+          answered c.args.made number caller.place short text (Ok w.in-Ok-read.request) old new at c.if-is_full.ensures w.in-Ok-read.ensures.ok
           (rw (w.room-is, w.sessions-is) serves)
       | in-Err-Refused w ↦
           let none : short ≡ 0 = cc (w.served-is, c.in-Ok-served.is) in
@@ -43,7 +43,7 @@ returns-in-Ok-served-clause-step c =
 pub returns-in-Ok-served-clause-indexed : goal.returns-in-Ok-served-clause-indexed
 returns-in-Ok-served-clause-indexed c =
     elim c.match-read.branch [
-      | in-Ok w ↦ rw (w.watches-is, w.sessions-is) w.perform-served.ensures.indexed
+      | in-Ok-read w ↦ rw (w.watches-is, w.sessions-is) w.perform-served.ensures.indexed
       | in-Err-Refused w ↦
           let caller = c.find-caller.result in
           let x = w.session_mut.result.now in
@@ -53,3 +53,16 @@ returns-in-Ok-served-clause-indexed c =
           (written_same c.args.sessions.now caller c.find-caller.ensures.place x there now refl c.args.watches.now c.requires.indexed refl)
       | in-Err-NoMemory w ↦ rw (w.watches-is, w.sessions-is) c.requires.indexed
     ]
+
+pub returns-in-Ok-served-clause-told : goal.returns-in-Ok-served-clause-told
+returns-in-Ok-served-clause-told c =
+    rw (← c.find-caller.ensures.number) (elim c.match-read.branch [
+      | in-Ok-read w ↦ rw (w.told-is, w.sessions-is) w.perform-served.ensures.told
+      | in-Err-Refused w ↦
+          let x = w.session_mut.result.now in
+          let there = w.session_mut.ensures.found in
+          let now = replied w.reply.result x in
+          rw (w.sessions-is, w.reply-in-Err-Refused.ensures)
+          (written_told c.args.sessions.now c.find-caller.result c.find-caller.ensures.place x there now refl c.match-read.told)
+      | in-Err-NoMemory w ↦ rw w.sessions-is (λ t other absent. refl)
+    ])

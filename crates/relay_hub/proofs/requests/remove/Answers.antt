@@ -1,6 +1,5 @@
-use Rattle.std.proofs.Common.{◌≡◌, not, refl, rules, None}
+use Rattle.std.proofs.Common.{not, refl, None}
 use Rattle.std.specs.Prelude.{filter}
-use Rattle.std.proofs.lemmas.Fn.{filter_same}
 use Rattle.relay_hub.proofs.Indexed.{out_indexed}
 use Rattle.relay_hub.proofs.Rising.{left_rises}
 use Rattle.relay_hub.proofs.Sessions.{filter_removes}
@@ -11,9 +10,8 @@ pub returns : goal.returns
 returns c =
     let xs = c.args.sessions.now.items in
     let s = c.args.number in
-    let left : c.retain.new.self.items ≡ filter (λ x. not (is_number s x)) xs = filter_same _ _ _ (λ x b f' k. search rules) _ _ c.retain.ensures.filtered in
     let gone = filter_removes xs s in
-    rw (left, c.take_out.ensures) (record {
+    rw (c.drop_session.ensures, c.take_out.ensures) (record {
       gone = gone;
       indexed = out_indexed c.args.watches.now xs (filter (λ x. not (is_number s x)) xs) s None gone (left_rises xs s c.requires.rising) refl c.requires;
     })

@@ -31,3 +31,7 @@ returns-clause-stopped g c =
     let begins = c.new.ensures ∙ ap (λ h. stage h []) c.in_ok-hub.ensures.empty in
     let some = stopped_seen _ HubAnswers stage_of (λ _ _ _ _ _ h. h) c.run_lines.result c.new.result begins _ _ _ c.run_lines.ensures.stopped in
     if_fault c.run_lines.result (λ fault stopped _. stopped) some
+
+-- a run over a hub that was made has no such fault
+pub returns-clause-untouched : goal.returns-clause-untouched
+returns-clause-untouched g c = if_fault c.run_lines.result (λ fault other is. absurd (other is)) c.run_lines.ensures.limits

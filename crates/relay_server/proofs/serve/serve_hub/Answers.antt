@@ -1,6 +1,6 @@
 -- Without sockets nothing is printed; else a server ends as it is hosted.
 use Rattle.std.proofs.lemmas.Result.{err_from_is_err_and}
-use Rattle.relay_server.proofs.ServeLemmas.{ends_all, ends_stopped, ends_unheard}
+use Rattle.relay_server.proofs.ServeLemmas.{ends_all, ends_stopped, ends_unheard, never_limited}
 use Rattle.relay_server.proofs.serve.serve_hub.Goals as goal
 
 pub returns-in_err-listener-clause-ends : goal.returns-in_err-listener-clause-ends
@@ -22,3 +22,9 @@ pub returns-clause-ends : goal.returns-clause-ends
 returns-clause-ends g c =
     let host = c.host_administered.ensures in
     ends_stopped c.args.served.admin c.in-Some.admin c.args.served.turns c.port-2.result c.host_administered.result _ _ c.in-Some.is host.done host.stopped host.uncut host.fault
+
+pub returns-in_default-admin-clause-limits : goal.returns-in_default-admin-clause-limits
+returns-in_default-admin-clause-limits g c = never_limited c.host.result c.host.ensures.fault
+
+pub returns-clause-limits : goal.returns-clause-limits
+returns-clause-limits g c = never_limited c.host_administered.result c.host_administered.ensures.fault

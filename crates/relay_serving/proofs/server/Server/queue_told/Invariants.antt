@@ -2,5 +2,5 @@
 use Rattle.relay_serving.specs.Advances.{KeepsFewer}
 use Rattle.relay_serving.proofs.server.Server.queue_told.Given as goal
 
-abbrev pub invariant-loop : goal.invariant-loop
-invariant-loop g l = KeepsFewer g.S.Read.remaining l.initial.self l.self
+abbrev pub invariant-loop-place : goal.invariant-loop-place
+invariant-loop-place g l = KeepsFewer g.S.Read.remaining l.initial.self l.self

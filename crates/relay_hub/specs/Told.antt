@@ -1,0 +1,23 @@
+-- Whom a text told something.
+use Rattle.std.specs.Prelude.{◌≡◌, ℕ, nat_eq, ◌==◌, Bool, true, false, List}
+use Rattle.std.specs.List.{list_any}
+use Rattle.relay_hub.specs.Session.{Session}
+use Rattle.relay_hub.specs.State.{session_in}
+use Rattle.relay_hub.specs.declared.told.Told.{Told}
+use Rattle.relay_hub.specs.declared.told.Told.TheVariants.{Sessions, All}
+
+abbrev pub is_told : Told → ℕ → Bool
+is_told (Sessions numbers) t = list_any (nat_eq t) numbers.items
+is_told All t = true
+
+-- no session of a room changed but those that were told something
+abbrev pub ChangesTold : Told → List Session → List Session → Type 0
+ChangesTold told old new = (t : ℕ) → is_told told t ≡ false → session_in new t ≡ session_in old t
+
+-- and session s, which sent the text
+abbrev pub ChangesToldAnd : ℕ → Told → List Session → List Session → Type 0
+ChangesToldAnd s told old new = (t : ℕ) → (s == t) ≡ false → is_told told t ≡ false → session_in new t ≡ session_in old t
+
+-- no session changed but those with these numbers
+abbrev pub ChangesAmong : List ℕ → List Session → List Session → Type 0
+ChangesAmong numbers old new = (t : ℕ) → list_any (nat_eq t) numbers ≡ false → session_in new t ≡ session_in old t
