@@ -157,7 +157,7 @@ fn with_settings<'a>(alloc: Global, command: Command<'a>) -> Result<Command<'a>,
         .default_value(ROOMS);
     let sessions = number(alloc, "sessions", ValueParser::unsigned(1, MAX_SESSIONS))
         .help(
-            "How many sessions are open at most, 1 to 65536; an idle one takes about 9 KiB with its connection",
+            "How many sessions are open at most, 1 to 65536; an idle one takes about 6 KiB with its connection",
         )
         .default_value(SESSIONS);
     let epoch = number(alloc, "epoch", ValueParser::unsigned(0, MAX_EPOCH))
