@@ -11,6 +11,7 @@ use Rattle.relay_room.specs.Room.{State as Room, revision}
 use Rattle.relay_room.specs.declared.catch_up.CatchUp.{CatchUp}
 use Rattle.relay_room.specs.declared.catch_up.CatchUp.TheVariants.{Nothing, Patch, Snapshot}
 use Rattle.relay_tree.specs.Document.{Document}
+use Rattle.relay_tree.proofs.Equal.{neither}
 use Rattle.relay_view.specs.View.{View}
 use Rattle.relay_hub.specs.Allowance.{Allowance, is_made, same_view, less, within, after_patch, after_update}
 use Rattle.relay_patch.specs.declared.op.Op.{Op}
@@ -47,10 +48,6 @@ not_made_next (first ∷ patches) zero kept pointers within there none other = r
 not_made_next (first ∷ patches) (suc place) kept pointers within there none other =
     let both = neither (same_view first.view pointers) (is_made (views_of (take place patches)) pointers) none in
     rw both.0 (not_made_next patches place kept pointers (omega (arith, within)) there both.1 other)
-  where
-    neither : (a b : Bool) → (a || b) ≡ false → (a ≡ false) × (b ≡ false)
-    neither true b is = absurd (cc is)
-    neither false b is = (refl, is)
 
 -- the one that was found
 holds_of : {X : Type 0} (P : X → Type 0) (xs : List X) (x : X) (place : ℕ) → AllByRecursion P xs → place < length xs → slice_index_or xs place x ≡ x → P x

@@ -1,8 +1,9 @@
 -- Which sessions a text left as they were.
-use Rattle.std.proofs.Common.{◌≡◌, ℕ, ◌+◌, ◌<◌, ◌==◌, nat_eq, Bool, true, false, ◌||◌, List, [], ◌∷◌, Some, refl, sym, ◌∙◌, length, take, get_or, position, slice_set, arith}
+use Rattle.std.proofs.Common.{◌≡◌, ℕ, ◌+◌, ◌<◌, ◌==◌, nat_eq, Bool, true, false, List, [], ◌∷◌, Some, refl, sym, ◌∙◌, length, take, get_or, position, slice_set, arith}
 use Rattle.std.specs.List.{list_any}
 use Rattle.std.proofs.lemmas.Bool.Decides.{nat_tests}
 use Rattle.std.proofs.lemmas.List.Folds.{list_any_more}
+use Rattle.relay_tree.proofs.Equal.{neither}
 use Rattle.relay_room.specs.CatchUp.{caught_up_within}
 use Rattle.relay_room.specs.Room.{revision}
 use Rattle.relay_room.specs.declared.catch_up.CatchUp.TheVariants.{Snapshot}
@@ -15,10 +16,6 @@ use Rattle.relay_hub.specs.Step.{OnlyAt, ResumeServed}
 use Rattle.relay_hub.specs.Told.{ChangesAmong, ChangesToldAnd}
 use Rattle.relay_hub.specs.declared.told.Told.{Told}
 use Rattle.relay_hub.proofs.Sessions.{set_only}
-
-neither : (a b : Bool) → (a || b) ≡ false → (a ≡ false) × (b ≡ false)
-neither true b h = absurd (cc h)
-neither false b h = (refl, h)
 
 -- a write at the place of a session changes that session alone
 pub one_among : (xs : List Session) (s i : ℕ) (x y : Session) → position (is_number s) xs ≡ Some i → session_in xs s ≡ Some x → y.number ≡ x.number

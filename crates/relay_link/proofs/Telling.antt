@@ -13,7 +13,7 @@ use Rattle.relay_hub.specs.declared.event.Event.{Event}
 use Rattle.relay_link.specs.Follows.{Point, at, IsOwn, no_room, session_after, Follows, stays, makes, given, drawn_by, drawn}
 use Rattle.relay_link.specs.Frames.{text_frame, text_frames, framed, Frames}
 use Rattle.relay_link.specs.Stage.{stage_of, is_over, IsForward}
-use Rattle.relay_link.specs.Hears.{allowed_reads, Passes, Hears, GoesOnFrom, SendsAndPassesOn, GoesOn, ReadsTexts}
+use Rattle.relay_link.specs.Hears.{allowed_reads, Passes, Hears, SendsAndPassesOn, GoesOn, ReadsTexts}
 use Rattle.relay_link.specs.Tells.{Drew, Tells, Hearing, Exchanges, Talks, IsServing, IfOpen, WhileOpen, Told, Answered}
 use Rattle.relay_link.specs.declared.stage.Stage.TheVariants as stage
 use Rattle.relay_link.specs.declared.state.State.{State}

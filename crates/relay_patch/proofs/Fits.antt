@@ -10,9 +10,9 @@ use Rattle.relay_tree.proofs.Members.{member_at-put_same}
 use Rattle.relay_pointer.specs.Index.{Token, index_of}
 use Rattle.relay_pointer.specs.Path.{Path, at, same_path}
 use Rattle.relay_patch.specs.declared.change.Change.TheVariants as change
-use Rattle.relay_patch.specs.Walk.{PastEnd, TooDeep, TooHeavy, then_do, step, walk}
+use Rattle.relay_patch.specs.Walk.{PastEnd, TooDeep, TooHeavy, step, walk}
 use Rattle.relay_patch.specs.Place.{Place, parent, last, place_of}
-use Rattle.relay_patch.specs.Patch.{Bounds, Op, Move, Copy, at_path, insert_child, insert_element, drop_child, effect, exceeds, within}
+use Rattle.relay_patch.specs.Patch.{Bounds, Op, Move, Copy, at_path, insert_child, insert_element, drop_child, exceeds, within}
 use Rattle.relay_patch.specs.After.{spent_after, performed, after_from}
 use Rattle.relay_patch.specs.Change.{Change, Makes, Leads, in_list, in_object, placed, inserted, inserted_at, moved_changes, copied_changes, changes_of, all_changes}
 use Rattle.relay_patch.specs.Sizes.{ChangeFits}

@@ -1,5 +1,5 @@
 -- Operations whose value alone weighs more than their change may.
-use Rattle.std.proofs.Common.{◌≡◌, ◌+◌, ℕ, Bool, true, false, Option, Some, None, Result, Ok, Err, List, [], ◌∷◌, inl, inr, refl, sym, subst, ◌∙◌, ap, arith, is_some, IsOk, if◌then◌else◌}
+use Rattle.std.proofs.Common.{◌≡◌, ◌+◌, ℕ, Bool, true, false, Some, None, Result, Ok, Err, List, [], ◌∷◌, inl, inr, refl, sym, subst, ◌∙◌, arith, is_some, IsOk, if◌then◌else◌}
 use Rattle.relay_tree.specs.Document.{Document, weight}
 use Rattle.relay_tree.specs.Budget.{paid}
 use Rattle.relay_tree.specs.declared.budget.Budget.{Budget}
@@ -9,10 +9,10 @@ use Rattle.relay_pointer.specs.Weight.{path_weight}
 use Rattle.relay_patch.specs.Walk.{Cause, TooHeavy, walk}
 use Rattle.relay_patch.specs.Place.{Place, place_of}
 use Rattle.relay_patch.specs.Patch.{Bounds, Op, Add, Replace, effect}
-use Rattle.relay_patch.specs.Change.{Change, added_change, changes_of}
+use Rattle.relay_patch.specs.Change.{Change, changes_of}
 use Rattle.relay_patch.specs.declared.change.Change.TheVariants as change
-use Rattle.relay_patch.specs.Weight.{change_weight, changes_weight}
-use Rattle.relay_patch.specs.After.{afforded, performed}
+use Rattle.relay_patch.specs.Weight.{changes_weight}
+use Rattle.relay_patch.specs.After.{performed}
 use Rattle.relay_patch.specs.Steps.{InsertTarget, landing, IsOverspent}
 use Rattle.relay_patch.proofs.Exchanges.{replaced_fails, replaced_passes}
 use Rattle.relay_patch.proofs.Landed.{landing_passes, landing_refuses}

@@ -1,5 +1,5 @@
 -- JSON Patch (RFC 6902): what each operation makes of a document, and the bounds on it.
-use Rattle.std.specs.Prelude.{ℕ, ◌-◌, ◌^◌, List, [], ◌∷◌, Bool, Option, Some, None, ok_or, Result, Ok, Err, bytes_eq, if◌then◌else◌, nat_lt}
+use Rattle.std.specs.Prelude.{ℕ, ◌-◌, ◌^◌, [], ◌∷◌, Bool, Option, Some, None, ok_or, Result, Ok, Err, bytes_eq, if◌then◌else◌, nat_lt}
 use Rattle.relay_tree.specs.Document.{Document, list, object, Items, depth, weight, saturated}
 use Rattle.relay_tree.specs.Part.{items_length, insert_item, drop_item, put_member, drop_member}
 use Rattle.relay_tree.specs.declared.budget.Budget.TheVariants.{Unbounded}

@@ -3,7 +3,7 @@ use Rattle.std.proofs.Common.{◌≡◌, ℕ, suc, ◌+◌, ◌≤◌, List, [],
 use Rattle.std.specs.List.{AllByRecursion}
 use Rattle.std.specs.Result.{result_ok}
 use Rattle.serde_json.specs.Data as seen
-use Rattle.relay_tree.specs.Document.{Document, text, list, object, Items, no_items, item, Members, no_members, member, depth, items_depth, members_depth}
+use Rattle.relay_tree.specs.Document.{Document, list, object, Items, no_items, item, Members, no_members, member, depth, items_depth, members_depth}
 use Rattle.relay_tree.specs.Text.{data_of, items_data, members_data}
 use Rattle.relay_pointer.specs.Path.{Path, at}
 use Rattle.relay_patch.specs.Form.{ops_items, op_members}

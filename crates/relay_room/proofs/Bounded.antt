@@ -5,7 +5,7 @@ use Rattle.relay_patch.specs.declared.op.Op.{Op}
 use Rattle.relay_patch.specs.declared.bounds.Bounds.{Bounds}
 use Rattle.relay_patch.specs.Patch.{within}
 use Rattle.relay_patch.specs.After.{spent_after, performed, after_from}
-use Rattle.relay_patch.proofs.Passed.{went_on, within_same, performed_is}
+use Rattle.relay_patch.proofs.Passed.{went_on, performed_is}
 
 pub after_from_within : (ops : List Op) (n spent : ℕ) (bounds : Bounds) (d d' : Document) → within bounds d ≡ Ok d → after_from n spent bounds d ops ≡ Ok d' → within bounds d' ≡ Ok d'
 after_from_within [] n spent bounds d d' inside h =

@@ -1,9 +1,10 @@
 -- The operations of a translation lead a view, slot by slot, to the view of the present document.
-use Rattle.std.proofs.Common.{◌≡◌, ℕ, suc, List, [], ◌∷◌, ◌++◌, length, drop, Bool, true, false, ◌||◌, Some, Ok, option_and_then, refl, sym, ap, subst, ◌∙◌, flat_map}
+use Rattle.std.proofs.Common.{◌≡◌, ℕ, suc, List, [], ◌∷◌, ◌++◌, length, drop, Bool, true, false, Some, Ok, option_and_then, refl, sym, ap, subst, ◌∙◌, flat_map}
 use Rattle.std.specs.List.{list_any}
 use Rattle.std.specs.Result.{result_ok}
 use Rattle.relay_tree.specs.Document.{Document, list, Items, no_items, item}
 use Rattle.relay_tree.specs.Part.{items_append, items_length, item_at, put_item}
+use Rattle.relay_tree.proofs.Equal.{neither}
 use Rattle.relay_pointer.specs.Index.{index_of, index_text}
 use Rattle.relay_pointer.specs.Path.{Path}
 use Rattle.relay_pointer.proofs.Indexes.{index_of-index_text}
@@ -92,10 +93,6 @@ inside_op done todo q op d d' c =
 reset_op : (done todo : Items) (s e : Document) → effect (with_slot done todo s) (Replace (index_text (items_length done) ∷ []) e) ≡ Ok (with_slot done todo e)
 reset_op done todo s e = rw (index_of-index_text (items_length done), item_at-append done todo s) (ap (λ xs. Ok (list xs)) (put_item-append done todo s e))
 
-either_false : (a b : Bool) → (a || b) ≡ false → (a ≡ false) × (b ≡ false)
-either_false true b h = cc
-either_false false b h = (refl, h)
-
 value_passes : (done todo : Items) (q : Path) (c : Change) (d e : Document) (t : Touch) → touch_value c q ≡ t → is_reset t ≡ false → Makes d c e → Passes (with_slot done todo (slot (value_slot q) d)) (when_inside t (with_paths (in_slot (items_length done) q) (op_of q c))) (with_slot done todo (slot (value_slot q) e))
 value_passes done todo q c d e Apart k none makes = ap (λ o. with_slot done todo (slot_of (option_and_then (shown Value) o))) (sym (at-walk q d) ∙ (ap result_ok (sym (change_apart c q d e makes k)) ∙ at-walk q e))
 value_passes done todo q c d e Inside k none makes = (with_slot done todo (slot (value_slot q) e), inside_op done todo q (op_of q c) d e (change_inside c q d e makes k), refl)
@@ -117,7 +114,7 @@ change_passes done todo q Size c d e none makes = size_passes done todo q c d e 
 changes_pass : (done todo : Items) (s : Slot) (changes : List Change) (d now : Document) → Leads d changes now → list_any (λ c. is_reset (touch_slot c s)) changes ≡ false → Passes (with_slot done todo (slot s d)) (flat_map (slot_op (items_length done) s) changes) (with_slot done todo (slot s now))
 changes_pass done todo s [] d now leads none = ap (λ x. with_slot done todo (slot s x)) leads
 changes_pass done todo s (c ∷ cs) d now leads none =
-    let parts = either_false (is_reset (touch_slot c s)) (list_any (λ x. is_reset (touch_slot x s)) cs) none in
+    let parts = neither (is_reset (touch_slot c s)) (list_any (λ x. is_reset (touch_slot x s)) cs) none in
     Passes-append
     (slot_op (items_length done) s c) (flat_map (slot_op (items_length done) s) cs) _ _ _
     (change_passes done todo s.pointer s.kind c d leads.0 parts.0 leads.1)

@@ -1,7 +1,8 @@
 -- Changes translate to no operation on a view if they touch none of its slots.
-use Rattle.std.proofs.Common.{◌≡◌, ℕ, suc, List, [], ◌∷◌, ◌++◌, flat_map, Bool, true, false, not, ◌||◌, refl}
+use Rattle.std.proofs.Common.{◌≡◌, ℕ, suc, List, [], ◌∷◌, ◌++◌, flat_map, false, not, ◌||◌, refl}
 use Rattle.std.specs.List.{list_any}
 use Rattle.relay_tree.specs.Document.{Document}
+use Rattle.relay_tree.proofs.Equal.{neither}
 use Rattle.relay_patch.specs.declared.change.Change.{Change}
 use Rattle.relay_view.specs.View.{View}
 use Rattle.relay_view.specs.declared.slot.Slot.{Slot}
@@ -9,13 +10,6 @@ use Rattle.relay_translate.specs.Touch.{Touch, Apart, Inside, Reset, touch_slot}
 use Rattle.relay_translate.specs.Translate.{in_view, op_of, is_reset, when_inside, slot_op, local_from}
 use Rattle.relay_translate.specs.Local.{is_apart, some_reset}
 use Rattle.relay_translate.specs.Watches.{touches, is_touched}
-
-neither : (a b : Bool) → (a || b) ≡ false → (a ≡ false) × (b ≡ false)
-neither true b h = absurd_true h
-  where
-    absurd_true : true ≡ false → (true ≡ false) × (b ≡ false)
-    absurd_true h = cc
-neither false b h = (refl, h)
 
 unreset : (s : Slot) (changes : List Change) → is_touched changes s ≡ false → some_reset s changes ≡ false
 unreset s [] h = refl
