@@ -1,8 +1,8 @@
-//! A ring buffer of the changes of the last revisions, allocated once. A new revision takes one place; if all are taken, it replaces
-//! the oldest revision. The newest revision is in front, so the revisions after any given one are always a prefix. The total weight
+//! A ring buffer of the changes of the last revisions, allocated once, with a pointer for each. A new revision takes one place; if all
+//! are taken, it replaces the oldest revision. The newest revision is in front, so the revisions after any given one are always a prefix. The total weight
 //! of the held revisions is stored beside them, so trimming a history to a weight walks no change.
 use crate::fault::HistoryFault;
-use crate::revision::{Revision, weight_of};
+use crate::revision::{Revision, RevisionSlot, weight_of};
 use crate::since::Since;
 use circular_buffer::HeapCircularBuffer;
 use relay_patch::Change;
@@ -67,14 +67,14 @@ impl History {
         })
     }
 
-    /// Adds the changes of the next revision, which are walked once. If the limit of revisions is reached, the oldest is forgotten.
-    /// Allocates nothing.
+    /// Adds the changes of the next revision, which are walked once, in the memory of a slot. If the limit of revisions is reached, the
+    /// oldest is forgotten. Allocates nothing.
     #[tactic(auto, using(crate::proofs::Weights::one_more_fits, crate::proofs::Weights::one_within_more, crate::proofs::Weights::kept_with_revision))]
-    pub fn push(&mut self, changes: Vec<Change>)
+    pub fn push(&mut self, slot: RevisionSlot, changes: Vec<Change>)
         requires { self.old.newest < LAST_REVISION }
         ensures { self.new ≡ with_revision changes.items self.old }
     {
-        let revision = Revision::of(changes);
+        let revision = slot.fill(changes);
         self.weight += revision.weight();
         let oldest = self.revisions.push_front(revision);
         self.weight -= weight_of(oldest);

@@ -5,13 +5,50 @@ ghost use Rattle.relay_history.specs.Representation.{weight_of};
 
 use relay_patch::{Change, pay_changes};
 use relay_tree::{Budget, MAX_COUNT};
+use std::alloc::{AllocError, Global};
 use std::marker::Model;
 
-/// The changes of one revision. Contracts see it as the list of its changes.
+/// The memory for a revision. It is allocated before a patch is applied, so that keeping its changes needs none.
 #[derive(Drop)]
-pub(crate) struct Revision {
+pub struct RevisionSlot {
+    weighed: Box<Weighed>,
+}
+
+impl RevisionSlot {
+    /// Allocates the memory.
+    pub fn new(alloc: Global) -> Result<RevisionSlot, AllocError> {
+        let nothing = Weighed {
+            changes: Vec::new(alloc),
+            weight: 0,
+        };
+        Ok(RevisionSlot {
+            weighed: Box::new(alloc, nothing)?,
+        })
+    }
+
+    /// Puts changes there, which are walked once. Allocates nothing.
+    pub(crate) fn fill(self, changes: Vec<Change>) -> Revision
+        ensures { result ≡ changes.items }
+    {
+        let weight = weigh(&changes);
+        let mut weighed = self.weighed;
+        *weighed = Weighed { changes, weight };
+        Revision { weighed }
+    }
+}
+
+/// Changes and their weight.
+#[derive(Drop)]
+struct Weighed {
     changes: Vec<Change>,
     weight: u64,
+}
+
+/// The changes of one revision, in an allocation of its own: so the ring of a history has room for pointers alone. Contracts see it as
+/// the list of its changes.
+#[derive(Drop)]
+pub(crate) struct Revision {
+    weighed: Box<Weighed>,
 }
 
 impl Model for Revision {
@@ -25,32 +62,24 @@ impl Model for Revision {
 
     ghost coded = { coded_list change.the_row.coded };
 
-    ghost view = { λ r. r.changes.items };
+    ghost view = { λ r. r.weighed.value.changes.items };
 
-    ghost invariant = { λ r. r.weight ≡ revision_weight r.changes.items };
+    ghost invariant = { λ r. r.weighed.value.weight ≡ revision_weight r.weighed.value.changes.items };
 }
 
 impl Revision {
-    /// Creates the revision with these changes, which are walked once. Allocates nothing.
-    pub(crate) fn of(changes: Vec<Change>) -> Revision
-        ensures { result ≡ changes.items }
-    {
-        let weight = weigh(&changes);
-        Revision { changes, weight }
-    }
-
     /// Returns the changes, in the order in which they were made.
     pub(crate) fn changes(&self) -> &[Change]
         ensures { result.now ≡ self.now }
     {
-        &self.changes
+        &self.weighed.changes
     }
 
     /// Returns the weight of its changes, or [`MAX_COUNT`] if they are heavier.
     pub(crate) fn weight(&self) -> u64
         ensures { result ≡ revision_weight self.now }
     {
-        self.weight
+        self.weighed.weight
     }
 }
 

@@ -24,6 +24,7 @@ use crate::session::Session;
 use crate::shared_view::SharedView;
 use crate::told::Told;
 use crate::update::Update;
+use relay_history::RevisionSlot;
 use relay_patch::{Cause, Patch};
 use relay_proto::{Refusal, Reply, Request, RequestFault, Word};
 use relay_room::{CatchFault, CatchUp, EditFault, Room};
@@ -176,7 +177,8 @@ fn edit(
     ensures err { OnErr result (room_sessions room.new sessions.new ≡ room_sessions room.old sessions.old) }
     ensures indexed { IsIndexed watches.now sessions.new }
 {
-    match room.edit(alloc, request.base, &request.patch) {
+    let kept = RevisionSlot::new(alloc)?;
+    match room.edit(alloc, kept, request.base, &request.patch) {
         Ok(rev) => {
             let done = Reply::Done {
                 id: request.id,

@@ -1,6 +1,6 @@
 //! Tests of histories whose revisions set the root to numbers, so that the numbers show which changes are kept.
 use crate::shared::{gives, owned, words};
-use relay_history::{History, HistoryFault, LAST_REVISION, MAX_REVISIONS};
+use relay_history::{History, HistoryFault, LAST_REVISION, MAX_REVISIONS, RevisionSlot};
 use relay_patch::Change;
 use relay_pointer::Pointer;
 use relay_tree::{Budget, Node, Tree};
@@ -33,7 +33,8 @@ fn push(rt: &(impl Abort + AllocGlobal), history: &mut History, number: i64, tim
         changes.push(set(rt.alloc(), number)).expect(rt, "memory");
     }
     if history.newest() < LAST_REVISION {
-        history.push(changes);
+        let slot = RevisionSlot::new(rt.alloc()).expect(rt, "memory");
+        history.push(slot, changes);
     }
 }
 

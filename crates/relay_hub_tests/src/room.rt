@@ -1,7 +1,7 @@
 //! Tests of rooms: how they start, the last revision, and each call once. What edits do to a document, and what a client missed, is data in
 //! `tests/scripts`.
 use crate::shared::{gives, owned, patch_of, repeated, text_of, tree_of, view_of, words};
-use relay_history::{LAST_REVISION, MAX_REVISIONS};
+use relay_history::{LAST_REVISION, MAX_REVISIONS, RevisionSlot};
 use relay_room::{CatchUp, Room, RoomFault};
 use relay_translate::WatchIndex;
 use relay_tree::{Node, Tree};
@@ -81,7 +81,8 @@ fn edit(
     base: Option<u64>,
     patch: &str,
 ) -> String {
-    let answer = room.edit(rt.alloc(), base, &patch_of(rt, patch));
+    let slot = RevisionSlot::new(rt.alloc()).expect(rt, "memory");
+    let answer = room.edit(rt.alloc(), slot, base, &patch_of(rt, patch));
     let document = text_of(rt, room.document());
     format!(in rt.alloc(); "{answer:?}: {document}").expect(rt, "memory")
 }

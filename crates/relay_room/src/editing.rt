@@ -9,7 +9,7 @@ ghost use Rattle.relay_room.specs.declared.fault.EditFault.TheVariants.{Exhauste
 
 use crate::fault::EditFault;
 use crate::room::Room;
-use relay_history::LAST_REVISION;
+use relay_history::{LAST_REVISION, RevisionSlot};
 use relay_patch::{Applied, Bounds, Patch, apply_within};
 use std::alloc::Global;
 
@@ -22,11 +22,12 @@ impl Room {
     /// present revision, whatever the patch is; then `Apply` if an operation is refused or memory runs out. An error leaves the room
     /// unchanged.
     ///
-    /// Costs what [`relay_patch::apply_within`] costs; the document is not measured. If the room already holds its limit of revisions, it
-    /// forgets the changes of the oldest one.
+    /// The changes are kept in the memory of `slot`, which an error frees. If the room already holds its limit of revisions, it forgets the
+    /// changes of the oldest one. Costs what [`relay_patch::apply_within`] costs; the document is not measured.
     pub fn edit(
         &mut self,
         alloc: Global,
+        slot: RevisionSlot,
         base: Option<u64>,
         patch: &Patch,
     ) -> Result<u64, EditFault>
@@ -54,7 +55,7 @@ impl Room {
             Bounds::DOCUMENT,
         )?;
         self.weight = weight;
-        self.history.push(changes);
+        self.history.push(slot, changes);
         Ok(self.history.newest())
     }
 }
