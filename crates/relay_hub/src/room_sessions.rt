@@ -52,7 +52,7 @@ impl RoomSessions {
         requires { first.view ≡ None }
         ensures { IfOk result (λ g. g ≡ room_sessions room (first ∷ [])) }
     {
-        let mut sessions = Vec::new(alloc);
+        let mut sessions = Vec::with_capacity(alloc, 1)?;
         sessions.push(first)?;
         let watches = WatchIndex::new(alloc);
         Ok(RoomSessions {
