@@ -1,14 +1,12 @@
 -- Whom a text told something.
-use Rattle.std.specs.Prelude.{◌≡◌, ℕ, nat_eq, ◌==◌, Bool, true, false, List}
+use Rattle.std.specs.Prelude.{◌≡◌, ℕ, nat_eq, ◌==◌, ◌||◌, Bool, false, List}
 use Rattle.std.specs.List.{list_any}
 use Rattle.relay_hub.specs.Session.{Session}
 use Rattle.relay_hub.specs.State.{session_in}
 use Rattle.relay_hub.specs.declared.told.Told.{Told}
-use Rattle.relay_hub.specs.declared.told.Told.TheVariants.{Sessions, All}
 
 abbrev pub is_told : Told → ℕ → Bool
-is_told (Sessions numbers) t = list_any (nat_eq t) numbers.items
-is_told All t = true
+is_told told t = told.all || list_any (nat_eq t) told.sessions.items
 
 -- no session of a room changed but those that were told something
 abbrev pub ChangesTold : Told → List Session → List Session → Type 0

@@ -72,11 +72,14 @@ fn broadcast(
         → Leads d changes room.now.document → NotifiedFrom d changes room.now (allowance_of cache.old) (allowance_of cache.new) sessions.old sessions.new result }
 {
     let Ok(numbers) = room.touched(alloc, watches) else {
-        *told = Told::All;
+        *told = Told::everybody(alloc);
         return notify_all(alloc, room, sessions, cache);
     };
     let short = notify_those(alloc, room, sessions, numbers.as_slice(), cache);
-    *told = Told::Sessions(numbers);
+    *told = Told {
+        sessions: numbers,
+        all: false,
+    };
     short
 }
 

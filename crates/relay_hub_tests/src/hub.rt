@@ -77,7 +77,7 @@ fn counted(rt: &(impl Abort + AllocGlobal), hub: &Hub) -> String {
 
 /// Whom the last text told something.
 fn told(rt: &(impl Abort + AllocGlobal), hub: &Hub) -> String {
-    format!(in rt.alloc(); "{:?}", hub.told()).expect(rt, "memory")
+    format!(in rt.alloc(); "{:?}", hub.told().sessions).expect(rt, "memory")
 }
 
 /// Gives memory back, which always succeeds.
@@ -186,7 +186,7 @@ fn names_those_whom_a_text_told_something(rt: HostRuntime) {
         &rt,
         &mut hub_from(&rt, 1),
         &[
-            (Told, "Sessions([])"),
+            (Told, "[]"),
             (Open("r"), "Ok(1)"),
             (Open("r"), "Ok(2)"),
             (Open("q"), "Ok(3)"),
@@ -194,16 +194,16 @@ fn names_those_whom_a_text_told_something(rt: HostRuntime) {
             (Say(2, WATCH), "Ok(Answered { short: 0 })"),
             (Say(3, WATCH), "Ok(Answered { short: 0 })"),
             (Say(4, WATCH), "Ok(Answered { short: 0 })"),
-            (Told, "Sessions([])"),
+            (Told, "[]"),
             (Say(1, EDIT), "Ok(Answered { short: 0 })"),
-            (Told, "Sessions([2, 4])"),
+            (Told, "[2, 4]"),
             (Say(1, EDIT_Y), "Ok(Answered { short: 0 })"),
-            (Told, "Sessions([])"),
+            (Told, "[]"),
             (Close(2), "Ok(())"),
             (Say(4, EDIT), "Ok(Answered { short: 0 })"),
-            (Told, "Sessions([4])"),
+            (Told, "[4]"),
             (Say(1, "x"), "Ok(Answered { short: 0 })"),
-            (Told, "Sessions([])"),
+            (Told, "[]"),
         ],
     );
 }

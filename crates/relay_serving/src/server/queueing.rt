@@ -7,7 +7,6 @@ ghost use Rattle.relay_serving.specs.Advances.{KeepsFewer};
 
 use super::Server;
 use crate::readiness::Readiness;
-use relay_hub::Told;
 use std::io::{Read, Write};
 use std::net::OpenStream;
 
@@ -51,18 +50,21 @@ impl<S: Read + Write + OpenStream + Drop, R: Readiness<S>> Server<S, R> {
 
     /// How many connections the last text may have told something, besides the one that sent it.
     pub(super) fn told(&self) -> usize {
-        match self.hub.told() {
-            Told::Sessions(sessions) => sessions.len(),
-            Told::All => self.keys(),
+        let told = self.hub.told();
+        if told.all {
+            self.keys()
+        } else {
+            told.sessions.len()
         }
     }
 
     /// The key of one of these.
     fn told_at(&self, place: usize) -> Option<usize> {
-        match self.hub.told() {
-            Told::Sessions(sessions) => self.sessions.key_of(*sessions.get(place)?),
-            Told::All => Some(place),
+        let told = self.hub.told();
+        if told.all {
+            return Some(place);
         }
+        self.sessions.key_of(*told.sessions.get(place)?)
     }
 
     /// Queues a connection for a write turn, if it is held and can be written. Allocates nothing.
