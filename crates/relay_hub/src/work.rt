@@ -60,30 +60,39 @@ impl Asked {
         }
     }
 
-    /// What the words of a text ask for; `None` if not every word may be found.
+    /// What the words of a text ask for, told by one pass over its bytes; `None` if not every word may be found.
     fn by_words(text: &str) -> Option<Asked> {
-        if is_disguised(text) {
-            return None;
-        }
+        let bytes = text.as_bytes();
         let mut asked = Asked {
             operations: 0,
             copies: 0,
             views: false,
             resumes: false,
         };
-        for word in text.as_bytes().split(|byte| *byte == b'"') {
-            match word {
-                b"op" => asked.operations = asked.operations.saturating_add(1),
-                b"copy" => asked.copies = asked.copies.saturating_add(1),
-                b"watch" => asked.views = true,
-                b"resume" => {
-                    asked.views = true;
-                    asked.resumes = true;
-                }
-                _ => {}
+        let mut begun = 0;
+        for (place, byte) in bytes.iter().enumerate() {
+            if *byte == b'"' {
+                asked.add(bytes.get(begun..place)?);
+                begun = place + 1;
+            } else if *byte == b'\\' && is_disguise(bytes.get(place..)?) {
+                return None;
             }
         }
         Some(asked)
+    }
+
+    /// Adds what a word asks for.
+    fn add(&mut self, word: &[u8]) {
+        match word {
+            b"op" => self.operations = self.operations.saturating_add(1),
+            b"copy" => self.copies = self.copies.saturating_add(1),
+            b"watch" => self.views = true,
+            b"resume" => {
+                self.views = true;
+                self.resumes = true;
+            }
+            _ => {}
+        }
     }
 
     /// What an edit walks over: each operation the document, as what a text of so many bytes brings and each copy make it heavier.
@@ -110,8 +119,8 @@ impl Asked {
     }
 }
 
-/// Whether a small letter may be written by its number (RFC 8259, section 7), which no encoder does: then words may be there that are not
-/// found.
-fn is_disguised(text: &str) -> bool {
-    text.contains('\\') && (text.contains("\\u006") || text.contains("\\u007"))
+/// Whether bytes begin with a small letter that is written by its number (RFC 8259, section 7), which no encoder does: then words may be
+/// there that are not found.
+fn is_disguise(bytes: &[u8]) -> bool {
+    bytes.starts_with(b"\\u006") || bytes.starts_with(b"\\u007")
 }
