@@ -153,7 +153,7 @@ fn with_settings<'a>(alloc: Global, command: Command<'a>) -> Result<Command<'a>,
     .help("How many patches wait for a session at most, 1 to 256")
     .default_value(OUTBOX);
     let rooms = number(alloc, "rooms", ValueParser::unsigned(1, MAX_ROOMS))
-        .help("How many rooms there are at most, 1 to 65536; an idle room takes about 1 KiB")
+        .help("How many rooms there are at most, 1 to 65536; an idle room takes about 1.5 KiB")
         .default_value(ROOMS);
     let sessions = number(alloc, "sessions", ValueParser::unsigned(1, MAX_SESSIONS))
         .help(
