@@ -1,6 +1,6 @@
 //! A ring buffer of the changes of the last revisions, allocated once, with a pointer for each. A new revision takes one place; if all
-//! are taken, it replaces the oldest revision. The newest revision is in front, so the revisions after any given one are always a prefix. The total weight
-//! of the held revisions is stored beside them, so trimming a history to a weight walks no change.
+//! are taken, it replaces the oldest revision. The newest revision is in front, so the revisions after any given one are always a prefix.
+//! The total weight of the held revisions is stored beside them, so trimming a history to a weight walks no change.
 use crate::fault::HistoryFault;
 use crate::revision::{Revision, RevisionSlot, weight_of};
 use crate::since::Since;
