@@ -1,143 +1,127 @@
 //! Tests of which requests are accepted, and why the others are refused.
-use crate::shared::{gives, words};
+use crate::play::play;
+use crate::shared::shown;
 use relay_admin::{MAX_HEAD, ask};
-use std::alloc::AllocGlobal;
-use std::process::Abort;
+use std::alloc::Global;
 
-const HEALTH: &str = "GET /health HTTP/1.1\r\nHost: localhost\r\n\r\n";
+const ROWS: &str = r#"
+# Accepts four requests, of HTTP/1.0 too, and whatever comes behind the head.
+ask GET /health HTTP/1.1\r\nHost: localhost\r\n\r\n => Request(Health)
+ask GET /metrics HTTP/1.1\r\nHost: localhost\r\n\r\n => Request(Metrics)
+ask GET /rooms HTTP/1.1\r\nHost: localhost\r\n\r\n => Request(Rooms)
+ask POST /stop HTTP/1.1\r\nHost: localhost\r\n\r\n => Request(Stop)
+ask GET /health HTTP/1.0\r\nHost: localhost\r\n\r\n => Request(Health)
+ask GET /health HTTP/1.1\r\nHost: localhost\r\nContent-Length: 3\r\n\r\nabc => Request(Health)
 
-const STOP: &str = "POST /stop HTTP/1.1\r\nHost: localhost\r\n\r\n";
+# Accepts hosts of the loopback alone, and one of them.
+ask POST /stop HTTP/1.1\r\nHost: LocalHost\r\n\r\n => Request(Stop)
+ask POST /stop HTTP/1.1\r\nHost: localhost:8080\r\n\r\n => Request(Stop)
+ask POST /stop HTTP/1.1\r\nHost: 127.0.0.1\r\n\r\n => Request(Stop)
+ask POST /stop HTTP/1.1\r\nHost: 127.0.0.1:1\r\n\r\n => Request(Stop)
+ask POST /stop HTTP/1.1\r\nHost: [::1]\r\n\r\n => Request(Stop)
+ask POST /stop HTTP/1.1\r\nHost: [::1]:65535\r\n\r\n => Request(Stop)
+ask POST /stop HTTP/1.1\r\nHost: localhost:\r\n\r\n => Refused(OtherHost)
+ask POST /stop HTTP/1.1\r\nHost: localhost.\r\n\r\n => Refused(OtherHost)
+ask POST /stop HTTP/1.1\r\nHost: localhost:8x\r\n\r\n => Refused(OtherHost)
+ask POST /stop HTTP/1.1\r\nHost: localhost.evil.example\r\n\r\n => Refused(OtherHost)
+ask POST /stop HTTP/1.1\r\nHost: evil.localhost\r\n\r\n => Refused(OtherHost)
+ask POST /stop HTTP/1.1\r\nHost: 127.0.0.2\r\n\r\n => Refused(OtherHost)
+ask POST /stop HTTP/1.1\r\nHost: [::1\r\n\r\n => Refused(OtherHost)
+ask POST /stop HTTP/1.1\r\nHost: ::1\r\n\r\n => Refused(OtherHost)
+ask POST /stop HTTP/1.1\r\nHost: l\r\n\r\n => Refused(OtherHost)
+ask POST /stop HTTP/1.1\r\nHost: \r\n\r\n => Refused(OtherHost)
+ask POST /stop HTTP/1.1\r\n\r\n => Refused(NoHost)
+ask POST /stop HTTP/1.1\r\nHost: localhost\r\nhost: localhost\r\n\r\n => Refused(NoHost)
 
-/// The answer to a text, in words.
-fn answer_to(rt: &(impl Abort + AllocGlobal), text: &str) -> String {
-    words(rt, ask(rt.alloc(), text.as_bytes()).expect(rt, "memory"))
-}
+# Refuses pages.
+ask GET /health HTTP/1.1\r\nHost: localhost\r\nOrigin: null\r\n\r\n => Refused(Origin)
+ask GET /health HTTP/1.1\r\nHost: localhost\r\noRIGIN: http://localhost\r\n\r\n => Refused(Origin)
+ask GET /health HTTP/1.1\r\nHost: localhost\r\nOrigin:\r\n\r\n => Refused(Origin)
+ask GET /health HTTP/1.1\r\nHost: evil\r\nOrigin: null\r\n\r\n => Refused(OtherHost)
+ask POST /stop HTTP/1.1\r\nHost: localhost\r\nOrigin: null\r\n\r\n => Refused(Origin)
+ask POST /stop HTTP/1.1\r\nHost: localhost\r\noRIGIN: http://localhost\r\n\r\n => Refused(Origin)
+ask POST /stop HTTP/1.1\r\nHost: localhost\r\nOrigin:\r\n\r\n => Refused(Origin)
+ask POST /stop HTTP/1.1\r\nHost: evil\r\nOrigin: null\r\n\r\n => Refused(OtherHost)
 
-/// Asserts the answer to each head, of which a part is replaced by another text.
-fn answers(rt: &(impl Abort + AllocGlobal), head: &str, rows: &[(&str, &str, &str)]) {
-    for (part, other, expected) in rows {
-        let (before, behind) = head.split_once(part).expect(rt, "a part of the head");
-        let changed = format!(in rt.alloc(); "{before}{other}{behind}").expect(rt, "memory");
-        gives(rt, answer_to(rt, changed.as_str()), expected, other);
-    }
-}
+# Refuses other paths and methods.
+ask GET / HTTP/1.1\r\nHost: localhost\r\n\r\n => Refused(NoPath)
+ask GET /health/ HTTP/1.1\r\nHost: localhost\r\n\r\n => Refused(NoPath)
+ask GET /health?x=1 HTTP/1.1\r\nHost: localhost\r\n\r\n => Refused(NoPath)
+ask GET /Health HTTP/1.1\r\nHost: localhost\r\n\r\n => Refused(NoPath)
+ask GET /healt HTTP/1.1\r\nHost: localhost\r\n\r\n => Refused(NoPath)
+ask GET http://localhost/health HTTP/1.1\r\nHost: localhost\r\n\r\n => Refused(NoPath)
+ask POST /health HTTP/1.1\r\nHost: localhost\r\n\r\n => Refused(OnlyGet)
+ask HEAD /health HTTP/1.1\r\nHost: localhost\r\n\r\n => Refused(OnlyGet)
+ask get /health HTTP/1.1\r\nHost: localhost\r\n\r\n => Refused(OnlyGet)
+ask GET /stop HTTP/1.1\r\nHost: localhost\r\n\r\n => Refused(OnlyPost)
+ask GET /health HTTP/2.0\r\nHost: localhost\r\n\r\n => Refused(NoHead)
 
-#[test]
-fn accepts_four_requests(rt: HostRuntime) {
-    answers(
-        &rt,
-        HEALTH,
-        &[
-            ("/health", "/health", "Request(Health)"),
-            ("/health", "/metrics", "Request(Metrics)"),
-            ("/health", "/rooms", "Request(Rooms)"),
-            ("GET /health", "POST /stop", "Request(Stop)"),
-            ("1.1", "1.0", "Request(Health)"),
-            (
-                "\r\n\r\n",
-                "\r\nContent-Length: 3\r\n\r\nabc",
-                "Request(Health)",
-            ),
-        ],
-    );
-}
+# Bounds the head: it may have 4,096 bytes, here with 4,050 of them in a field. A star stands for 64 bytes.
+ask GET /health HTTP/1.1\r\nHost: localhost\r\nX: ***************************************************************xxxxxxxxxxxxxxxxxx\r\n\r\n => Request(Health)
+ask GET /health HTTP/1.1\r\nHost: localhost\r\nX: ***************************************************************xxxxxxxxxxxxxxxxxxx\r\n\r\n => Refused(TooLong)
 
-#[test]
-fn accepts_hosts_of_the_loopback_alone(rt: HostRuntime) {
-    answers(
-        &rt,
-        STOP,
-        &[
-            ("localhost", "LocalHost", "Request(Stop)"),
-            ("localhost", "localhost:8080", "Request(Stop)"),
-            ("localhost", "127.0.0.1", "Request(Stop)"),
-            ("localhost", "127.0.0.1:1", "Request(Stop)"),
-            ("localhost", "[::1]", "Request(Stop)"),
-            ("localhost", "[::1]:65535", "Request(Stop)"),
-            ("localhost", "localhost:", "Refused(OtherHost)"),
-            ("localhost", "localhost.", "Refused(OtherHost)"),
-            ("localhost", "localhost:8x", "Refused(OtherHost)"),
-            ("localhost", "localhost.evil.example", "Refused(OtherHost)"),
-            ("localhost", "evil.localhost", "Refused(OtherHost)"),
-            ("localhost", "127.0.0.2", "Refused(OtherHost)"),
-            ("localhost", "[::1", "Refused(OtherHost)"),
-            ("localhost", "::1", "Refused(OtherHost)"),
-            ("localhost", "l", "Refused(OtherHost)"),
-            ("localhost", "", "Refused(OtherHost)"),
-            ("Host: localhost\r\n", "", "Refused(NoHost)"),
-            (
-                "Host: localhost",
-                "Host: localhost\r\nhost: localhost",
-                "Refused(NoHost)",
-            ),
-        ],
-    );
-}
+# Each part of a head but the whole leaves more to wait for.
+ask  => More
+ask G => More
+ask GE => More
+ask GET => More
+ask GET  => More
+ask GET / => More
+ask GET /h => More
+ask GET /he => More
+ask GET /hea => More
+ask GET /heal => More
+ask GET /healt => More
+ask GET /health => More
+ask GET /health  => More
+ask GET /health H => More
+ask GET /health HT => More
+ask GET /health HTT => More
+ask GET /health HTTP => More
+ask GET /health HTTP/ => More
+ask GET /health HTTP/1 => More
+ask GET /health HTTP/1. => More
+ask GET /health HTTP/1.1 => More
+ask GET /health HTTP/1.1\r => More
+ask GET /health HTTP/1.1\r\n => More
+ask GET /health HTTP/1.1\r\nH => More
+ask GET /health HTTP/1.1\r\nHo => More
+ask GET /health HTTP/1.1\r\nHos => More
+ask GET /health HTTP/1.1\r\nHost => More
+ask GET /health HTTP/1.1\r\nHost: => More
+ask GET /health HTTP/1.1\r\nHost:  => More
+ask GET /health HTTP/1.1\r\nHost: l => More
+ask GET /health HTTP/1.1\r\nHost: lo => More
+ask GET /health HTTP/1.1\r\nHost: loc => More
+ask GET /health HTTP/1.1\r\nHost: loca => More
+ask GET /health HTTP/1.1\r\nHost: local => More
+ask GET /health HTTP/1.1\r\nHost: localh => More
+ask GET /health HTTP/1.1\r\nHost: localho => More
+ask GET /health HTTP/1.1\r\nHost: localhos => More
+ask GET /health HTTP/1.1\r\nHost: localhost => More
+ask GET /health HTTP/1.1\r\nHost: localhost\r => More
+ask GET /health HTTP/1.1\r\nHost: localhost\r\n => More
+ask GET /health HTTP/1.1\r\nHost: localhost\r\n\r => More
 
-#[test]
-fn refuses_pages(rt: HostRuntime) {
-    for head in [HEALTH, STOP] {
-        answers(
-            &rt,
-            head,
-            &[
-                ("\r\n\r\n", "\r\nOrigin: null\r\n\r\n", "Refused(Origin)"),
-                (
-                    "\r\n\r\n",
-                    "\r\noRIGIN: http://localhost\r\n\r\n",
-                    "Refused(Origin)",
-                ),
-                ("\r\n\r\n", "\r\nOrigin:\r\n\r\n", "Refused(Origin)"),
-                ("localhost", "evil\r\nOrigin: null", "Refused(OtherHost)"),
-            ],
-        );
-    }
-}
+# Bounds the fields: there may be 32.
+ask GET /health HTTP/1.1\r\nX: y\r\nX: y\r\nX: y\r\nX: y\r\nX: y\r\nX: y\r\nX: y\r\nX: y\r\nX: y\r\nX: y\r\nX: y\r\nX: y\r\nX: y\r\nX: y\r\nX: y\r\nX: y\r\nX: y\r\nX: y\r\nX: y\r\nX: y\r\nX: y\r\nX: y\r\nX: y\r\nX: y\r\nX: y\r\nX: y\r\nX: y\r\nX: y\r\nX: y\r\nX: y\r\nX: y\r\nHost: localhost\r\n\r\n => Request(Health)
+ask GET /health HTTP/1.1\r\nX: y\r\nX: y\r\nX: y\r\nX: y\r\nX: y\r\nX: y\r\nX: y\r\nX: y\r\nX: y\r\nX: y\r\nX: y\r\nX: y\r\nX: y\r\nX: y\r\nX: y\r\nX: y\r\nX: y\r\nX: y\r\nX: y\r\nX: y\r\nX: y\r\nX: y\r\nX: y\r\nX: y\r\nX: y\r\nX: y\r\nX: y\r\nX: y\r\nX: y\r\nX: y\r\nX: y\r\nX: y\r\nHost: localhost\r\n\r\n => Refused(TooLong)
+"#;
 
-#[test]
-fn refuses_other_paths_and_methods(rt: HostRuntime) {
-    answers(
-        &rt,
-        HEALTH,
-        &[
-            ("/health", "/", "Refused(NoPath)"),
-            ("/health", "/health/", "Refused(NoPath)"),
-            ("/health", "/health?x=1", "Refused(NoPath)"),
-            ("/health", "/Health", "Refused(NoPath)"),
-            ("/health", "/healt", "Refused(NoPath)"),
-            ("/health", "http://localhost/health", "Refused(NoPath)"),
-            ("GET", "POST", "Refused(OnlyGet)"),
-            ("GET", "HEAD", "Refused(OnlyGet)"),
-            ("GET", "get", "Refused(OnlyGet)"),
-            ("/health", "/stop", "Refused(OnlyPost)"),
-            ("HTTP/1.1", "HTTP/2.0", "Refused(NoHead)"),
-        ],
-    );
-}
-
-/// A head may have 4,096 bytes, of which each part but the whole leaves more to wait for.
-#[test]
-fn bounds_the_head(rt: HostRuntime) {
-    for (length, expected) in [
-        (MAX_HEAD, "Request(Health)"),
-        (MAX_HEAD + 1, "Refused(TooLong)"),
-    ] {
-        let spare = length.checked_sub(HEALTH.len() + 5).expect(&rt, "a length");
-        let padding = "x".repeat(rt.alloc(), spare).expect(&rt, "memory");
-        let line = format!(in rt.alloc(); "localhost\r\nX: {padding}").expect(&rt, "memory");
-        answers(&rt, HEALTH, &[("localhost", line.as_str(), expected)]);
-    }
-    for length in 0..HEALTH.len() {
-        let part = HEALTH.get(..length).expect(&rt, "a part");
-        gives(&rt, answer_to(&rt, part), "More", part);
-    }
-}
+const _: () = prove!(MAX_HEAD == 4096);
 
 #[test]
-fn bounds_the_fields(rt: HostRuntime) {
-    for (count, expected) in [(31, "Request(Health)"), (32, "Refused(TooLong)")] {
-        let lines = "X: y\r\n".repeat(rt.alloc(), count).expect(&rt, "memory");
-        let all = format!(in rt.alloc(); "{lines}Host").expect(&rt, "memory");
-        answers(&rt, HEALTH, &[("Host", all.as_str(), expected)]);
-    }
+fn requests(rt: HostRuntime) {
+    play(&rt, ROWS);
+}
+
+// What a star stands for: 64 bytes.
+const STAR: &str = "xxxxxxxxxxxxxxxxxxxxxxxxxxxxxxxxxxxxxxxxxxxxxxxxxxxxxxxxxxxxxxxx";
+
+/// The answer to a text, whose ends of lines are written `\r` and `\n`.
+pub(crate) fn answer_to(alloc: Global, text: &str) -> Option<String> {
+    let text = text.replace(alloc, "*", STAR).ok()?;
+    let text = text.as_str().replace(alloc, r"\r", "\r").ok()?;
+    let text = text.as_str().replace(alloc, r"\n", "\n").ok()?;
+    shown(alloc, ask(alloc, text.as_str().as_bytes()).ok()?)
 }

@@ -1,6 +1,7 @@
 //! Tests of the metrics.
-use crate::shared::gives;
+use crate::play::gives;
 use relay_admin::{DrawnMessages, EndedBy, Metrics, RefusedBy, SnapshotsBy, metrics_text};
+use relay_wire::Row;
 
 /// A relay whose every number is another one.
 const NUMBERS: Metrics<'static> = Metrics {
@@ -135,16 +136,19 @@ relay_longest_round_seconds 1500000e-6
 #[test]
 fn tells_each_number(rt: HostRuntime) {
     let text = metrics_text(rt.alloc(), &NUMBERS).expect(&rt, "memory");
-    gives(&rt, text, TEXT, "the numbers");
+    let row = Row {
+        times: 1,
+        act: "the numbers",
+        wanted: TEXT,
+    };
+    gives(&rt, text, &row);
 }
 
 /// A metric that has no values keeps its two lines.
 #[test]
 fn tells_of_no_faults(rt: HostRuntime) {
-    let numbers = Metrics {
-        drawn: DrawnMessages::default(),
-        ..NUMBERS
-    };
+    let mut numbers = NUMBERS;
+    numbers.drawn = DrawnMessages::default();
     let text = metrics_text(rt.alloc(), &numbers).expect(&rt, "memory");
     let part = "\n# TYPE relay_refusals_total counter\n# HELP relay_patches_total ";
     assert!(&rt; text.as_str().contains(part));

@@ -1,137 +1,67 @@
 //! Tests of the replies, and of the list of rooms.
-use crate::shared::gives;
+use crate::play::play;
+use crate::shared::shown;
 use relay_admin::{Refusal, Reply, RoomRow, begin_rooms, end_rooms, reply_text, write_room};
-use std::alloc::AllocGlobal;
-use std::process::Abort;
+use std::alloc::Global;
 
-/// What stands in every reply behind its `Content-Length` and, if it has one, its `Allow`.
-const COMMON: &str =
-    "Cache-Control: no-store\r\nX-Content-Type-Options: nosniff\r\nConnection: close\r\n\r\n";
+// Each reply of the list below and its bytes are written as their `Debug` texts.
+const ROWS: &str = r#"
+# Replies to requests.
+reply 0 => (Healthy, "HTTP/1.1 200 OK\r\nContent-Type: text/plain; charset=utf-8\r\nContent-Length: 3\r\nCache-Control: no-store\r\nX-Content-Type-Options: nosniff\r\nConnection: close\r\n\r\nok\n")
+reply 1 => (Unhealthy("tired\n"), "HTTP/1.1 503 Service Unavailable\r\nContent-Type: text/plain; charset=utf-8\r\nContent-Length: 6\r\nCache-Control: no-store\r\nX-Content-Type-Options: nosniff\r\nConnection: close\r\n\r\ntired\n")
+reply 2 => (Stopping, "HTTP/1.1 202 Accepted\r\nContent-Type: text/plain; charset=utf-8\r\nContent-Length: 9\r\nCache-Control: no-store\r\nX-Content-Type-Options: nosniff\r\nConnection: close\r\n\r\nstopping\n")
+reply 3 => (Metrics("a 1\n"), "HTTP/1.1 200 OK\r\nContent-Type: text/plain; version=0.0.4; charset=utf-8\r\nContent-Length: 4\r\nCache-Control: no-store\r\nX-Content-Type-Options: nosniff\r\nConnection: close\r\n\r\na 1\n")
+reply 4 => (Rooms("[]"), "HTTP/1.1 200 OK\r\nContent-Type: application/json\r\nContent-Length: 2\r\nCache-Control: no-store\r\nX-Content-Type-Options: nosniff\r\nConnection: close\r\n\r\n[]")
 
-/// Asserts the bytes of a reply: those before the common fields, and the body.
-fn replies(rt: &(impl Abort + AllocGlobal), reply: Reply<'_>, front: &str, body: &str) {
-    let wanted = format!(in rt.alloc(); "HTTP/1.1 {front}\r\n{COMMON}{body}").expect(rt, "memory");
-    let found = reply_text(rt.alloc(), &reply).expect(rt, "memory");
-    gives(rt, found, wanted.as_str(), front);
-}
+# Replies to refused heads.
+reply 5 => (Refused(NoHead), "HTTP/1.1 400 Bad Request\r\nContent-Type: text/plain; charset=utf-8\r\nContent-Length: 19\r\nCache-Control: no-store\r\nX-Content-Type-Options: nosniff\r\nConnection: close\r\n\r\nthis is no request\n")
+reply 6 => (Refused(TooLong), "HTTP/1.1 431 Request Header Fields Too Large\r\nContent-Type: text/plain; charset=utf-8\r\nContent-Length: 21\r\nCache-Control: no-store\r\nX-Content-Type-Options: nosniff\r\nConnection: close\r\n\r\nthe head is too long\n")
+reply 7 => (Refused(NoHost), "HTTP/1.1 400 Bad Request\r\nContent-Type: text/plain; charset=utf-8\r\nContent-Length: 22\r\nCache-Control: no-store\r\nX-Content-Type-Options: nosniff\r\nConnection: close\r\n\r\nthere is not one Host\n")
+reply 8 => (Refused(OtherHost), "HTTP/1.1 403 Forbidden\r\nContent-Type: text/plain; charset=utf-8\r\nContent-Length: 29\r\nCache-Control: no-store\r\nX-Content-Type-Options: nosniff\r\nConnection: close\r\n\r\nthe Host is not the loopback\n")
+reply 9 => (Refused(Origin), "HTTP/1.1 403 Forbidden\r\nContent-Type: text/plain; charset=utf-8\r\nContent-Length: 18\r\nCache-Control: no-store\r\nX-Content-Type-Options: nosniff\r\nConnection: close\r\n\r\npages may not ask\n")
 
-const TEXT: &str = "Content-Type: text/plain; charset=utf-8\r\nContent-Length: ";
+# Replies to other paths and methods.
+reply 10 => (Refused(NoPath), "HTTP/1.1 404 Not Found\r\nContent-Type: text/plain; charset=utf-8\r\nContent-Length: 22\r\nCache-Control: no-store\r\nX-Content-Type-Options: nosniff\r\nConnection: close\r\n\r\nthere is no such path\n")
+reply 11 => (Refused(OnlyGet), "HTTP/1.1 405 Method Not Allowed\r\nContent-Type: text/plain; charset=utf-8\r\nContent-Length: 9\r\nAllow: GET\r\nCache-Control: no-store\r\nX-Content-Type-Options: nosniff\r\nConnection: close\r\n\r\nonly GET\n")
+reply 12 => (Refused(OnlyPost), "HTTP/1.1 405 Method Not Allowed\r\nContent-Type: text/plain; charset=utf-8\r\nContent-Length: 10\r\nAllow: POST\r\nCache-Control: no-store\r\nX-Content-Type-Options: nosniff\r\nConnection: close\r\n\r\nonly POST\n")
 
-/// Asserts the bytes of a reply with a plain text.
-fn says(rt: &(impl Abort + AllocGlobal), reply: Reply<'_>, status: &str, length: &str, body: &str) {
-    let front = format!(in rt.alloc(); "{status}\r\n{TEXT}{length}").expect(rt, "memory");
-    replies(rt, reply, front.as_str(), body);
-}
+# Lists rooms.
+rooms => [{"name":"r","revision":0,"sessions":2,"weight":8},{"name":"\"","revision":18446744073709551615,"sessions":2,"weight":8}]
+"#;
 
-#[test]
-fn replies_to_requests(rt: HostRuntime) {
-    says(&rt, Reply::Healthy, "200 OK", "3", "ok\n");
-    says(
-        &rt,
-        Reply::Unhealthy("tired\n"),
-        "503 Service Unavailable",
-        "6",
-        "tired\n",
-    );
-    says(&rt, Reply::Stopping, "202 Accepted", "9", "stopping\n");
-    replies(
-        &rt,
-        Reply::Metrics("a 1\n"),
-        "200 OK\r\nContent-Type: text/plain; version=0.0.4; charset=utf-8\r\nContent-Length: 4",
-        "a 1\n",
-    );
-    replies(
-        &rt,
-        Reply::Rooms("[]"),
-        "200 OK\r\nContent-Type: application/json\r\nContent-Length: 2",
-        "[]",
-    );
-}
-
-/// Asserts the bytes of the reply to a refused request.
-fn refuses(rt: &(impl Abort + AllocGlobal), rows: &[(Refusal, &str, &str, &str)]) {
-    for (refusal, status, length, body) in rows {
-        says(rt, Reply::Refused(*refusal), status, length, body);
-    }
-}
+const REPLIES: [Reply<'static>; 13] = [
+    Reply::Healthy,
+    Reply::Unhealthy("tired\n"),
+    Reply::Stopping,
+    Reply::Metrics("a 1\n"),
+    Reply::Rooms("[]"),
+    Reply::Refused(Refusal::NoHead),
+    Reply::Refused(Refusal::TooLong),
+    Reply::Refused(Refusal::NoHost),
+    Reply::Refused(Refusal::OtherHost),
+    Reply::Refused(Refusal::Origin),
+    Reply::Refused(Refusal::NoPath),
+    Reply::Refused(Refusal::OnlyGet),
+    Reply::Refused(Refusal::OnlyPost),
+];
 
 #[test]
-fn replies_to_refused_heads(rt: HostRuntime) {
-    refuses(
-        &rt,
-        &[
-            (
-                Refusal::NoHead,
-                "400 Bad Request",
-                "19",
-                "this is no request\n",
-            ),
-            (
-                Refusal::TooLong,
-                "431 Request Header Fields Too Large",
-                "21",
-                "the head is too long\n",
-            ),
-            (
-                Refusal::NoHost,
-                "400 Bad Request",
-                "22",
-                "there is not one Host\n",
-            ),
-            (
-                Refusal::OtherHost,
-                "403 Forbidden",
-                "29",
-                "the Host is not the loopback\n",
-            ),
-            (
-                Refusal::Origin,
-                "403 Forbidden",
-                "18",
-                "pages may not ask\n",
-            ),
-        ],
-    );
+fn replies(rt: HostRuntime) {
+    play(&rt, ROWS);
 }
 
-#[test]
-fn replies_to_other_paths_and_methods(rt: HostRuntime) {
-    refuses(
-        &rt,
-        &[
-            (
-                Refusal::NoPath,
-                "404 Not Found",
-                "22",
-                "there is no such path\n",
-            ),
-            (
-                Refusal::OnlyGet,
-                "405 Method Not Allowed",
-                "9\r\nAllow: GET",
-                "only GET\n",
-            ),
-            (
-                Refusal::OnlyPost,
-                "405 Method Not Allowed",
-                "10\r\nAllow: POST",
-                "only POST\n",
-            ),
-        ],
-    );
+/// A reply of the list, and its bytes.
+pub(crate) fn reply_at(alloc: Global, index: &str) -> Option<String> {
+    let reply = *REPLIES.get(index.parse::<usize>().ok()?)?;
+    shown(alloc, (reply, reply_text(alloc, &reply).ok()?))
 }
 
-#[test]
-fn lists_rooms(rt: HostRuntime) {
-    let mut out = begin_rooms(rt.alloc()).expect(&rt, "memory");
-    write_room(&mut out, &row("r", 0)).expect(&rt, "memory");
-    write_room(&mut out, &row("\"", u64::MAX)).expect(&rt, "memory");
-    gives(
-        &rt,
-        end_rooms(out).expect(&rt, "memory"),
-        r#"[{"name":"r","revision":0,"sessions":2,"weight":8},{"name":"\"","revision":18446744073709551615,"sessions":2,"weight":8}]"#,
-        "two rooms",
-    );
+/// The list of two rooms.
+pub(crate) fn rooms(alloc: Global) -> Option<String> {
+    let mut out = begin_rooms(alloc).ok()?;
+    write_room(&mut out, &row("r", 0)).ok()?;
+    write_room(&mut out, &row("\"", u64::MAX)).ok()?;
+    end_rooms(out).ok()
 }
 
 fn row(name: &str, revision: u64) -> RoomRow<'_> {

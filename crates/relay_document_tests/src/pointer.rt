@@ -1,175 +1,136 @@
-use crate::shared::{gives, is, part_text, pointer_of, repeated, text_of, tree_of};
+use crate::patch;
+use crate::play::play;
+use crate::shared::{nothing, part_text, shown, taken_text};
+use crate::stage::Stage;
 use relay_pointer::{
     MAX_TOKENS, Pointer, PointerFault, child, exchange, index_of, resolve, resolve_mut, set, take,
 };
-use relay_tree::{Node, Tree};
-use std::alloc::AllocGlobal;
-use std::process::Abort;
+use relay_tree::{Node, read};
+use std::alloc::Global;
 
-const DOCUMENT: &str = r#"{"a":[1,{"b":2}],"c":3}"#;
+const ROWS: &str = r#"
+# Spells tokens with escapes: a path, its tokens, joined by spaces, and a pointer of the tokens of a copy (a twin). The first path is the root.
+spell =>
+pointer /a~1b/~01
+spell => /a~1b/~01
+tokens => a/b ~1
+twin => /a~1b/~01
+pointer /é/~0
+spell => /é/~0
+tokens => é ~
+twin => /é/~0
+pointer
+spell =>
+tokens =>
+twin =>
+
+# Numbers tokens that are indexes.
+index 0 => Some(0)
+index 10 => Some(10)
+index 18446744073709551615 => Some(18446744073709551615)
+index 18446744073709551616 => Some(18446744073709551615)
+index 99999999999999999999999 => Some(18446744073709551615)
+index => None
+index - => None
+index 01 => None
+index 00 => None
+index +1 => None
+index 1a => None
+index x => None
+
+# Refuses texts that spell no path, or one of more than 64 tokens: the longer texts have 64 slashes and 65.
+length => Ok(0)
+length / => Ok(1)
+length /a~1b/~01 => Ok(2)
+length /~2 => Err(BadPointer)
+length a => Err(BadPointer)
+length /x~ => Err(BadPointer)
+length //////////////////////////////////////////////////////////////// => Ok(64)
+length ///////////////////////////////////////////////////////////////// => Err(TooManyTokens)
+length /////////////////////////////////////////////////////////////////~ => Err(BadPointer)
+
+# Compares prefixes: whether the path is a prefix of another one, and whether it is a shorter one.
+pointer
+prefix => (true, false)
+prefix /a => (true, true)
+pointer /a
+prefix /a => (true, false)
+prefix /a/b => (true, true)
+prefix /ab => (false, false)
+pointer /a/b
+prefix /a => (false, false)
+
+# A path leads to a value, and so does a token.
+tree {"a":[1,{"b":2}],"c":3}
+pointer /a/1/b
+resolve => 2
+child c => 3
+
+# Writes at a path: exchanges a value, takes one, sets one, and writes `true` where a path leads, if it does.
+exchange [4] => 2
+text => {"a":[1,{"b":[4]}],"c":3}
+tree {"a":[1,{"b":2}],"c":3}
+pointer /a/1
+take => {"b":2}
+text => {"a":[1,null],"c":3}
+tree {"a":[1,{"b":2}],"c":3}
+pointer /c
+set 5 => true
+text => {"a":[1,{"b":2}],"c":5}
+tree {"a":[1,{"b":2}],"c":3}
+pointer /a/0
+become_true
+text => {"a":[true,{"b":2}],"c":3}
+tree {"a":[1,{"b":2}],"c":3}
+pointer /a/2
+become_true
+text => {"a":[1,{"b":2}],"c":3}
+"#;
 
 #[test]
-fn leads_to_a_value(rt: HostRuntime) {
-    let tree = tree_of(&rt, DOCUMENT);
-    let found = resolve(&tree, &pointer_of(&rt, "/a/1/b"));
-    gives(&rt, part_text(&rt, found), "2", "a path");
-    gives(&rt, part_text(&rt, child(&tree, "c")), "3", "a token");
+fn pointers(rt: HostRuntime) {
+    play(&rt, ROWS);
 }
 
-fn numbers(rt: &impl Abort, rows: &[(&str, Option<u64>)]) {
-    for (token, number) in rows {
-        is(rt, index_of(token), *number, token);
+/// Does an act on the pointer, and on the document where it leads.
+pub(crate) fn done(alloc: Global, stage: &mut Stage, verb: &str, rest: &str) -> Option<String> {
+    let (tree, pointer) = (&mut stage.tree, &stage.pointer);
+    match verb {
+        "spell" => pointer.text(alloc).ok(),
+        "tokens" => pointer.tokens().join(alloc, " ").ok(),
+        "twin" => {
+            let tokens = pointer.copy(alloc).ok()?.into_tokens();
+            Pointer::from_tokens(tokens).text(alloc).ok()
+        }
+        "index" => shown(alloc, index_of(rest)),
+        "length" => shown(alloc, length(alloc, rest)),
+        "prefix" => prefixes(alloc, pointer, Pointer::read(alloc, rest, MAX_TOKENS).ok()?),
+        "resolve" => part_text(alloc, resolve(tree, pointer)),
+        "child" => part_text(alloc, child(tree, rest)),
+        "exchange" => taken_text(alloc, exchange(tree, pointer, read(alloc, rest).ok()?)),
+        "take" => taken_text(alloc, take(tree, pointer)),
+        "set" => shown(alloc, set(tree, pointer, read(alloc, rest).ok()?)),
+        "become_true" => become_true(alloc, resolve_mut(tree, pointer)),
+        _ => patch::done(alloc, stage, verb, rest),
     }
 }
 
-#[test]
-fn numbers_tokens_that_are_indexes(rt: HostRuntime) {
-    numbers(
-        &rt,
-        &[
-            ("0", Some(0)),
-            ("10", Some(10)),
-            ("18446744073709551615", Some(u64::MAX)),
-            ("18446744073709551616", Some(u64::MAX)),
-            ("99999999999999999999999", Some(u64::MAX)),
-            ("", None),
-            ("-", None),
-            ("01", None),
-            ("00", None),
-            ("+1", None),
-            ("1a", None),
-            ("x", None),
-        ],
+fn length(alloc: Global, path: &str) -> Result<usize, PointerFault> {
+    let pointer = Pointer::read(alloc, path, MAX_TOKENS)?;
+    Ok(pointer.tokens().len())
+}
+
+fn prefixes(alloc: Global, pointer: &Pointer, longer: Pointer) -> Option<String> {
+    let holds = (
+        pointer.is_prefix(&longer),
+        pointer.is_proper_prefix(&longer),
     );
+    shown(alloc, holds)
 }
 
-fn spelled(rt: &(impl Abort + AllocGlobal), pointer: &Pointer) -> String {
-    pointer.text(rt.alloc()).expect(rt, "memory")
-}
-
-// Asserts the tokens of each path, joined by spaces, and that its pointer, and one of a copy's tokens, are written as the path is.
-fn spells(rt: &(impl Abort + AllocGlobal), rows: &[(&str, &str)]) {
-    for (path, told) in rows {
-        let pointer = pointer_of(rt, path);
-        let tokens = pointer.tokens().join(rt.alloc(), " ").expect(rt, "memory");
-        gives(rt, tokens, told, path);
-        let copy = pointer.copy(rt.alloc()).expect(rt, "memory");
-        let twin = Pointer::from_tokens(copy.into_tokens());
-        gives(rt, spelled(rt, &twin), path, "its tokens");
-        gives(rt, spelled(rt, &pointer), path, "a pointer");
-    }
-}
-
-#[test]
-fn spells_tokens_with_escapes(rt: HostRuntime) {
-    spells(&rt, &[("/a~1b/~01", "a/b ~1"), ("/é/~0", "é ~"), ("", "")]);
-    let root = Pointer::root(rt.alloc());
-    gives(&rt, spelled(&rt, &root), "", "the root");
-}
-
-// How many tokens a path has that consists of `slashes` slashes and some text, if at most 64 are allowed.
-fn count_of(
-    rt: &(impl Abort + AllocGlobal),
-    slashes: usize,
-    end: &str,
-) -> Result<usize, PointerFault> {
-    let mut text = repeated(rt, "/", slashes);
-    text.push_str(end).expect(rt, "memory");
-    let pointer = Pointer::read(rt.alloc(), text.as_str(), MAX_TOKENS);
-    pointer.map(|pointer| pointer.tokens().len())
-}
-
-fn counts(rt: &(impl Abort + AllocGlobal), rows: &[(usize, &str, Result<usize, PointerFault>)]) {
-    for (slashes, end, count) in rows {
-        is(rt, count_of(rt, *slashes, end), *count, end);
-    }
-}
-
-#[test]
-fn refuses_texts_that_spell_no_path_or_a_long_one(rt: HostRuntime) {
-    counts(
-        &rt,
-        &[
-            (0, "", Ok(0)),
-            (1, "", Ok(1)),
-            (1, "a~1b/~01", Ok(2)),
-            (1, "~2", Err(PointerFault::BadPointer)),
-            (0, "a", Err(PointerFault::BadPointer)),
-            (1, "x~", Err(PointerFault::BadPointer)),
-            (64, "", Ok(64)),
-            (65, "", Err(PointerFault::TooManyTokens)),
-            (65, "~", Err(PointerFault::BadPointer)),
-        ],
-    );
-}
-
-fn compares(rt: &(impl Abort + AllocGlobal), rows: &[(&str, &str, bool, bool)]) {
-    for (path, longer, is_prefix, is_proper) in rows {
-        let (pointer, other) = (pointer_of(rt, path), pointer_of(rt, longer));
-        is(rt, pointer.is_prefix(&other), *is_prefix, longer);
-        is(rt, pointer.is_proper_prefix(&other), *is_proper, longer);
-    }
-}
-
-#[test]
-fn compares_prefixes(rt: HostRuntime) {
-    compares(
-        &rt,
-        &[
-            ("", "", true, false),
-            ("", "/a", true, true),
-            ("/a", "/a", true, false),
-            ("/a", "/a/b", true, true),
-            ("/a", "/ab", false, false),
-            ("/a/b", "/a", false, false),
-        ],
-    );
-}
-
-// The old value at a path, and the document after it was replaced by another one.
-fn exchanged(rt: &(impl Abort + AllocGlobal), path: &str, value: &str) -> String {
-    let mut tree = tree_of(rt, DOCUMENT);
-    let old = exchange(&mut tree, &pointer_of(rt, path), tree_of(rt, value));
-    left(rt, old, &tree)
-}
-
-// The old value at a path, and the document after `null` took its place.
-fn taken(rt: &(impl Abort + AllocGlobal), path: &str) -> String {
-    let mut tree = tree_of(rt, DOCUMENT);
-    let old = take(&mut tree, &pointer_of(rt, path));
-    left(rt, old, &tree)
-}
-
-fn left(rt: &(impl Abort + AllocGlobal), old: Option<Tree>, document: &Tree) -> String {
-    let old = part_text(rt, old.as_ref());
-    let document = text_of(rt, document);
-    format!(in rt.alloc(); "{old} left {document}").expect(rt, "memory")
-}
-
-// The document after the value at a path is set; `written` sets it to `true`.
-fn set_at(rt: &(impl Abort + AllocGlobal), path: &str, value: &str) -> String {
-    let mut tree = tree_of(rt, DOCUMENT);
-    assert!(rt; set(&mut tree, &pointer_of(rt, path), tree_of(rt, value)));
-    text_of(rt, &tree)
-}
-
-fn written(rt: &(impl Abort + AllocGlobal), path: &str) -> String {
-    let mut tree = tree_of(rt, DOCUMENT);
-    if let Some(node) = resolve_mut(&mut tree, &pointer_of(rt, path)) {
+fn become_true(alloc: Global, node: Option<&mut Node>) -> Option<String> {
+    if let Some(node) = node {
         *node = Node::Truth(true);
     }
-    text_of(rt, &tree)
-}
-
-#[test]
-fn writes_at_a_path(rt: HostRuntime) {
-    let old = exchanged(&rt, "/a/1/b", "[4]");
-    gives(&rt, old, r#"2 left {"a":[1,{"b":[4]}],"c":3}"#, "exchange");
-    let old = taken(&rt, "/a/1");
-    gives(&rt, old, r#"{"b":2} left {"a":[1,null],"c":3}"#, "take");
-    let set = set_at(&rt, "/c", "5");
-    gives(&rt, set, r#"{"a":[1,{"b":2}],"c":5}"#, "set");
-    let lent = written(&rt, "/a/0");
-    gives(&rt, lent, r#"{"a":[true,{"b":2}],"c":3}"#, "resolve_mut");
-    gives(&rt, written(&rt, "/a/2"), DOCUMENT, "no item");
+    nothing(alloc)
 }

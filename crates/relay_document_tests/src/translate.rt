@@ -1,218 +1,202 @@
-use crate::shared::{gives, is, pointer_of, text_of, tree_of, view_of};
-use relay_patch::{Change, Place};
-use relay_translate::{Touch, WatchIndex, touch, translate};
+use crate::play::play;
+use crate::shared::{nothing, shown, view_of};
+use crate::stage::Stage;
+use relay_patch::Change;
+use relay_translate::{WatchIndex, touch, translate};
 use relay_view::SlotKind;
-use std::alloc::AllocGlobal;
-use std::process::Abort;
+use relay_wire::cut;
+use std::alloc::Global;
 
-fn added(rt: &(impl Abort + AllocGlobal), path: &str, value: &str) -> Change {
-    Change::AddItem {
-        path: pointer_of(rt, path),
-        value: tree_of(rt, value),
-    }
-}
+const SLOTS: &str = r#"
+# Leaves what no change touches: the patch for a view of two slots after a change, and after none.
+view ["/items","/x"]
+tree {"items":["a","b"]}
+patch [{"op":"add","path":"/items/0","value":"z"}]
+apply => add item /items/0 "z";
+text => {"items":["z","a","b"]}
+relay
+to_tree => [{"op":"add","path":"/0/0/0","value":"z"}]
+patch []
+apply =>
+relay
+to_tree => []
 
-// The patch for a view of two slots after changes that led to the document `{"items":["z","a","b"]}`.
-fn relayed(rt: &(impl Abort + AllocGlobal), changes: &[&Change]) -> String {
-    let now = tree_of(rt, r#"{"items":["z","a","b"]}"#);
-    let view = view_of(rt, r#"["/items","/x"]"#);
-    let patch = translate(rt.alloc(), changes, &now, &view).expect(rt, "memory");
-    let tree = patch.to_tree(rt.alloc()).expect(rt, "memory");
-    text_of(rt, &tree)
-}
+# Judges moves at both ends: of an item of a list to a member of an object.
+tree {"a":{},"list":[0,1]}
+patch [{"op":"move","from":"/list/1","path":"/a/x"}]
+apply => move item /list/1 to /a/x 1;
+pointer
+value => Inside
+size => Apart
+pointer /list
+value => Inside
+size => Reset
+pointer /a
+value => Inside
+size => Reset
+pointer /list/0
+value => Apart
+size => Apart
+pointer /list/1
+value => Reset
+size => Reset
+pointer /list/2/deep
+value => Reset
+pointer /list/-
+value => Apart
+pointer /list/02
+value => Apart
+pointer /a/x/y
+value => Reset
+size => Reset
+pointer /a/y
+value => Apart
+pointer /b
+value => Apart
+size => Apart
+"#;
+
+const SESSIONS: &str = r#"
+# Finds the sessions that a change touches.
+watch 3 ["","/a"]
+watch 1 ["/a"]
+watch 2 ["/b/0"]
+tree {"b":[]}
+patch [{"op":"add","path":"/b/0","value":null}]
+apply => add item /b/0 null;
+sessions => [2, 3]
+tree {"b":[0]}
+patch [{"op":"add","path":"/b/1","value":null}]
+apply => add item /b/1 null;
+sessions => [3]
+tree {"a":0}
+patch [{"op":"replace","path":"/a","value":null}]
+apply => set /a null;
+sessions => [1, 3]
+tree {"a":{"x":0}}
+patch [{"op":"replace","path":"/a/x","value":null}]
+apply => set /a/x null;
+sessions => [1, 3]
+tree {"a":null}
+patch [{"op":"copy","from":"/a","path":"/c"}]
+apply => copy /a to /c null;
+sessions => [3]
+patch []
+apply =>
+sessions => []
+leave 3
+tree {"a":0}
+patch [{"op":"replace","path":"/a","value":null}]
+apply => set /a null;
+sessions => [1]
+watch 1 ["/b",{"size":"/b"}]
+sessions => []
+tree {"b":[0]}
+patch [{"op":"add","path":"/b/1","value":null}]
+apply => add item /b/1 null;
+sessions => [1]
+"#;
+
+const BEHIND: &str = r#"
+# Finds those behind an item.
+watch 1 ["/b/10/x"]
+watch 2 ["/b/2"]
+watch 3 ["/b/9"]
+watch 4 ["/b!"]
+watch 5 [{"size":"/b"}]
+watch 6 []
+tree {"b":[0,1,2]}
+patch [{"op":"add","path":"/b/3","value":null}]
+apply => add item /b/3 null;
+sessions => [1, 3, 5]
+tree 0
+patch [{"op":"replace","path":"","value":null}]
+apply => set  null;
+sessions => [1, 2, 3, 4, 5]
+"#;
+
+const STAYING: &str = r#"
+# Keeps the slots that stay.
+watch 1 ["/a","/b"]
+watch 2 ["/a",{"size":"/a"}]
+watch 1 ["/a","/c/d"]
+tree {"a":0}
+patch [{"op":"replace","path":"/a","value":null}]
+apply => set /a null;
+sessions => [1, 2]
+tree {"b":0}
+patch [{"op":"replace","path":"/b","value":null}]
+apply => set /b null;
+sessions => []
+tree {"c":0}
+patch [{"op":"replace","path":"/c","value":null}]
+apply => set /c null;
+sessions => [1]
+leave 2
+tree {"a":0}
+patch [{"op":"replace","path":"/a","value":null}]
+apply => set /a null;
+sessions => [1]
+tree 0
+patch [{"op":"replace","path":"","value":null}]
+apply => set  null;
+sessions => [1]
+leave 1
+sessions => []
+"#;
 
 #[test]
-fn leaves_what_no_change_touches(rt: HostRuntime) {
-    let change = added(&rt, "/items/0", r#""z""#);
-    let patch = r#"[{"op":"add","path":"/0/0/0","value":"z"}]"#;
-    gives(&rt, relayed(&rt, &[&change]), patch, "one change");
-    gives(&rt, relayed(&rt, &[]), "[]", "no change");
+fn translations(rt: HostRuntime) {
+    play(&rt, SLOTS);
+    play(&rt, SESSIONS);
+    play(&rt, BEHIND);
+    play(&rt, STAYING);
 }
 
-// Asserts how a change touches a slot of that kind at each path.
-fn touches(
-    rt: &(impl Abort + AllocGlobal),
-    change: &Change,
-    kind: SlotKind,
-    rows: &[(&str, Touch)],
-) {
-    for (path, judged) in rows {
-        let found = touch(change, &pointer_of(rt, path), kind);
-        is(rt, found, *judged, path);
-    }
-}
-
-// A move of an item of a list to a member of an object.
-fn moved_out(rt: &(impl Abort + AllocGlobal)) -> Change {
-    Change::Move {
-        from: Place {
-            path: pointer_of(rt, "/list/1"),
-            item: true,
+/// Does an act on the last change, or on the views of sessions. An act that is unknown here too gives nothing.
+pub(crate) fn done(alloc: Global, stage: &mut Stage, verb: &str, rest: &str) -> Option<String> {
+    match verb {
+        "relay" => relay(alloc, stage),
+        "value" => shown(
+            alloc,
+            touch(stage.changes.first()?, &stage.pointer, SlotKind::Value),
+        ),
+        "size" => shown(
+            alloc,
+            touch(stage.changes.first()?, &stage.pointer, SlotKind::Size),
+        ),
+        "watch" => watch(alloc, &mut stage.index, rest),
+        "leave" => {
+            stage.index.take_out(rest.parse::<u64>().ok()?);
+            nothing(alloc)
         },
-        to: Place {
-            path: pointer_of(rt, "/a/x"),
-            item: false,
-        },
-        value: tree_of(rt, "1"),
+        "sessions" => sessions(alloc, &stage.index, stage.changes.first()),
+        _ => None,
     }
 }
 
-#[test]
-fn judges_moves_at_both_ends(rt: HostRuntime) {
-    let moved = moved_out(&rt);
-    touches(
-        &rt,
-        &moved,
-        SlotKind::Value,
-        &[
-            ("", Touch::Inside),
-            ("/list", Touch::Inside),
-            ("/a", Touch::Inside),
-            ("/list/0", Touch::Apart),
-            ("/list/1", Touch::Reset),
-            ("/list/2/deep", Touch::Reset),
-            ("/list/-", Touch::Apart),
-            ("/list/02", Touch::Apart),
-            ("/a/x/y", Touch::Reset),
-            ("/a/y", Touch::Apart),
-            ("/b", Touch::Apart),
-        ],
-    );
-    touches(
-        &rt,
-        &moved,
-        SlotKind::Size,
-        &[
-            ("", Touch::Apart),
-            ("/list", Touch::Reset),
-            ("/a", Touch::Reset),
-            ("/list/0", Touch::Apart),
-            ("/list/1", Touch::Reset),
-            ("/a/x/y", Touch::Reset),
-            ("/b", Touch::Apart),
-        ],
-    );
+// Makes the patch for the view after at most one change.
+fn relay(alloc: Global, stage: &mut Stage) -> Option<String> {
+    let patch = match stage.changes.first() {
+        Some(change) => translate(alloc, &[change], &stage.tree, &stage.view),
+        None => translate(alloc, &[], &stage.tree, &stage.view),
+    };
+    stage.patch = patch.ok()?;
+    nothing(alloc)
 }
 
-fn set(rt: &(impl Abort + AllocGlobal), path: &str) -> Change {
-    Change::Set {
-        path: pointer_of(rt, path),
-        value: tree_of(rt, "null"),
-    }
+fn watch(alloc: Global, index: &mut WatchIndex, act: &str) -> Option<String> {
+    let (session, view) = cut(act);
+    let (session, view) = (session.parse::<u64>().ok()?, view_of(alloc, view)?);
+    index.put(alloc, session, &view).ok()?;
+    nothing(alloc)
 }
 
-// A copy of null from one member to another.
-fn copied(rt: &(impl Abort + AllocGlobal), from: &str, member: &str) -> Change {
-    Change::Copy {
-        from: pointer_of(rt, from),
-        to: Place {
-            path: pointer_of(rt, member),
-            item: false,
-        },
-        value: tree_of(rt, "null"),
-    }
-}
-
-// The watch index of these views, by session.
-fn index_of(rt: &(impl Abort + AllocGlobal), views: &[(u64, &str)]) -> WatchIndex {
-    let mut index = WatchIndex::new(rt.alloc());
-    for (session, view) in views {
-        put(rt, &mut index, *session, view);
-    }
-    index
-}
-
-fn put(rt: &(impl Abort + AllocGlobal), index: &mut WatchIndex, session: u64, view: &str) {
-    let view = view_of(rt, view);
-    index.put(rt.alloc(), session, &view).expect(rt, "memory");
-}
-
-// Asserts which sessions each change touches.
-fn finds(rt: &(impl Abort + AllocGlobal), index: &WatchIndex, rows: &[(Change, &[u64])]) {
-    for (change, sessions) in rows {
-        touched(rt, index, &[change], sessions);
-    }
-}
-
-fn touched(
-    rt: &(impl Abort + AllocGlobal),
-    index: &WatchIndex,
-    changes: &[&Change],
-    sessions: &[u64],
-) {
-    let found = index.touched(rt.alloc(), changes).expect(rt, "memory");
-    assert_eq!(rt; found.as_slice(), sessions);
-}
-
-#[test]
-fn finds_the_sessions_that_a_change_touches(rt: HostRuntime) {
-    let mut index = index_of(
-        &rt,
-        &[(3, r#"["","/a"]"#), (1, r#"["/a"]"#), (2, r#"["/b/0"]"#)],
-    );
-    finds(
-        &rt,
-        &index,
-        &[
-            (added(&rt, "/b/0", "null"), &[2, 3]),
-            (added(&rt, "/b/1", "null"), &[3]),
-            (set(&rt, "/a"), &[1, 3]),
-            (set(&rt, "/a/x"), &[1, 3]),
-            (copied(&rt, "/a", "/c"), &[3]),
-        ],
-    );
-    touched(&rt, &index, &[], &[]);
-    index.take_out(3);
-    finds(&rt, &index, &[(set(&rt, "/a"), &[1])]);
-    put(&rt, &mut index, 1, r#"["/b",{"size":"/b"}]"#);
-    finds(
-        &rt,
-        &index,
-        &[(set(&rt, "/a"), &[]), (added(&rt, "/b/1", "null"), &[1])],
-    );
-}
-
-#[test]
-fn finds_those_behind_an_item(rt: HostRuntime) {
-    let index = index_of(
-        &rt,
-        &[
-            (1, r#"["/b/10/x"]"#),
-            (2, r#"["/b/2"]"#),
-            (3, r#"["/b/9"]"#),
-            (4, r#"["/b!"]"#),
-            (5, r#"[{"size":"/b"}]"#),
-            (6, "[]"),
-        ],
-    );
-    finds(
-        &rt,
-        &index,
-        &[
-            (added(&rt, "/b/3", "null"), &[1, 3, 5]),
-            (set(&rt, ""), &[1, 2, 3, 4, 5]),
-        ],
-    );
-}
-
-#[test]
-fn keeps_the_slots_that_stay(rt: HostRuntime) {
-    let mut index = index_of(
-        &rt,
-        &[(1, r#"["/a","/b"]"#), (2, r#"["/a",{"size":"/a"}]"#)],
-    );
-    put(&rt, &mut index, 1, r#"["/a","/c/d"]"#);
-    finds(
-        &rt,
-        &index,
-        &[
-            (set(&rt, "/a"), &[1, 2]),
-            (set(&rt, "/b"), &[]),
-            (set(&rt, "/c"), &[1]),
-        ],
-    );
-    index.take_out(2);
-    finds(&rt, &index, &[(set(&rt, "/a"), &[1]), (set(&rt, ""), &[1])]);
-    index.take_out(1);
-    finds(&rt, &index, &[(set(&rt, ""), &[])]);
+// Which sessions at most one change touches.
+fn sessions(alloc: Global, index: &WatchIndex, change: Option<&Change>) -> Option<String> {
+    let found = match change {
+        Some(change) => index.touched(alloc, &[change]),
+        None => index.touched(alloc, &[]),
+    };
+    shown(alloc, found.ok()?)
 }

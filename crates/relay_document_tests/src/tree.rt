@@ -1,121 +1,113 @@
-use crate::shared::{gives, is, part_text, text_of, tree_of};
-use relay_tree::{MAX_COUNT, Node, Tree, begin_text, end_text, insert_member};
-use std::alloc::AllocGlobal;
-use std::collections::BTreeMap;
-use std::process::Abort;
+use crate::play::play;
+use crate::pointer;
+use crate::shared::{nothing, part_text, shown, taken_text};
+use crate::stage::Stage;
+use relay_tree::{MAX_COUNT, Node, Tree, begin_text, end_text, insert_member, read};
+use relay_wire::cut;
+use std::alloc::Global;
 
-fn measures(rt: &(impl Abort + AllocGlobal), rows: &[(&str, u64, u64)]) {
-    for (text, depth, weight) in rows {
-        let tree = tree_of(rt, text);
-        is(rt, tree.depth(), *depth, text);
-        is(rt, tree.weight(), *weight, text);
-    }
-}
+const ROWS: &str = r#"
+# Counts up to 2 to the 53, less 1. The first document is the tree of a count.
+count => Some(7)
+tree 0
+count => Some(0)
+tree 9007199254740991
+count => Some(9007199254740991)
+tree 9007199254740992
+count => None
+tree -1
+count => None
+
+# Measures depth and weight.
+tree {"a":1}
+measure => (2, 17)
+tree null
+measure => (1, 8)
+tree []
+measure => (1, 8)
+tree [["ab"],true]
+measure => (3, 34)
+
+# A copy is the same as its document, differs from another one, and has the same text, as has the document where it is written.
+tree {"a":1}
+write => {"a":1}
+copy
+text => {"a":1}
+same {"a":1} => true
+same {"a":2} => false
+tree [null,true,-5,"é\n",{"b":[]}]
+write => [null,true,-5,"é\n",{"b":[]}]
+copy
+text => [null,true,-5,"é\n",{"b":[]}]
+same [null,true,-5,"é\n",{"b":[]}] => true
+same [null,true,-5] => false
+
+# Lends parts of a document: how many items the list `a` has, the count `b` and the text `c`, and the second item of the list.
+tree {"a":[1,null],"b":7,"c":"x"}
+items => Some(2)
+parts => (Some(7), Some("x"))
+item => null
+
+# Lends parts for writing: an item of the list is set to null, and another member is removed.
+clear
+drop b => 7
+text => {"a":[null,null],"c":"x"}
+
+# Builds objects, of members that are inserted in order.
+tree {}
+insert b 1
+insert a null
+insert b 2
+text => {"a":null,"b":2}
+"#;
+
+const _: () = prove!(MAX_COUNT == 9007199254740991);
 
 #[test]
-fn measures_depth_and_weight(rt: HostRuntime) {
-    measures(
-        &rt,
-        &[
-            (r#"{"a":1}"#, 2, 17),
-            ("null", 1, 8),
-            ("[]", 1, 8),
-            (r#"[["ab"],true]"#, 3, 34),
-        ],
-    );
+fn trees(rt: HostRuntime) {
+    play(&rt, ROWS);
 }
 
-fn written(rt: &(impl Abort + AllocGlobal), tree: &Tree) -> String {
-    let mut out = begin_text(rt.alloc()).expect(rt, "memory");
-    tree.write(&mut out).expect(rt, "memory");
-    end_text(out)
-}
-
-// Asserts that a copy of each document equals it, differs from another one, and has the same text.
-fn copies(rt: &(impl Abort + AllocGlobal), rows: &[(&str, &str)]) {
-    for (text, other) in rows {
-        let tree = tree_of(rt, text);
-        let copy = tree.copy(rt.alloc()).expect(rt, "memory");
-        is(rt, copy.same(&tree), true, text);
-        is(rt, copy.same(&tree_of(rt, other)), false, text);
-        gives(rt, text_of(rt, &copy), text, text);
-        gives(rt, written(rt, &tree), text, text);
-    }
-}
-
-#[test]
-fn a_copy_is_the_same(rt: HostRuntime) {
-    copies(
-        &rt,
-        &[
-            (r#"{"a":1}"#, r#"{"a":2}"#),
-            (r#"[null,true,-5,"é\n",{"b":[]}]"#, "[null,true,-5]"),
-        ],
-    );
-}
-
-// A document with a list as its member `a`, a count as `b` and a text as `c`.
-const PARTS: &str = r#"{"a":[1,null],"b":7,"c":"x"}"#;
-
-#[test]
-fn lends_parts(rt: HostRuntime) {
-    let tree = tree_of(&rt, PARTS);
-    let list = tree.member("a").expect(&rt, "a member");
-    is(&rt, list.node.list_len(), Some(2), "a list");
-    gives(&rt, part_text(&rt, list.item(1)), "null", "an item");
-    is(&rt, tree.count_at("b"), Some(7), "a count");
-    is(&rt, tree.text_at("c"), Some("x"), "a text");
-}
-
-// The document after one item of one of its members is set to null and another member is removed.
-fn written_to(rt: &(impl Abort + AllocGlobal), text: &str) -> String {
-    let mut tree = tree_of(rt, text);
-    if let Some(list) = tree.node.member_mut("a") {
-        if let Some(item) = list.node.item_mut(0) {
-            *item = Tree::from(Node::Null);
+/// Does an act on the document.
+pub(crate) fn done(alloc: Global, stage: &mut Stage, verb: &str, rest: &str) -> Option<String> {
+    let tree = &mut stage.tree;
+    match verb {
+        "copy" => {
+            *tree = tree.copy(alloc).ok()?;
+            nothing(alloc)
         }
-    }
-    drop(tree.take_member("b").expect(rt, "a member"));
-    text_of(rt, &tree)
-}
-
-#[test]
-fn lends_parts_for_writing(rt: HostRuntime) {
-    let text = written_to(&rt, PARTS);
-    gives(&rt, text, r#"{"a":[null,null],"c":"x"}"#, PARTS);
-}
-
-fn counts(rt: &(impl Abort + AllocGlobal), rows: &[(&str, Option<u64>)]) {
-    for (text, count) in rows {
-        is(rt, tree_of(rt, text).count(), *count, text);
+        "clear" => clear(alloc, tree),
+        "insert" => insert(alloc, tree, rest),
+        "count" => shown(alloc, tree.count()),
+        "measure" => shown(alloc, (tree.depth(), tree.weight())),
+        "write" => written(alloc, tree),
+        "same" => shown(alloc, tree.same(&read(alloc, rest).ok()?)),
+        "items" => shown(alloc, tree.member("a")?.node.list_len()),
+        "parts" => shown(alloc, (tree.count_at("b"), tree.text_at("c"))),
+        "item" => part_text(alloc, tree.member("a")?.item(1)),
+        "drop" => taken_text(alloc, tree.take_member(rest)),
+        _ => pointer::done(alloc, stage, verb, rest),
     }
 }
 
-#[test]
-fn counts_up_to_2_to_the_53_less_1(rt: HostRuntime) {
-    counts(
-        &rt,
-        &[
-            ("0", Some(0)),
-            ("9007199254740991", Some(MAX_COUNT)),
-            ("9007199254740992", None),
-            ("-1", None),
-        ],
-    );
-    is(&rt, Tree::of_count(7).count(), Some(7), "7");
+fn written(alloc: Global, tree: &Tree) -> Option<String> {
+    let mut out = begin_text(alloc).ok()?;
+    tree.write(&mut out).ok()?;
+    Some(end_text(out))
 }
 
-// The object with these members, inserted in order.
-fn object_of(rt: &(impl Abort + AllocGlobal), members: &[(&str, &str)]) -> String {
-    let mut object = BTreeMap::new(rt.alloc());
-    for (name, text) in members {
-        insert_member(rt.alloc(), &mut object, name, tree_of(rt, text)).expect(rt, "memory");
-    }
-    text_of(rt, &Tree::from(Node::Members(object)))
+// Sets the first item of the list to null.
+fn clear(alloc: Global, tree: &mut Tree) -> Option<String> {
+    let list = tree.node.member_mut("a")?;
+    *list.node.item_mut(0)? = Tree::from(Node::Null);
+    nothing(alloc)
 }
 
-#[test]
-fn builds_objects(rt: HostRuntime) {
-    let object = object_of(&rt, &[("b", "1"), ("a", "null"), ("b", "2")]);
-    gives(&rt, object, r#"{"a":null,"b":2}"#, "three members put");
+fn insert(alloc: Global, tree: &mut Tree, member: &str) -> Option<String> {
+    let (name, value) = cut(member);
+    let Node::Members(members) = &mut tree.node else {
+        return None;
+    };
+    insert_member(alloc, members, name, read(alloc, value).ok()?).ok()?;
+    nothing(alloc)
 }

@@ -1,61 +1,63 @@
-use crate::shared::{gives, is, text_of, tree_of, view_of};
+use crate::play::play;
+use crate::shared::{shown, taken_text, view_of};
+use crate::stage::Stage;
+use crate::translate;
 use relay_tree::{Tree, begin_text, end_text};
-use relay_view::{SlotKind, View};
-use std::alloc::AllocGlobal;
-use std::process::Abort;
+use relay_view::View;
+use std::alloc::Global;
 
-// The text of the slots, written from the document itself.
-fn written(rt: &(impl Abort + AllocGlobal), view: &View, document: &Tree) -> String {
-    let mut out = begin_text(rt.alloc()).expect(rt, "memory");
-    view.write(document, &mut out).expect(rt, "memory");
-    end_text(out)
-}
+const ROWS: &str = r#"
+# Shows its slots of a document: as a tree, and as a text that is written from the document itself.
+tree {"a":null}
+view ["/a","/b",{"size":""}]
+slots => [[null],[],[1]]
+slots_text => [[null],[],[1]]
+
+# Tells equal views.
+view []
+equals [] => true
+view ["/a/b",{"size":"/c"}]
+equals ["/a/b",{"size":"/c"}] => true
+view ["/a","/b"]
+equals ["/b","/a"] => false
+view ["/a"]
+equals ["/a","/b"] => false
+equals [{"size":"/a"}] => false
+view ["/a/b"]
+equals ["/a~1b"] => false
+
+# Tells its pointers and kinds.
+view ["/a",{"size":"/b"}]
+slot_count => 2
+slot_pointer 1 => /b
+no_slot 2 => true
+slot_kind 0 => Some(Value)
+slot_kind 1 => Some(Size)
+slot_kind 2 => None
+"#;
 
 #[test]
-fn shows_its_slots(rt: HostRuntime) {
-    let view = view_of(&rt, r#"["/a","/b",{"size":""}]"#);
-    let document = tree_of(&rt, r#"{"a":null}"#);
-    let slots = view.of(rt.alloc(), &document).expect(&rt, "memory");
-    gives(&rt, text_of(&rt, &slots), "[[null],[],[1]]", "its slots");
-    let text = written(&rt, &view, &document);
-    gives(&rt, text, "[[null],[],[1]]", "its text");
+fn views(rt: HostRuntime) {
+    play(&rt, ROWS);
 }
 
-fn compares(rt: &(impl Abort + AllocGlobal), rows: &[(&str, &str, bool)]) {
-    for (view, other, same) in rows {
-        let found = view_of(rt, view).same(&view_of(rt, other));
-        is(rt, found, *same, view);
+/// Does an act on the view.
+pub(crate) fn done(alloc: Global, stage: &mut Stage, verb: &str, rest: &str) -> Option<String> {
+    let view = &stage.view;
+    match verb {
+        "slots" => taken_text(alloc, view.of(alloc, &stage.tree).ok()),
+        "slots_text" => written(alloc, view, &stage.tree),
+        "equals" => shown(alloc, view.same(&view_of(alloc, rest)?)),
+        "slot_count" => shown(alloc, view.len()),
+        "slot_pointer" => view.pointer(rest.parse::<u64>().ok()?)?.text(alloc).ok(),
+        "no_slot" => shown(alloc, view.pointer(rest.parse::<u64>().ok()?).is_none()),
+        "slot_kind" => shown(alloc, view.kind(rest.parse::<u64>().ok()?)),
+        _ => translate::done(alloc, stage, verb, rest),
     }
 }
 
-#[test]
-fn tells_equal_views(rt: HostRuntime) {
-    compares(
-        &rt,
-        &[
-            ("[]", "[]", true),
-            (
-                r#"["/a/b",{"size":"/c"}]"#,
-                r#"["/a/b",{"size":"/c"}]"#,
-                true,
-            ),
-            (r#"["/a","/b"]"#, r#"["/b","/a"]"#, false),
-            (r#"["/a"]"#, r#"["/a","/b"]"#, false),
-            (r#"["/a"]"#, r#"[{"size":"/a"}]"#, false),
-            (r#"["/a/b"]"#, r#"["/a~1b"]"#, false),
-        ],
-    );
-}
-
-#[test]
-fn tells_its_pointers_and_kinds(rt: HostRuntime) {
-    let view = view_of(&rt, r#"["/a",{"size":"/b"}]"#);
-    is(&rt, view.len(), 2, "its length");
-    let pointer = view.pointer(1).expect(&rt, "a pointer");
-    let text = pointer.text(rt.alloc()).expect(&rt, "memory");
-    gives(&rt, text, "/b", "slot 1");
-    is(&rt, view.pointer(2).is_none(), true, "slot 2");
-    is(&rt, view.kind(0), Some(SlotKind::Value), "slot 0");
-    is(&rt, view.kind(1), Some(SlotKind::Size), "slot 1");
-    is(&rt, view.kind(2), None, "slot 2");
+fn written(alloc: Global, view: &View, document: &Tree) -> Option<String> {
+    let mut out = begin_text(alloc).ok()?;
+    view.write(document, &mut out).ok()?;
+    Some(end_text(out))
 }

@@ -1,62 +1,59 @@
 //! Tests of what a follower holds. Each text that it may receive, and each fault, is data in `tests/scripts`.
-use crate::shared::{at_revision, gives, owned, tree_of};
-use relay_follow::{Follower, HearFault};
-use std::alloc::AllocGlobal;
+use crate::rows::{Subject, UNKNOWN, play};
+use crate::shared::{Came, at_revision, number, owned, tree_of};
+use relay_follow::Follower;
+use relay_wire::cut;
+use std::alloc::{AllocGlobal, Global};
 use std::process::Abort;
 
+/// The follower is new. `from 1 [[1]]` goes on with one that holds this view at revision 1. Of a text that is heard come the follower's
+/// answer, and what it holds afterwards.
+const ROWS: &str = r#"
+# A new follower holds nothing.
+hear {} => Err(NotMessage), nothing
+hear {"kind":"patch","patch":[],"rev":1} => Err(NoView), nothing
+hear {"kind":"snapshot","rev":1,"view":[[1]]} => Ok(()), 1 [[1]]
+
+# Goes on from a view.
+from 1 [[1]]
+hear {"kind":"patch","patch":[],"rev":1} => Err(Order), 1 [[1]]
+hear {"kind":"patch","patch":[],"rev":2} => Ok(()), 2 [[1]]
+hear {"kind":"patch","patch":[{"op":"remove","path":"/0/0/x"}],"rev":3} => Err(Apply), 2 [[1]]
+"#;
+
+impl Subject for Follower {
+    fn act(&mut self, rt: &(impl Abort + AllocGlobal), act: &str) -> Came {
+        let (word, rest) = cut(act);
+        match word {
+            "from" => follow_from(rt, self, rest),
+            "hear" => heard(rt.alloc(), self, rest),
+            _ => owned(rt.alloc(), UNKNOWN),
+        }
+    }
+}
+
+fn follow_from(rt: &(impl Abort + AllocGlobal), follower: &mut Follower, rest: &str) -> Came {
+    let (rev, view) = cut(rest);
+    *follower = Follower::from_view(number(rt, rev), tree_of(rt, view));
+    owned(rt.alloc(), "")
+}
+
+/// What the follower answers to a text, and what it holds afterwards.
+fn heard(alloc: Global, follower: &mut Follower, text: &str) -> Came {
+    let answer = follower.hear(alloc, text);
+    let held = held(alloc, follower)?;
+    format!(in alloc; "{answer:?}, {held}")
+}
+
 /// The revision and the view that the follower holds, as text.
-fn held(rt: &(impl Abort + AllocGlobal), follower: &Follower) -> String {
+fn held(alloc: Global, follower: &Follower) -> Came {
     match (follower.rev(), follower.view()) {
-        (Some(rev), Some(view)) => at_revision(rt, rev, view),
-        _ => owned(rt, "nothing"),
+        (Some(rev), Some(view)) => at_revision(alloc, rev, view),
+        _ => owned(alloc, "nothing"),
     }
 }
 
-/// Asserts, for each row, what the follower answers to the text and what it holds afterwards.
-fn hears(
-    rt: &(impl Abort + AllocGlobal),
-    follower: &mut Follower,
-    rows: &[(&str, Result<(), HearFault>, &str)],
-) {
-    for (text, answer, expected) in rows {
-        assert_eq!(rt; follower.hear(rt.alloc(), text), *answer, "{text}");
-        gives(rt, held(rt, follower), expected, text);
-    }
-}
-
-const PATCH: &str = r#"{"kind":"patch","patch":[],"rev":1}"#;
-
 #[test]
-fn a_new_follower_holds_nothing(rt: HostRuntime) {
-    hears(
-        &rt,
-        &mut Follower::new(),
-        &[
-            ("{}", Err(HearFault::NotMessage), "nothing"),
-            (PATCH, Err(HearFault::NoView), "nothing"),
-            (
-                r#"{"kind":"snapshot","rev":1,"view":[[1]]}"#,
-                Ok(()),
-                "1 [[1]]",
-            ),
-        ],
-    );
-}
-
-#[test]
-fn goes_on_from_a_view(rt: HostRuntime) {
-    let mut follower = Follower::from_view(1, tree_of(&rt, "[[1]]"));
-    hears(
-        &rt,
-        &mut follower,
-        &[
-            (PATCH, Err(HearFault::Order), "1 [[1]]"),
-            (r#"{"kind":"patch","patch":[],"rev":2}"#, Ok(()), "2 [[1]]"),
-            (
-                r#"{"kind":"patch","patch":[{"op":"remove","path":"/0/0/x"}],"rev":3}"#,
-                Err(HearFault::Apply),
-                "2 [[1]]",
-            ),
-        ],
-    );
+fn holds_what_it_heard(rt: HostRuntime) {
+    play(&rt, &mut Follower::new(), ROWS);
 }

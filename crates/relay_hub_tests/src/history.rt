@@ -1,11 +1,131 @@
 //! Tests of histories whose revisions set the root to numbers, so that the numbers show which changes are kept.
-use crate::shared::{gives, owned, words};
-use relay_history::{History, HistoryFault, LAST_REVISION, MAX_REVISIONS, RevisionSlot};
+use crate::rows::{Subject, UNKNOWN, play};
+use crate::shared::{Came, number, owned, words};
+use relay_history::{History, HistoryFault, LAST_REVISION, RevisionSlot};
 use relay_patch::Change;
 use relay_pointer::Pointer;
 use relay_tree::{Budget, Node, Tree};
+use relay_wire::cut;
 use std::alloc::{AllocGlobal, Global};
 use std::process::Abort;
+
+/// What `five` stands for: a history of five revisions. A whole number weighs 8 and the root's path nothing, so the third revision, which
+/// sets the root twice, weighs 16 and the others 8.
+const FIVE: &str = "
+new 5 0 => Ok(0)
+push 1
+push 2
+push 3 3
+push 4
+push 5
+";
+
+/// `new 2 0` goes on with a history of 2 revisions at most, from revision 0. `push` adds a revision that sets the root to each of these
+/// numbers.
+const ROWS: &str = "
+# Gives the changes after a revision in order.
+new 2 0 => Ok(0)
+push 1
+push 2
+push 3
+push 4
+push 5
+kept => (3, 5)
+after 5 => []
+after 4 => [5]
+after 3 => [4, 5]
+after 2 => none
+after 0 => none
+after 6 => none
+after 18446744073709551615 => none
+
+# Keeps the newest revisions within a budget.
+five
+trim unbounded
+kept => (0, 5)
+after 0 => [1, 2, 3, 3, 4, 5]
+five
+trim 48
+kept => (0, 5)
+after 0 => [1, 2, 3, 3, 4, 5]
+five
+trim 47
+kept => (1, 5)
+after 1 => [2, 3, 3, 4, 5]
+five
+trim 32
+kept => (2, 5)
+after 2 => [3, 3, 4, 5]
+five
+trim 31
+kept => (3, 5)
+after 3 => [4, 5]
+five
+trim 8
+kept => (4, 5)
+after 4 => [5]
+five
+trim 7
+kept => (5, 5)
+after 5 => []
+five
+trim 0
+kept => (5, 5)
+after 5 => []
+
+# Holds from 1 to 1,024 revisions, up to the last, 9,007,199,254,740,991.
+new 0 0 => Err(BadLimit)
+new 1025 0 => Err(BadLimit)
+new 18446744073709551615 0 => Err(BadLimit)
+new 1 9007199254740992 => Err(BadLimit)
+new 1 9007199254740991 => Ok(9007199254740991)
+new 1024 7 => Ok(7)
+";
+
+impl Subject for History {
+    fn act(&mut self, rt: &(impl Abort + AllocGlobal), act: &str) -> Came {
+        let (word, rest) = cut(act);
+        match word {
+            "new" => begin_anew(rt, self, rest),
+            "push" => push(rt, self, rest),
+            "trim" => trim(rt, self, rest),
+            "kept" => words(rt.alloc(), (self.oldest(), self.newest())),
+            "after" => numbers_after(rt.alloc(), self, number(rt, rest)),
+            _ => owned(rt.alloc(), UNKNOWN),
+        }
+    }
+}
+
+/// Goes on with another history. Tells the revision from which it starts, or why it cannot be made.
+fn begin_anew(rt: &(impl Abort + AllocGlobal), history: &mut History, rest: &str) -> Came {
+    let (limit, start) = cut(rest);
+    match History::new(rt.alloc(), number(rt, limit), number(rt, start)) {
+        Ok(made) => {
+            *history = made;
+            words(rt.alloc(), Ok::<u64, HistoryFault>(history.newest()))
+        }
+        Err(fault) => words(rt.alloc(), Err::<u64, HistoryFault>(fault)),
+    }
+}
+
+/// Adds the next revision, if there is one left. It sets the root to each of the numbers.
+fn push(rt: &(impl Abort + AllocGlobal), history: &mut History, numbers: &str) -> Came {
+    let changes = changes_of(rt, numbers);
+    if history.newest() < LAST_REVISION {
+        let slot = RevisionSlot::new(rt.alloc()).expect(rt, "memory");
+        history.push(slot, changes);
+    }
+    owned(rt.alloc(), "")
+}
+
+fn changes_of(rt: &(impl Abort + AllocGlobal), numbers: &str) -> Vec<Change> {
+    let mut changes = Vec::new(rt.alloc());
+    for number in numbers.split_whitespace() {
+        let number = number.parse::<i64>().expect(rt, number);
+        changes.push(set(rt.alloc(), number)).expect(rt, "memory");
+    }
+    changes
+}
 
 /// A change that sets the root to a number.
 fn set(alloc: Global, number: i64) -> Change {
@@ -13,6 +133,23 @@ fn set(alloc: Global, number: i64) -> Change {
         path: Pointer::root(alloc),
         value: Tree::from(Node::Whole(number)),
     }
+}
+
+fn trim(rt: &(impl Abort + AllocGlobal), history: &mut History, budget: &str) -> Came {
+    history.trim(match budget {
+        "unbounded" => Budget::Unbounded,
+        most => Budget::Left(number(rt, most)),
+    });
+    owned(rt.alloc(), "")
+}
+
+/// The numbers that the root was set to after a revision, as text.
+fn numbers_after(alloc: Global, history: &History, rev: u64) -> Came {
+    let Some(since) = history.since(rev) else {
+        return owned(alloc, "none");
+    };
+    let numbers: Vec<i64> = since.filter_map(|change| number_of(change)).collect(alloc)?;
+    words(alloc, numbers)
 }
 
 /// The number that a change sets the root to.
@@ -26,113 +163,9 @@ fn number_of(change: &Change) -> Option<i64> {
     }
 }
 
-/// Adds the next revision, if there is one left. It sets the root to a number `times` times.
-fn push(rt: &(impl Abort + AllocGlobal), history: &mut History, number: i64, times: u64) {
-    let mut changes = Vec::new(rt.alloc());
-    for _ in 0..times {
-        changes.push(set(rt.alloc(), number)).expect(rt, "memory");
-    }
-    if history.newest() < LAST_REVISION {
-        let slot = RevisionSlot::new(rt.alloc()).expect(rt, "memory");
-        history.push(slot, changes);
-    }
-}
-
-/// The numbers that the root was set to after a revision, as text.
-fn numbers_after(rt: &(impl Abort + AllocGlobal), history: &History, rev: u64) -> String {
-    let Some(since) = history.since(rev) else {
-        return owned(rt, "none");
-    };
-    let numbers = since
-        .filter_map(|change| number_of(change))
-        .collect(rt.alloc());
-    let numbers: Vec<i64> = numbers.expect(rt, "memory");
-    words(rt, numbers)
-}
-
-/// Asserts the numbers that came after each revision.
-fn tells(rt: &(impl Abort + AllocGlobal), history: &History, rows: &[(u64, &str)]) {
-    for (rev, expected) in rows {
-        gives(rt, numbers_after(rt, history, *rev), expected, "a revision");
-    }
-}
-
 #[test]
-fn gives_the_changes_after_a_revision_in_order(rt: HostRuntime) {
-    let mut history = History::new(rt.alloc(), 2, 0).expect(&rt, "a history");
-    for number in 1..6 {
-        push(&rt, &mut history, number, 1);
-    }
-    assert_eq!(rt; (history.oldest(), history.newest()), (3, 5));
-    tells(
-        &rt,
-        &history,
-        &[
-            (5, "[]"),
-            (4, "[5]"),
-            (3, "[4, 5]"),
-            (2, "none"),
-            (0, "none"),
-            (6, "none"),
-            (u64::MAX, "none"),
-        ],
-    );
-}
-
-/// A history of five revisions that is trimmed to a budget. A whole number weighs 8 and the root's path nothing, so the third revision
-/// weighs 16 and the others 8.
-fn trimmed(rt: &(impl Abort + AllocGlobal), budget: Budget) -> History {
-    let mut history = History::new(rt.alloc(), 5, 0).expect(rt, "a history");
-    for (number, times) in [(1, 1), (2, 1), (3, 2), (4, 1), (5, 1)] {
-        push(rt, &mut history, number, times);
-    }
-    history.trim(budget);
-    history
-}
-
-#[test]
-fn keeps_the_newest_revisions_within_a_budget(rt: HostRuntime) {
-    for (budget, oldest, expected) in [
-        (Budget::Unbounded, 0, "[1, 2, 3, 3, 4, 5]"),
-        (Budget::Left(48), 0, "[1, 2, 3, 3, 4, 5]"),
-        (Budget::Left(47), 1, "[2, 3, 3, 4, 5]"),
-        (Budget::Left(32), 2, "[3, 3, 4, 5]"),
-        (Budget::Left(31), 3, "[4, 5]"),
-        (Budget::Left(8), 4, "[5]"),
-        (Budget::Left(7), 5, "[]"),
-        (Budget::Left(0), 5, "[]"),
-    ] {
-        let history = trimmed(&rt, budget);
-        assert_eq!(rt; (history.oldest(), history.newest()), (oldest, 5));
-        gives(
-            &rt,
-            numbers_after(&rt, &history, oldest),
-            expected,
-            "a budget",
-        );
-    }
-}
-
-/// The revision from which a history starts, or why it cannot be made.
-fn started(alloc: Global, h: u64, start: u64) -> Result<u64, HistoryFault> {
-    let history = History::new(alloc, h, start);
-    history.map(|history| history.newest())
-}
-
-#[test]
-fn holds_from_1_to_1024_revisions(rt: HostRuntime) {
-    for (h, start, expected) in [
-        (0, 0, Err(HistoryFault::BadLimit)),
-        (MAX_REVISIONS + 1, 0, Err(HistoryFault::BadLimit)),
-        (u64::MAX, 0, Err(HistoryFault::BadLimit)),
-        (1, LAST_REVISION + 1, Err(HistoryFault::BadLimit)),
-        (1, LAST_REVISION, Ok(LAST_REVISION)),
-        (MAX_REVISIONS, 7, Ok(7)),
-    ] {
-        assert_eq!(rt;
-            started(rt.alloc(), h, start),
-            expected,
-            "h {h} from {start}"
-        );
-    }
+fn keeps_the_newest_revisions(rt: HostRuntime) {
+    let mut history = History::new(rt.alloc(), 1, 0).expect(&rt, "a history");
+    let rows = ROWS.replace(rt.alloc(), "\nfive\n", FIVE);
+    play(&rt, &mut history, rows.expect(&rt, "memory").as_str());
 }

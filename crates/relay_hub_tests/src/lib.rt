@@ -2,10 +2,12 @@
 //!
 //! They call what stands alone with success, and show what no script can: limits that a caller chooses, the last revision, the bytes of a
 //! handshake, and runs of events. What only a server asks of a hub (`config`, `waiting_weight`) is called by the tests of its rounds. What
-//! sessions receive is data in `tests/scripts`. Most functions unwrap each result with `expect`, since a returned error is one more exit to
-//! prove.
+//! sessions receive is data in `tests/scripts`. Most tests are rows of text (`rows.rt`). A function that can fail in one place alone returns
+//! its result. Others mostly unwrap each with `expect`, since a returned error is one more exit to prove.
 #![tactic(auto)]
 
+#[cfg(test)]
+mod calls;
 #[cfg(test)]
 mod counts;
 #[cfg(test)]
@@ -21,7 +23,11 @@ mod outbox;
 #[cfg(test)]
 mod proto;
 #[cfg(test)]
+mod replies;
+#[cfg(test)]
 mod room;
+#[cfg(test)]
+mod rows;
 #[cfg(test)]
 mod runs;
 #[cfg(test)]

@@ -1,4 +1,6 @@
 //! The limits, one by one, as `docs/PROTOCOL.md` lists them.
+use crate::rows::{Subject, play};
+use crate::shared::{Came, words};
 use relay_history::{LAST_REVISION, MAX_REVISIONS};
 use relay_hub::{DEFAULT_ROOMS, DEFAULT_SESSIONS, MAX_ROOMS, MAX_SESSIONS};
 use relay_outbox::{MAX_PATCHES, MAX_REPLIES};
@@ -7,41 +9,66 @@ use relay_pointer::MAX_TOKENS;
 use relay_proto::{MAX_NAME, MAX_REQUEST};
 use relay_tree::MAX_COUNT;
 use relay_view::MAX_SLOTS;
+use std::alloc::AllocGlobal;
+use std::process::Abort;
+
+/// What each limit is of, in the order of [`LIMITS`].
+const ROWS: &str = "
+depth of a document => 64
+weight of a document => 262144
+weight of the changes of an edit => 1048576
+bytes of a request => 1048576
+operations in an edit => 64
+slots in a view => 16
+tokens in a pointer of a request => 64
+tokens in a pointer that is relayed => 66
+replies that wait => 32
+patches that wait => 256
+revisions of a history => 1024
+the last revision => 9007199254740991
+the last count => 9007199254740991
+rooms => 64
+sessions => 256
+rooms that a configuration may allow => 65536
+sessions that a configuration may allow => 65536
+letters of a room's name => 64
+";
+
+const LIMITS: [u64; 18] = [
+    MAX_DEPTH,
+    MAX_WEIGHT,
+    MAX_CHANGES_WEIGHT,
+    MAX_REQUEST,
+    MAX_OPS,
+    MAX_SLOTS,
+    MAX_TOKENS,
+    MAX_RELAYED_TOKENS,
+    MAX_REPLIES,
+    MAX_PATCHES,
+    MAX_REVISIONS,
+    LAST_REVISION,
+    MAX_COUNT,
+    DEFAULT_ROOMS,
+    DEFAULT_SESSIONS,
+    MAX_ROOMS,
+    MAX_SESSIONS,
+    MAX_NAME as u64,
+];
+
+/// How many of the limits were told.
+#[derive(Drop)]
+struct Told(usize);
+
+impl Subject for Told {
+    /// Tells the next limit.
+    fn act(&mut self, rt: &(impl Abort + AllocGlobal), _act: &str) -> Came {
+        let place = self.0;
+        self.0 = place.saturating_add(1);
+        words(rt.alloc(), LIMITS.get(place).copied().unwrap_or(0))
+    }
+}
 
 #[test]
 fn the_limits_are_those_of_the_protocol(rt: HostRuntime) {
-    for (limit, wanted, what) in [
-        (MAX_DEPTH, 64, "depth of a document"),
-        (MAX_WEIGHT, 262_144, "weight of a document"),
-        (
-            MAX_CHANGES_WEIGHT,
-            1_048_576,
-            "weight of the changes of an edit",
-        ),
-        (MAX_REQUEST, 1_048_576, "bytes of a request"),
-        (MAX_OPS, 64, "operations in an edit"),
-        (MAX_SLOTS, 16, "slots in a view"),
-        (MAX_TOKENS, 64, "tokens in a pointer of a request"),
-        (
-            MAX_RELAYED_TOKENS,
-            66,
-            "tokens in a pointer that is relayed",
-        ),
-        (MAX_REPLIES, 32, "replies that wait"),
-        (MAX_PATCHES, 256, "patches that wait"),
-        (MAX_REVISIONS, 1_024, "revisions of a history"),
-        (LAST_REVISION, 9_007_199_254_740_991, "the last revision"),
-        (MAX_COUNT, 9_007_199_254_740_991, "the last count"),
-        (DEFAULT_ROOMS, 64, "rooms"),
-        (DEFAULT_SESSIONS, 256, "sessions"),
-        (MAX_ROOMS, 65_536, "rooms that a configuration may allow"),
-        (
-            MAX_SESSIONS,
-            65_536,
-            "sessions that a configuration may allow",
-        ),
-        (MAX_NAME as u64, 64, "letters of a room's name"),
-    ] {
-        assert_eq!(rt; limit, wanted, "{what}");
-    }
+    play(&rt, &mut Told(0), ROWS);
 }

@@ -1,103 +1,123 @@
 //! Tests of what waits in an outbox, and of the order in which it is drawn. How it affects sessions is data in `tests/scripts`.
-use relay_outbox::{Busy, Front, MAX_PATCHES, MAX_REPLIES, Outbox, OutboxFault};
+use crate::rows::{Subject, UNKNOWN, play};
+use crate::shared::{Came, number, owned, words};
+use relay_outbox::{Busy, Front, Outbox, OutboxFault};
+use relay_wire::cut;
 use std::alloc::{AllocGlobal, Global};
 use std::process::Abort;
 
-/// Draws the next message, as its kind and the number of the reply or the patch.
-fn draw(outbox: &mut Outbox<u64, u64>) -> (&'static str, u64) {
-    let front = match outbox.front() {
-        Front::Reply(number) => ("reply", *number),
-        Front::Patch(rev) => ("patch", *rev),
-        Front::Snapshot => ("snapshot", 0),
-        Front::Nothing => ("nothing", 0),
-    };
-    outbox.drop_front();
-    front
-}
+/// `new 2` goes on with an outbox for 2 patches. Of `waits` come how many replies and how many patches wait, and whether a snapshot is due.
+/// A reply that finds no space is given back.
+const ROWS: &str = "
+# Draws replies, then patches, then the snapshot.
+new 2 => None
+patch 5
+reply 1 => None
+patch 6
+waits => (1, 2, false)
+draw => reply 1
+draw => patch 5
+draw => patch 6
+draw => nothing
+fold
+reply 3 => None
+draw => reply 3
+draw => snapshot
+draw => nothing
 
-/// Asserts the messages that are drawn, in order.
-fn draws(rt: &impl Abort, outbox: &mut Outbox<u64, u64>, rows: &[(&'static str, u64)]) {
-    for row in rows {
-        assert_eq!(rt; draw(outbox), *row);
+# Folds where no more patches may wait.
+new 2 => None
+patch 1
+waits => (0, 1, false)
+patch 2
+waits => (0, 2, false)
+patch 3
+waits => (0, 0, true)
+patch 4
+waits => (0, 0, true)
+
+# Keeps 32 replies where patches go.
+new 2 => None
+32 reply 0 => None
+reply 33 => Some(33)
+fold
+waits => (32, 0, true)
+clear
+waits => (32, 0, false)
+
+# Holds from 1 to 256 patches.
+new 0 => Some(BadLimit)
+new 1 => None
+new 256 => None
+new 257 => Some(BadLimit)
+new 18446744073709551615 => Some(BadLimit)
+";
+
+/// An outbox of numbered replies and patches.
+type Numbers = Outbox<u64, u64>;
+
+impl Subject for Numbers {
+    fn act(&mut self, rt: &(impl Abort + AllocGlobal), act: &str) -> Came {
+        let alloc = rt.alloc();
+        let (word, rest) = cut(act);
+        match word {
+            "new" => words(alloc, begin_anew(alloc, self, number(rt, rest))),
+            "reply" => words(alloc, reply(self, number(rt, rest))),
+            "draw" => draw(alloc, self),
+            "waits" => words(alloc, (self.replies(), self.patches(), self.is_due())),
+            _ => change(rt, self, word, rest),
+        }
     }
 }
 
-/// Asserts how many replies and how many patches wait, and whether a snapshot is due.
-fn waits(rt: &impl Abort, outbox: &Outbox<u64, u64>, replies: u64, patches: u64, is_due: bool) {
-    let found = (outbox.replies(), outbox.patches(), outbox.is_due());
-    assert_eq!(rt; found, (replies, patches, is_due));
+/// Does what returns nothing.
+fn change(rt: &(impl Abort + AllocGlobal), outbox: &mut Numbers, word: &str, rest: &str) -> Came {
+    match word {
+        "patch" => outbox.patch(number(rt, rest)),
+        "fold" => outbox.fold(),
+        "clear" => outbox.clear(),
+        _ => return owned(rt.alloc(), UNKNOWN),
+    }
+    owned(rt.alloc(), "")
 }
 
-fn of_two(rt: &(impl Abort + AllocGlobal)) -> Outbox<u64, u64> {
-    Outbox::new(rt.alloc(), 2).expect(rt, "an outbox")
-}
-
-#[test]
-fn draws_replies_then_patches_then_the_snapshot(rt: HostRuntime) {
-    let mut outbox = of_two(&rt);
-    outbox.patch(5);
-    assert!(rt; outbox.reply(1).is_ok());
-    outbox.patch(6);
-    waits(&rt, &outbox, 1, 2, false);
-    draws(
-        &rt,
-        &mut outbox,
-        &[("reply", 1), ("patch", 5), ("patch", 6), ("nothing", 0)],
-    );
-    outbox.fold();
-    assert!(rt; outbox.reply(3).is_ok());
-    draws(
-        &rt,
-        &mut outbox,
-        &[("reply", 3), ("snapshot", 0), ("nothing", 0)],
-    );
-}
-
-#[test]
-fn folds_where_no_more_patches_may_wait(rt: HostRuntime) {
-    let mut outbox = of_two(&rt);
-    for (rev, patches, is_due) in [(1, 1, false), (2, 2, false), (3, 0, true), (4, 0, true)] {
-        outbox.patch(rev);
-        waits(&rt, &outbox, 0, patches, is_due);
+/// Goes on with another outbox, for so many patches. Returns the fault if it cannot be made.
+fn begin_anew(alloc: Global, outbox: &mut Numbers, patches: u64) -> Option<OutboxFault> {
+    match Outbox::new(alloc, patches) {
+        Ok(made) => {
+            *outbox = made;
+            None
+        }
+        Err(fault) => Some(fault),
     }
 }
 
 /// Adds a reply. Returns its number if there is no space for it.
-fn reply(outbox: &mut Outbox<u64, u64>, number: u64) -> Option<u64> {
+fn reply(outbox: &mut Numbers, number: u64) -> Option<u64> {
     match outbox.reply(number) {
         Ok(()) => None,
         Err(Busy(number)) => Some(number),
     }
 }
 
-#[test]
-fn keeps_32_replies_where_patches_go(rt: HostRuntime) {
-    let mut outbox = of_two(&rt);
-    for number in 0..MAX_REPLIES {
-        assert_eq!(rt; reply(&mut outbox, number), None);
-    }
-    assert_eq!(rt; reply(&mut outbox, 33), Some(33));
-    outbox.fold();
-    waits(&rt, &outbox, MAX_REPLIES, 0, true);
-    outbox.clear();
-    waits(&rt, &outbox, MAX_REPLIES, 0, false);
+/// Draws the next message, as its kind and the number of the reply or the patch.
+fn draw(alloc: Global, outbox: &mut Numbers) -> Came {
+    let front = in_words(alloc, outbox.front());
+    outbox.drop_front();
+    front
 }
 
-/// The fault of an outbox for `k` patches, if it cannot be made.
-fn fault_of(alloc: Global, k: u64) -> Option<OutboxFault> {
-    let outbox: Result<Outbox<u64, u64>, OutboxFault> = Outbox::new(alloc, k);
-    outbox.err()
+fn in_words(alloc: Global, front: Front<'_, u64, u64>) -> Came {
+    match front {
+        Front::Reply(number) => format!(in alloc; "reply {number}"),
+        Front::Patch(rev) => format!(in alloc; "patch {rev}"),
+        Front::Snapshot => owned(alloc, "snapshot"),
+        Front::Nothing => owned(alloc, "nothing"),
+    }
 }
 
 #[test]
-fn holds_from_1_to_256_patches(rt: HostRuntime) {
-    for (k, fault) in [
-        (0, Some(OutboxFault::BadLimit)),
-        (1, None),
-        (MAX_PATCHES, None),
-        (MAX_PATCHES + 1, Some(OutboxFault::BadLimit)),
-        (u64::MAX, Some(OutboxFault::BadLimit)),
-    ] {
-        assert_eq!(rt; fault_of(rt.alloc(), k), fault, "k {k}");
-    }
+fn draws_in_order(rt: HostRuntime) {
+    let mut outbox: Numbers = Outbox::new(rt.alloc(), 2).expect(&rt, "an outbox");
+    play(&rt, &mut outbox, ROWS);
 }

@@ -1,210 +1,156 @@
 //! Tests of the texts of requests and messages, as `docs/PROTOCOL.md` shows them. The answer to each text is data in `tests/scripts`.
-use crate::shared::{gives, owned, patch_of, repeated, tree_of, view_of, words};
-use relay_proto::{
-    Message, MessageFault, Reply, Request, ResumeOutcome, Word, is_room_name, patch_text,
-    shown_text, snapshot_text,
-};
-use std::alloc::AllocGlobal;
+use crate::replies::REPLIES;
+use crate::rows::{Subject, UNKNOWN, play};
+use crate::shared::{Came, number, owned, patch_of, tree_of, view_of, words};
+use relay_proto::{Message, Reply, Request, is_room_name, patch_text, shown_text, snapshot_text};
+use relay_wire::cut;
+use std::alloc::{AllocGlobal, Global};
 use std::process::Abort;
 
-#[test]
-fn names_of_rooms(rt: HostRuntime) {
-    for (name, expected) in [
-        ("r", true),
-        (
-            "0123456789abcdefghijklmnopqrstuvwxyzABCDEFGHIJKLMNOPQRSTUVWXYZ-_",
-            true,
-        ),
-        (
-            "0123456789abcdefghijklmnopqrstuvwxyzABCDEFGHIJKLMNOPQRSTUVWXYZ-_0",
-            false,
-        ),
-        ("", false),
-        ("a/b", false),
-        ("é", false),
-    ] {
-        assert_eq!(rt; is_room_name(name), expected, "of {name}");
+const ROWS: &str = r#"
+# Names of rooms have 1 to 64 letters, digits, `-` and `_`.
+name r => true
+name 0123456789abcdefghijklmnopqrstuvwxyzABCDEFGHIJKLMNOPQRSTUVWXYZ-_ => true
+name 0123456789abcdefghijklmnopqrstuvwxyzABCDEFGHIJKLMNOPQRSTUVWXYZ-_0 => false
+name => false
+name a/b => false
+name é => false
+
+# Writes each reply, except refusals. The message of a reply has the same text.
+reply 0 => {"epoch":1,"kind":"welcome","rev":0,"session":2}
+reply 1 => {"id":2,"kind":"done","rev":1}
+reply 2 => {"id":1,"kind":"watching"}
+reply 3 => {"how":"nothing","id":4,"kind":"resumed"}
+reply 4 => {"id":5,"kind":"unwatched"}
+message-of-reply 0 => {"epoch":1,"kind":"welcome","rev":0,"session":2}
+message-of-reply 1 => {"id":2,"kind":"done","rev":1}
+message-of-reply 2 => {"id":1,"kind":"watching"}
+message-of-reply 3 => {"how":"nothing","id":4,"kind":"resumed"}
+message-of-reply 4 => {"id":5,"kind":"unwatched"}
+
+# Writes refusals. Only one that has a revision writes it.
+reply 5 => {"at":2,"fault":"test-failed","id":7,"kind":"refused"}
+reply 6 => {"at":null,"fault":"not-json","id":null,"kind":"refused"}
+reply 7 => {"at":null,"fault":"stale","id":9,"kind":"refused","rev":2}
+message-of-reply 5 => {"at":2,"fault":"test-failed","id":7,"kind":"refused"}
+message-of-reply 6 => {"at":null,"fault":"not-json","id":null,"kind":"refused"}
+message-of-reply 7 => {"at":null,"fault":"stale","id":9,"kind":"refused","rev":2}
+
+# Writes patches, snapshots, and what a view shows of a document.
+patch 3 [{"op":"move","path":"/0/0/b","from":"/0/0/a~1","more":1},{"op":"test","path":"","value":null}] => {"kind":"patch","patch":[{"from":"/0/0/a~1","op":"move","path":"/0/0/b"},{"op":"test","path":"","value":null}],"rev":3}
+snapshot 1 [[1],[]] => {"kind":"snapshot","rev":1,"view":[[1],[]]}
+shown 2 ["/a","/b",{"size":""}] {"a":{"c":"\u0007\"é","b":[-1]}} => {"kind":"snapshot","rev":2,"view":[[{"b":[-1],"c":"\u0007\"é"}],[],[1]]}
+
+# Messages read back: each is written again as the same text.
+message {"epoch":1,"kind":"welcome","rev":0,"session":2} => {"epoch":1,"kind":"welcome","rev":0,"session":2}
+message {"at":null,"fault":"stale","id":9,"kind":"refused","rev":2} => {"at":null,"fault":"stale","id":9,"kind":"refused","rev":2}
+message {"how":"snapshot","id":4,"kind":"resumed"} => {"how":"snapshot","id":4,"kind":"resumed"}
+message {"kind":"patch","patch":[{"op":"replace","path":"/0","value":[5]}],"rev":5} => {"kind":"patch","patch":[{"op":"replace","path":"/0","value":[5]}],"rev":5}
+message {"kind":"snapshot","rev":1,"view":[[{"x":1}],[]]} => {"kind":"snapshot","rev":1,"view":[[{"x":1}],[]]}
+message {} => NotMessage
+
+# Reads each request.
+request {"base":4,"do":"edit","id":1,"patch":[{"op":"remove","path":""}]} => edit 1 Some(4) 1
+request {"do":"watch","id":2,"view":["/a",""]} => watch 2 2
+request {"do":"resume","epoch":1,"id":3,"rev":0,"view":[""]} => resume 3 1
+request {"do":"unwatch","id":4} => unwatch 4 0
+
+# A request has 1,048,576 bytes at most.
+unwatch-of 1048576 => unwatch 1 0
+unwatch-of 1048577 => Refused(Refusal { fault: TooLong, id: None, at: None })
+"#;
+
+/// The texts of requests and messages.
+#[derive(Drop)]
+struct Texts;
+
+impl Subject for Texts {
+    fn act(&mut self, rt: &(impl Abort + AllocGlobal), act: &str) -> Came {
+        let (word, rest) = cut(act);
+        match word {
+            "name" => words(rt.alloc(), is_room_name(rest)),
+            "reply" => reply_at(rt, rest).text(rt.alloc()),
+            "message-of-reply" => Message::Reply(reply_at(rt, rest)).text(rt.alloc()),
+            "patch" => patch_written(rt, rest),
+            "snapshot" => snapshot_written(rt, rest),
+            "shown" => shown_written(rt, rest),
+            _ => act_of_reading(rt.alloc(), word, rest),
+        }
     }
 }
 
-/// Asserts the text of each reply, which is also that of its message.
-fn writes(rt: &(impl Abort + AllocGlobal), rows: &[(Reply, &str)]) {
-    for (reply, expected) in rows {
-        let text = reply.text(rt.alloc()).expect(rt, "memory");
-        gives(rt, text, expected, "a reply");
-        let text = Message::Reply(*reply).text(rt.alloc());
-        gives(rt, text.expect(rt, "memory"), expected, "a message");
+/// What comes of reading a text.
+fn act_of_reading(alloc: Global, word: &str, text: &str) -> Came {
+    match word {
+        "message" => written_again(alloc, text),
+        "request" => asked(alloc, text),
+        "unwatch-of" => asked_by_unwatch_of(alloc, text),
+        _ => owned(alloc, UNKNOWN),
     }
 }
 
-#[test]
-fn writes_each_reply_except_refusals(rt: HostRuntime) {
-    writes(
-        &rt,
-        &[
-            (
-                Reply::Welcome {
-                    epoch: 1,
-                    rev: 0,
-                    session: 2,
-                },
-                r#"{"epoch":1,"kind":"welcome","rev":0,"session":2}"#,
-            ),
-            (
-                Reply::Done { id: 2, rev: 1 },
-                r#"{"id":2,"kind":"done","rev":1}"#,
-            ),
-            (Reply::Watching { id: 1 }, r#"{"id":1,"kind":"watching"}"#),
-            (
-                Reply::Resumed {
-                    id: 4,
-                    how: ResumeOutcome::Nothing,
-                },
-                r#"{"how":"nothing","id":4,"kind":"resumed"}"#,
-            ),
-            (Reply::Unwatched { id: 5 }, r#"{"id":5,"kind":"unwatched"}"#),
-        ],
-    );
+/// The reply at a place.
+fn reply_at(rt: &impl Abort, place: &str) -> Reply {
+    let reply = REPLIES.get(number(rt, place) as usize);
+    *reply.expect(rt, "a reply")
 }
 
-/// Only a refusal that has a revision writes one.
-#[test]
-fn writes_refusals(rt: HostRuntime) {
-    writes(
-        &rt,
-        &[
-            (
-                Reply::Refused {
-                    id: Some(7),
-                    fault: Word::TestFailed,
-                    at: Some(2),
-                    rev: None,
-                },
-                r#"{"at":2,"fault":"test-failed","id":7,"kind":"refused"}"#,
-            ),
-            (
-                Reply::Refused {
-                    id: None,
-                    fault: Word::NotJson,
-                    at: None,
-                    rev: None,
-                },
-                r#"{"at":null,"fault":"not-json","id":null,"kind":"refused"}"#,
-            ),
-            (
-                Reply::Refused {
-                    id: Some(9),
-                    fault: Word::Stale,
-                    at: None,
-                    rev: Some(2),
-                },
-                r#"{"at":null,"fault":"stale","id":9,"kind":"refused","rev":2}"#,
-            ),
-        ],
-    );
+fn patch_written(rt: &(impl Abort + AllocGlobal), rest: &str) -> Came {
+    let (rev, patch) = cut(rest);
+    patch_text(rt.alloc(), number(rt, rev), &patch_of(rt, patch))
 }
 
-#[test]
-fn writes_patches_and_snapshots(rt: HostRuntime) {
-    let patch = patch_of(
-        &rt,
-        r#"[{"op":"move","path":"/0/0/b","from":"/0/0/a~1","more":1},{"op":"test","path":"","value":null}]"#,
-    );
-    let text = patch_text(rt.alloc(), 3, &patch).expect(&rt, "memory");
-    let expected =
-        r#"{"kind":"patch","patch":[{"from":"/0/0/a~1","op":"move","path":"/0/0/b"},{"op":"test","path":"","value":null}],"rev":3}"#;
-    gives(&rt, text, expected, "a patch");
-    let text = snapshot_text(rt.alloc(), 1, &tree_of(&rt, "[[1],[]]")).expect(&rt, "memory");
-    let expected = r#"{"kind":"snapshot","rev":1,"view":[[1],[]]}"#;
-    gives(&rt, text, expected, "a snapshot");
-    let view = view_of(&rt, r#"["/a","/b",{"size":""}]"#);
-    let document = tree_of(&rt, r#"{"a":{"c":"\u0007\"é","b":[-1]}}"#);
-    let text = shown_text(rt.alloc(), 2, &view, &document).expect(&rt, "memory");
-    let expected = r#"{"kind":"snapshot","rev":2,"view":[[{"b":[-1],"c":"\u0007\"é"}],[],[1]]}"#;
-    gives(&rt, text, expected, "what a view shows");
+fn snapshot_written(rt: &(impl Abort + AllocGlobal), rest: &str) -> Came {
+    let (rev, view) = cut(rest);
+    snapshot_text(rt.alloc(), number(rt, rev), &tree_of(rt, view))
 }
 
-/// Asserts that each text reads as a message and is written again as the same text.
-fn reads_back(rt: &(impl Abort + AllocGlobal), rows: &[&str]) {
-    for text in rows {
-        let message = Message::read(rt.alloc(), text).expect(rt, "a message");
-        let found = message.text(rt.alloc()).expect(rt, "memory");
-        gives(rt, found, text, text);
+/// What a view shows of a document at a revision.
+fn shown_written(rt: &(impl Abort + AllocGlobal), rest: &str) -> Came {
+    let (rev, rest) = cut(rest);
+    let (view, document) = cut(rest);
+    let view = view_of(rt, view);
+    shown_text(rt.alloc(), number(rt, rev), &view, &tree_of(rt, document))
+}
+
+/// The text of the message that is read from a text, or why it is no message.
+fn written_again(alloc: Global, text: &str) -> Came {
+    match Message::read(alloc, text) {
+        Ok(message) => message.text(alloc),
+        Err(fault) => words(alloc, fault),
     }
-}
-
-#[test]
-fn messages_read_back(rt: HostRuntime) {
-    reads_back(
-        &rt,
-        &[
-            r#"{"epoch":1,"kind":"welcome","rev":0,"session":2}"#,
-            r#"{"at":null,"fault":"stale","id":9,"kind":"refused","rev":2}"#,
-            r#"{"how":"snapshot","id":4,"kind":"resumed"}"#,
-            r#"{"kind":"patch","patch":[{"op":"replace","path":"/0","value":[5]}],"rev":5}"#,
-            r#"{"kind":"snapshot","rev":1,"view":[[{"x":1}],[]]}"#,
-        ],
-    );
-    let none = Message::read(rt.alloc(), "{}").err();
-    assert_eq!(rt; none, Some(MessageFault::NotMessage));
 }
 
 /// What a text requests, as text, or why it is no request.
-fn asked(rt: &(impl Abort + AllocGlobal), text: &str) -> String {
-    match Request::read(rt.alloc(), text) {
+fn asked(alloc: Global, text: &str) -> Came {
+    match Request::read(alloc, text) {
         Ok(Request::Edit { id, base, patch }) => {
             let count = patch.ops().len();
-            format!(in rt.alloc(); "edit {id} {base:?} {count}").expect(rt, "memory")
+            format!(in alloc; "edit {id} {base:?} {count}")
         }
-        Ok(Request::Watch { id, view }) => of_view(rt, "watch", id, view.len()),
-        Ok(Request::Resume { id, view, .. }) => of_view(rt, "resume", id, view.len()),
-        Ok(Request::Unwatch { id }) => of_view(rt, "unwatch", id, 0),
-        Err(fault) => words(rt, fault),
+        Ok(Request::Watch { id, view }) => of_view(alloc, "watch", id, view.len()),
+        Ok(Request::Resume { id, view, .. }) => of_view(alloc, "resume", id, view.len()),
+        Ok(Request::Unwatch { id }) => of_view(alloc, "unwatch", id, 0),
+        Err(fault) => words(alloc, fault),
     }
 }
 
-fn of_view(rt: &(impl Abort + AllocGlobal), what: &str, id: u64, len: u64) -> String {
-    format!(in rt.alloc(); "{what} {id} {len}").expect(rt, "memory")
+fn of_view(alloc: Global, what: &str, id: u64, len: u64) -> Came {
+    format!(in alloc; "{what} {id} {len}")
 }
 
-fn asks(rt: &(impl Abort + AllocGlobal), rows: &[(&str, &str)]) {
-    for (text, expected) in rows {
-        gives(rt, asked(rt, text), expected, text);
-    }
-}
-
-#[test]
-fn reads_each_request(rt: HostRuntime) {
-    asks(
-        &rt,
-        &[
-            (
-                r#"{"base":4,"do":"edit","id":1,"patch":[{"op":"remove","path":""}]}"#,
-                "edit 1 Some(4) 1",
-            ),
-            (r#"{"do":"watch","id":2,"view":["/a",""]}"#, "watch 2 2"),
-            (
-                r#"{"do":"resume","epoch":1,"id":3,"rev":0,"view":[""]}"#,
-                "resume 3 1",
-            ),
-            (r#"{"do":"unwatch","id":4}"#, "unwatch 4 0"),
-        ],
-    );
-}
-
-/// A valid request of `len` bytes.
-fn unwatch_of(rt: &(impl Abort + AllocGlobal), len: usize) -> String {
-    let mut text = owned(rt, r#"{"do":"unwatch","id":1}"#);
-    let blanks = repeated(rt, " ", len.saturating_sub(text.len()));
-    text.push_str(blanks.as_str()).expect(rt, "memory");
-    text
+/// What a valid request of so many bytes requests.
+fn asked_by_unwatch_of(alloc: Global, len: &str) -> Came {
+    let Ok(len) = len.parse::<usize>() else {
+        return owned(alloc, UNKNOWN);
+    };
+    let request = r#"{"do":"unwatch","id":1}"#;
+    let blanks = " ".repeat(alloc, len.saturating_sub(request.len()))?;
+    let text = format!(in alloc; "{request}{blanks}")?;
+    asked(alloc, text.as_str())
 }
 
 #[test]
-fn a_request_has_1048576_bytes_at_most(rt: HostRuntime) {
-    let most = unwatch_of(&rt, 1_048_576);
-    gives(&rt, asked(&rt, most.as_str()), "unwatch 1 0", "the most");
-    let more = unwatch_of(&rt, 1_048_577);
-    let refused = "Refused(Refusal { fault: TooLong, id: None, at: None })";
-    gives(&rt, asked(&rt, more.as_str()), refused, "one more");
+fn reads_and_writes_texts(rt: HostRuntime) {
+    play(&rt, &mut Texts, ROWS);
 }

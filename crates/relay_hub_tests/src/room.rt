@@ -1,170 +1,195 @@
 //! Tests of rooms: how they start, the last revision, and each call once. What edits do to a document, and what a client missed, is data in
 //! `tests/scripts`.
-use crate::shared::{gives, owned, patch_of, repeated, text_of, tree_of, view_of, words};
-use relay_history::{LAST_REVISION, MAX_REVISIONS, RevisionSlot};
-use relay_room::{CatchUp, Room, RoomFault};
+use crate::rows::{Subject, UNKNOWN, play};
+use crate::shared::{Came, number, owned, patch_of, repeated, tree_of, view_of, words};
+use relay_history::RevisionSlot;
+use relay_patch::Patch;
+use relay_room::{CatchFault, CatchUp, Room, RoomFault};
 use relay_translate::WatchIndex;
 use relay_tree::{Node, Tree};
+use relay_wire::cut;
 use std::alloc::{AllocGlobal, Global};
 use std::process::Abort;
 
-/// The revision of a room that starts with the tree, or why it cannot be made.
-fn start(alloc: Global, tree: Tree, rev: u64, h: u64) -> Result<u64, RoomFault> {
-    let room = Room::starting_at(alloc, tree, rev, h);
-    room.map(|room| room.revision())
+/// `start-nested 65 0 64` starts a room with lists that are 65 deep, at revision 0, and with a history of 64 revisions; `start-long` with a
+/// text of so many bytes. The last revision is 9,007,199,254,740,991, and a history holds 1,024 revisions at most. In front of a patch
+/// stands the revision that the edit is for, if there is one.
+const ROWS: &str = r#"
+# Starts with a document that is not too deep.
+start-nested 65 0 64 => Err(TooDeep)
+start-nested 65 9007199254740992 0 => Err(TooDeep)
+start-nested 64 0 64 => Ok(0)
+start-nested 1 9007199254740992 0 => Err(BadRevision)
+start-nested 1 9007199254740991 0 => Err(BadLimit)
+start-nested 1 9007199254740991 1025 => Err(BadLimit)
+start-nested 1 9007199254740991 1024 => Ok(9007199254740991)
+
+# Starts with a document that is not too heavy.
+start-long 262137 0 64 => Err(TooHeavy)
+start-long 262137 9007199254740992 64 => Err(TooHeavy)
+start-long 262136 0 64 => Ok(0)
+
+# A new room holds at least one revision.
+new 0 => Err(BadLimit)
+
+# Begins with null, and tells what was missed.
+new 1 => Ok(0)
+missed 0 [""] => nothing
+missed 1 [""] => Future
+edit - [{"op":"add","path":"","value":[]}] => Ok(1): []
+edit 1 [{"op":"add","path":"/-","value":1}] => Ok(2): [1]
+missed 0 [""] => snapshot
+missed 1 [""] => [{"op":"add","path":"/0/0/0","value":1}]
+
+# Makes no revision after the last. If none is left, that is the first reason to refuse, whatever the edit is for.
+start 9007199254740990 1 [] => Ok(9007199254740990)
+edit 0 [{"op":"add","path":"/-","value":1}] => Err(Stale { present: 9007199254740990 }): []
+edit - [{"op":"add","path":"/-","value":1}] => Ok(9007199254740991): [1]
+edit - [{"op":"add","path":"/-","value":1}] => Err(Exhausted): [1]
+edit 0 [] => Err(Exhausted): [1]
+edit - [{"op":"remove","path":""}] => Err(Exhausted): [1]
+
+# Tells whom the newest revision concerns.
+start 5 1 {"a":1,"b":[2]} => Ok(5)
+watch 1 ["/a"]
+watch 2 ["/b/0"]
+watch 3 ["","/a"]
+concerned => []
+edit - [{"op":"add","path":"/b/0","value":3}] => Ok(6): {"a":1,"b":[3,2]}
+concerned => [2, 3]
+edit - [] => Ok(7): {"a":1,"b":[3,2]}
+concerned => []
+"#;
+
+/// A room, and the views of its sessions.
+#[derive(Drop)]
+struct WatchedRoom {
+    room: Room,
+    watched: WatchIndex,
 }
 
-/// Nested lists, one in the other, `levels` deep.
+impl Subject for WatchedRoom {
+    fn act(&mut self, rt: &(impl Abort + AllocGlobal), act: &str) -> Came {
+        let (word, rest) = cut(act);
+        match word {
+            "new" => self.begin(rt.alloc(), Room::new(rt.alloc(), number(rt, rest))),
+            "start" => self.start(rt, rest),
+            "start-nested" => self.start_nested(rt, rest),
+            "start-long" => self.start_long(rt, rest),
+            "edit" => edit(rt, &mut self.room, rest),
+            "missed" => missed(rt, &self.room, rest),
+            "watch" => watch(rt, &mut self.watched, rest),
+            "concerned" => concerned(rt.alloc(), &self.room, &self.watched),
+            _ => owned(rt.alloc(), UNKNOWN),
+        }
+    }
+}
+
+impl WatchedRoom {
+    /// Goes on with this room. Tells its revision, or why there is none.
+    fn begin(&mut self, alloc: Global, made: Result<Room, RoomFault>) -> Came {
+        match made {
+            Ok(room) => {
+                self.room = room;
+                words(alloc, Ok::<u64, RoomFault>(self.room.revision()))
+            }
+            Err(fault) => words(alloc, Err::<u64, RoomFault>(fault)),
+        }
+    }
+
+    fn start(&mut self, rt: &(impl Abort + AllocGlobal), rest: &str) -> Came {
+        let (rev, rest) = cut(rest);
+        let (limit, document) = cut(rest);
+        self.start_with(rt, tree_of(rt, document), rev, limit)
+    }
+
+    fn start_nested(&mut self, rt: &(impl Abort + AllocGlobal), rest: &str) -> Came {
+        let (levels, rest) = cut(rest);
+        let (rev, limit) = cut(rest);
+        let document = nested(rt, number(rt, levels) as usize);
+        self.start_with(rt, document, rev, limit)
+    }
+
+    fn start_long(&mut self, rt: &(impl Abort + AllocGlobal), rest: &str) -> Came {
+        let (bytes, rest) = cut(rest);
+        let (rev, limit) = cut(rest);
+        let text = repeated(rt, "a", number(rt, bytes) as usize);
+        self.start_with(rt, Tree::from(Node::Text(text)), rev, limit)
+    }
+
+    fn start_with(
+        &mut self,
+        rt: &(impl Abort + AllocGlobal),
+        document: Tree,
+        rev: &str,
+        limit: &str,
+    ) -> Came {
+        let (rev, limit) = (number(rt, rev), number(rt, limit));
+        self.begin(
+            rt.alloc(),
+            Room::starting_at(rt.alloc(), document, rev, limit),
+        )
+    }
+}
+
+/// Nested lists, one in the other, so many levels deep.
 fn nested(rt: &(impl Abort + AllocGlobal), levels: usize) -> Tree {
     let mut text = repeated(rt, "[", levels);
-    let rest = repeated(rt, "]", levels);
-    text.push_str(rest.as_str()).expect(rt, "memory");
+    let ends = repeated(rt, "]", levels);
+    text.push_str(ends.as_str()).expect(rt, "memory");
     tree_of(rt, text.as_str())
 }
 
-#[test]
-fn starts_with_a_document_that_is_not_too_deep(rt: HostRuntime) {
-    for (levels, rev, h, expected) in [
-        (65, 0, 64, Err(RoomFault::TooDeep)),
-        (65, LAST_REVISION + 1, 0, Err(RoomFault::TooDeep)),
-        (64, 0, 64, Ok(0)),
-        (1, LAST_REVISION + 1, 0, Err(RoomFault::BadRevision)),
-        (1, LAST_REVISION, 0, Err(RoomFault::BadLimit)),
-        (
-            1,
-            LAST_REVISION,
-            MAX_REVISIONS + 1,
-            Err(RoomFault::BadLimit),
-        ),
-        (1, LAST_REVISION, MAX_REVISIONS, Ok(LAST_REVISION)),
-    ] {
-        let tree = nested(&rt, levels);
-        assert_eq!(rt;
-            start(rt.alloc(), tree, rev, h),
-            expected,
-            "{levels} levels"
-        );
-    }
+/// The answer to an edit, and the document after it.
+fn edit(rt: &(impl Abort + AllocGlobal), room: &mut Room, rest: &str) -> Came {
+    let (base, patch) = cut(rest);
+    let patch = patch_of(rt, patch);
+    edit_by(rt.alloc(), room, base.parse::<u64>().ok(), &patch)
 }
 
-#[test]
-fn starts_with_a_document_that_is_not_too_heavy(rt: HostRuntime) {
-    for (bytes, rev, expected) in [
-        (262_137, 0, Err(RoomFault::TooHeavy)),
-        (262_137, LAST_REVISION + 1, Err(RoomFault::TooHeavy)),
-        (262_136, 0, Ok(0)),
-    ] {
-        let tree = Tree::from(Node::Text(repeated(&rt, "a", bytes)));
-        assert_eq!(rt; start(rt.alloc(), tree, rev, 64), expected, "{bytes} bytes");
-    }
+fn edit_by(alloc: Global, room: &mut Room, base: Option<u64>, patch: &Patch) -> Came {
+    let answer = room.edit(alloc, RevisionSlot::new(alloc)?, base, patch);
+    let document = room.document().text(alloc)?;
+    format!(in alloc; "{answer:?}: {document}")
 }
 
-#[test]
-fn a_new_room_holds_at_least_one_revision(rt: HostRuntime) {
-    assert_eq!(rt; Room::new(rt.alloc(), 0).err(), Some(RoomFault::BadLimit));
+/// What a client missed, as text, or why nothing tells it.
+fn missed(rt: &(impl Abort + AllocGlobal), room: &Room, rest: &str) -> Came {
+    let (rev, view) = cut(rest);
+    let view = view_of(rt, view);
+    missed_in_words(
+        rt.alloc(),
+        room.catch_up(rt.alloc(), number(rt, rev), &view),
+    )
 }
 
 /// What a client missed, as text: a patch is written out.
-fn missed(rt: &(impl Abort + AllocGlobal), room: &Room, rev: u64, view: &str) -> String {
-    match room.catch_up(rt.alloc(), rev, &view_of(rt, view)) {
-        Ok(CatchUp::Patch(patch)) => text_of(rt, &patch.to_tree(rt.alloc()).expect(rt, "memory")),
-        Ok(CatchUp::Nothing) => owned(rt, "nothing"),
-        Ok(CatchUp::Snapshot) => owned(rt, "snapshot"),
-        Err(fault) => words(rt, fault),
+fn missed_in_words(alloc: Global, missed: Result<CatchUp, CatchFault>) -> Came {
+    match missed {
+        Ok(CatchUp::Patch(patch)) => patch.to_tree(alloc)?.text(alloc),
+        Ok(CatchUp::Nothing) => owned(alloc, "nothing"),
+        Ok(CatchUp::Snapshot) => owned(alloc, "snapshot"),
+        Err(fault) => words(alloc, fault),
     }
 }
 
-/// The answer to an edit, and the document after it.
-fn edit(
-    rt: &(impl Abort + AllocGlobal),
-    room: &mut Room,
-    base: Option<u64>,
-    patch: &str,
-) -> String {
-    let slot = RevisionSlot::new(rt.alloc()).expect(rt, "memory");
-    let answer = room.edit(rt.alloc(), slot, base, &patch_of(rt, patch));
-    let document = text_of(rt, room.document());
-    format!(in rt.alloc(); "{answer:?}: {document}").expect(rt, "memory")
-}
-
-/// Asserts the answer to each edit, and the room after it.
-fn edits(rt: &(impl Abort + AllocGlobal), room: &mut Room, rows: &[(Option<u64>, &str, &str)]) {
-    for (base, patch, expected) in rows {
-        gives(rt, edit(rt, room, *base, patch), expected, patch);
-    }
-}
-
-const ADD: &str = r#"[{"op":"add","path":"/-","value":1}]"#;
-
-#[test]
-fn begins_with_null_and_tells_what_was_missed(rt: HostRuntime) {
-    let mut room = Room::new(rt.alloc(), 1).expect(&rt, "a room");
-    gives(&rt, missed(&rt, &room, 0, r#"[""]"#), "nothing", "0");
-    gives(&rt, missed(&rt, &room, 1, r#"[""]"#), "Future", "1");
-    let set = r#"[{"op":"add","path":"","value":[]}]"#;
-    edits(
-        &rt,
-        &mut room,
-        &[(None, set, "Ok(1): []"), (Some(1), ADD, "Ok(2): [1]")],
-    );
-    gives(&rt, missed(&rt, &room, 0, r#"[""]"#), "snapshot", "0");
-    let patch = r#"[{"op":"add","path":"/0/0/0","value":1}]"#;
-    gives(&rt, missed(&rt, &room, 1, r#"[""]"#), patch, "1");
-}
-
-/// If no revision is left, that is the first reason to refuse, whatever the edit is for.
-#[test]
-fn makes_no_revision_after_the_last(rt: HostRuntime) {
-    let tree = tree_of(&rt, "[]");
-    let room = Room::starting_at(rt.alloc(), tree, LAST_REVISION - 1, 1);
-    edits(
-        &rt,
-        &mut room.expect(&rt, "a room"),
-        &[
-            (Some(0), ADD, "Err(Stale { present: 9007199254740990 }): []"),
-            (None, ADD, "Ok(9007199254740991): [1]"),
-            (None, ADD, "Err(Exhausted): [1]"),
-            (Some(0), "[]", "Err(Exhausted): [1]"),
-            (
-                None,
-                r#"[{"op":"remove","path":""}]"#,
-                "Err(Exhausted): [1]",
-            ),
-        ],
-    );
-}
-
-fn watch(rt: &(impl Abort + AllocGlobal), watched: &mut WatchIndex, session: u64, view: &str) {
+fn watch(rt: &(impl Abort + AllocGlobal), watched: &mut WatchIndex, rest: &str) -> Came {
+    let (session, view) = cut(rest);
     let view = view_of(rt, view);
-    watched.put(rt.alloc(), session, &view).expect(rt, "memory");
+    watched.put(rt.alloc(), number(rt, session), &view)?;
+    owned(rt.alloc(), "")
 }
 
-/// Asserts which sessions the newest revision touches.
-fn concerns(rt: &(impl Abort + AllocGlobal), room: &Room, watched: &WatchIndex, sessions: &[u64]) {
-    let found = room.touched(rt.alloc(), watched).expect(rt, "memory");
-    assert_eq!(rt; found.as_slice(), sessions);
+/// The sessions that the newest revision touches.
+fn concerned(alloc: Global, room: &Room, watched: &WatchIndex) -> Came {
+    words(alloc, room.touched(alloc, watched)?)
 }
 
 #[test]
-fn tells_whom_the_newest_revision_concerns(rt: HostRuntime) {
-    let mut watched = WatchIndex::new(rt.alloc());
-    watch(&rt, &mut watched, 1, r#"["/a"]"#);
-    watch(&rt, &mut watched, 2, r#"["/b/0"]"#);
-    watch(&rt, &mut watched, 3, r#"["","/a"]"#);
-    let tree = tree_of(&rt, r#"{"a":1,"b":[2]}"#);
-    let mut room = Room::starting_at(rt.alloc(), tree, 5, 1).expect(&rt, "a room");
-    concerns(&rt, &room, &watched, &[]);
-    let insertion = r#"[{"op":"add","path":"/b/0","value":3}]"#;
-    edits(
-        &rt,
-        &mut room,
-        &[(None, insertion, r#"Ok(6): {"a":1,"b":[3,2]}"#)],
-    );
-    concerns(&rt, &room, &watched, &[2, 3]);
-    edits(
-        &rt,
-        &mut room,
-        &[(None, "[]", r#"Ok(7): {"a":1,"b":[3,2]}"#)],
-    );
-    concerns(&rt, &room, &watched, &[]);
+fn keeps_a_document_and_its_changes(rt: HostRuntime) {
+    let mut room = WatchedRoom {
+        room: Room::new(rt.alloc(), 1).expect(&rt, "a room"),
+        watched: WatchIndex::new(rt.alloc()),
+    };
+    play(&rt, &mut room, ROWS);
 }

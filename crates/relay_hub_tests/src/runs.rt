@@ -1,22 +1,26 @@
 //! Tests of runs of events, complete and stopped: the events that have answers are those that were done. Errors are returned here, so that
 //! `tests/refuse-allocations` can distinguish out of memory from a wrong answer.
-use crate::hub::{EDIT, REFUSED, WATCH};
+use crate::shared::{Came, at_revision, owned, words};
 use relay_hub::{Answer, Event, Hub, HubFault, Text};
-use relay_tree::Tree;
 use std::alloc::{AllocError, AllocGlobal, Global};
 use std::process::Abort;
 use std::test::Fail;
+
+/// What session 1 says: it watches, edits, and has an edit refused.
+const SAID: &str = r#"{"do":"watch","id":1,"view":["/x"]}
+{"do":"edit","id":2,"patch":[{"op":"add","path":"","value":{"x":1}}]}
+{"do":"edit","id":3,"patch":[{"op":"replace","path":"/x","value":2},{"op":"remove","path":"/y"}]}"#;
 
 fn text_of(alloc: Global, text: &str) -> Result<Text, AllocError> {
     Ok(Text::of(String::from_str(alloc, text)?))
 }
 
-/// Session 1 watches, edits, has an edit refused, and draws until nothing waits.
+/// Session 1 says all of [`SAID`], and draws until nothing waits.
 fn events(alloc: Global) -> Result<Vec<Event>, AllocError> {
     let mut events = Vec::new(alloc);
     let room = text_of(alloc, "r")?;
     events.push(Event::Open { room })?;
-    for text in [WATCH, EDIT, REFUSED] {
+    for text in SAID.lines() {
         let text = text_of(alloc, text)?;
         events.push(Event::Receive { session: 1, text })?;
     }
@@ -26,32 +30,33 @@ fn events(alloc: Global) -> Result<Vec<Event>, AllocError> {
     Ok(events)
 }
 
-/// The answers to these events, as text.
-const ANSWERS: [&str; 10] = [
-    "Opened(1)",
-    "Heard(Answered { short: 0 })",
-    "Heard(Answered { short: 0 })",
-    "Heard(Answered { short: 0 })",
-    r#"{"epoch":1,"kind":"welcome","rev":0,"session":1}"#,
-    r#"{"id":1,"kind":"watching"}"#,
-    r#"{"id":2,"kind":"done","rev":1}"#,
-    r#"{"at":1,"fault":"missing","id":3,"kind":"refused"}"#,
-    r#"{"kind":"snapshot","rev":1,"view":[[1]]}"#,
-    "Drawn(None)",
-];
+/// The answers to these events, as text, a line each.
+const ANSWERS: &str = r#"Opened(1)
+Heard(Answered { short: 0 })
+Heard(Answered { short: 0 })
+Heard(Answered { short: 0 })
+{"epoch":1,"kind":"welcome","rev":0,"session":1}
+{"id":1,"kind":"watching"}
+{"id":2,"kind":"done","rev":1}
+{"at":1,"fault":"missing","id":3,"kind":"refused"}
+{"kind":"snapshot","rev":1,"view":[[1]]}
+Drawn(None)"#;
+
+/// How many they are.
+const COUNT: usize = 10;
 
 /// An answer, as text. Of a draw it is the text itself, if there was one.
-fn in_words(alloc: Global, answer: &Answer) -> Result<String, AllocError> {
+fn in_words(alloc: Global, answer: &Answer) -> Came {
     match answer {
-        Answer::Drawn(Some(text)) => String::from_str(alloc, text.as_str()),
-        other => format!(in alloc; "{other:?}"),
+        Answer::Drawn(Some(text)) => owned(alloc, text.as_str()),
+        other => words(alloc, other),
     }
 }
 
 /// Asserts that the answers are the first of [`ANSWERS`].
 fn are_the_first(rt: &(impl Abort + AllocGlobal), answers: &[Answer]) -> Result<(), Fail> {
-    assert!(rt; answers.len() <= ANSWERS.len());
-    for (answer, wanted) in answers.iter().zip(ANSWERS) {
+    assert!(rt; answers.len() <= COUNT);
+    for (answer, wanted) in answers.iter().zip(ANSWERS.lines()) {
         let answer = in_words(rt.alloc(), answer)?;
         assert_eq!(rt; answer.as_str(), wanted);
     }
@@ -59,20 +64,19 @@ fn are_the_first(rt: &(impl Abort + AllocGlobal), answers: &[Answer]) -> Result<
 }
 
 /// How many messages wait for session 1, and what it should hold, if it is open.
-fn state(alloc: Global, hub: &Hub) -> Result<String, Fail> {
+fn state(alloc: Global, hub: &Hub) -> Came {
     let waiting = hub.waiting(1);
-    let truth = match hub.truth(alloc, 1) {
-        Ok(Some((rev, view))) => revision_and_view(alloc, rev, &view)?,
-        Ok(None) => String::from_str(alloc, "nothing")?,
-        Err(HubFault::NoMemory) => return Err(Fail::from("no memory")),
-        Err(fault) => format!(in alloc; "{fault:?}")?,
-    };
-    Ok(format!(in alloc; "{waiting:?} {truth}")?)
+    let truth = truth(alloc, hub)?;
+    format!(in alloc; "{waiting:?} {truth}")
 }
 
-fn revision_and_view(alloc: Global, rev: u64, view: &Tree) -> Result<String, AllocError> {
-    let view = view.text(alloc)?;
-    format!(in alloc; "{rev} {view}")
+fn truth(alloc: Global, hub: &Hub) -> Came {
+    match hub.truth(alloc, 1) {
+        Ok(Some((rev, view))) => at_revision(alloc, rev, &view),
+        Ok(None) => owned(alloc, "nothing"),
+        Err(HubFault::NoMemory) => Err(AllocError),
+        Err(fault) => words(alloc, fault),
+    }
 }
 
 #[test]
@@ -83,7 +87,7 @@ fn runs_the_first_script(rt: HostRuntime) -> Result<(), Fail> {
         .run(rt.alloc(), events.as_slice())
         .ok()
         .ok_or("no memory")?;
-    assert_eq!(rt; answers.len(), ANSWERS.len());
+    assert_eq!(rt; answers.len(), COUNT);
     are_the_first(&rt, answers.as_slice())
 }
 
@@ -96,15 +100,23 @@ fn does(rt: &(impl Abort + AllocGlobal), hub: &mut Hub, events: &[Event]) -> Res
 }
 
 /// Runs the first `count` events on another hub.
-fn does_again(alloc: Global, twin: &mut Hub, events: &[Event], count: usize) -> Result<(), Fail> {
+fn does_again(
+    alloc: Global,
+    twin: &mut Hub,
+    events: &[Event],
+    count: usize,
+) -> Result<(), AllocError> {
     let done = events.get(..count).unwrap_or(&[]);
-    twin.run(alloc, done).ok().ok_or("no memory")?;
-    Ok(())
+    match twin.run(alloc, done) {
+        Ok(_) => Ok(()),
+        Err(_) => Err(AllocError),
+    }
 }
 
-fn are_alike(rt: &(impl Abort + AllocGlobal), hub: &Hub, twin: &Hub) -> Result<(), Fail> {
+fn are_alike(rt: &(impl Abort + AllocGlobal), hub: &Hub, twin: &Hub) -> Result<(), AllocError> {
     let state_of_twin = state(rt.alloc(), twin)?;
-    assert_eq!(rt; state(rt.alloc(), hub)?.as_str(), state_of_twin.as_str());
+    let state = state(rt.alloc(), hub)?;
+    assert_eq!(rt; state.as_str(), state_of_twin.as_str());
     Ok(())
 }
 
@@ -116,7 +128,8 @@ fn twin_follows(
     let events = events(rt.alloc())?;
     let done = does(rt, hub, events.as_slice())?;
     does_again(rt.alloc(), twin, events.as_slice(), done)?;
-    are_alike(rt, hub, twin)
+    are_alike(rt, hub, twin)?;
+    Ok(())
 }
 
 /// A run that runs out of memory stops. Its answers are those of the events that were done, and another hub on which the same events are

@@ -1,7 +1,9 @@
 //! Tests of what no contract states: that the definitions mean RFC 6455, and that the calls succeed.
-use crate::shared::{gives, owned, repeated};
+use crate::rows::{Subject, UNKNOWN, play};
+use crate::shared::{Came, number, owned, words};
 use relay_shake::{Shake, refusal, shake};
-use std::alloc::AllocGlobal;
+use relay_wire::cut;
+use std::alloc::{AllocGlobal, Global};
 use std::process::Abort;
 
 const SAMPLE: &str =
@@ -11,17 +13,179 @@ const SAMPLE: &str =
 const SWITCH: &str =
     "HTTP/1.1 101 Switching Protocols\r\nUpgrade: websocket\r\nConnection: Upgrade\r\nSec-WebSocket-Accept: ";
 
-/// The sample's room, and the accept value of its key (RFC 6455, section 1.3).
-const ACCEPTED: &str = "a s3pPLMBiTxaQ9kYGzzhZRbK+xOo=";
+/// Of an acceptance a row wants the room and the accept value, and of a refusal the status. `s3pPLMBiTxaQ9kYGzzhZRbK+xOo=` is the accept
+/// value of the sample's key (RFC 6455, section 1.3).
+const ROWS: &str = r"
+# Accepts handshakes.
+sample => a s3pPLMBiTxaQ9kYGzzhZRbK+xOo=
+with dGhlIHNhbXBsZSBub25jZQ== -> AQIDBAUGBwgJCgsMDQ4PEC== => a OfS0wDaT5NoxF2gqm7Zj2YtetzM=
+with /rooms/a -> /rooms/R-2_x => R-2_x s3pPLMBiTxaQ9kYGzzhZRbK+xOo=
+with Upgrade: websocket -> uPGRADE: WebSocket => a s3pPLMBiTxaQ9kYGzzhZRbK+xOo=
+with keep-alive, Upgrade -> keep-alive,\t upgrade ,x => a s3pPLMBiTxaQ9kYGzzhZRbK+xOo=
+with Connection: keep-alive, Upgrade -> connection: close\r\nCONNECTION: Upgrade => a s3pPLMBiTxaQ9kYGzzhZRbK+xOo=
+with Sec-WebSocket-Key -> sec-websocket-key => a s3pPLMBiTxaQ9kYGzzhZRbK+xOo=
 
-/// A header line of the sample that must appear exactly once.
-const HOST: &str = "Host: localhost\r\n";
+# Refuses by the first check that fails.
+with GET -> POST => 405
+with GET /rooms/a -> POST /other => 405
+with /rooms/a -> /other => 404
+with /rooms/a -> /rooms/ => 404
+with /rooms/a -> /rooms/a?x=1 => 404
+with /rooms/a -> /rooms/a/b => 404
+with /rooms/a HTTP/1.1 -> /other HTTP/1.0 => 404
+with HTTP/1.1 -> HTTP/1.0 => 400
+without Host: localhost\r\n => 400
+with Upgrade: websocket -> Upgrade: websockets => 400
+with keep-alive, Upgrade -> keep-alive => 400
+with Version: 13 -> Version: 8 => 426
+without Sec-WebSocket-Version: 13\r\n => 400
+without Sec-WebSocket-Key: dGhlIHNhbXBsZSBub25jZQ==\r\n => 400
+with ZQ== -> ZQ= => 400
+with deflate\r\n\r\n -> deflate\r\n\r\nx => 400
+with 13\r\nSec-WebSocket-Extensions: permessage-deflate\r\n\r\n -> 8\r\n\r\nx => 426
 
-/// Another one.
-const KEY: &str = "Sec-WebSocket-Key: dGhlIHNhbXBsZSBub25jZQ==\r\n";
+# Refuses a header that stands twice.
+with Host: localhost\r\n -> Host: localhost\r\nHost: localhost\r\n => 400
+with Sec-WebSocket-Key: dGhlIHNhbXBsZSBub25jZQ==\r\n -> Sec-WebSocket-Key: dGhlIHNhbXBsZSBub25jZQ==\r\nSec-WebSocket-Key: dGhlIHNhbXBsZSBub25jZQ==\r\n => 400
 
-/// A header line that is ignored.
-const LINE: &str = "X: y\r\n";
+# Waits for the rest of a head, whatever part of it has come.
+each-part => more
+
+# Waits for 8,192 bytes at most.
+unfinished 8192 => more
+unfinished 8193 => 431
+
+# Takes 32 header lines at most. The sample has 6.
+lines 0 => a s3pPLMBiTxaQ9kYGzzhZRbK+xOo=
+lines 26 => a s3pPLMBiTxaQ9kYGzzhZRbK+xOo=
+lines 27 => 431
+
+# No head begins with a byte 0.
+byte-0 => 400
+
+# Refuses where there is no room.
+refusal-503 => 503
+";
+
+/// Handshakes: the sample, or the sample with a change.
+#[derive(Drop)]
+struct Handshakes;
+
+impl Subject for Handshakes {
+    fn act(&mut self, rt: &(impl Abort + AllocGlobal), act: &str) -> Came {
+        let alloc = rt.alloc();
+        let (word, rest) = cut(act);
+        match word {
+            "sample" => answer_to(alloc, SAMPLE.as_bytes()),
+            "with" => answer_with(rt, rest),
+            "without" => answer_to_changed(rt, rest, ""),
+            "each-part" => answer_to_each_part(alloc),
+            "unfinished" => answer_to_unfinished(alloc, number(rt, rest) as usize),
+            "lines" => answer_with_lines(rt, number(rt, rest) as usize),
+            "byte-0" => answer_to(alloc, "\0".as_bytes()),
+            "refusal-503" => refusal_503(alloc),
+            _ => owned(alloc, UNKNOWN),
+        }
+    }
+}
+
+/// The answer to the sample with a part replaced, as in `PART -> OTHER`.
+fn answer_with(rt: &(impl Abort + AllocGlobal), change: &str) -> Came {
+    let (part, other) = change.split_once(" -> ").expect(rt, "a change");
+    answer_to_changed(rt, part, other)
+}
+
+/// The answer to the sample with one of its parts replaced by another text. Both have `\r\n` and `\t` as letters.
+fn answer_to_changed(rt: &(impl Abort + AllocGlobal), part: &str, other: &str) -> Came {
+    let part = unescaped(rt.alloc(), part)?;
+    let (before, behind) = SAMPLE
+        .split_once(part.as_str())
+        .expect(rt, "a part of the sample");
+    let other = unescaped(rt.alloc(), other)?;
+    answer_to_joined(rt.alloc(), before, other.as_str(), behind)
+}
+
+fn answer_to_joined(alloc: Global, before: &str, part: &str, behind: &str) -> Came {
+    let head = format!(in alloc; "{before}{part}{behind}")?;
+    answer_to(alloc, head.as_bytes())
+}
+
+fn unescaped(alloc: Global, text: &str) -> Came {
+    text.replace(alloc, r"\r\n", "\r\n")?
+        .replace(alloc, r"\t", "\t")
+}
+
+/// The answer to each part that the sample begins with, if it is always that more has to come.
+fn answer_to_each_part(alloc: Global) -> Came {
+    let bytes = SAMPLE.as_bytes();
+    for len in 0..bytes.len() {
+        let answer = answer_to(alloc, &bytes[..len])?;
+        if answer.as_str() != MORE {
+            return Ok(answer);
+        }
+    }
+    owned(alloc, MORE)
+}
+
+/// The answer to so many bytes whose last header line does not end.
+fn answer_to_unfinished(alloc: Global, len: usize) -> Came {
+    let head = "GET /rooms/a HTTP/1.1\r\nX: ";
+    let rest = "a".repeat(alloc, len.saturating_sub(head.len()))?;
+    answer_to_joined(alloc, head, rest.as_str(), "")
+}
+
+/// The answer to the sample with so many more lines behind its line `Host`, which are ignored.
+fn answer_with_lines(rt: &(impl Abort + AllocGlobal), count: usize) -> Came {
+    let lines = "\r\nX: y".repeat(rt.alloc(), count)?;
+    let (host, _) = SAMPLE
+        .split_once("\r\nUpgrade")
+        .expect(rt, "a part of the sample");
+    let (_, behind) = SAMPLE
+        .split_once("localhost")
+        .expect(rt, "a part of the sample");
+    answer_to_joined(rt.alloc(), host, lines.as_str(), behind)
+}
+
+/// The answer to these bytes, as text.
+fn answer_to(alloc: Global, bytes: &[u8]) -> Came {
+    match shake(alloc, bytes)? {
+        Shake::More => owned(alloc, MORE),
+        Shake::Accept { room, reply } => acceptance_in_words(
+            alloc,
+            room.as_str(),
+            reply.as_slice(),
+        ),
+        Shake::Refuse { status, reply } => refusal_in_words(alloc, status, reply.as_slice()),
+    }
+}
+
+const MORE: &str = "more";
+
+/// An acceptance, as text: the room and the accept value, if the rest of the reply is as it should be.
+fn acceptance_in_words(alloc: Global, room: &str, reply: &[u8]) -> Came {
+    let reply = String::from_utf8_lossy(alloc, reply)?;
+    let value = accept_value(reply.as_str()).unwrap_or("and another reply");
+    format!(in alloc; "{room} {value}")
+}
+
+fn accept_value(reply: &str) -> Option<&str> {
+    reply.strip_prefix(SWITCH)?.strip_suffix("\r\n\r\n")
+}
+
+/// A refusal, as text: its status, if the reply has exactly the bytes for it, and otherwise its bytes.
+fn refusal_in_words(alloc: Global, status: u16, reply: &[u8]) -> Came {
+    if reply == refused(status).as_bytes() {
+        words(alloc, status)
+    } else {
+        words(alloc, reply)
+    }
+}
+
+/// The refusal of those for whom there is no room, as text.
+fn refusal_503(alloc: Global) -> Came {
+    let reply = refusal(alloc, 503)?;
+    refusal_in_words(alloc, 503, reply.as_slice())
+}
 
 /// The bytes of a refusal with this status.
 fn refused(status: u16) -> &'static str {
@@ -41,155 +205,7 @@ fn refused(status: u16) -> &'static str {
     }
 }
 
-/// A refusal, as text: its status, if the reply has exactly the bytes for it.
-fn refusal_in_words(rt: &(impl Abort + AllocGlobal), status: u16, reply: &[u8]) -> String {
-    let told = if reply == refused(status).as_bytes() {
-        status.to_string(rt.alloc())
-    } else {
-        format!(in rt.alloc(); "{status} {reply:?}")
-    };
-    told.expect(rt, "memory")
-}
-
-/// An acceptance, as text: the room and the accept value, if the rest of the reply is as it should be.
-fn acceptance_in_words(rt: &(impl Abort + AllocGlobal), room: &str, reply: &[u8]) -> String {
-    let reply = String::from_utf8_lossy(rt.alloc(), reply).expect(rt, "memory");
-    let value = accept_value(reply.as_str()).unwrap_or("and another reply");
-    format!(in rt.alloc(); "{room} {value}").expect(rt, "memory")
-}
-
-fn accept_value(reply: &str) -> Option<&str> {
-    reply.strip_prefix(SWITCH)?.strip_suffix("\r\n\r\n")
-}
-
-/// The answer to these bytes, as text.
-fn answer_to(rt: &(impl Abort + AllocGlobal), bytes: &[u8]) -> String {
-    match shake(rt.alloc(), bytes).expect(rt, "memory") {
-        Shake::More => owned(rt, "more"),
-        Shake::Accept { room, reply } => acceptance_in_words(rt, room.as_str(), reply.as_slice()),
-        Shake::Refuse { status, reply } => refusal_in_words(rt, status, reply.as_slice()),
-    }
-}
-
-/// The answer to the sample with one of its parts replaced by another text.
-fn answer_with(rt: &(impl Abort + AllocGlobal), part: &str, other: &str) -> String {
-    let (before, behind) = SAMPLE.split_once(part).expect(rt, "a part of the sample");
-    let head = format!(in rt.alloc(); "{before}{other}{behind}").expect(rt, "memory");
-    answer_to(rt, head.as_bytes())
-}
-
-/// Asserts the answer to the sample with a part replaced, as each row says.
-fn answers(rt: &(impl Abort + AllocGlobal), rows: &[(&str, &str, &str)]) {
-    for (part, other, expected) in rows {
-        gives(rt, answer_with(rt, part, other), expected, other);
-    }
-}
-
 #[test]
-fn accepts_handshakes(rt: HostRuntime) {
-    answers(
-        &rt,
-        &[
-            ("localhost", "localhost", ACCEPTED),
-            (
-                "dGhlIHNhbXBsZSBub25jZQ==",
-                "AQIDBAUGBwgJCgsMDQ4PEC==",
-                "a OfS0wDaT5NoxF2gqm7Zj2YtetzM=",
-            ),
-            (
-                "/rooms/a",
-                "/rooms/R-2_x",
-                "R-2_x s3pPLMBiTxaQ9kYGzzhZRbK+xOo=",
-            ),
-            ("Upgrade: websocket", "uPGRADE: WebSocket", ACCEPTED),
-            ("keep-alive, Upgrade", "keep-alive,\t upgrade ,x", ACCEPTED),
-            (
-                "Connection: keep-alive, ",
-                "connection: close\r\nCONNECTION: ",
-                ACCEPTED,
-            ),
-            ("Sec-WebSocket-Key", "sec-websocket-key", ACCEPTED),
-        ],
-    );
-}
-
-#[test]
-fn refuses_by_the_first_check_that_fails(rt: HostRuntime) {
-    answers(
-        &rt,
-        &[
-            ("GET", "POST", "405"),
-            ("GET /rooms/a", "POST /other", "405"),
-            ("/rooms/a", "/other", "404"),
-            ("/rooms/a", "/rooms/", "404"),
-            ("/rooms/a", "/rooms/a?x=1", "404"),
-            ("/rooms/a", "/rooms/a/b", "404"),
-            ("/rooms/a HTTP/1.1", "/other HTTP/1.0", "404"),
-            ("HTTP/1.1", "HTTP/1.0", "400"),
-            (HOST, "", "400"),
-            ("Upgrade: websocket", "Upgrade: websockets", "400"),
-            ("keep-alive, Upgrade", "keep-alive", "400"),
-            ("Version: 13", "Version: 8", "426"),
-            ("Sec-WebSocket-Version: 13\r\n", "", "400"),
-            (KEY, "", "400"),
-            ("ZQ==", "ZQ=", "400"),
-            ("deflate\r\n\r\n", "deflate\r\n\r\nx", "400"),
-            (
-                "13\r\nSec-WebSocket-Extensions: permessage-deflate\r\n\r\n",
-                "8\r\n\r\nx",
-                "426",
-            ),
-        ],
-    );
-}
-
-#[test]
-fn refuses_a_header_that_stands_twice(rt: HostRuntime) {
-    for line in [HOST, KEY] {
-        let twice = repeated(&rt, line, 2);
-        answers(&rt, &[(line, twice.as_str(), "400")]);
-    }
-}
-
-#[test]
-fn waits_for_the_rest_of_a_head(rt: HostRuntime) {
-    let bytes = SAMPLE.as_bytes();
-    for len in 0..bytes.len() {
-        gives(&rt, answer_to(&rt, &bytes[..len]), "more", "a part");
-    }
-}
-
-/// The answer to `len` bytes whose last header line does not end.
-fn answer_to_unfinished(rt: &(impl Abort + AllocGlobal), len: usize) -> String {
-    let mut head = owned(rt, "GET /rooms/a HTTP/1.1\r\nX: ");
-    let rest = repeated(rt, "a", len.saturating_sub(head.len()));
-    head.push_str(rest.as_str()).expect(rt, "memory");
-    answer_to(rt, head.as_bytes())
-}
-
-#[test]
-fn waits_for_8192_bytes_at_most(rt: HostRuntime) {
-    gives(&rt, answer_to_unfinished(&rt, 8_192), "more", "8,192 bytes");
-    gives(&rt, answer_to_unfinished(&rt, 8_193), "431", "8,193 bytes");
-}
-
-#[test]
-fn takes_32_header_lines_at_most(rt: HostRuntime) {
-    for (more_than_6, expected) in [(0, ACCEPTED), (26, ACCEPTED), (27, "431")] {
-        let mut host = owned(&rt, HOST);
-        let lines = repeated(&rt, LINE, more_than_6);
-        host.push_str(lines.as_str()).expect(&rt, "memory");
-        answers(&rt, &[(HOST, host.as_str(), expected)]);
-    }
-}
-
-#[test]
-fn no_head_begins_with_a_byte_0(rt: HostRuntime) {
-    gives(&rt, answer_to(&rt, "\0".as_bytes()), "400", "a byte 0");
-}
-
-#[test]
-fn refuses_where_there_is_no_room(rt: HostRuntime) {
-    let reply = refusal(rt.alloc(), 503).expect(&rt, "memory");
-    assert_eq!(rt; reply.as_slice(), refused(503).as_bytes());
+fn answers_handshakes(rt: HostRuntime) {
+    play(&rt, &mut Handshakes, ROWS);
 }

@@ -1,9 +1,7 @@
 //! Fault injection: each call of a link on its stream fails once, with each kind of fault.
 //!
 //! The link joins session 1, which watches the whole document. Its client watches, edits twice and closes.
-use crate::frames::CLOSE;
-use crate::link_fixture::Act::{Comes, Says};
-use crate::link_fixture::{Act, LinkFixture, SAMPLE, lent, new_hub};
+use crate::link_fixture::{ASKS, LinkFixture, lent, new_hub};
 use relay_hub::{Event, Hub};
 use relay_link::{Stage, Turn};
 use relay_wire::{InjectedFault, Wire};
@@ -15,12 +13,12 @@ use std::process::Abort;
 const WATCH: &str = r#"{"do":"watch","id":1,"view":[""]}"#;
 
 /// The client's messages. Each is sent after the one before it was read and answered.
-const MESSAGES: [Act; 5] = [
-    Comes(SAMPLE),
-    Says(WATCH),
-    Says(r#"{"do":"edit","id":2,"patch":[{"op":"add","path":"","value":{"x":1}}]}"#),
-    Says(r#"{"do":"edit","id":3,"patch":[{"op":"replace","path":"/x","value":2}]}"#),
-    Comes(CLOSE),
+const MESSAGES: [&str; 5] = [
+    ASKS,
+    r#"says {"do":"watch","id":1,"view":[""]}"#,
+    r#"says {"do":"edit","id":2,"patch":[{"op":"add","path":"","value":{"x":1}}]}"#,
+    r#"says {"do":"edit","id":3,"patch":[{"op":"replace","path":"/x","value":2}]}"#,
+    "hex 88 82 00 00 00 00 03 e8",
 ];
 
 /// The number of turns of a run, and the maximum number of its calls.
@@ -98,7 +96,7 @@ impl<'a> Run<'a> {
     fn feed(&mut self, rt: &(impl Abort + AllocGlobal)) {
         if self.may_come(rt) {
             if let Some(act) = MESSAGES.get(self.next) {
-                self.side.prepare(rt, *act);
+                self.side.prepare(rt, act);
                 self.next = self.next.saturating_add(1);
             }
         }
@@ -155,6 +153,13 @@ impl<'a> Run<'a> {
         }
     }
 
+    /// Runs all turns, and tells what came of them.
+    fn told(&mut self, rt: &(impl Abort + AllocGlobal)) -> String {
+        self.turns(rt);
+        self.tell_rest(rt);
+        mem::replace(&mut self.told, String::new(rt.alloc()))
+    }
+
     /// Appends what is left after the turns, and checks that session 1 draws the same from the hub and from its twin.
     fn tell_rest(&mut self, rt: &(impl Abort + AllocGlobal)) {
         let texts = drawn(rt, &mut self.hub);
@@ -173,10 +178,7 @@ impl<'a> Run<'a> {
 
 /// The result of a run over a wire, in words.
 fn told_of(rt: &(impl Abort + AllocGlobal), wire: &RefCell<Wire>) -> String {
-    let mut run = Run::new(rt, wire);
-    run.turns(rt);
-    run.tell_rest(rt);
-    mem::replace(&mut run.told, String::new(rt.alloc()))
+    Run::new(rt, wire).told(rt)
 }
 
 /// The result of a run in which one call has a fault.

@@ -1,48 +1,32 @@
 //! A client at the other end of a link: it receives what the link wrote in a turn.
-use crate::link_fixture::Act::{Draws, Says};
-use crate::link_fixture::{LinkFixture, joined, new_hub};
+use crate::link_fixture::{LinkFixture, new_hub};
 use relay_delivery::{
     ReceiveFault, SocketFault, client_on, hear_next, hear_texts, receive, write_turn,
 };
 use relay_follow::{Follower, HearFault};
 use relay_hub::Hub;
 use relay_link::MAX_DRAWS;
-use relay_wire::Wire;
+use relay_wire::{Row, Wire};
 use std::alloc::AllocGlobal;
+use std::cell::RefCell;
 use std::process::Abort;
 use tungstenite::{Duplex, NoMask};
 
-/// The requests of a session that watches one pointer, how many messages it gets after each, and what its client holds then.
-const REQUESTS: [(&str, usize, &str); 6] = [
-    (r#"{"do":"watch","id":1,"view":["/n"]}"#, 3, "0 [[]]"),
-    (
-        r#"{"do":"edit","id":2,"patch":[{"op":"add","path":"","value":{"n":1}}]}"#,
-        2,
-        "1 [[1]]",
-    ),
-    (
-        r#"{"do":"edit","id":3,"patch":[{"op":"replace","path":"/n","value":[2]}]}"#,
-        2,
-        "2 [[[2]]]",
-    ),
-    (
-        r#"{"do":"edit","id":4,"patch":[{"op":"remove","path":"/m"}]}"#,
-        1,
-        "2 [[[2]]]",
-    ),
-    (
-        r#"{"do":"edit","id":5,"patch":[{"op":"add","path":"/m","value":0}]}"#,
-        1,
-        "2 [[[2]]]",
-    ),
-    (
-        r#"{"do":"edit","id":6,"patch":[{"op":"remove","path":"/n/0"}]}"#,
-        2,
-        "4 [[[]]]",
-    ),
-];
+/// The requests of a session that watches one pointer, each behind how many messages it gets then, and what its client holds afterwards.
+const REQUESTS: &str = r#"
+3 {"do":"watch","id":1,"view":["/n"]} => 0 [[]]
+2 {"do":"edit","id":2,"patch":[{"op":"add","path":"","value":{"n":1}}]} => 1 [[1]]
+2 {"do":"edit","id":3,"patch":[{"op":"replace","path":"/n","value":[2]}]} => 2 [[[2]]]
+1 {"do":"edit","id":4,"patch":[{"op":"remove","path":"/m"}]} => 2 [[[2]]]
+1 {"do":"edit","id":5,"patch":[{"op":"add","path":"/m","value":0}]} => 2 [[[2]]]
+2 {"do":"edit","id":6,"patch":[{"op":"remove","path":"/n/0"}]} => 4 [[[]]]
+"#;
 
-/// The revision and the view that a follower holds, as text.
+/// Asserts the revision and the view that a follower holds, as text.
+fn holds(rt: &(impl Abort + AllocGlobal), follower: &Follower, wanted: &str) {
+    assert_eq!(rt; held(rt, follower).as_str(), wanted);
+}
+
 fn held(rt: &(impl Abort + AllocGlobal), follower: &Follower) -> String {
     let (Some(rev), Some(view)) = (follower.rev(), follower.view()) else {
         return String::from_str(rt.alloc(), "nothing").expect(rt, "memory");
@@ -51,33 +35,90 @@ fn held(rt: &(impl Abort + AllocGlobal), follower: &Follower) -> String {
     format!(in rt.alloc(); "{rev} {view}").expect(rt, "memory")
 }
 
-/// The bytes that a link writes in a write turn, after its session made a request.
-fn told(
-    rt: &(impl Abort + AllocGlobal),
-    side: &mut LinkFixture<'_>,
-    hub: &mut Hub,
-    request: &str,
-) -> Vec<u8> {
-    assert!(rt; hub.receive(rt.alloc(), 1, request).is_ok());
-    let from = side.written_len(rt);
-    let turn = write_turn(rt.alloc(), &mut side.link, hub, MAX_DRAWS);
-    drop(turn.expect(rt, "memory"));
-    side.written_from(rt, from)
+/// A link whose session is open, its hub, and the client at the other end.
+#[derive(Drop)]
+struct Delivery<'a> {
+    hub: Hub,
+    side: LinkFixture<'a>,
+    follower: Follower,
+}
+
+impl<'a> Delivery<'a> {
+    fn new(rt: &(impl Abort + AllocGlobal), wire: &'a RefCell<Wire>) -> Delivery<'a> {
+        Delivery {
+            hub: new_hub(rt),
+            side: LinkFixture::new(rt, wire),
+            follower: Follower::new(),
+        }
+    }
+
+    /// Opens the link. Nothing is drawn yet.
+    fn enter(&mut self, rt: &(impl Abort + AllocGlobal)) {
+        self.side.enter(rt, &mut self.hub);
+    }
+
+    /// The client receives what the link writes in a write turn, after each request of its session.
+    fn receive_all(&mut self, rt: &(impl Abort + AllocGlobal)) {
+        self.enter(rt);
+        for row in REQUESTS.lines().filter_map(|line| Row::of(line)) {
+            let mut frames = self.told(rt, row.act);
+            let received = receive(rt.alloc(), frames.as_mut_slice(), &mut self.follower);
+            assert_eq!(rt; received, Ok(()));
+            holds(rt, &self.follower, row.wanted);
+        }
+    }
+
+    /// The bytes that the link writes in a write turn, after its session made a request.
+    fn told(&mut self, rt: &(impl Abort + AllocGlobal), request: &str) -> Vec<u8> {
+        assert!(rt; self.hub.receive(rt.alloc(), 1, request).is_ok());
+        let from = self.side.written_len(rt);
+        let turn = write_turn(rt.alloc(), &mut self.side.link, &mut self.hub, MAX_DRAWS);
+        drop(turn.expect(rt, "memory"));
+        self.side.written_from(rt, from)
+    }
+
+    /// The client hears each message by a socket, after each turn that read a request.
+    fn hear_all(&mut self, rt: &(impl Abort + AllocGlobal)) {
+        self.enter(rt);
+        self.side.prepare(rt, "draws 32");
+        for row in REQUESTS.lines().filter_map(|line| Row::of(line)) {
+            let frames = self.answered(rt, row.act);
+            hears(rt, frames.as_slice(), row.times, &mut self.follower);
+            holds(rt, &self.follower, row.wanted);
+        }
+    }
+
+    /// The bytes that the link writes in a turn in which it reads a request of its session.
+    fn answered(&mut self, rt: &(impl Abort + AllocGlobal), request: &str) -> Vec<u8> {
+        let from = self.side.written_len(rt);
+        let asked = format!(in rt.alloc(); "says {request}").expect(rt, "memory");
+        self.side.prepare(rt, asked.as_str());
+        drop(self.side.turned(rt, &mut self.hub));
+        self.side.written_from(rt, from)
+    }
 }
 
 #[test]
 fn a_client_holds_its_view_after_each_turn(rt: HostRuntime) {
     let wire = Wire::new(rt.alloc());
-    let mut hub = new_hub(&rt);
-    let mut side = LinkFixture::new(&rt, &wire);
-    side.enter(&rt, &mut hub);
-    let mut follower = Follower::new();
-    for (request, _, wanted) in REQUESTS {
-        let mut frames = told(&rt, &mut side, &mut hub, request);
-        let received = receive(rt.alloc(), frames.as_mut_slice(), &mut follower);
-        assert_eq!(rt; received, Ok(()), "after {request}");
-        assert_eq!(rt; held(&rt, &follower).as_str(), wanted, "after {request}");
-    }
+    Delivery::new(&rt, &wire).receive_all(&rt);
+}
+
+#[test]
+fn a_socket_hears_what_a_turn_drew(rt: HostRuntime) {
+    let wire = Wire::new(rt.alloc());
+    Delivery::new(&rt, &wire).hear_all(&rt);
+}
+
+/// Hears so many messages by a socket over these bytes.
+fn hears(rt: &(impl Abort + AllocGlobal), bytes: &[u8], count: u64, follower: &mut Follower) {
+    let stream = Duplex {
+        reader: bytes,
+        writer: Vec::new(rt.alloc()),
+    };
+    let mut socket = client_on(rt.alloc(), stream, NoMask);
+    let heard = hear_texts(rt.alloc(), &mut socket, count as usize, follower);
+    assert!(rt; heard.is_ok());
 }
 
 /// A frame with a snapshot.
@@ -100,58 +141,18 @@ const ENDS: [(&[u8], Result<(), ReceiveFault>); 10] = [
     ),
 ];
 
+/// Asserts what a new client answers to these frames, the first of which has the snapshot.
+fn receives(rt: &(impl Abort + AllocGlobal), frames: &mut [u8], wanted: Result<(), ReceiveFault>) {
+    let mut follower = Follower::new();
+    assert_eq!(rt; receive(rt.alloc(), frames, &mut follower), wanted);
+    holds(rt, &follower, "1 []");
+}
+
 #[test]
 fn a_client_stops_at_the_first_frame_that_is_no_message(rt: HostRuntime) {
     for (end, wanted) in ENDS {
-        let mut frames = joined(&rt, &[SNAPSHOT, end]);
-        let mut follower = Follower::new();
-        let received = receive(rt.alloc(), frames.as_mut_slice(), &mut follower);
-        assert_eq!(rt; received, wanted, "at {end:?}");
-        assert_eq!(rt; held(&rt, &follower).as_str(), "1 []", "at {end:?}");
-    }
-}
-
-/// The bytes that a link writes in a turn in which it reads a request of its session.
-fn answered(
-    rt: &(impl Abort + AllocGlobal),
-    side: &mut LinkFixture<'_>,
-    hub: &mut Hub,
-    request: &'static str,
-) -> Vec<u8> {
-    let from = side.written_len(rt);
-    side.prepare(rt, Says(request));
-    drop(side.turned(rt, hub));
-    side.written_from(rt, from)
-}
-
-/// Hears so many messages by a socket over these bytes.
-fn hears(
-    rt: &(impl Abort + AllocGlobal),
-    bytes: &[u8],
-    count: usize,
-    follower: &mut Follower,
-) -> Result<(), SocketFault> {
-    let stream = Duplex {
-        reader: bytes,
-        writer: Vec::new(rt.alloc()),
-    };
-    let mut socket = client_on(rt.alloc(), stream, NoMask);
-    hear_texts(rt.alloc(), &mut socket, count, follower)
-}
-
-#[test]
-fn a_socket_hears_what_a_turn_drew(rt: HostRuntime) {
-    let wire = Wire::new(rt.alloc());
-    let mut hub = new_hub(&rt);
-    let mut side = LinkFixture::new(&rt, &wire);
-    side.enter(&rt, &mut hub);
-    side.prepare(&rt, Draws(MAX_DRAWS));
-    let mut follower = Follower::new();
-    for (request, count, wanted) in REQUESTS {
-        let frames = answered(&rt, &mut side, &mut hub, request);
-        let heard = hears(&rt, frames.as_slice(), count, &mut follower);
-        assert!(rt; heard.is_ok(), "after {request}");
-        assert_eq!(rt; held(&rt, &follower).as_str(), wanted, "after {request}");
+        let mut frames = [SNAPSHOT, end].concat(rt.alloc()).expect(&rt, "memory");
+        receives(&rt, frames.as_mut_slice(), wanted);
     }
 }
 
@@ -170,17 +171,19 @@ fn fault(rt: &(impl Abort + AllocGlobal), bytes: &[u8]) -> &'static str {
     }
 }
 
+/// What arrives at a socket, and what it answers.
+const ARRIVALS: [(&[u8], &str); 6] = [
+    (SNAPSHOT, "heard"),
+    (b"", "socket"),
+    (b"\x81\x02{", "socket"),
+    (b"\x81\x01\xff", "socket"),
+    (b"\x82\x02{}", "not text"),
+    (b"\x81\x02{}", "refused"),
+];
+
 #[test]
 fn a_socket_says_why_it_heard_nothing(rt: HostRuntime) {
-    let rows: [(&[u8], &str); 6] = [
-        (SNAPSHOT, "heard"),
-        (b"", "socket"),
-        (b"\x81\x02{", "socket"),
-        (b"\x81\x01\xff", "socket"),
-        (b"\x82\x02{}", "not text"),
-        (b"\x81\x02{}", "refused"),
-    ];
-    for (bytes, wanted) in rows {
+    for (bytes, wanted) in ARRIVALS {
         assert_eq!(rt; fault(&rt, bytes), wanted, "at {bytes:?}");
     }
 }

@@ -1,125 +1,147 @@
 //! The end of a link in each stage: from this side, or because its stream ends or fails.
-use crate::frames::BINARY;
-use crate::link_fixture::Act::{Comes, Draws, End, Ends, Idle, Reads, Says, Writes};
-use crate::link_fixture::{Row, SAMPLE, play, play_after};
-use relay_wire::InjectedFault::{End as Ending, Fail as Failing, Nothing};
-use std::alloc::AllocGlobal;
-use std::process::Abort;
+use crate::links::play;
 
-const ENTERS: Row = (1, Comes(SAMPLE), "open a; Open as 1 > switched");
+/// What leads to a stage, the row that ends the link, and that it stays ended.
+const ROWS: &str = r#"
+# Nothing has arrived yet.
+end => Gone by Ended
+writes well => Gone
+end => Gone
+idle => Gone
 
-const QUIET: Row = (1, Draws(0), "Open as 1");
+ends => Gone by Peer
+writes well => Gone
+end => Gone
+idle => Gone
 
-/// Nothing has arrived yet.
-const NEW: &[Row] = &[];
+reads fail => Gone by Stream
+writes well => Gone
+end => Gone
+idle => Gone
 
-const IN_HEAD: &[Row] = &[(1, Comes(b"GET /rooms/a"), "Head")];
+# A part of the head has arrived.
+text GET /rooms/a => Head
+end => Gone by Ended
+writes well => Gone
+end => Gone
+idle => Gone
 
-/// The session is open, and the reply is not written yet.
-const IN_REPLY: &[Row] = &[
-    (1, Writes(Some(Nothing)), "Head"),
-    (1, Comes(SAMPLE), "open a; Head as 1"),
-];
+text GET /rooms/a => Head
+ends => Gone by Peer
+writes well => Gone
+end => Gone
+idle => Gone
 
-const IN_OPEN: &[Row] = &[ENTERS, QUIET];
+text GET /rooms/a => Head
+reads fail => Gone by Stream
+writes well => Gone
+end => Gone
+idle => Gone
 
-/// The head of a frame has arrived, but not its mask.
-const IN_FRAME: &[Row] = &[ENTERS, QUIET, (1, Comes(b"\x81\x85"), "Open as 1")];
+# The session is open, and the reply is not written yet.
+writes not-ready => Head
+asks 13 /rooms/a => open a; Head as 1
+end => close 1; Gone by Ended
+writes well => Gone
+end => Gone
+idle => Gone
 
-const IN_OUTPUT: &[Row] = &[
-    ENTERS,
-    (1, Writes(Some(Nothing)), "draw 1; draw 1; Open as 1"),
-];
+writes not-ready => Head
+asks 13 /rooms/a => open a; Head as 1
+writes fail => close 1; Gone by Stream
+writes well => Gone
+end => Gone
+idle => Gone
 
-const IN_CLOSING: &[Row] = &[
-    ENTERS,
-    QUIET,
-    (1, Comes(BINARY), "close 1; Closing by Binary > close 1003"),
-];
+writes not-ready => Head
+asks 13 /rooms/a => open a; Head as 1
+writes end => close 1; Gone by Stream
+writes well => Gone
+end => Gone
+idle => Gone
 
-/// The rows that end a link, each after the rows that lead to its stage.
-const ENDINGS: &[(&[Row], Row)] = &[
-    (NEW, (1, End, "Gone by Ended")),
-    (NEW, (1, Ends(b""), "Gone by Peer")),
-    (NEW, (1, Reads(Some(Failing)), "Gone by Stream")),
-    (IN_HEAD, (1, End, "Gone by Ended")),
-    (IN_HEAD, (1, Ends(b""), "Gone by Peer")),
-    (IN_HEAD, (1, Reads(Some(Failing)), "Gone by Stream")),
-    (IN_REPLY, (1, End, "close 1; Gone by Ended")),
-    (
-        IN_REPLY,
-        (1, Writes(Some(Failing)), "close 1; Gone by Stream"),
-    ),
-    (
-        IN_REPLY,
-        (1, Writes(Some(Ending)), "close 1; Gone by Stream"),
-    ),
-    (
-        IN_OPEN,
-        (1, Reads(Some(Failing)), "close 1; Gone by Stream"),
-    ),
-    (IN_OPEN, (1, Reads(Some(Ending)), "close 1; Gone by Peer")),
-    (IN_FRAME, (1, Ends(b""), "close 1; Gone by Peer")),
-    (
-        IN_FRAME,
-        (1, Reads(Some(Failing)), "close 1; Gone by Stream"),
-    ),
-    // The link tries once to send a close frame.
-    (IN_OUTPUT, (1, End, "close 1; Gone by Ended")),
-    (IN_CLOSING, (1, End, "Gone by Ended")),
-    (IN_CLOSING, (1, Ends(b""), "Gone by Peer")),
-    (IN_CLOSING, (1, Reads(Some(Failing)), "Gone by Stream")),
-    (IN_CLOSING, (1, Comes(b"\x81\x01x"), "Gone by Broken")),
-];
+# The link is open.
+asks 13 /rooms/a => open a; Open as 1 > switched
+draws 0 => Open as 1
+reads fail => close 1; Gone by Stream
+writes well => Gone
+end => Gone
+idle => Gone
+
+asks 13 /rooms/a => open a; Open as 1 > switched
+draws 0 => Open as 1
+reads end => close 1; Gone by Peer
+writes well => Gone
+end => Gone
+idle => Gone
+
+# The head of a frame has arrived, but not its mask.
+asks 13 /rooms/a => open a; Open as 1 > switched
+draws 0 => Open as 1
+hex 81 85 => Open as 1
+ends => close 1; Gone by Peer
+writes well => Gone
+end => Gone
+idle => Gone
+
+asks 13 /rooms/a => open a; Open as 1 > switched
+draws 0 => Open as 1
+hex 81 85 => Open as 1
+reads fail => close 1; Gone by Stream
+writes well => Gone
+end => Gone
+idle => Gone
+
+# Output waits for the stream. The link tries once to send a close frame.
+asks 13 /rooms/a => open a; Open as 1 > switched
+writes not-ready => draw 1; draw 1; Open as 1
+end => close 1; Gone by Ended
+writes well => Gone
+end => Gone
+idle => Gone
+
+# The link has sent its close.
+asks 13 /rooms/a => open a; Open as 1 > switched
+draws 0 => Open as 1
+hex 82 81 00 00 00 00 78 => close 1; Closing by Binary > close 1003
+end => Gone by Ended
+writes well => Gone
+end => Gone
+idle => Gone
+
+asks 13 /rooms/a => open a; Open as 1 > switched
+draws 0 => Open as 1
+hex 82 81 00 00 00 00 78 => close 1; Closing by Binary > close 1003
+ends => Gone by Peer
+writes well => Gone
+end => Gone
+idle => Gone
+
+asks 13 /rooms/a => open a; Open as 1 > switched
+draws 0 => Open as 1
+hex 82 81 00 00 00 00 78 => close 1; Closing by Binary > close 1003
+reads fail => Gone by Stream
+writes well => Gone
+end => Gone
+idle => Gone
+
+asks 13 /rooms/a => open a; Open as 1 > switched
+draws 0 => Open as 1
+hex 82 81 00 00 00 00 78 => close 1; Closing by Binary > close 1003
+hex 81 01 78 => Gone by Broken
+writes well => Gone
+end => Gone
+idle => Gone
+
+# Requests that arrived before the end of the input are answered.
+asks 13 /rooms/a => open a; Open as 1 > switched
+draws 2 => draw 1; draw 1; Open as 1 > {"epoch":1,"kind":"welcome","rev":0,"session":1}
+says {"do":"unwatch","id":7} => receive 1; draw 1; draw 1; Open as 1 > {"id":7,"kind":"unwatched"}
+ends 81 80 00 00 00 00 => receive 1; draw 1; draw 1; Open as 1 > {"at":null,"fault":"not-json","id":null,"kind":"refused"}
+idle => close 1; Gone by Peer
+"#;
 
 #[test]
 fn ends_in_each_stage(rt: HostRuntime) {
-    end_all(&rt, ENDINGS);
-}
-
-fn end_all(rt: &(impl Abort + AllocGlobal), endings: &[(&[Row], Row)]) {
-    for (beginning, ending) in endings {
-        end(rt, *beginning, *ending);
-    }
-}
-
-/// Asserts that the row ends the link, and that it stays ended.
-fn end(rt: &(impl Abort + AllocGlobal), beginning: &[Row], ending: Row) {
-    play_after(
-        rt,
-        beginning,
-        &[
-            ending,
-            (1, Writes(None), "Gone"),
-            (1, End, "Gone"),
-            (1, Idle, "Gone"),
-        ],
-    );
-}
-
-/// Requests that arrived before the end of the input are answered.
-#[test]
-fn answers_a_client_that_is_half_closed(rt: HostRuntime) {
-    play(
-        &rt,
-        &[
-            ENTERS,
-            (
-                1,
-                Draws(2),
-                r#"draw 1; draw 1; Open as 1 > {"epoch":1,"kind":"welcome","rev":0,"session":1}"#,
-            ),
-            (
-                1,
-                Says(r#"{"do":"unwatch","id":7}"#),
-                r#"receive 1; draw 1; draw 1; Open as 1 > {"id":7,"kind":"unwatched"}"#,
-            ),
-            (
-                1,
-                Ends(b"\x81\x80\x00\x00\x00\x00"),
-                r#"receive 1; draw 1; draw 1; Open as 1 > {"at":null,"fault":"not-json","id":null,"kind":"refused"}"#,
-            ),
-            (1, Idle, "close 1; Gone by Peer"),
-        ],
-    );
+    play(&rt, ROWS);
 }

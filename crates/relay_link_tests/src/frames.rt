@@ -1,167 +1,207 @@
 //! The frames that an open link receives (RFC 6455, section 5). All masks of the client are zeros.
-use crate::link_fixture::Act::{Comes, Draws, Ends, Idle, Says};
-use crate::link_fixture::play_open;
+use crate::links::play;
 
-pub(crate) const BINARY: &[u8] = b"\x82\x81\x00\x00\x00\x00x";
+/// What arrives at an open link, and what the link makes of it. The sections are those of RFC 6455.
+const ROWS: &str = r#"
+# A binary message closes the link.
+enter
+hex 82 81 00 00 00 00 78 => close 1; Closing by Binary > close 1003
+15 idle => Closing
+idle => Gone by Silent
+idle => Gone
 
-pub(crate) const CLOSE: &[u8] = b"\x88\x82\x00\x00\x00\x00\x03\xe8";
+# A close is answered.
+enter
+hex 89 80 00 00 00 00 88 82 00 00 00 00 03 e8 => Open as 1 > pong
+idle => close 1; Closing by Peer > close 1000
+idle => Gone by Peer
 
-const PING: &[u8] = b"\x89\x80\x00\x00\x00\x00";
+# A closing link drops the messages before the other side's close.
+enter
+hex 82 81 00 00 00 00 78 => close 1; Closing by Binary > close 1003
+says {} => Closing
+hex 88 82 00 00 00 00 03 e8 => Closing
+idle => Gone by Peer
 
-const PONG: &[u8] = b"\x8a\x80\x00\x00\x00\x00";
+# A link ends where the other side does: between frames, in a head, in a payload, and by a close.
+enter
+ends => close 1; Gone by Peer
 
-const PING_OF_126: &[u8] =
-    b"\x89\xfe\x00\x7e\x00\x00\x00\x00xxxxxxxxxxxxxxxxxxxxxxxxxxxxxxxxxxxxxxxxxxxxxxxxxxxxxxxxxxxxxxxxxxxxxxxxxxxxxxxxxxxxxxxxxxxxxxxxxxxxxxxxxxxxxxxxxxxxxxxxxxxxxx";
+enter
+ends 81 => close 1; Gone by Peer
 
-const PING_AND_CLOSE: &[u8] = b"\x89\x80\x00\x00\x00\x00\x88\x82\x00\x00\x00\x00\x03\xe8";
+enter
+ends 81 82 00 00 00 00 78 => close 1; Gone by Peer
+
+enter
+hex 88 82 00 00 00 00 03 e8 => close 1; Closing by Peer > close 1000
+
+# A ping is answered, and a pong is not.
+enter
+hex 8a 80 00 00 00 00 => Open as 1
+hex 89 80 00 00 00 00 => Open as 1 > pong
+idle => Open as 1
+
+# Fragments are joined. A character may be cut in two, and a ping may come between the fragments.
+enter
+hex 01 82 00 00 00 00 22 c3 => Open as 1
+hex 89 80 00 00 00 00 => Open as 1 > pong
+hex 80 82 00 00 00 00 a9 22 => receive 1; Open as 1
+draws 9 => draw 1; draw 1; draw 1; Open as 1 > {"epoch":1,"kind":"welcome","rev":0,"session":1} > {"at":null,"fault":"shape","id":null,"kind":"refused"}
+
+# A frame without a mask ends the link (section 5.1).
+enter
+hex 81 01 78 => close 1; Gone by Broken
+idle => Gone
+
+# A continuation without a first fragment, and a message inside another (section 5.4).
+enter
+hex 80 81 00 00 00 00 78 => close 1; Gone by Broken
+idle => Gone
+
+enter
+hex 01 81 00 00 00 00 78 81 81 00 00 00 00 78 => close 1; Gone by Broken
+idle => Gone
+
+# A close with half a status code (section 5.5.1).
+enter
+hex 88 81 00 00 00 00 03 => close 1; Gone by Broken
+idle => Gone
+
+# Reserved bits, and reserved opcodes of messages and of control frames (section 5.2).
+enter
+hex c1 81 00 00 00 00 78 => close 1; Gone by Broken
+idle => Gone
+
+enter
+hex 83 81 00 00 00 00 78 => close 1; Gone by Broken
+idle => Gone
+
+enter
+hex 8b 80 00 00 00 00 => close 1; Gone by Broken
+idle => Gone
+
+enter
+hex 91 81 00 00 00 00 78 => close 1; Gone by Broken
+
+enter
+hex a1 81 00 00 00 00 78 => close 1; Gone by Broken
+
+enter
+hex 84 81 00 00 00 00 78 => close 1; Gone by Broken
+
+enter
+hex 85 81 00 00 00 00 78 => close 1; Gone by Broken
+
+enter
+hex 86 81 00 00 00 00 78 => close 1; Gone by Broken
+
+enter
+hex 87 81 00 00 00 00 78 => close 1; Gone by Broken
+
+enter
+hex 8c 81 00 00 00 00 78 => close 1; Gone by Broken
+
+enter
+hex 8d 81 00 00 00 00 78 => close 1; Gone by Broken
+
+enter
+hex 8e 81 00 00 00 00 78 => close 1; Gone by Broken
+
+enter
+hex 8f 81 00 00 00 00 78 => close 1; Gone by Broken
+
+# A close, a ping and a pong in fragments, and of 126 bytes, by a length of two bytes or of eight (section 5.5).
+enter
+hex 08 80 00 00 00 00 => close 1; Gone by Broken
+
+enter
+bring hex 88 fe 00 7e 00 00 00 00
+fills 126 => close 1; Gone by Broken
+idle => Gone
+
+enter
+bring hex 88 ff 00 00 00 00 00 00 00 7e 00 00 00 00
+fills 126 => close 1; Gone by Broken
+
+enter
+hex 09 80 00 00 00 00 => close 1; Gone by Broken
+
+enter
+bring hex 89 fe 00 7e 00 00 00 00
+fills 126 => close 1; Gone by Broken
+idle => Gone
+
+enter
+bring hex 89 ff 00 00 00 00 00 00 00 7e 00 00 00 00
+fills 126 => close 1; Gone by Broken
+
+enter
+hex 0a 80 00 00 00 00 => close 1; Gone by Broken
+
+enter
+bring hex 8a fe 00 7e 00 00 00 00
+fills 126 => close 1; Gone by Broken
+idle => Gone
+
+enter
+bring hex 8a ff 00 00 00 00 00 00 00 7e 00 00 00 00
+fills 126 => close 1; Gone by Broken
+
+# A text that is not UTF-8 (section 8.1): no character, half a character, and in the reason of a close.
+enter
+hex 81 81 00 00 00 00 ff => close 1; Gone by Broken
+
+enter
+hex 81 81 00 00 00 00 c3 => close 1; Gone by Broken
+
+enter
+hex 88 83 00 00 00 00 03 e8 ff => close 1; Gone by Broken
+
+# A character that is cut by the end of a fragment goes on in the next one, or the text is not UTF-8.
+enter
+hex 01 82 00 00 00 00 22 c3 => Open as 1
+hex 80 81 00 00 00 00 78 => close 1; Gone by Broken
+
+enter
+hex 01 82 00 00 00 00 22 c3 => Open as 1
+hex 80 80 00 00 00 00 => close 1; Gone by Broken
+
+enter
+hex 01 82 00 00 00 00 22 c3 => Open as 1
+hex 00 81 00 00 00 00 c3 => close 1; Gone by Broken
+
+# The length that a frame announces decides: 1,056,768 bytes are accepted, and one more is not.
+enter
+hex 81 ff 00 00 00 00 00 10 20 00 00 00 00 00 => Open as 1
+
+enter
+hex 81 ff 00 00 00 00 00 10 20 01 00 00 00 00 => close 1; Gone by Broken
+
+enter
+hex 81 ff 7f ff ff ff ff ff ff ff 00 00 00 00 => close 1; Gone by Broken
+
+# A close code that no frame may carry is answered by 1002, a protocol error (section 7.4.1).
+enter
+hex 88 82 00 00 00 00 00 00 => close 1; Closing by Peer > close 1002 with a reason
+
+enter
+hex 88 82 00 00 00 00 03 e7 => close 1; Closing by Peer > close 1002 with a reason
+
+enter
+hex 88 82 00 00 00 00 03 ec => close 1; Closing by Peer > close 1002 with a reason
+
+enter
+hex 88 82 00 00 00 00 03 ed => close 1; Closing by Peer > close 1002 with a reason
+
+enter
+hex 88 82 00 00 00 00 03 ee => close 1; Closing by Peer > close 1002 with a reason
+
+enter
+hex 88 82 00 00 00 00 03 f7 => close 1; Closing by Peer > close 1002 with a reason
+"#;
 
 #[test]
-fn closes_after_a_binary_message(rt: HostRuntime) {
-    play_open(
-        &rt,
-        &[
-            (1, Comes(BINARY), "close 1; Closing by Binary > close 1003"),
-            (15, Idle, "Closing"),
-            (1, Idle, "Gone by Silent"),
-            (1, Idle, "Gone"),
-        ],
-    );
-}
-
-#[test]
-fn answers_a_close(rt: HostRuntime) {
-    play_open(
-        &rt,
-        &[
-            (1, Comes(PING_AND_CLOSE), "Open as 1 > pong"),
-            (1, Idle, "close 1; Closing by Peer > close 1000"),
-            (1, Idle, "Gone by Peer"),
-        ],
-    );
-}
-
-/// A closing link drops the messages before the other side's close.
-#[test]
-fn reads_the_answer_to_its_close(rt: HostRuntime) {
-    play_open(
-        &rt,
-        &[
-            (1, Comes(BINARY), "close 1; Closing by Binary > close 1003"),
-            (1, Says("{}"), "Closing"),
-            (1, Comes(CLOSE), "Closing"),
-            (1, Idle, "Gone by Peer"),
-        ],
-    );
-}
-
-#[test]
-fn ends_where_the_other_side_does(rt: HostRuntime) {
-    for row in [
-        (1, Ends(b""), "close 1; Gone by Peer"),
-        (1, Ends(b"\x81"), "close 1; Gone by Peer"),
-        (
-            1,
-            Ends(b"\x81\x82\x00\x00\x00\x00x"),
-            "close 1; Gone by Peer",
-        ),
-        (1, Comes(CLOSE), "close 1; Closing by Peer > close 1000"),
-    ] {
-        play_open(&rt, &[row]);
-    }
-}
-
-#[test]
-fn ends_at_a_broken_frame(rt: HostRuntime) {
-    for bytes in [
-        // No mask.
-        &b"\x81\x01x"[..],
-        // A reserved bit, a reserved opcode, and one of a control frame.
-        b"\xc1\x81\x00\x00\x00\x00x",
-        b"\x83\x81\x00\x00\x00\x00x",
-        b"\x8b\x80\x00\x00\x00\x00",
-        // A continuation without a first fragment, and a message inside another.
-        b"\x80\x81\x00\x00\x00\x00x",
-        b"\x01\x81\x00\x00\x00\x00x\x81\x81\x00\x00\x00\x00x",
-        // A ping in fragments, and a ping that is too long.
-        b"\x09\x80\x00\x00\x00\x00",
-        PING_OF_126,
-        // A close with half a status code.
-        b"\x88\x81\x00\x00\x00\x00\x03",
-    ] {
-        play_open(
-            &rt,
-            &[
-                (1, Comes(bytes), "close 1; Gone by Broken"),
-                (1, Idle, "Gone"),
-            ],
-        );
-    }
-}
-
-#[test]
-fn ends_at_a_text_that_is_not_utf8(rt: HostRuntime) {
-    for bytes in [
-        &b"\x81\x81\x00\x00\x00\x00\xff"[..],
-        // Half a character.
-        b"\x81\x81\x00\x00\x00\x00\xc3",
-        // A close with such a reason.
-        b"\x88\x83\x00\x00\x00\x00\x03\xe8\xff",
-    ] {
-        play_open(&rt, &[(1, Comes(bytes), "close 1; Gone by Broken")]);
-    }
-}
-
-/// The length that a frame announces decides: 1,056,768 bytes are accepted, and one more is not.
-#[test]
-fn ends_at_a_frame_that_is_too_long(rt: HostRuntime) {
-    for (bytes, said) in [
-        (
-            &b"\x81\xff\x00\x00\x00\x00\x00\x10\x20\x00\x00\x00\x00\x00"[..],
-            "Open as 1",
-        ),
-        (
-            b"\x81\xff\x00\x00\x00\x00\x00\x10\x20\x01\x00\x00\x00\x00",
-            "close 1; Gone by Broken",
-        ),
-        (
-            b"\x81\xff\x7f\xff\xff\xff\xff\xff\xff\xff\x00\x00\x00\x00",
-            "close 1; Gone by Broken",
-        ),
-    ] {
-        play_open(&rt, &[(1, Comes(bytes), said)]);
-    }
-}
-
-#[test]
-fn answers_a_ping_and_no_pong(rt: HostRuntime) {
-    play_open(
-        &rt,
-        &[
-            (1, Comes(PONG), "Open as 1"),
-            (1, Comes(PING), "Open as 1 > pong"),
-            (1, Idle, "Open as 1"),
-        ],
-    );
-}
-
-/// A character may be cut in two, and a ping may come between the fragments.
-#[test]
-fn joins_fragments(rt: HostRuntime) {
-    play_open(
-        &rt,
-        &[
-            (1, Comes(b"\x01\x82\x00\x00\x00\x00\"\xc3"), "Open as 1"),
-            (1, Comes(PING), "Open as 1 > pong"),
-            (
-                1,
-                Comes(b"\x80\x82\x00\x00\x00\x00\xa9\""),
-                "receive 1; Open as 1",
-            ),
-            (
-                1,
-                Draws(9),
-                r#"draw 1; draw 1; draw 1; Open as 1 > {"epoch":1,"kind":"welcome","rev":0,"session":1} > {"at":null,"fault":"shape","id":null,"kind":"refused"}"#,
-            ),
-        ],
-    );
+fn answers_or_ends_at_each_frame(rt: HostRuntime) {
+    play(&rt, ROWS);
 }

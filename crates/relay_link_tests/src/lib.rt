@@ -1,11 +1,9 @@
 //! Tests of links: the cause of each turn, the bytes written, and that links keep working beside one that fails;
 //! and what a client makes of what a link wrote.
 //!
-//! Most tests are a table of rows, played to a link over a scripted wire: the input, and the expected result of the turn.
+//! Most tests are rows of text, which are played to a link over a scripted wire: what happens, and what the turn comes to.
 #![tactic(auto)]
 
-#[cfg(test)]
-mod broken;
 #[cfg(test)]
 mod calls;
 #[cfg(test)]
@@ -21,12 +19,10 @@ mod large;
 #[cfg(test)]
 mod link_fixture;
 #[cfg(test)]
-mod others;
+mod links;
 #[cfg(test)]
-mod put_off;
+mod others;
 #[cfg(test)]
 mod streams;
 #[cfg(test)]
 mod write_turns;
-#[cfg(test)]
-mod written;

@@ -1,122 +1,72 @@
 //! Streams that interrupt, that move one byte at a time, or that never end.
-use crate::frames::{BINARY, CLOSE};
-use crate::link_fixture::Act::{Comes, Draws, Fills, Idle, Reads, Says, Writes};
-use crate::link_fixture::{SAMPLE, play, play_open};
-use relay_wire::InjectedFault;
+use crate::links::play;
+
+/// What a stream does, and that each turn ends.
+const ROWS: &str = r#"
+# Writes that are interrupted hang no turn.
+writes interrupt => Head
+asks 13 /rooms/a => open a; Head as 1
+9 idle => Head as 1
+writes well => Open as 1 > switched
+writes interrupt => draw 1; draw 1; Open as 1
+9 idle => Open as 1
+writes well => draw 1; Open as 1 > {"epoch":1,"kind":"welcome","rev":0,"session":1}
+
+# Reads that are interrupted hang no turn.
+reads interrupt => Head
+asks 13 /rooms/a => Head
+1000 idle => Head
+reads well => open a; Open as 1 > switched
+draws 0 => Open as 1
+reads interrupt => Open as 1
+hex 88 82 00 00 00 00 03 e8 => Open as 1
+1000 idle => Open as 1
+reads well => close 1; Closing by Peer > close 1000
+
+# A closing link waits 16 turns. A stream that interrupts forever counts as silent, as one that is never ready.
+enter
+hex 82 81 00 00 00 00 78 => close 1; Closing by Binary > close 1003
+reads interrupt => Closing
+14 idle => Closing
+hex 88 82 00 00 00 00 03 e8 => Gone by Silent
+
+enter
+hex 82 81 00 00 00 00 78 => close 1; Closing by Binary > close 1003
+reads not-ready => Closing
+14 idle => Closing
+hex 88 82 00 00 00 00 03 e8 => Gone by Silent
+
+# A flood ends a turn, which makes at most 128 reads.
+enter
+reads one-byte => Open as 1
+hex 81 fe 02 00 00 00 00 00 => Open as 1
+fills 512 => Open as 1
+2 idle => Open as 1
+idle => receive 1; Open as 1
+
+# While 32 replies wait, nothing is read.
+enter
+31 says {"do":"unwatch","id":1} => receive 1; Open as 1
+says {"do":"unwatch","id":2} => Open as 1
+9 idle => Open as 1
+draws 1 => draw 1; Open as 1 > {"epoch":1,"kind":"welcome","rev":0,"session":1}
+idle => receive 1; draw 1; Open as 1 > {"id":1,"kind":"unwatched"}
+"#;
 
 #[test]
-fn writes_that_are_interrupted_hang_no_turn(rt: HostRuntime) {
-    play(
-        &rt,
-        &[
-            (1, Writes(Some(InjectedFault::Interrupt)), "Head"),
-            (1, Comes(SAMPLE), "open a; Head as 1"),
-            (9, Idle, "Head as 1"),
-            (1, Writes(None), "Open as 1 > switched"),
-            (
-                1,
-                Writes(Some(InjectedFault::Interrupt)),
-                "draw 1; draw 1; Open as 1",
-            ),
-            (9, Idle, "Open as 1"),
-            (
-                1,
-                Writes(None),
-                r#"draw 1; Open as 1 > {"epoch":1,"kind":"welcome","rev":0,"session":1}"#,
-            ),
-        ],
-    );
+fn no_stream_hangs_a_turn(rt: HostRuntime) {
+    play(&rt, ROWS);
 }
 
-#[test]
-fn reads_that_are_interrupted_hang_no_turn(rt: HostRuntime) {
-    play(
-        &rt,
-        &[
-            (1, Reads(Some(InjectedFault::Interrupt)), "Head"),
-            (1, Comes(SAMPLE), "Head"),
-            (1_000, Idle, "Head"),
-            (1, Reads(None), "open a; Open as 1 > switched"),
-            (1, Draws(0), "Open as 1"),
-            (1, Reads(Some(InjectedFault::Interrupt)), "Open as 1"),
-            (1, Comes(CLOSE), "Open as 1"),
-            (1_000, Idle, "Open as 1"),
-            (1, Reads(None), "close 1; Closing by Peer > close 1000"),
-        ],
-    );
-}
-
-/// A stream that interrupts forever counts as silent, as one that is never ready.
-#[test]
-fn a_closing_link_waits_16_turns(rt: HostRuntime) {
-    for trick in [InjectedFault::Interrupt, InjectedFault::Nothing] {
-        play_open(
-            &rt,
-            &[
-                (1, Comes(BINARY), "close 1; Closing by Binary > close 1003"),
-                (1, Reads(Some(trick)), "Closing"),
-                (14, Idle, "Closing"),
-                (1, Comes(CLOSE), "Gone by Silent"),
-            ],
-        );
-    }
-}
+/// Each write takes one byte. `tests/refuse-allocations` refuses each allocation of this test in turn.
+const BY_BYTES: &str = r#"
+writes one-byte => Head
+asks 13 /rooms/a => open a; Open as 1 > switched
+says {"do":"watch","id":1,"view":[""]} => receive 1; draw 1; draw 1; draw 1; draw 1; Open as 1 > {"epoch":1,"kind":"welcome","rev":0,"session":1} > {"id":1,"kind":"watching"} > {"kind":"snapshot","rev":0,"view":[[null]]}
+hex 88 82 00 00 00 00 03 e8 => close 1; Closing by Peer > close 1000
+"#;
 
 #[test]
 fn writes_a_byte_at_a_time(rt: HostRuntime) {
-    play(
-        &rt,
-        &[
-            (1, Writes(Some(InjectedFault::OneByte)), "Head"),
-            (1, Comes(SAMPLE), "open a; Open as 1 > switched"),
-            (
-                1,
-                Says(r#"{"do":"watch","id":1,"view":[""]}"#),
-                r#"receive 1; draw 1; draw 1; draw 1; draw 1; Open as 1 > {"epoch":1,"kind":"welcome","rev":0,"session":1} > {"id":1,"kind":"watching"} > {"kind":"snapshot","rev":0,"view":[[null]]}"#,
-            ),
-            (1, Comes(CLOSE), "close 1; Closing by Peer > close 1000"),
-        ],
-    );
-}
-
-/// A turn makes at most 128 reads.
-#[test]
-fn a_flood_ends_a_turn(rt: HostRuntime) {
-    play_open(
-        &rt,
-        &[
-            (1, Reads(Some(InjectedFault::OneByte)), "Open as 1"),
-            (1, Comes(b"\x81\xfe\x02\x00\x00\x00\x00\x00"), "Open as 1"),
-            (1, Fills(512), "Open as 1"),
-            (2, Idle, "Open as 1"),
-            (1, Idle, "receive 1; Open as 1"),
-        ],
-    );
-}
-
-/// If 32 replies wait, nothing is read.
-#[test]
-fn reads_no_more_than_it_can_answer(rt: HostRuntime) {
-    play_open(
-        &rt,
-        &[
-            (
-                31,
-                Says(r#"{"do":"unwatch","id":1}"#),
-                "receive 1; Open as 1",
-            ),
-            (1, Says(r#"{"do":"unwatch","id":2}"#), "Open as 1"),
-            (9, Idle, "Open as 1"),
-            (
-                1,
-                Draws(1),
-                r#"draw 1; Open as 1 > {"epoch":1,"kind":"welcome","rev":0,"session":1}"#,
-            ),
-            (
-                1,
-                Idle,
-                r#"receive 1; draw 1; Open as 1 > {"id":1,"kind":"unwatched"}"#,
-            ),
-        ],
-    );
+    play(&rt, BY_BYTES);
 }

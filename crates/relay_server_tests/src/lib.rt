@@ -1,7 +1,8 @@
 //! Tests of the command line and of the program: its statuses and texts, the limits on lines, failing streams, a faulty network, `serve`,
 //! and its log.
 //!
-//! They test what no script can. The answers to lines are data in `tests/scripts`.
+//! They test what no script can. The answers to lines are data in `tests/scripts`. Each module has rows of text, acts and what has to come of
+//! them, and a `Subject` that does the acts (`rows.rt`).
 #![tactic(auto)]
 
 #[cfg(test)]
@@ -16,6 +17,8 @@ mod options;
 mod polled_output;
 #[cfg(test)]
 mod program;
+#[cfg(test)]
+mod rows;
 #[cfg(test)]
 mod sockets;
 #[cfg(test)]

@@ -1,84 +1,104 @@
 //! Tests of the limits on lines, and of a script's limits.
-use crate::story::{gives, played};
+use crate::rows::{Subject, UNKNOWN, number, play};
+use crate::story::{owned, played};
 use relay_options::{MAX_HISTORY, MAX_ROOMS, MAX_SESSIONS, MAX_WAITING_PATCHES};
 use relay_server::{MAX_LINE, MAX_LINES, connection_limit};
+use relay_wire::cut;
 use std::alloc::AllocGlobal;
+use std::net::Net;
 use std::process::Abort;
+use std::time::Clock;
+
+const ROWS: &str = r#"
+# The limits are those of the protocol. A server has this many connections beside so many sessions.
+limits => 1056768 bytes of a line, 65536 lines of a script, 1024 revisions of a history, 256 patches that wait, 65536 rooms, 65536 sessions
+connections 256 => 320
+connections 1 => 65
+connections 4096 => 5120
+
+# A script has so many lines of a text, and then a comment of so many bytes. The lines before a fault are answered. A line past the maximum
+# number is `TooManyLines`, even if it is also too long.
+plays 64 32 0 1056768 x draw => 0 unknown, then ""
+plays 64 32 0 1056769 x draw => 0 unknown, then "fault: line too long"
+plays 64 32 2 1056769 x draw => 2 unknown, then "fault: line too long"
+plays 64 32 65535 1056768 x draw => 65535 unknown, then ""
+plays 64 32 65535 1056769 x draw => 65535 unknown, then "fault: line too long"
+plays 64 32 65536 1 x draw => 65536 unknown, then "fault: too many lines"
+plays 64 32 65536 1056769 x draw => 65536 unknown, then "fault: too many lines"
+
+# Empty lines are counted.
+plays 64 32 65536 0 => 0 unknown, then ""
+plays 64 32 65537 0 => 0 unknown, then "fault: too many lines"
+
+# A history has 1 to 1,024 revisions, and an outbox 1 to 256 patches: the first two numbers. Other limits of a script are refused.
+plays 0 32 1 0 a open r => 0 unknown, then "fault: a limit out of range"
+plays 1025 32 1 0 a open r => 0 unknown, then "fault: a limit out of range"
+plays 64 0 1 0 a open r => 0 unknown, then "fault: a limit out of range"
+plays 64 257 1 0 a open r => 0 unknown, then "fault: a limit out of range"
+plays 1 1 1 0 a open r => 0 unknown, then "a opened 1\n"
+plays 1024 256 1 0 a open r => 0 unknown, then "a opened 1\n"
+"#;
 
 #[test]
-fn the_limits_are_those_of_the_protocol(rt: HostRuntime) {
-    assert_eq!(rt; MAX_LINE, 1_056_768, "bytes of a line");
-    assert_eq!(rt; MAX_LINES, 65_536, "lines of a script");
-    assert_eq!(rt;
-        connection_limit(256),
-        320,
-        "connections beside 256 sessions"
-    );
-    assert_eq!(rt; connection_limit(1), 65, "connections beside one session");
-    assert_eq!(rt;
-        connection_limit(4_096),
-        5_120,
-        "connections beside 4,096 sessions"
-    );
-    assert_eq!(rt; MAX_HISTORY, 1_024, "revisions of a history");
-    assert_eq!(rt; MAX_WAITING_PATCHES, 256, "patches that wait");
-    assert_eq!(rt; MAX_ROOMS, 65_536, "rooms");
-    assert_eq!(rt; MAX_SESSIONS, 65_536, "sessions");
+fn scripts_have_limits(rt: HostRuntime) {
+    play::<ScriptLimits>(&rt, ROWS);
 }
 
-/// The result of `lines` lines for an unknown name, and a comment of `len` bytes after them: the number of answers, and the fault
-/// that ended the run, if there was one.
-fn answers_before(rt: &(impl Abort + AllocGlobal), lines: usize, len: usize) -> String {
-    let mut script = "x draw\n".repeat(rt.alloc(), lines).expect(rt, "memory");
-    let comment = "#".repeat(rt.alloc(), len).expect(rt, "memory");
-    script.push_str(comment.as_str()).expect(rt, "memory");
-    let written = played(rt, 64, 32, script.as_bytes());
-    let answers = written.matches("x unknown\n").count();
+struct ScriptLimits;
+
+impl Subject for ScriptLimits {
+    fn act(rt: &(impl Abort + AllocGlobal + Clock + Net), act: &str) -> String {
+        let (word, rest) = cut(act);
+        match word {
+            "limits" => limits(rt),
+            "connections" => connections(rt, rest),
+            "plays" => counted(rt, play_script(rt, rest)),
+            _ => owned(rt, UNKNOWN),
+        }
+    }
+}
+
+fn limits(rt: &(impl Abort + AllocGlobal)) -> String {
+    format!(in rt.alloc();
+        "{MAX_LINE} bytes of a line, {MAX_LINES} lines of a script, {MAX_HISTORY} revisions of a history, {MAX_WAITING_PATCHES} patches that wait, {MAX_ROOMS} rooms, {MAX_SESSIONS} sessions"
+    ).expect(rt, "memory")
+}
+
+/// How many connections there may be beside so many sessions.
+fn connections(rt: &(impl Abort + AllocGlobal), sessions: &str) -> String {
+    let limit = connection_limit(number(rt, sessions));
+    format!(in rt.alloc(); "{limit}").expect(rt, "memory")
+}
+
+/// The output of a script, and the fault that ended it, if there was one. The words are the number of revisions of its histories and that of
+/// patches in its outboxes, the number of lines, the length of a comment after them, and the lines' text.
+fn play_script(rt: &(impl Abort + AllocGlobal), words: &str) -> String {
+    let (history, words) = cut(words);
+    let (max_waiting_patches, words) = cut(words);
+    let (lines, words) = cut(words);
+    let (len, text) = cut(words);
+    let script = script_of(rt, text, number(rt, lines), number(rt, len));
+    played(
+        rt,
+        number(rt, history),
+        number(rt, max_waiting_patches),
+        script.as_bytes(),
+    )
+}
+
+fn script_of(rt: &(impl Abort + AllocGlobal), text: &str, lines: u64, len: u64) -> String {
+    let line = format!(in rt.alloc(); "{text}\n").expect(rt, "memory");
+    let script = line.repeat(rt.alloc(), lines as usize);
+    let mut script = script.expect(rt, "memory");
+    for _ in 0..len {
+        script.push('#').expect(rt, "memory");
+    }
+    script
+}
+
+/// How many answers say that a name is unknown, and what comes after them.
+fn counted(rt: &(impl Abort + AllocGlobal), written: String) -> String {
+    let unknown = written.matches("x unknown\n").count();
     let end = written.trim_start_matches("x unknown\n");
-    format!(in rt.alloc(); "{answers} answers, {end}").expect(rt, "memory")
-}
-
-/// The lines before a fault are answered. A line past the maximum number is `TooManyLines`, even if it is also too long.
-#[test]
-fn answers_all_lines_before_a_fault(rt: HostRuntime) {
-    for (lines, len, wanted) in [
-        (0, 1_056_768, "0 answers, "),
-        (0, 1_056_769, "0 answers, fault: line too long"),
-        (2, 1_056_769, "2 answers, fault: line too long"),
-        (65_535, 1_056_768, "65535 answers, "),
-        (65_535, 1_056_769, "65535 answers, fault: line too long"),
-        (65_536, 1, "65536 answers, fault: too many lines"),
-        (65_536, 1_056_769, "65536 answers, fault: too many lines"),
-    ] {
-        gives(&rt, answers_before(&rt, lines, len), wanted, "lines");
-    }
-}
-
-/// The result of `count` empty lines.
-fn of_empty_lines(rt: &(impl Abort + AllocGlobal), count: usize) -> String {
-    let script = "\n".repeat(rt.alloc(), count).expect(rt, "memory");
-    played(rt, 64, 32, script.as_bytes())
-}
-
-#[test]
-fn counts_empty_lines(rt: HostRuntime) {
-    gives(&rt, of_empty_lines(&rt, 65_536), "", "the most lines");
-    let more = of_empty_lines(&rt, 65_537);
-    gives(&rt, more, "fault: too many lines", "one more line");
-}
-
-/// A history has 1 to 1,024 revisions, and an outbox 1 to 256 patches.
-#[test]
-fn refuses_script_limits_out_of_range(rt: HostRuntime) {
-    for (history, max_waiting_patches, wanted) in [
-        (0, 32, "fault: a limit out of range"),
-        (1_025, 32, "fault: a limit out of range"),
-        (64, 0, "fault: a limit out of range"),
-        (64, 257, "fault: a limit out of range"),
-        (1, 1, "a opened 1\n"),
-        (1_024, 256, "a opened 1\n"),
-    ] {
-        let written = played(&rt, history, max_waiting_patches, b"a open r\n");
-        gives(&rt, written, wanted, "an opening");
-    }
+    format!(in rt.alloc(); "{unknown} unknown, then {end:?}").expect(rt, "memory")
 }

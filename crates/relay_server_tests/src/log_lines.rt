@@ -1,25 +1,79 @@
 //! Tests of the log's lines: their time and level, and what becomes of those that nobody takes.
-use crate::story::text_of;
+use crate::rows::{Subject, UNKNOWN, number, play};
+use crate::story::{owned, text_of};
 use relay_server::{Cause, ConnectionId, ConnectionLog, LogEntry, LogLines, Refusal, RoomSession};
+use relay_wire::cut;
 use std::alloc::AllocGlobal;
 use std::io;
 use std::io::{ErrorKind, Write};
-use std::net::{Ipv4Addr, SocketAddr};
+use std::net::{Ipv4Addr, Net, SocketAddr};
 use std::process::Abort;
 use std::time::{Clock, Duration};
 
-/// A clock that stands still.
-#[derive(Clone, Copy, Debug)]
-struct Still {
-    since_1970: Duration,
+const ROWS: &str = r#"
+# A line begins with its time, here that of so many milliseconds since 1970: the times of RFC 3339, section 5.8, that have no offset, and
+# the ends of a leap day.
+at 0 => time=1970-01-01T00:00:00.000Z level=warn event=out-of-memory\n
+at 482196050520 => time=1985-04-12T23:20:50.520Z level=warn event=out-of-memory\n
+at 951782400000 => time=2000-02-29T00:00:00.000Z level=warn event=out-of-memory\n
+at 951868799999 => time=2000-02-29T23:59:59.999Z level=warn event=out-of-memory\n
+at 4107542399001 => time=2100-02-28T23:59:59.001Z level=warn event=out-of-memory\n
+at 4107542400010 => time=2100-03-01T00:00:00.010Z level=warn event=out-of-memory\n
+
+# A line says what happened to which connection. It is a warning if memory is short, or if the connection had to make place.
+says opened => time=1970-01-01T00:00:00.000Z level=info event=opened peer=127.0.0.1:51000 link=7 session=12 room=board\n
+says left Peer => time=1970-01-01T00:00:00.000Z level=info event=ended peer=127.0.0.1:51000 link=7 session=12 room=board cause=peer rounds=3\n
+says ended Stream => time=1970-01-01T00:00:00.000Z level=info event=ended peer=127.0.0.1:51000 link=7 cause=stream rounds=3\n
+says left Memory => time=1970-01-01T00:00:00.000Z level=warn event=ended peer=127.0.0.1:51000 link=7 session=12 room=board cause=memory rounds=3\n
+says evicted => time=1970-01-01T00:00:00.000Z level=warn event=evicted peer=127.0.0.1:51000 link=7 rounds=3\n
+
+# The line of a refused handshake says why. It is a warning if a limit was reached or memory is short.
+says refused NotFound => time=1970-01-01T00:00:00.000Z level=info event=refused peer=127.0.0.1:51000 link=7 status=404\n
+says refused SessionsFull => time=1970-01-01T00:00:00.000Z level=warn event=refused peer=127.0.0.1:51000 link=7 status=503 cause=sessions\n
+says refused RoomsFull => time=1970-01-01T00:00:00.000Z level=warn event=refused peer=127.0.0.1:51000 link=7 status=503 cause=rooms\n
+says refused NoMemory => time=1970-01-01T00:00:00.000Z level=warn event=refused peer=127.0.0.1:51000 link=7 status=503 cause=memory\n
+
+# The words for the other causes.
+says ended Binary => time=1970-01-01T00:00:00.000Z level=info event=ended peer=127.0.0.1:51000 link=7 cause=binary rounds=3\n
+says ended Broken => time=1970-01-01T00:00:00.000Z level=info event=ended peer=127.0.0.1:51000 link=7 cause=broken rounds=3\n
+says ended Full => time=1970-01-01T00:00:00.000Z level=warn event=ended peer=127.0.0.1:51000 link=7 cause=full rounds=3\n
+says ended Silent => time=1970-01-01T00:00:00.000Z level=info event=ended peer=127.0.0.1:51000 link=7 cause=silent rounds=3\n
+says ended Ended => time=1970-01-01T00:00:00.000Z level=info event=ended peer=127.0.0.1:51000 link=7 cause=relay rounds=3\n
+
+# Three lines, of whose writes the first ones take at most so many bytes. A line that is not taken is dropped, and the next one that is taken
+# comes after the number of those that were not. A line of which a part is taken was dropped too, and the next one begins on a line of its
+# own.
+thrice => time=1970-01-01T00:00:00.000Z level=warn event=out-of-memory\ntime=1970-01-01T00:00:00.000Z level=warn event=out-of-memory\ntime=1970-01-01T00:00:00.000Z level=warn event=out-of-memory\n
+thrice 0 => time=1970-01-01T00:00:00.000Z level=warn event=dropped dropped=1\ntime=1970-01-01T00:00:00.000Z level=warn event=out-of-memory\ntime=1970-01-01T00:00:00.000Z level=warn event=out-of-memory\n
+thrice 0 0 => time=1970-01-01T00:00:00.000Z level=warn event=dropped dropped=2\ntime=1970-01-01T00:00:00.000Z level=warn event=out-of-memory\n
+thrice 0 4096 0 => time=1970-01-01T00:00:00.000Z level=warn event=dropped dropped=1\ntime=1970-01-01T00:00:00.000Z level=warn event=dropped dropped=1\ntime=1970-01-01T00:00:00.000Z level=warn event=out-of-memory\n
+thrice 0 0 0 =>
+thrice 5 => time=\ntime=1970-01-01T00:00:00.000Z level=warn event=dropped dropped=1\ntime=1970-01-01T00:00:00.000Z level=warn event=out-of-memory\ntime=1970-01-01T00:00:00.000Z level=warn event=out-of-memory\n
+"#;
+
+#[test]
+fn a_line_says_when_and_what_happened(rt: HostRuntime) {
+    play::<Log>(&rt, ROWS);
 }
 
-impl Still {
-    fn at(seconds: u64, millis: u32) -> Still {
-        Still {
-            since_1970: Duration::new(seconds, millis.saturating_mul(1_000_000).min(999_999_999)),
+struct Log;
+
+impl Subject for Log {
+    fn act(rt: &(impl Abort + AllocGlobal + Clock + Net), act: &str) -> String {
+        let (word, rest) = cut(act);
+        match word {
+            "at" => written(rt, number(rt, rest), "", 1, LogEntry::OutOfMemory),
+            "says" => written(rt, 0, "", 1, entry_of(rt, rest)),
+            "thrice" => written(rt, 0, rest, 3, LogEntry::OutOfMemory),
+            _ => owned(rt, UNKNOWN),
         }
     }
+}
+
+/// A clock that stands still, at so many milliseconds since 1970.
+#[derive(Clone, Copy)]
+struct Still {
+    millis: u64,
 }
 
 impl Clock for Still {
@@ -28,26 +82,22 @@ impl Clock for Still {
     }
 
     fn since_1970(&self) -> io::Result<Duration> {
-        Ok(self.since_1970)
+        Ok(Duration::from_millis(self.millis))
     }
 }
 
 /// A writer whose next writes take at most so many bytes each, for 0 none and as if they had to wait. Later ones take all.
 #[derive(Drop)]
-struct PlannedWriter {
+struct PlannedWriter<'a> {
     bytes: Vec<u8>,
-    plan: &'static [usize],
+    plan: &'a str,
 }
 
-impl Write for PlannedWriter {
+impl Write for PlannedWriter<'_> {
     fn write(&mut self, buf: &[u8]) -> io::Result<usize> {
-        let most = match self.plan.split_first() {
-            Some((most, rest)) => {
-                self.plan = rest;
-                *most
-            }
-            None => usize::MAX,
-        };
+        let (most, rest) = cut(self.plan);
+        self.plan = rest;
+        let most = most.parse::<usize>().unwrap_or(usize::MAX);
         if most == 0 {
             return Err(io::Error::from(ErrorKind::WouldBlock));
         }
@@ -61,189 +111,99 @@ impl Write for PlannedWriter {
     }
 }
 
-/// Logs some entries to a writer.
-fn log_all(
-    rt: &impl AllocGlobal,
-    writer: &mut PlannedWriter,
-    clock: &Still,
-    entries: &[LogEntry<'_>],
-) {
-    let mut log = LogLines::to(rt.alloc(), writer, clock);
-    for entry in entries {
-        log.record(*entry);
-    }
-}
-
-/// What is written of some entries, if the writes take so many bytes.
+/// What is written of an entry that comes so many times, if the writes take what is planned.
 fn written(
     rt: &(impl Abort + AllocGlobal),
-    clock: Still,
-    plan: &'static [usize],
-    entries: &[LogEntry<'_>],
+    millis: u64,
+    plan: &str,
+    times: u32,
+    entry: LogEntry<'_>,
 ) -> String {
     let mut writer = PlannedWriter {
         bytes: Vec::new(rt.alloc()),
         plan,
     };
-    log_all(rt, &mut writer, &clock, entries);
+    record(rt, &mut writer, &Still { millis }, times, entry);
     text_of(rt, writer.bytes.as_slice())
 }
 
-const MEMORY: LogEntry<'static> = LogEntry::OutOfMemory;
-
-/// The times of RFC 3339, section 5.8, that have no offset, and the ends of a leap day.
-#[test]
-fn a_line_begins_with_its_time(rt: HostRuntime) {
-    for (seconds, millis, wanted) in [
-        (0, 0, "1970-01-01T00:00:00.000Z"),
-        (482_196_050, 520, "1985-04-12T23:20:50.520Z"),
-        (951_782_400, 0, "2000-02-29T00:00:00.000Z"),
-        (951_868_799, 999, "2000-02-29T23:59:59.999Z"),
-        (4_107_542_399, 1, "2100-02-28T23:59:59.001Z"),
-        (4_107_542_400, 10, "2100-03-01T00:00:00.010Z"),
-    ] {
-        let line = written(&rt, Still::at(seconds, millis), &[], &[MEMORY]);
-        let rest = line.as_str().strip_prefix("time=");
-        let rest = rest.and_then(|rest| rest.strip_prefix(wanted));
-        assert_eq!(rt; rest, Some(" level=warn event=out-of-memory\n"), "{line}");
+/// Logs an entry so many times.
+fn record(
+    rt: &impl AllocGlobal,
+    writer: &mut PlannedWriter<'_>,
+    clock: &Still,
+    times: u32,
+    entry: LogEntry<'_>,
+) {
+    let mut log = LogLines::to(rt.alloc(), writer, clock);
+    for _ in 0..times {
+        log.record(entry);
     }
 }
 
-fn connection() -> ConnectionId {
-    ConnectionId {
+const SESSION: RoomSession<'static> = RoomSession {
+    number: 12,
+    room: "board",
+};
+
+/// The entry of an event: of one that ends a connection, which had a session if it left.
+fn entry_of(rt: &impl Abort, words: &str) -> LogEntry<'static> {
+    let connection = ConnectionId {
         key: 7,
         peer: SocketAddr::from((Ipv4Addr::LOCALHOST, 51_000)),
-    }
-}
-
-fn refused(refusal: Refusal) -> LogEntry<'static> {
-    LogEntry::Refused {
-        connection: connection(),
-        refusal,
-    }
-}
-
-fn ended(session: Option<RoomSession<'static>>, cause: Cause) -> LogEntry<'static> {
-    LogEntry::Ended {
-        connection: connection(),
-        session,
-        cause,
-        rounds: 3,
-    }
-}
-
-/// Asserts the line of an entry, after its time.
-fn says(rt: &(impl Abort + AllocGlobal), entry: LogEntry<'_>, wanted: &str) {
-    let line = written(rt, Still::at(0, 0), &[], &[entry]);
-    let rest = line.as_str().strip_prefix("time=1970-01-01T00:00:00.000Z ");
-    assert_eq!(rt; rest, Some(wanted));
-}
-
-/// A line says what happened to which connection. It is a warning if memory is short, or if the connection had to make place.
-#[test]
-fn a_line_says_what_happened(rt: HostRuntime) {
-    let session = RoomSession {
-        number: 12,
-        room: "board",
     };
-    let opened = LogEntry::Opened {
-        connection: connection(),
-        session,
-    };
-    let evicted = LogEntry::Evicted {
-        connection: connection(),
-        rounds: 3,
-    };
-    for (entry, wanted) in [
-        (
-            opened,
-            "level=info event=opened peer=127.0.0.1:51000 link=7 session=12 room=board\n",
-        ),
-        (
-            ended(Some(session), Cause::Peer),
-            "level=info event=ended peer=127.0.0.1:51000 link=7 session=12 room=board cause=peer rounds=3\n",
-        ),
-        (
-            ended(None, Cause::Stream),
-            "level=info event=ended peer=127.0.0.1:51000 link=7 cause=stream rounds=3\n",
-        ),
-        (
-            ended(Some(session), Cause::Memory),
-            "level=warn event=ended peer=127.0.0.1:51000 link=7 session=12 room=board cause=memory rounds=3\n",
-        ),
-        (
-            evicted,
-            "level=warn event=evicted peer=127.0.0.1:51000 link=7 rounds=3\n",
-        ),
-    ] {
-        says(&rt, entry, wanted);
+    let (event, why) = cut(words);
+    match event {
+        "opened" => LogEntry::Opened {
+            connection,
+            session: SESSION,
+        },
+        "refused" => LogEntry::Refused {
+            connection,
+            refusal: refusal_of(rt, why),
+        },
+        "left" => LogEntry::Ended {
+            connection,
+            session: Some(SESSION),
+            cause: cause_of(rt, why),
+            rounds: 3,
+        },
+        "ended" => LogEntry::Ended {
+            connection,
+            session: None,
+            cause: cause_of(rt, why),
+            rounds: 3,
+        },
+        "evicted" => LogEntry::Evicted {
+            connection,
+            rounds: 3,
+        },
+        _ => panic!(rt; "no such event: {event}"),
     }
 }
 
-/// The line of a refused handshake says why. It is a warning if a limit was reached or memory is short.
-#[test]
-fn a_refusal_says_why(rt: HostRuntime) {
-    for (entry, wanted) in [
-        (
-            refused(Refusal::Status(404)),
-            "level=info event=refused peer=127.0.0.1:51000 link=7 status=404\n",
-        ),
-        (
-            refused(Refusal::SessionsFull),
-            "level=warn event=refused peer=127.0.0.1:51000 link=7 status=503 cause=sessions\n",
-        ),
-        (
-            refused(Refusal::RoomsFull),
-            "level=warn event=refused peer=127.0.0.1:51000 link=7 status=503 cause=rooms\n",
-        ),
-        (
-            refused(Refusal::NoMemory),
-            "level=warn event=refused peer=127.0.0.1:51000 link=7 status=503 cause=memory\n",
-        ),
-    ] {
-        says(&rt, entry, wanted);
+/// A reason for a refusal, by its name.
+fn refusal_of(rt: &impl Abort, name: &str) -> Refusal {
+    match name {
+        "NotFound" => Refusal::Status(404),
+        "SessionsFull" => Refusal::SessionsFull,
+        "RoomsFull" => Refusal::RoomsFull,
+        "NoMemory" => Refusal::NoMemory,
+        _ => panic!(rt; "no such refusal: {name}"),
     }
 }
 
-/// The words for the other causes.
-#[test]
-fn a_cause_is_a_word(rt: HostRuntime) {
-    for (cause, level, word) in [
-        (Cause::Binary, "info", "binary"),
-        (Cause::Broken, "info", "broken"),
-        (Cause::Full, "warn", "full"),
-        (Cause::Silent, "info", "silent"),
-        (Cause::Ended, "info", "relay"),
-    ] {
-        let wanted = format!(in rt.alloc();
-            "level={level} event=ended peer=127.0.0.1:51000 link=7 cause={word} rounds=3\n"
-        );
-        says(
-            &rt,
-            ended(None, cause),
-            wanted.expect(&rt, "memory").as_str(),
-        );
-    }
-}
-
-/// A line that is not taken is dropped, and the next one that is taken comes after the number of those that were not. A line of which a
-/// part is taken was dropped too, and the next one begins on a line of its own.
-#[test]
-fn a_line_that_nobody_takes_is_counted(rt: HostRuntime) {
-    const LINE: &str = "time=1970-01-01T00:00:00.000Z level=warn event=out-of-memory\n";
-    const ONE: &str = "time=1970-01-01T00:00:00.000Z level=warn event=dropped dropped=1\n";
-    const TWO: &str = "time=1970-01-01T00:00:00.000Z level=warn event=dropped dropped=2\n";
-    let plans: [(&'static [usize], &[&str]); 6] = [
-        (&[], &[LINE, LINE, LINE]),
-        (&[0], &[ONE, LINE, LINE]),
-        (&[0, 0], &[TWO, LINE]),
-        (&[0, 4_096, 0], &[ONE, ONE, LINE]),
-        (&[0, 0, 0], &[]),
-        (&[5], &["time=\n", ONE, LINE, LINE]),
-    ];
-    for (plan, wanted) in plans {
-        let found = written(&rt, Still::at(0, 0), plan, &[MEMORY, MEMORY, MEMORY]);
-        let wanted = wanted.concat(rt.alloc()).expect(&rt, "memory");
-        assert_eq!(rt; found.as_str(), wanted.as_str(), "{plan:?}");
+/// A cause for an end, by its name.
+fn cause_of(rt: &impl Abort, name: &str) -> Cause {
+    match name {
+        "Peer" => Cause::Peer,
+        "Binary" => Cause::Binary,
+        "Broken" => Cause::Broken,
+        "Stream" => Cause::Stream,
+        "Memory" => Cause::Memory,
+        "Full" => Cause::Full,
+        "Silent" => Cause::Silent,
+        "Ended" => Cause::Ended,
+        _ => panic!(rt; "no such cause: {name}"),
     }
 }

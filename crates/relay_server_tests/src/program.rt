@@ -1,153 +1,152 @@
 //! Tests of the program's jobs and their statuses.
 use crate::options::words_of;
-use crate::story::{gives, text_of, with_end};
+use crate::rows::{Subject, UNKNOWN, play, typed};
+use crate::story::{kind_of, owned, with_end, with_status};
 use relay_server::{ScriptFault, refuse_words, report, run_follow, start};
+use relay_wire::cut;
 use std::alloc::AllocGlobal;
-use std::io::ErrorKind;
 use std::net::Net;
 use std::process::Abort;
 use std::time::Clock;
 
-/// The error output, followed by the status.
-fn told(rt: &(impl Abort + AllocGlobal), errors: &[u8], status: u8) -> String {
-    let mut told = text_of(rt, errors);
-    write!(told, "status {status}").expect(rt, "memory");
-    told
-}
+const ROWS: &str = r#"
+# The report of a script's end, and the status.
+ends well => status 0
+ends Input => relay: input\nstatus 1
+ends Output => relay: output\nstatus 1
+ends LineTooLong => relay: line too long\nstatus 1
+ends TooManyLines => relay: too many lines\nstatus 1
+ends BadLimit => relay: a limit out of range\nstatus 2
+ends NoMemory => relay: no memory\nstatus 3
 
-/// The report of a script's end.
-fn reported(rt: &(impl Abort + AllocGlobal), ended: Result<(), ScriptFault>) -> String {
-    let mut errors = Vec::new(rt.alloc());
-    let status = report(ended, &mut errors).code();
-    told(rt, errors.as_slice(), status)
-}
+# The report if the arguments cannot be read. An argument that is not UTF-8 is a fault of the command line.
+refuses InvalidData => relay: an argument is not UTF-8\nstatus 2
+refuses OutOfMemory => relay: no memory\nstatus 3
+refuses Other => relay: the arguments cannot be read\nstatus 1
+
+# A follower answers each line that is not empty, with what it holds or with the fault of that text.
+follows {"id":1,"kind":"watching"}\n\nx => held nothing\noff not-message\n
+
+# The program does what its words say. A number out of range, an unknown job, a job without its port, and an option of another job are
+# refused with a message.
+relay < a open r\n => a opened 1\nstatus 0
+relay script --history 3 < a open r\n => a opened 1\nstatus 0
+relay loop < a open r\n => a opened 1\nstatus 0
+relay follow < a open r\n => off not-message\nstatus 0
+relay follow => status 0
+relay script --outbox 0 < a open r\n => complaint, status 2
+relay script --history 1025 < a open r\n => complaint, status 2
+relay script --rooms 0 < a open r\n => complaint, status 2
+relay script --sessions 65537 < a open r\n => complaint, status 2
+relay script --sessions 1 < a open r\nb open r\n => a opened 1\nb refused sessions-full\nstatus 0
+relay frob < a open r\n => complaint, status 2
+relay serve < a open r\n => complaint, status 2
+relay follow --epoch 1 < a open r\n => complaint, status 2
+
+# It helps on standard output, and there alone.
+finds relay < examples/first.script => yes, status 0
+"#;
 
 #[test]
-fn ends_with_a_status(rt: HostRuntime) {
-    for (ended, wanted) in [
-        (Ok(()), "status 0"),
-        (Err(ScriptFault::Input), "relay: input\nstatus 1"),
-        (Err(ScriptFault::Output), "relay: output\nstatus 1"),
-        (
-            Err(ScriptFault::LineTooLong),
-            "relay: line too long\nstatus 1",
-        ),
-        (
-            Err(ScriptFault::TooManyLines),
-            "relay: too many lines\nstatus 1",
-        ),
-        (
-            Err(ScriptFault::BadLimit),
-            "relay: a limit out of range\nstatus 2",
-        ),
-        (Err(ScriptFault::NoMemory), "relay: no memory\nstatus 3"),
-    ] {
-        gives(&rt, reported(&rt, ended), wanted, "an end");
+fn does_what_its_words_say(rt: HostRuntime) {
+    play::<Program>(&rt, ROWS);
+}
+
+struct Program;
+
+impl Subject for Program {
+    fn act(rt: &(impl Abort + AllocGlobal + Clock + Net), act: &str) -> String {
+        let (word, rest) = cut(act);
+        match word {
+            "ends" | "refuses" => complained(rt, word, rest),
+            "follows" => followed(rt, rest),
+            "relay" => done(rt, act),
+            "finds" => found_in_help(rt, rest),
+            _ => owned(rt, UNKNOWN),
+        }
     }
 }
 
-/// The report if the arguments cannot be read.
-fn refused(rt: &(impl Abort + AllocGlobal), why: ErrorKind) -> String {
+/// The end of a script, by the name of its fault.
+fn ended_by(rt: &impl Abort, name: &str) -> Result<(), ScriptFault> {
+    Err(match name {
+        "well" => return Ok(()),
+        "Input" => ScriptFault::Input,
+        "Output" => ScriptFault::Output,
+        "LineTooLong" => ScriptFault::LineTooLong,
+        "TooManyLines" => ScriptFault::TooManyLines,
+        "BadLimit" => ScriptFault::BadLimit,
+        "NoMemory" => ScriptFault::NoMemory,
+        _ => panic!(rt; "no such fault: {name}"),
+    })
+}
+
+/// The report of a script's end, or of arguments that cannot be read, for a reason of this name.
+fn complained(rt: &(impl Abort + AllocGlobal), word: &str, why: &str) -> String {
     let mut errors = Vec::new(rt.alloc());
-    let status = refuse_words(why, &mut errors);
-    told(rt, errors.as_slice(), status)
+    let status = if word == "ends" {
+        report(ended_by(rt, why), &mut errors).code()
+    } else {
+        refuse_words(kind_of(rt, why), &mut errors)
+    };
+    with_status(rt, errors.as_slice(), status)
 }
 
-/// An argument that is not UTF-8 is a fault of the command line.
-#[test]
-fn refuses_words_that_cannot_be_read(rt: HostRuntime) {
-    for (why, wanted) in [
-        (
-            ErrorKind::InvalidData,
-            "relay: an argument is not UTF-8\nstatus 2",
-        ),
-        (ErrorKind::OutOfMemory, "relay: no memory\nstatus 3"),
-        (
-            ErrorKind::Other,
-            "relay: the arguments cannot be read\nstatus 1",
-        ),
-    ] {
-        gives(&rt, refused(&rt, why), wanted, "words");
-    }
-}
-
-/// A follower answers each line that is not empty, with what it holds or with the fault of that text.
-#[test]
-fn a_follower_answers_each_line(rt: HostRuntime) {
-    let mut input = "{\"id\":1,\"kind\":\"watching\"}\n\nx".as_bytes();
+/// What a follower answers to lines.
+fn followed(rt: &(impl Abort + AllocGlobal), lines: &str) -> String {
+    let lines = typed(rt, lines);
+    let mut input = lines.as_bytes();
     let mut output = Vec::new(rt.alloc());
     let ended = run_follow(rt.alloc(), &mut input, &mut output);
-    let said = with_end(&rt, output.as_slice(), ended);
-    gives(&rt, said, "held nothing\noff not-message\n", "two lines");
+    with_end(rt, output.as_slice(), ended)
 }
 
-/// A run of the program.
-#[derive(Drop)]
-pub struct Ran {
-    pub status: u8,
-    pub output: String,
-    pub errors: String,
-}
-
-/// Runs a command line over an input.
-pub fn run(rt: &(impl Abort + AllocGlobal + Clock + Net), line: &str, text: &str) -> Ran {
+/// Runs a command line over an input. Returns the output, followed by the status.
+pub fn run(
+    rt: &(impl Abort + AllocGlobal + Clock + Net),
+    line: &str,
+    text: &str,
+    errors: &mut Vec<u8>,
+) -> String {
     let words = words_of(rt, line);
     let mut input = text.as_bytes();
     let mut output = Vec::new(rt.alloc());
-    let mut errors = Vec::new(rt.alloc());
-    let status = start(rt, words.as_slice(), &mut input, &mut output, &mut errors);
-    Ran {
-        status,
-        output: text_of(rt, output.as_slice()),
-        errors: text_of(rt, errors.as_slice()),
-    }
+    let status = start(rt, words.as_slice(), &mut input, &mut output, errors);
+    with_status(rt, output.as_slice(), status)
 }
 
-/// The output of the program, whether it wrote to standard error, and its status.
-fn done(rt: &(impl Abort + AllocGlobal + Clock + Net), line: &str, input: &str) -> String {
-    let ran = run(rt, line, input);
-    let complaint = if ran.errors.is_empty() {
+/// Whether the program wrote to standard error, its output, and its status.
+fn done(rt: &(impl Abort + AllocGlobal + Clock + Net), act: &str) -> String {
+    let (line, input) = act.split_once(" < ").unwrap_or((act, ""));
+    let input = typed(rt, input);
+    let mut errors = Vec::new(rt.alloc());
+    let told = run(rt, line, input.as_str(), &mut errors);
+    with_complaint(rt, errors.as_slice(), told.as_str())
+}
+
+/// Whether the program's help has a part, whether it wrote to standard error, and its status.
+fn found_in_help(rt: &(impl Abort + AllocGlobal + Clock + Net), part: &str) -> String {
+    let mut errors = Vec::new(rt.alloc());
+    let told = run(rt, "relay --help", "", &mut errors);
+    let told = if told.contains(part) && told.ends_with("status 0") {
+        "yes, status 0"
+    } else {
+        told.as_str()
+    };
+    with_complaint(rt, errors.as_slice(), told)
+}
+
+/// How the error output of a server begins that was given no epoch.
+const WARNING: &[u8] = b"relay: epoch 1, as without --epoch";
+
+/// A text after a word for the error output, if there was any.
+pub fn with_complaint(rt: &(impl Abort + AllocGlobal), errors: &[u8], told: &str) -> String {
+    let complaint = if errors.is_empty() {
         ""
+    } else if errors.starts_with(WARNING) {
+        "warning, "
     } else {
         "complaint, "
     };
-    let (output, status) = (ran.output.as_str(), ran.status);
-    format!(in rt.alloc(); "{output}{complaint}status {status}").expect(rt, "memory")
-}
-
-/// A line of a script that opens a session.
-const OPEN: &str = "a open r\n";
-
-/// A number out of range, an unknown job, a job without its port, and an option of another job are refused with a message.
-#[test]
-fn does_what_its_words_say(rt: HostRuntime) {
-    for (line, input, wanted) in [
-        ("relay", OPEN, "a opened 1\nstatus 0"),
-        ("relay script --history 3", OPEN, "a opened 1\nstatus 0"),
-        ("relay loop", OPEN, "a opened 1\nstatus 0"),
-        ("relay follow", OPEN, "off not-message\nstatus 0"),
-        ("relay follow", "", "status 0"),
-        ("relay script --outbox 0", OPEN, "complaint, status 2"),
-        ("relay script --history 1025", OPEN, "complaint, status 2"),
-        ("relay script --rooms 0", OPEN, "complaint, status 2"),
-        ("relay script --sessions 65537", OPEN, "complaint, status 2"),
-        (
-            "relay script --sessions 1",
-            "a open r\nb open r\n",
-            "a opened 1\nb refused sessions-full\nstatus 0",
-        ),
-        ("relay frob", OPEN, "complaint, status 2"),
-        ("relay serve", OPEN, "complaint, status 2"),
-        ("relay follow --epoch 1", OPEN, "complaint, status 2"),
-    ] {
-        gives(&rt, done(&rt, line, input), wanted, line);
-    }
-}
-
-#[test]
-fn helps_on_standard_output(rt: HostRuntime) {
-    let ran = run(&rt, "relay --help", "");
-    assert_eq!(rt; ran.status, 0);
-    assert!(rt; ran.output.contains("relay < examples/first.script"));
-    assert!(rt; ran.errors.is_empty());
+    format!(in rt.alloc(); "{complaint}{told}").expect(rt, "memory")
 }

@@ -2,11 +2,11 @@
 use relay_hub::HubConfig;
 use relay_server::{ScriptFault, run_script};
 use std::alloc::AllocGlobal;
+use std::io::ErrorKind;
 use std::process::Abort;
 
-/// Asserts a text.
-pub fn gives(rt: &impl Abort, found: String, wanted: &str, of: &str) {
-    assert_eq!(rt; found.as_str(), wanted, "of {of}");
+pub fn owned(rt: &(impl Abort + AllocGlobal), text: &str) -> String {
+    String::from_str(rt.alloc(), text).expect(rt, "memory")
 }
 
 pub fn text_of(rt: &(impl Abort + AllocGlobal), bytes: &[u8]) -> String {
@@ -26,6 +26,13 @@ pub fn with_end(
     told
 }
 
+/// The output, followed by the status.
+pub fn with_status(rt: &(impl Abort + AllocGlobal), written: &[u8], status: u8) -> String {
+    let mut told = text_of(rt, written);
+    write!(told, "status {status}").expect(rt, "memory");
+    told
+}
+
 /// The output of a script, followed by the fault that ended it, if there was one.
 pub fn played(
     rt: &(impl Abort + AllocGlobal),
@@ -42,4 +49,15 @@ pub fn played(
         HubConfig::new(1, 1, history, max_waiting_patches),
     );
     with_end(rt, output.as_slice(), ended)
+}
+
+/// The kind of an error, by its name.
+pub fn kind_of(rt: &impl Abort, name: &str) -> ErrorKind {
+    match name {
+        "Interrupted" => ErrorKind::Interrupted,
+        "InvalidData" => ErrorKind::InvalidData,
+        "OutOfMemory" => ErrorKind::OutOfMemory,
+        "Other" => ErrorKind::Other,
+        _ => panic!(rt; "no such kind: {name}"),
+    }
 }

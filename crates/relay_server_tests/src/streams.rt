@@ -1,36 +1,79 @@
 //! Tests with a reader and a writer that interrupt or fail at a chosen call.
-use crate::story::{gives, with_end};
+use crate::rows::{Subject, UNKNOWN, number, play};
+use crate::story::{kind_of, owned, with_end};
 use relay_hub::HubConfig;
 use relay_server::run_script;
+use relay_wire::cut;
 use std::alloc::AllocGlobal;
 use std::io;
 use std::io::{ErrorKind, Read, Write};
+use std::net::Net;
 use std::process::Abort;
+use std::time::Clock;
 
-/// Faults of successive calls: the first such call, counted from 0, and their number.
+/// A script of two lines is read or written with faults: after so many calls, so many of a kind.
+const ROWS: &str = r#"
+# The first call that fails is within the second line. The script goes on after 999 interruptions of its input.
+reads 9 999 Interrupted => x unknown\ny unknown\n
+reads 9 1000 Interrupted => x unknown\nfault: input
+reads 9 1 Other => x unknown\nfault: input
+
+# The first call that fails is within the second answer, which is cut there. The script goes on after 999 interruptions of its output.
+writes 12 999 Interrupted => x unknown\ny unknown\n
+writes 12 1000 Interrupted => x unknown\ny fault: output
+writes 12 1 Other => x unknown\ny fault: output
+"#;
+
+#[test]
+fn goes_on_after_999_interruptions(rt: HostRuntime) {
+    play::<Streams>(&rt, ROWS);
+}
+
+struct Streams;
+
+impl Subject for Streams {
+    fn act(rt: &(impl Abort + AllocGlobal + Clock + Net), act: &str) -> String {
+        let (word, faults) = cut(act);
+        match word {
+            "reads" => played_with(rt, faults_of(rt, faults), NONE),
+            "writes" => played_with(rt, NONE, faults_of(rt, faults)),
+            _ => owned(rt, UNKNOWN),
+        }
+    }
+}
+
+/// Faults of successive calls: the number of calls before them, their own number, and their kind.
 #[derive(Clone, Copy)]
 struct Faults {
-    calls: u64,
-    at: u64,
+    before: u64,
     times: u64,
     kind: ErrorKind,
 }
 
-impl Faults {
-    fn new(at: u64, times: u64, kind: ErrorKind) -> Faults {
-        Faults {
-            calls: 0,
-            at,
-            times,
-            kind,
-        }
-    }
+/// No faults.
+const NONE: Faults = Faults {
+    before: 0,
+    times: 0,
+    kind: ErrorKind::Other,
+};
 
+fn faults_of(rt: &impl Abort, words: &str) -> Faults {
+    let (before, rest) = cut(words);
+    let (times, kind) = cut(rest);
+    Faults {
+        before: number(rt, before),
+        times: number(rt, times),
+        kind: kind_of(rt, kind),
+    }
+}
+
+impl Faults {
     /// Counts a call. Fails if the call has a fault.
     fn call(&mut self) -> io::Result<()> {
-        let call = self.calls;
-        self.calls = self.calls.saturating_add(1);
-        if self.at <= call && call - self.at < self.times {
+        if self.before > 0 {
+            self.before -= 1;
+        } else if self.times > 0 {
+            self.times -= 1;
             return Err(io::Error::from(self.kind));
         }
         Ok(())
@@ -47,14 +90,8 @@ struct FailingReader {
 impl Read for FailingReader {
     fn read(&mut self, buf: &mut [u8]) -> io::Result<usize> {
         self.faults.call()?;
-        match (self.bytes.split_first(), buf.first_mut()) {
-            (Some((byte, rest)), Some(place)) => {
-                *place = *byte;
-                self.bytes = rest;
-                Ok(1)
-            }
-            _ => Ok(0),
-        }
+        let most = buf.len().min(1);
+        self.bytes.read(&mut buf[..most])
     }
 }
 
@@ -68,13 +105,9 @@ struct FailingWriter {
 impl Write for FailingWriter {
     fn write(&mut self, buf: &[u8]) -> io::Result<usize> {
         self.faults.call()?;
-        match buf.first() {
-            None => Ok(0),
-            Some(byte) => {
-                self.bytes.push(*byte)?;
-                Ok(1)
-            }
-        }
+        let most = buf.len().min(1);
+        self.bytes.extend_from_slice(&buf[..most])?;
+        Ok(most)
     }
 
     fn flush(&mut self) -> io::Result<()> {
@@ -85,41 +118,15 @@ impl Write for FailingWriter {
 /// Two lines, for names that are not open.
 const TWO_LINES: &[u8] = b"x draw\ny draw";
 
-/// The output of a script that is read with faults, followed by the fault that ended it.
-fn read_with(rt: &(impl Abort + AllocGlobal), faults: Faults) -> String {
+/// The output of a script that is read and written with faults, followed by the fault that ended it.
+fn played_with(rt: &(impl Abort + AllocGlobal), of_reads: Faults, of_writes: Faults) -> String {
     let mut input = FailingReader {
         bytes: TWO_LINES,
-        faults,
+        faults: of_reads,
     };
-    let mut output = Vec::new(rt.alloc());
-    let ended = run_script(
-        rt.alloc(),
-        &mut input,
-        &mut output,
-        HubConfig::new(1, 1, 64, 32),
-    );
-    with_end(rt, output.as_slice(), ended)
-}
-
-/// The first call that fails is within the second line.
-#[test]
-fn goes_on_after_999_interruptions_of_its_input(rt: HostRuntime) {
-    for (kind, times, wanted) in [
-        (ErrorKind::Interrupted, 999, "x unknown\ny unknown\n"),
-        (ErrorKind::Interrupted, 1_000, "x unknown\nfault: input"),
-        (ErrorKind::Other, 1, "x unknown\nfault: input"),
-    ] {
-        let written = read_with(&rt, Faults::new(9, times, kind));
-        gives(&rt, written, wanted, "an input");
-    }
-}
-
-/// The output of a script that is written with faults, followed by the fault that ended it.
-fn written_with(rt: &(impl Abort + AllocGlobal), faults: Faults) -> String {
-    let mut input = TWO_LINES;
     let mut output = FailingWriter {
         bytes: Vec::new(rt.alloc()),
-        faults,
+        faults: of_writes,
     };
     let ended = run_script(
         rt.alloc(),
@@ -128,17 +135,4 @@ fn written_with(rt: &(impl Abort + AllocGlobal), faults: Faults) -> String {
         HubConfig::new(1, 1, 64, 32),
     );
     with_end(rt, output.bytes.as_slice(), ended)
-}
-
-/// The first call that fails is within the second answer, which is cut there.
-#[test]
-fn goes_on_after_999_interruptions_of_its_output(rt: HostRuntime) {
-    for (kind, times, wanted) in [
-        (ErrorKind::Interrupted, 999, "x unknown\ny unknown\n"),
-        (ErrorKind::Interrupted, 1_000, "x unknown\ny fault: output"),
-        (ErrorKind::Other, 1, "x unknown\ny fault: output"),
-    ] {
-        let written = written_with(&rt, Faults::new(12, times, kind));
-        gives(&rt, written, wanted, "an output");
-    }
 }

@@ -1,11 +1,10 @@
-//! Tests of a server with an admin port: what it answers beside its rounds, and how it stops.
+//! A server with an admin port: what it answers beside its rounds, and how it stops.
 use crate::memory_server::{MemoryListener, ReadinessScript, ScriptedReadiness};
-use crate::pair::{HANDSHAKE, lent};
 use relay_hub::{Hub, HubConfig};
 use relay_serving::{AdminPort, AdminReadiness, NoLog, ReadyEvent, Server};
-use relay_wire::Wire;
-use std::alloc::AllocGlobal;
-use std::cell::RefCell;
+use relay_wire::{End, Row, Wire, cut, push_signs};
+use std::alloc::{AllocError, AllocGlobal};
+use std::cell::{RefCell, RefMut};
 use std::process::Abort;
 use std::time::{Clock, Duration};
 use std::{io, str};
@@ -24,11 +23,149 @@ impl Clock for Still {
     }
 }
 
-/// A wire on which this comes.
-fn wire_with(rt: &(impl Abort + AllocGlobal), bytes: &[u8]) -> RefCell<Wire> {
-    let wire = Wire::new(rt.alloc());
-    lent(rt, &wire).feed(bytes).expect(rt, "memory");
-    wire
+/// What a client and an operator ask, and what comes of a server that runs for at most so many rounds.
+const ROWS: &str = r#"
+# The rooms are told, and at the end of all rounds the client is sent away.
+client asks 13 /rooms/r
+operator line GET /rooms HTTP/1.1
+operator line Host: localhost
+operator line
+run 3 => 3
+body => [{"name":"r","revision":0,"sessions":1,"weight":8}]
+client-signs => 101 welcome going-away
+
+# What the log says is counted.
+client line GET /nowhere HTTP/1.1
+client line Host: localhost
+client line
+operator line GET /metrics HTTP/1.1
+operator line Host: localhost
+operator line
+run 3 => 3
+metric relay_handshakes_refused_total{status="404"} 1 => true
+metric relay_handshakes_refused_total{status="400"} 0 => true
+metric relay_sessions_opened_total 0 => true
+metric relay_replies_total 0 => true
+metric relay_refusals_total{fault="too-long"} 0 => true
+metric relay_refusals_total{fault="future"} 0 => true
+metric relay_snapshots_total{cause="memory"} 0 => true
+metric relay_waiting_weight 0 => true
+metric relay_rounds_total 1 => true
+metric relay_longest_round_seconds 0e-6 => true
+
+# A server that is asked to stop has told what waited, and sends each client away.
+client asks 13 /rooms/r
+operator line POST /stop HTTP/1.1
+operator line Host: localhost
+operator line Content-Length: 0
+operator line
+run 1000 => 1
+body => stopping\n
+client-signs => 101 welcome going-away
+
+# A page's request for the stop is refused, and the server goes on.
+client asks 13 /rooms/r
+operator line POST /stop HTTP/1.1
+operator line Host: localhost
+operator line Origin: null
+operator line
+run 5 => 5
+body => pages may not ask\n
+
+# A head that is not complete holds up nothing, and has no reply.
+client asks 13 /rooms/r
+operator line GET /health HTTP/1.1
+operator line Host: localhost
+run 5 => 5
+body => nothing
+client-signs => 101 welcome going-away
+"#;
+
+#[test]
+fn answers_beside_its_rounds(rt: HostRuntime) {
+    for case in ROWS.split("\n\n") {
+        play_case(&rt, case);
+    }
+}
+
+fn play_case(rt: &(impl Abort + AllocGlobal), case: &str) {
+    let (client, operator) = (Wire::new(rt.alloc()), Wire::new(rt.alloc()));
+    let port = Port {
+        client: &client,
+        operator: &operator,
+    };
+    for row in case.lines().filter_map(|line| Row::of(line)) {
+        port.play_row(rt, row);
+    }
+}
+
+/// The wires of a client and of an operator.
+#[derive(Clone, Copy)]
+struct Port<'a> {
+    client: &'a RefCell<Wire>,
+    operator: &'a RefCell<Wire>,
+}
+
+impl Port<'_> {
+    fn play_row(self, rt: &(impl Abort + AllocGlobal), row: Row<'_>) {
+        let mut told = String::new(rt.alloc());
+        self.act(rt, row.act, &mut told).expect(rt, "memory");
+        assert_eq!(rt; told.as_str().trim(), row.wanted, "{}", row.act);
+    }
+
+    /// Does an act, and tells what came of it:
+    ///
+    /// - `client ACT` and `operator ACT` do an act of a wire;
+    /// - `run N` runs a server for at most so many rounds, and tells how many were run;
+    /// - `body` tells the body of the reply to the operator, with `\n` for the end of a line, and `metric LINE` whether it has this line;
+    /// - `client-signs` tells what the client was sent.
+    fn act(
+        self,
+        rt: &(impl Abort + AllocGlobal),
+        act: &str,
+        told: &mut String,
+    ) -> Result<(), AllocError> {
+        let (word, rest) = cut(act);
+        match word {
+            "client" => does(rt, self.client, rest),
+            "operator" => does(rt, self.operator, rest),
+            "run" => write!(told, "{}", self.run(rt, rest.parse().unwrap_or(0))),
+            "body" => tell_body(rt, &lent(rt, self.operator), told),
+            "metric" => write!(told, "{}", has_line(rt, &lent(rt, self.operator), rest)),
+            "client-signs" => push_signs(told, lent(rt, self.client).output.as_slice()),
+            _ => write!(told, "no such act"),
+        }
+    }
+
+    /// Runs a server for at most so many rounds, to which the client and the operator are connected. Returns how many rounds were run.
+    fn run(self, rt: &(impl Abort + AllocGlobal), rounds: u64) -> u64 {
+        let script = ReadinessScript::new(rt.alloc());
+        add_incoming(rt, &script);
+        let mut admin = AdminPort::new(rt.alloc(), listener_with(rt, self.operator));
+        let listener = listener_with(rt, self.client);
+        server(rt, &script).run_administered(rt.alloc(), &listener, &mut admin, rounds, &mut NoLog)
+    }
+}
+
+/// Borrows a wire.
+fn lent<'w>(rt: &impl Abort, wire: &'w RefCell<Wire>) -> RefMut<'w, Wire> {
+    wire.try_borrow_mut().expect(rt, "a wire that is free")
+}
+
+fn does(
+    rt: &(impl Abort + AllocGlobal),
+    wire: &RefCell<Wire>,
+    act: &str,
+) -> Result<(), AllocError> {
+    let is_done = lent(rt, wire).perform(rt.alloc(), act)?;
+    assert!(rt; is_done, "no such act: {act}");
+    Ok(())
+}
+
+/// The next wait says that a connection may wait to be accepted.
+fn add_incoming(rt: &impl Abort, script: &RefCell<ReadinessScript>) {
+    let mut script = script.try_borrow_mut().expect(rt, "the script");
+    script.add(rt, ReadyEvent::Incoming);
 }
 
 /// A listener at which a wire waits.
@@ -41,119 +178,33 @@ fn listener_with<'a>(
     listener
 }
 
-/// Runs a server for at most so many rounds, to which a client and an operator are connected. Returns how many rounds were run.
-fn run(
+fn server<'a, 's>(
     rt: &(impl Abort + AllocGlobal),
-    client: &RefCell<Wire>,
-    operator: &RefCell<Wire>,
-    rounds: u64,
-) -> u64 {
-    let script = ReadinessScript::new(rt.alloc());
-    script
-        .try_borrow_mut()
-        .expect(rt, "the script")
-        .add(rt, ReadyEvent::Incoming);
+    script: &'s RefCell<ReadinessScript>,
+) -> Server<End<'a>, AdminReadiness<'s, ScriptedReadiness<'s>, Still>> {
     let hub = Hub::with_config(rt.alloc(), HubConfig::new(1, 1, 64, 32)).expect(rt, "a hub");
-    let readiness = AdminReadiness::new(ScriptedReadiness::of(&script), &Still);
-    let mut server = Server::new(rt.alloc(), hub, readiness);
-    let mut admin = AdminPort::new(rt.alloc(), listener_with(rt, operator));
-    server.run_administered(
-        rt.alloc(),
-        &listener_with(rt, client),
-        &mut admin,
-        rounds,
-        &mut NoLog,
-    )
+    let readiness = AdminReadiness::new(ScriptedReadiness::of(script), &Still);
+    Server::new(rt.alloc(), hub, readiness)
 }
 
-/// Asserts how a text ends that was written to a wire.
-fn ends_with(rt: &(impl Abort + AllocGlobal), wire: &RefCell<Wire>, end: &str) {
-    let written = lent(rt, wire);
-    let text = str::from_utf8(written.output.as_slice()).expect(rt, "a text");
-    assert!(rt; text.ends_with(end), "{text}");
+/// The text that was written to a wire.
+fn text_of<'w>(rt: &impl Abort, wire: &'w Wire) -> &'w str {
+    str::from_utf8(wire.output.as_slice())
+        .ok()
+        .expect(rt, "a text")
 }
 
-/// Asserts that the last that a client got is a close frame with 1001.
-fn is_sent_away(rt: &impl Abort, wire: &RefCell<Wire>) {
-    let written = lent(rt, wire);
-    assert!(rt; written.output.as_slice().ends_with(&[0x88, 2, 0x03, 0xe9]));
+fn tell_body(
+    rt: &(impl Abort + AllocGlobal),
+    wire: &Wire,
+    told: &mut String,
+) -> Result<(), AllocError> {
+    let text = text_of(rt, wire);
+    let body = text.split_once("\r\n\r\n").map(|parts| parts.1);
+    let body = body.unwrap_or("nothing").replace(rt.alloc(), "\n", "\\n")?;
+    told.push_str(body.as_str())
 }
 
-/// Asserts that a client got its welcome.
-fn is_welcomed(rt: &(impl Abort + AllocGlobal), wire: &RefCell<Wire>) {
-    let written = lent(rt, wire);
-    let text = String::from_utf8_lossy(rt.alloc(), written.output.as_slice()).expect(rt, "memory");
-    assert!(rt; text.as_str().contains("\"kind\":\"welcome\""), "{text}");
-}
-
-#[test]
-fn answers_beside_its_rounds(rt: HostRuntime) {
-    let client = wire_with(&rt, HANDSHAKE);
-    let operator = wire_with(&rt, b"GET /rooms HTTP/1.1\r\nHost: localhost\r\n\r\n");
-    assert_eq!(&rt; run(&rt, &client, &operator, 3), 3);
-    ends_with(
-        &rt,
-        &operator,
-        "\r\n\r\n[{\"name\":\"r\",\"revision\":0,\"sessions\":1,\"weight\":8}]",
-    );
-    is_sent_away(&rt, &client);
-}
-
-#[test]
-fn counts_what_its_log_says(rt: HostRuntime) {
-    let client = wire_with(&rt, b"GET /nowhere HTTP/1.1\r\nHost: localhost\r\n\r\n");
-    let operator = wire_with(&rt, b"GET /metrics HTTP/1.1\r\nHost: localhost\r\n\r\n");
-    assert_eq!(&rt; run(&rt, &client, &operator, 3), 3);
-    let written = lent(&rt, &operator);
-    let text = str::from_utf8(written.output.as_slice()).expect(&rt, "a text");
-    for line in [
-        "\nrelay_handshakes_refused_total{status=\"404\"} 1\n",
-        "\nrelay_handshakes_refused_total{status=\"400\"} 0\n",
-        "\nrelay_sessions_opened_total 0\n",
-        "\nrelay_replies_total 0\n",
-        "\nrelay_refusals_total{fault=\"too-long\"} 0\n",
-        "\nrelay_refusals_total{fault=\"future\"} 0\n",
-        "\nrelay_snapshots_total{cause=\"memory\"} 0\n",
-        "\nrelay_waiting_weight 0\n",
-        "\nrelay_rounds_total 1\n",
-        "\nrelay_longest_round_seconds 0e-6\n",
-    ] {
-        assert!(&rt; text.contains(line), "{line}{text}");
-    }
-}
-
-/// A server that is stopped has told what waited, and sends each client away.
-#[test]
-fn stops_once_it_is_asked(rt: HostRuntime) {
-    let client = wire_with(&rt, HANDSHAKE);
-    let operator = wire_with(
-        &rt,
-        b"POST /stop HTTP/1.1\r\nHost: localhost\r\nContent-Length: 0\r\n\r\n",
-    );
-    assert_eq!(&rt; run(&rt, &client, &operator, 1_000), 1);
-    ends_with(&rt, &operator, "\r\n\r\nstopping\n");
-    is_welcomed(&rt, &client);
-    is_sent_away(&rt, &client);
-}
-
-/// A page's request for the stop is refused, and the server goes on.
-#[test]
-fn is_not_stopped_by_a_page(rt: HostRuntime) {
-    let client = wire_with(&rt, HANDSHAKE);
-    let operator = wire_with(
-        &rt,
-        b"POST /stop HTTP/1.1\r\nHost: localhost\r\nOrigin: null\r\n\r\n",
-    );
-    assert_eq!(&rt; run(&rt, &client, &operator, 5), 5);
-    ends_with(&rt, &operator, "\r\n\r\npages may not ask\n");
-}
-
-/// A head that is not complete holds up nothing, and has no reply.
-#[test]
-fn waits_for_the_rest_of_a_head(rt: HostRuntime) {
-    let client = wire_with(&rt, HANDSHAKE);
-    let operator = wire_with(&rt, b"GET /health HTTP/1.1\r\nHost: localhost\r\n");
-    assert_eq!(&rt; run(&rt, &client, &operator, 5), 5);
-    assert!(&rt; lent(&rt, &operator).output.is_empty());
-    is_sent_away(&rt, &client);
+fn has_line(rt: &impl Abort, wire: &Wire, line: &str) -> bool {
+    text_of(rt, wire).lines().any(|it| it == line)
 }

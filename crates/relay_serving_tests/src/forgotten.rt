@@ -1,22 +1,15 @@
-//! A test that no connection is forgotten: rounds go by queues, and here they are compared with a walk over all connections.
+//! No connection is forgotten: rounds go by queues, and behind each the queues are compared with a walk over all connections.
+use crate::clients::{Clients, wires};
 use crate::memory_server::ReadinessScript;
-use crate::pair::lent;
-use crate::senders::{COSTLY_EDIT, EDIT, Senders, WATCH, long_edit, readable, wires};
-use relay_serving::{ReadyEvent, StreamReady};
-use relay_wire::InjectedFault;
 use std::alloc::AllocGlobal;
 use std::process::Abort;
 
 /// How many clients there are, and how many of them stay to the end: the others may break off.
-const CLIENTS: usize = 6;
+const CLIENTS: u64 = 6;
 
-const STAYING: usize = 4;
+const STAYING: u64 = 4;
 
 const STEPS: u64 = 200;
-
-const BINARY: &[u8] = b"\x82\x81\x00\x00\x00\x00x";
-
-const PING: &[u8] = b"\x89\x80\x00\x00\x00\x00";
 
 /// Numbers that look random, from a seed (Knuth's linear congruential generator).
 #[derive(Drop)]
@@ -35,87 +28,80 @@ impl Numbers {
     }
 }
 
-fn ready(key: usize, writable: bool) -> ReadyEvent {
-    let ready = StreamReady {
-        readable: true,
-        writable,
-        is_over: false,
-    };
-    ReadyEvent::Stream { key, ready }
-}
+const EDIT: &str = r#"send @ says {"do":"edit","id":2,"patch":[{"op":"add","path":"","value":7}]}"#;
 
-/// A step of a client, or of what its stream does.
-fn step(rt: &impl Abort, numbers: &mut Numbers, senders: &Senders<'_>, key: usize, long: &str) {
+const EDITS: &str = r#"
+40 wire @ says {"do":"edit","id":2,"patch":[{"op":"add","path":"","value":7}]}
+readable @
+"#;
+
+const LONG: &str =
+    r#"send @ stretches 9000 {"do":"edit","id":3,"patch":[{"op":"add","path":"","value":"*"}]}"#;
+
+/// Edits that may be much work.
+const COSTLY: &str = r#"
+3 wire @ says {"do":"edit","id":3,"patch":[{"op":"add","path":"","value":["copy","copy","copy","copy","copy","copy","copy","copy","copy","copy","copy","copy","copy","copy","copy","copy","copy","copy"]}]}
+readable @
+"#;
+
+const WATCH: &str = r#"send @ says {"do":"watch","id":1,"view":[""]}"#;
+
+const GOES_ON: &str = "
+wire @ writes well
+readable @
+writable @
+";
+
+/// The step of a client, or of what its stream does. `@` is the client.
+fn step(numbers: &mut Numbers, client: u64) -> &'static str {
     match numbers.below(14) {
-        0..=3 => senders.say(rt, key, EDIT, 1),
-        4 => senders.say(rt, key, EDIT, 40),
-        5 | 6 => senders.say(rt, key, long, 1),
-        7 | 8 => senders.say(rt, key, COSTLY_EDIT, 3),
-        9 => senders.say(rt, key, WATCH, 1),
-        10 => lent(rt, senders.wire(rt, key)).writes = Some(InjectedFault::Nothing),
-        11 => {
-            lent(rt, senders.wire(rt, key)).writes = None;
-            senders.server.event(rt, ready(key, true));
-        }
-        12 => send(rt, senders, key, PING),
-        _ => break_off(rt, numbers, senders, key),
+        0..=3 => EDIT,
+        4 => EDITS,
+        5 | 6 => LONG,
+        7 | 8 => COSTLY,
+        9 => WATCH,
+        10 => "wire @ writes not-ready",
+        11 => GOES_ON,
+        12 => "send @ hex 89 80 00 00 00 00",
+        _ => break_off(numbers, client),
     }
 }
 
-/// Sends bytes from a client, and announces them.
-fn send(rt: &impl Abort, senders: &Senders<'_>, key: usize, bytes: &[u8]) {
-    lent(rt, senders.wire(rt, key))
-        .feed(bytes)
-        .expect(rt, "memory");
-    senders.server.event(rt, readable(key));
-}
-
-/// The client does what ends its connection, if it is one that does not stay. Otherwise the system cannot say what is ready.
-fn break_off(rt: &impl Abort, numbers: &mut Numbers, senders: &Senders<'_>, key: usize) {
-    if key < STAYING {
-        senders.server.fail(rt);
+/// What ends a connection, if it is one that does not stay. Otherwise the system cannot say what is ready.
+fn break_off(numbers: &mut Numbers, client: u64) -> &'static str {
+    if client < STAYING {
+        "wait-fails"
     } else if numbers.below(8) == 0 {
-        send(rt, senders, key, BINARY);
+        "send @ hex 82 81 00 00 00 00 78"
+    } else {
+        ""
     }
 }
 
-fn play(rt: &(impl Abort + AllocGlobal), numbers: &mut Numbers, senders: &mut Senders<'_>) {
-    let long = long_edit(rt, rt.alloc(), 9_000);
-    for count in 0..STEPS {
-        let key = numbers.below(CLIENTS as u64) as usize;
-        step(rt, numbers, senders, key, long.as_str());
+fn play(rt: &(impl Abort + AllocGlobal), numbers: &mut Numbers, clients: &mut Clients<'_>) {
+    for _ in 0..STEPS {
+        let client = numbers.below(CLIENTS);
+        let key = format!(in rt.alloc(); "{client}").expect(rt, "memory");
+        let rows = step(numbers, client).replace(rt.alloc(), "@", key.as_str());
+        clients.play(rt, rows.expect(rt, "memory").as_str());
         if numbers.below(2) == 0 {
-            senders.server.round(rt);
-            assert_eq!(rt; senders.server.unqueued(), None, "after step {count}");
+            clients.play(rt, "rounds 1");
         }
     }
 }
 
-/// Lets each stream take what is written, and runs rounds until the server sleeps. It has read all that the staying clients sent.
-fn settle(rt: &(impl Abort + AllocGlobal), senders: &mut Senders<'_>) {
-    for key in 0..CLIENTS {
-        lent(rt, senders.wire(rt, key)).writes = None;
-        senders.server.event(rt, ready(key, true));
-    }
-    senders.server.round(rt);
-    assert!(rt; falls_asleep(rt, senders), "the server never sleeps");
-    for key in 0..STAYING {
-        assert!(rt;
-            lent(rt, senders.wire(rt, key)).is_read(),
-            "client {key} is not read"
-        );
-    }
-}
-
-/// Runs rounds until the server sleeps. Whether it does so in time.
-fn falls_asleep(rt: &(impl Abort + AllocGlobal), senders: &mut Senders<'_>) -> bool {
-    for _ in 0..10_000 {
-        if senders.server.round(rt) != 0 {
-            return true;
-        }
-    }
-    false
-}
+/// Each stream takes what is written, and the server sleeps in the end. It has read all that the staying clients sent.
+const SETTLES: &str = "
+each 6 wire writes well
+each 6 readable
+each 6 writable
+rounds 1
+sleep
+read 0 => true
+read 1 => true
+read 2 => true
+read 3 => true
+";
 
 /// Clients send short texts, costly ones and long ones, pings and watches, more than may be answered; streams fill up and take more; the
 /// system loses events; and some clients break off. After each round every connection that may have a turn is queued for it.
@@ -123,10 +109,10 @@ fn falls_asleep(rt: &(impl Abort + AllocGlobal), senders: &mut Senders<'_>) -> b
 fn no_connection_is_forgotten(rt: HostRuntime) {
     for seed in 0..3 {
         let script = ReadinessScript::new(rt.alloc());
-        let wires = wires(&rt, CLIENTS);
-        let mut senders = Senders::at(&rt, &script, wires.as_slice());
-        senders.enter(&rt);
-        play(&rt, &mut Numbers { state: seed }, &mut senders);
-        settle(&rt, &mut senders);
+        let wires = wires(&rt);
+        let mut clients = Clients::new(&rt, &script, wires.as_slice());
+        clients.play(&rt, "server waiting=256\neach 6 enter");
+        play(&rt, &mut Numbers { state: seed }, &mut clients);
+        clients.play(&rt, SETTLES);
     }
 }

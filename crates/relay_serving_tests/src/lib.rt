@@ -6,6 +6,8 @@
 #[cfg(test)]
 mod administered;
 #[cfg(test)]
+mod clients;
+#[cfg(test)]
 mod crowd;
 #[cfg(test)]
 mod forgotten;
@@ -16,10 +18,6 @@ mod loopback_fixture;
 #[cfg(test)]
 mod memory_server;
 #[cfg(test)]
-mod pair;
-#[cfg(test)]
 mod rounds;
-#[cfg(test)]
-mod senders;
 #[cfg(test)]
 mod weights;

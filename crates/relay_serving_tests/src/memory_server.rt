@@ -137,7 +137,8 @@ impl ConnectionLog for FieldLines {
 pub(crate) struct MemoryServer<'a> {
     listener: MemoryListener<'a>,
     script: &'a RefCell<ReadinessScript>,
-    server: Server<End<'a>, ScriptedReadiness<'a>>,
+    /// The server of a hub.
+    pub server: Server<End<'a>, ScriptedReadiness<'a>>,
     /// The server's log.
     pub log: FieldLines,
 }
@@ -163,48 +164,28 @@ impl<'a> MemoryServer<'a> {
     /// Adds a waiting connection, and its event to the next round.
     pub fn connect(&self, rt: &impl Abort, wire: &'a RefCell<Wire>) {
         self.listener.add(rt, wire);
-        self.event(rt, ReadyEvent::Incoming);
+        self.script(rt).add(rt, ReadyEvent::Incoming);
     }
 
-    fn script(&self, rt: &impl Abort) -> RefMut<'a, ReadinessScript> {
+    /// What the next round learns of the streams.
+    pub fn script(&self, rt: &impl Abort) -> RefMut<'a, ReadinessScript> {
         self.script.try_borrow_mut().expect(rt, "the script")
     }
 
-    /// Adds an event to the next round.
-    pub fn event(&self, rt: &impl Abort, event: ReadyEvent) {
-        self.script(rt).add(rt, event);
-    }
-
-    /// Limits the next round to this number of events.
-    pub fn capacity(&self, rt: &impl Abort, capacity: usize) {
+    /// Limits the next wait to this number of events.
+    pub fn limit_next_wait(&self, rt: &impl Abort, capacity: usize) {
         self.script(rt).capacity = capacity;
     }
 
-    /// Makes the next round's wait fail.
-    pub fn fail(&self, rt: &impl Abort) {
+    /// Makes the next wait fail.
+    pub fn fail_next_wait(&self, rt: &impl Abort) {
         self.script(rt).fails = true;
     }
 
-    /// The number of connections that the server holds.
-    pub fn connections(&self) -> usize {
-        self.server.connections()
-    }
-
-    /// The first connection that wants a turn for which it is not queued.
-    pub fn unqueued(&self) -> Option<usize> {
-        self.server.unqueued()
-    }
-
-    /// Runs `count` rounds.
-    pub fn rounds(&mut self, rt: &(impl Abort + AllocGlobal), count: u64) {
-        for _ in 0..count {
-            self.round(rt);
-        }
-    }
-
-    /// Runs a round. Returns the time limit of its wait, in milliseconds.
+    /// Runs a round, behind which every connection that wants a turn is queued for it. Returns the time limit of its wait, in milliseconds.
     pub fn round(&mut self, rt: &(impl Abort + AllocGlobal)) -> u64 {
         self.server.round(rt.alloc(), &self.listener, &mut self.log);
+        assert_eq!(rt; self.server.unqueued(), None);
         self.script(rt).waited
     }
 }

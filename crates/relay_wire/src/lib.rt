@@ -1,13 +1,23 @@
-//! An in-memory stream for tests.
+//! An in-memory stream for tests, and the rows that tests are written in.
 //!
-//! The promise: a test holds both ends. On its own side it feeds a [`Wire`], inspects the output, and injects faults, at every call
+//! The promise: a test holds both ends of a stream. On its own side it feeds a [`Wire`], inspects the output, and injects faults, at every call
 //! or at one. The code under test reads and writes the [`End`], which never blocks. The tests of links and servers use it.
+//!
+//! A [`Row`] is a line of text: what is done, and what has to come of it. [`Wire::perform`] does what a client and its stream do, and
+//! [`in_words`] and [`push_signs`] tell what was written.
 #![tactic(auto)]
 
+mod act;
 mod end;
 mod injected_fault;
+mod row;
+mod signs;
 mod wire;
+mod written;
 
 pub use end::End;
 pub use injected_fault::InjectedFault;
+pub use row::{Row, cut};
+pub use signs::push_signs;
 pub use wire::Wire;
+pub use written::in_words;

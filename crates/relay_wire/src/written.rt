@@ -1,8 +1,7 @@
-//! The output of a link, in words: handshake replies, compared byte for byte, and the frames after them (RFC 6455, section 5.2).
-use std::alloc::AllocGlobal;
-use std::process::Abort;
+//! The output of a relay, in words: handshake replies, compared byte for byte, and the frames after them (RFC 6455, section 5.2).
+use std::alloc::{AllocError, Global};
 
-/// The replies that the protocol spells out, and their names in the rows.
+/// The replies that the protocol spells out, and their names in rows.
 const REPLIES: [(&str, &str); 3] = [
     (
         "switched",
@@ -18,18 +17,18 @@ const REPLIES: [(&str, &str); 3] = [
     ),
 ];
 
-/// The output from an offset on: each reply and each frame, after a ` > `.
-pub(crate) fn words(rt: &(impl Abort + AllocGlobal), bytes: &[u8], from: usize) -> String {
-    let mut words = String::new(rt.alloc());
-    let mut rest = bytes.get(from..).unwrap_or(&[]);
-    for _ in from..bytes.len() {
+/// Each reply and each frame of these bytes, after a ` > `.
+pub fn in_words(alloc: Global, bytes: &[u8]) -> Result<String, AllocError> {
+    let mut words = String::new(alloc);
+    let mut rest = bytes;
+    for _ in 0..bytes.len() {
         if !rest.is_empty() {
             let len = item_len(rest).min(rest.len());
-            say(rt, &mut words, &rest[..len]);
+            say(alloc, &mut words, &rest[..len])?;
             rest = &rest[len..];
         }
     }
-    words
+    Ok(words)
 }
 
 /// The length of the first reply or frame.
@@ -53,25 +52,35 @@ fn reply_at(bytes: &[u8]) -> (&'static str, &'static str) {
     found
 }
 
-/// Appends the words for a reply or a frame. Only complete, unmasked frames have words, and closes and pongs only without further data.
-fn say(rt: &(impl Abort + AllocGlobal), words: &mut String, item: &[u8]) {
-    let said = match item {
+/// Appends the words for a reply or a frame. Only complete, unmasked frames have words, and pongs only without further data.
+fn say(alloc: Global, words: &mut String, item: &[u8]) -> Result<(), AllocError> {
+    match item {
         [b'H', ..] => write!(words, " > {}", reply_at(item).0),
         [0x81, 126, high, low, text @ ..]
             if text.len() == usize::from(u16::from_be_bytes([*high, *low])) => {
-            write!(words, " > {}", text_of(rt, text))
+            say_text(alloc, words, text)
         }
-        [0x81, len, text @ ..] if text.len() == usize::from(*len) => {
-            write!(words, " > {}", text_of(rt, text))
-        }
+        [0x81, len, text @ ..] if text.len() == usize::from(*len) => say_text(alloc, words, text),
         [0x88, 0] => write!(words, " > close"),
-        [0x88, 2, high, low] => write!(words, " > close {}", u16::from_be_bytes([*high, *low])),
+        [0x88, len, high, low, reason @ ..] if 2 + reason.len() == usize::from(*len) => {
+            say_close(words, u16::from_be_bytes([*high, *low]), reason)
+        }
         [0x8a, 0] => write!(words, " > pong"),
         _ => write!(words, " > {} bytes", item.len()),
-    };
-    said.expect(rt, "memory");
+    }
 }
 
-fn text_of(rt: &(impl Abort + AllocGlobal), bytes: &[u8]) -> String {
-    String::from_utf8_lossy(rt.alloc(), bytes).expect(rt, "memory")
+fn say_text(alloc: Global, words: &mut String, bytes: &[u8]) -> Result<(), AllocError> {
+    let text = String::from_utf8_lossy(alloc, bytes)?;
+    write!(words, " > {text}")
+}
+
+/// Appends the words for a close: its code, and that it has a reason.
+fn say_close(words: &mut String, code: u16, reason: &[u8]) -> Result<(), AllocError> {
+    let more = if reason.is_empty() {
+        ""
+    } else {
+        " with a reason"
+    };
+    write!(words, " > close {code}{more}")
 }

@@ -1,0 +1,54 @@
+//! What the acts of rows are done on.
+use crate::change::changes_text;
+use crate::shared::{nothing, patch_of, view_of};
+use crate::tree;
+use relay_patch::{Bounds, Change, Patch, apply};
+use relay_pointer::{MAX_TOKENS, Pointer};
+use relay_translate::WatchIndex;
+use relay_tree::{Tree, read};
+use relay_view::View;
+use std::alloc::Global;
+
+/// The document, the pointer, the view and the patch that were named last, the changes that were made last, and the views that sessions watch.
+#[derive(Drop)]
+pub(crate) struct Stage {
+    pub(crate) tree: Tree,
+    pub(crate) pointer: Pointer,
+    pub(crate) view: View,
+    pub(crate) patch: Patch,
+    pub(crate) changes: Vec<Change>,
+    pub(crate) index: WatchIndex,
+}
+
+impl Stage {
+    /// Begins with the count 7 as the document, the root as the pointer, and nothing else.
+    pub(crate) fn new(alloc: Global) -> Stage {
+        Stage {
+            tree: Tree::of_count(7),
+            pointer: Pointer::root(alloc),
+            view: View::of_slots(Vec::new(alloc)),
+            patch: Patch::from_ops(Vec::new(alloc)),
+            changes: Vec::new(alloc),
+            index: WatchIndex::new(alloc),
+        }
+    }
+}
+
+/// Does an act, and tells what came of it; no text at all fails the row. The acts that name or tell what several subjects act on stand here.
+/// The subjects are asked one after the other, so no two of their acts have one name.
+pub(crate) fn done(alloc: Global, stage: &mut Stage, verb: &str, rest: &str) -> Option<String> {
+    match verb {
+        "tree" => stage.tree = read(alloc, rest).ok()?,
+        "pointer" => stage.pointer = Pointer::read(alloc, rest, MAX_TOKENS).ok()?,
+        "view" => stage.view = view_of(alloc, rest)?,
+        "patch" => stage.patch = patch_of(alloc, rest)?,
+        "apply" => {
+            let changes = apply(alloc, &mut stage.tree, &stage.patch, Bounds::FREE);
+            stage.changes = changes.ok()?;
+            return changes_text(alloc, stage.changes.as_slice());
+        }
+        "text" => return stage.tree.text(alloc).ok(),
+        _ => return tree::done(alloc, stage, verb, rest),
+    }
+    nothing(alloc)
+}

@@ -1,0 +1,141 @@
+//! The calls of a hub, as acts of rows. A number behind the word is a session, or the place of a room.
+use crate::rows::{Subject, UNKNOWN, play};
+use crate::shared::{Came, at_revision, number, owned, words};
+use crate::weights::WATCHING;
+use relay_hub::{Hub, HubConfig, HubFault, MessageCounts};
+use relay_tree::{Budget, Tree};
+use relay_wire::cut;
+use std::alloc::{AllocGlobal, Global};
+use std::process::Abort;
+
+/// Plays rows on a hub. One that is `new`, with words such as `history=64` behind it, goes on with another hub. One that is `watching`
+/// stands for the rows of [`WATCHING`].
+pub(crate) fn play_on_hubs(rt: &(impl Abort + AllocGlobal), rows: &str) {
+    let rows = rows.replace(rt.alloc(), "\nwatching\n", WATCHING);
+    let mut hub = Hub::new(rt.alloc(), 1, 1, 64, 32).expect(rt, "a hub");
+    play(rt, &mut hub, rows.expect(rt, "memory").as_str());
+}
+
+impl Subject for Hub {
+    fn act(&mut self, rt: &(impl Abort + AllocGlobal), act: &str) -> Came {
+        let alloc = rt.alloc();
+        let (word, rest) = cut(act);
+        match word {
+            "new" => begin_anew(alloc, self, config_of(rt, rest)),
+            "open" => words(alloc, self.open(alloc, rest)),
+            "told" => words(alloc, self.told().sessions.as_slice()),
+            "shed" => give_memory_back(alloc, self),
+            "counts" => counted(alloc, self.message_counts()),
+            _ => act_on_one(alloc, self, word, rest),
+        }
+    }
+}
+
+/// What comes of an act on a session, whose number stands in front of the text, if there is one.
+fn act_on_one(alloc: Global, hub: &mut Hub, word: &str, rest: &str) -> Came {
+    let (number, text) = cut(rest);
+    let Ok(number) = number.parse::<u64>() else {
+        return owned(alloc, UNKNOWN);
+    };
+    match word {
+        "say" => words(alloc, hub.receive(alloc, number, text)),
+        "say-long" => say_long(alloc, hub, number),
+        "draw" => drawn(alloc, hub.draw(alloc, number)),
+        "close" => words(alloc, hub.close(number)),
+        _ => seen_of_one(alloc, hub, word, number, text),
+    }
+}
+
+/// What a hub tells of a session, or of the room at a place.
+fn seen_of_one(alloc: Global, hub: &Hub, word: &str, number: u64, text: &str) -> Came {
+    match word {
+        "waiting" => words(alloc, hub.waiting(number)),
+        "may-hear" => words(alloc, hub.may_hear(number)),
+        "truth" => seen(alloc, hub.truth(alloc, number)),
+        "work" => words(alloc, hub.most_work(number, text)),
+        "room-at" => words(alloc, hub.room_at(number as usize)),
+        _ => owned(alloc, UNKNOWN),
+    }
+}
+
+/// Goes on with another hub, or tells why there is none.
+fn begin_anew(alloc: Global, hub: &mut Hub, config: HubConfig) -> Came {
+    match Hub::with_config(alloc, config) {
+        Ok(made) => {
+            *hub = made;
+            owned(alloc, "")
+        }
+        Err(fault) => words(alloc, fault),
+    }
+}
+
+/// The usual configuration with these changes.
+fn config_of(rt: &impl Abort, changes: &str) -> HubConfig {
+    let mut config = HubConfig::new(1, 1, 64, 32);
+    for change in changes.split_whitespace() {
+        let (name, value) = change.split_once('=').expect(rt, "NAME=NUMBER");
+        set(rt, &mut config, name, number(rt, value));
+    }
+    config
+}
+
+fn set(rt: &impl Abort, config: &mut HubConfig, name: &str, value: u64) {
+    match name {
+        "epoch" => config.epoch = value,
+        "first" => config.first = value,
+        "history" => config.history = value,
+        "waiting" => config.max_waiting_patches = value,
+        "history-weight" => config.history_weight = Budget::Left(value),
+        "waiting-weight" => config.waiting_weight = Budget::Left(value),
+        "telling-weight" => config.telling_weight = Budget::Left(value),
+        _ => panic!(rt; "no such limit"),
+    }
+}
+
+/// The result of a draw, as text: the text itself, if there was one.
+fn drawn(alloc: Global, text: Result<Option<String>, HubFault>) -> Came {
+    match text {
+        Ok(Some(text)) => Ok(text),
+        Ok(None) => owned(alloc, "nothing"),
+        Err(fault) => words(alloc, fault),
+    }
+}
+
+/// The revision and the view that a session should hold, as text.
+fn seen(alloc: Global, held: Result<Option<(u64, Tree)>, HubFault>) -> Came {
+    match held {
+        Ok(Some((rev, view))) => at_revision(alloc, rev, &view),
+        Ok(None) => owned(alloc, "nothing"),
+        Err(fault) => words(alloc, fault),
+    }
+}
+
+/// How many replies, refusals and patches the sessions drew, and how many snapshots, by their causes.
+fn counted(alloc: Global, counts: &MessageCounts) -> Came {
+    let mut refusals = 0u64;
+    for refused in counts.refusals.iter() {
+        refusals = refusals.saturating_add(refused.count);
+    }
+    let (replies, patches) = (counts.replies, counts.patches);
+    let by = counts.snapshots;
+    let (watch, resume, edit) = (by.watch, by.resume, by.edit);
+    let (full, heavy, memory) = (by.patches, by.weight, by.memory);
+    format!(in alloc;
+        "{replies} {refusals} {patches}, watch {watch}, resume {resume}, edit {edit}, patches {full}, weight {heavy}, memory {memory}"
+    )
+}
+
+/// Gives memory back, which always succeeds.
+fn give_memory_back(alloc: Global, hub: &mut Hub) -> Came {
+    hub.shed();
+    owned(alloc, "done")
+}
+
+/// Says an edit that replaces the document by a text of 100,000 letters, which is too long to spell.
+fn say_long(alloc: Global, hub: &mut Hub, session: u64) -> Came {
+    let letters = "x".repeat(alloc, 100_000)?;
+    let edit = format!(in alloc;
+        r#"{{"do":"edit","id":3,"patch":[{{"op":"add","path":"","value":"{letters}"}}]}}"#
+    )?;
+    words(alloc, hub.receive(alloc, session, edit.as_str()))
+}
