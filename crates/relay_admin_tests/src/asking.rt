@@ -1,8 +1,8 @@
 //! Tests of which requests are accepted, and why the others are refused.
-use crate::play::play;
 use crate::shared::shown;
 use relay_admin::{MAX_HEAD, ask};
-use std::alloc::Global;
+use relay_wire::{Subject, cut, play};
+use std::alloc::{AllocGlobal, Global};
 
 const ROWS: &str = r#"
 # Accepts four requests, of HTTP/1.0 too, and whatever comes behind the head.
@@ -111,15 +111,28 @@ ask GET /health HTTP/1.1\r\nX: y\r\nX: y\r\nX: y\r\nX: y\r\nX: y\r\nX: y\r\nX: y
 const _: () = prove!(MAX_HEAD == 4096);
 
 #[test]
-fn requests(rt: HostRuntime) {
-    play(&rt, ROWS);
+fn requests_are_accepted_or_refused(rt: HostRuntime) {
+    play(&rt, &mut Requests, ROWS).expect(&rt, "each row holds");
+}
+
+/// Requests, by their texts.
+#[derive(Clone, Copy)]
+struct Requests;
+
+impl<R: AllocGlobal> Subject<R> for Requests {
+    fn act(&mut self, rt: &R, act: &str) -> Option<String> {
+        match cut(act) {
+            ("ask", text) => answer_to(rt.alloc(), text),
+            _ => None,
+        }
+    }
 }
 
 // What a star stands for: 64 bytes.
 const STAR: &str = "xxxxxxxxxxxxxxxxxxxxxxxxxxxxxxxxxxxxxxxxxxxxxxxxxxxxxxxxxxxxxxxx";
 
 /// The answer to a text, whose ends of lines are written `\r` and `\n`.
-pub(crate) fn answer_to(alloc: Global, text: &str) -> Option<String> {
+fn answer_to(alloc: Global, text: &str) -> Option<String> {
     let text = text.replace(alloc, "*", STAR).ok()?;
     let text = text.as_str().replace(alloc, r"\r", "\r").ok()?;
     let text = text.as_str().replace(alloc, r"\n", "\n").ok()?;

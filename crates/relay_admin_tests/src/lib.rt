@@ -1,13 +1,11 @@
 //! Tests of the requests of an operator: what no contract states, that the definitions mean HTTP, and that the calls succeed. Most are rows of
-//! text, each with what is done and what has to come of it, since a row costs a proof next to nothing.
+//! text, since a row costs a proof next to nothing.
 #![tactic(auto)]
 
 #[cfg(test)]
 mod asking;
 #[cfg(test)]
 mod metrics;
-#[cfg(test)]
-mod play;
 #[cfg(test)]
 mod replying;
 #[cfg(test)]

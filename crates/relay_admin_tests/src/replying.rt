@@ -1,8 +1,8 @@
 //! Tests of the replies, and of the list of rooms.
-use crate::play::play;
 use crate::shared::shown;
 use relay_admin::{Refusal, Reply, RoomRow, begin_rooms, end_rooms, reply_text, write_room};
-use std::alloc::Global;
+use relay_wire::{Subject, cut, play};
+use std::alloc::{AllocGlobal, Global};
 
 // Each reply of the list below and its bytes are written as their `Debug` texts.
 const ROWS: &str = r#"
@@ -46,18 +46,32 @@ const REPLIES: [Reply<'static>; 13] = [
 ];
 
 #[test]
-fn replies(rt: HostRuntime) {
-    play(&rt, ROWS);
+fn replies_have_their_bytes(rt: HostRuntime) {
+    play(&rt, &mut Replies, ROWS).expect(&rt, "each row holds");
+}
+
+/// Replies, by their places in the list.
+#[derive(Clone, Copy)]
+struct Replies;
+
+impl<R: AllocGlobal> Subject<R> for Replies {
+    fn act(&mut self, rt: &R, act: &str) -> Option<String> {
+        match cut(act) {
+            ("reply", index) => reply_at(rt.alloc(), index),
+            ("rooms", _) => rooms(rt.alloc()),
+            _ => None,
+        }
+    }
 }
 
 /// A reply of the list, and its bytes.
-pub(crate) fn reply_at(alloc: Global, index: &str) -> Option<String> {
+fn reply_at(alloc: Global, index: &str) -> Option<String> {
     let reply = *REPLIES.get(index.parse::<usize>().ok()?)?;
     shown(alloc, (reply, reply_text(alloc, &reply).ok()?))
 }
 
 /// The list of two rooms.
-pub(crate) fn rooms(alloc: Global) -> Option<String> {
+fn rooms(alloc: Global) -> Option<String> {
     let mut out = begin_rooms(alloc).ok()?;
     write_room(&mut out, &row("r", 0)).ok()?;
     write_room(&mut out, &row("\"", u64::MAX)).ok()?;

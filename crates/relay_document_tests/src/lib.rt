@@ -2,17 +2,14 @@
 //!
 //! They call what stands alone with success, and show what no script can: limits that a caller chooses, and calls that only other crates
 //! make. What is done within a budget (`apply_within`, `translate_within`) is shown by the tests of the hub. How edits change documents, and
-//! what views show of it, is data in `tests/scripts`. Each subject is one text of rows, each with what is done and what has to come of it,
-//! since a row costs a proof next to nothing, and a function that asserts it much. The functions unwrap each result with `expect`, since a
-//! returned error is one more exit to prove.
+//! what views show of it, is data in `tests/scripts`. Each subject is one text of rows, since a
+//! row costs a proof next to nothing, and a function that asserts it much.
 #![tactic(auto)]
 
 #[cfg(test)]
 mod change;
 #[cfg(test)]
 mod patch;
-#[cfg(test)]
-mod play;
 #[cfg(test)]
 mod pointer;
 #[cfg(test)]

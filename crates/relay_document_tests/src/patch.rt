@@ -1,6 +1,5 @@
-use crate::play::play;
 use crate::shared::{shown, taken_text};
-use crate::stage::Stage;
+use crate::stage::{Stage, play_anew};
 use crate::view;
 use relay_patch::{Bounds, Op, Patch, PatchLimits, apply};
 use relay_pointer::{MAX_TOKENS, Pointer};
@@ -156,8 +155,8 @@ const NARROW: Bounds = Bounds {
 const FEW: PatchLimits = PatchLimits { ops: 2, tokens: 2 };
 
 #[test]
-fn patches(rt: HostRuntime) {
-    play(&rt, ROWS);
+fn a_patch_is_told_by_its_changes(rt: HostRuntime) {
+    play_anew(&rt, ROWS);
 }
 
 /// Does an act on the patch, and on a document that it is read of or applied to.

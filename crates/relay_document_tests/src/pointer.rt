@@ -1,7 +1,6 @@
 use crate::patch;
-use crate::play::play;
 use crate::shared::{nothing, part_text, shown, taken_text};
-use crate::stage::Stage;
+use crate::stage::{Stage, play_anew};
 use relay_pointer::{
     MAX_TOKENS, Pointer, PointerFault, child, exchange, index_of, resolve, resolve_mut, set, take,
 };
@@ -88,8 +87,8 @@ text => {"a":[1,{"b":2}],"c":3}
 "#;
 
 #[test]
-fn pointers(rt: HostRuntime) {
-    play(&rt, ROWS);
+fn a_pointer_leads_to_its_value(rt: HostRuntime) {
+    play_anew(&rt, ROWS);
 }
 
 /// Does an act on the pointer, and on the document where it leads.

@@ -7,7 +7,9 @@ use relay_pointer::{MAX_TOKENS, Pointer};
 use relay_translate::WatchIndex;
 use relay_tree::{Tree, read};
 use relay_view::View;
-use std::alloc::Global;
+use relay_wire::{Subject, cut, play};
+use std::alloc::{AllocGlobal, Global};
+use std::process::Abort;
 
 /// The document, the pointer, the view and the patch that were named last, the changes that were made last, and the views that sessions watch.
 #[derive(Drop)]
@@ -34,9 +36,22 @@ impl Stage {
     }
 }
 
-/// Does an act, and tells what came of it; no text at all fails the row. The acts that name or tell what several subjects act on stand here.
-/// The subjects are asked one after the other, so no two of their acts have one name.
-pub(crate) fn done(alloc: Global, stage: &mut Stage, verb: &str, rest: &str) -> Option<String> {
+impl<R: AllocGlobal> Subject<R> for Stage {
+    fn act(&mut self, rt: &R, act: &str) -> Option<String> {
+        let (verb, rest) = cut(act);
+        done(rt.alloc(), self, verb, rest)
+    }
+}
+
+/// Plays rows on a new stage.
+pub(crate) fn play_anew(rt: &(impl Abort + AllocGlobal), rows: &str) {
+    let mut stage = Stage::new(rt.alloc());
+    play(rt, &mut stage, rows).expect(rt, "each row holds");
+}
+
+/// Does an act, and tells what came of it. The acts that name or tell what several subjects act on stand here. The subjects are asked one
+/// after the other, so no two of their acts have one name.
+fn done(alloc: Global, stage: &mut Stage, verb: &str, rest: &str) -> Option<String> {
     match verb {
         "tree" => stage.tree = read(alloc, rest).ok()?,
         "pointer" => stage.pointer = Pointer::read(alloc, rest, MAX_TOKENS).ok()?,

@@ -1,6 +1,5 @@
-use crate::play::play;
 use crate::shared::{nothing, shown, view_of};
-use crate::stage::Stage;
+use crate::stage::{Stage, play_anew};
 use relay_patch::Change;
 use relay_translate::{WatchIndex, touch, translate};
 use relay_view::SlotKind;
@@ -146,11 +145,11 @@ sessions => []
 "#;
 
 #[test]
-fn translations(rt: HostRuntime) {
-    play(&rt, SLOTS);
-    play(&rt, SESSIONS);
-    play(&rt, BEHIND);
-    play(&rt, STAYING);
+fn a_change_is_told_to_the_slots_that_it_touches(rt: HostRuntime) {
+    play_anew(&rt, SLOTS);
+    play_anew(&rt, SESSIONS);
+    play_anew(&rt, BEHIND);
+    play_anew(&rt, STAYING);
 }
 
 /// Does an act on the last change, or on the views of sessions. An act that is unknown here too gives nothing.

@@ -1,7 +1,6 @@
-use crate::play::play;
 use crate::pointer;
 use crate::shared::{nothing, part_text, shown, taken_text};
-use crate::stage::Stage;
+use crate::stage::{Stage, play_anew};
 use relay_tree::{MAX_COUNT, Node, Tree, begin_text, end_text, insert_member, read};
 use relay_wire::cut;
 use std::alloc::Global;
@@ -64,8 +63,8 @@ text => {"a":null,"b":2}
 const _: () = prove!(MAX_COUNT == 9007199254740991);
 
 #[test]
-fn trees(rt: HostRuntime) {
-    play(&rt, ROWS);
+fn a_tree_is_read_and_written(rt: HostRuntime) {
+    play_anew(&rt, ROWS);
 }
 
 /// Does an act on the document.

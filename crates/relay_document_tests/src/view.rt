@@ -1,6 +1,5 @@
-use crate::play::play;
 use crate::shared::{shown, taken_text, view_of};
-use crate::stage::Stage;
+use crate::stage::{Stage, play_anew};
 use crate::translate;
 use relay_tree::{Tree, begin_text, end_text};
 use relay_view::View;
@@ -37,8 +36,8 @@ slot_kind 2 => None
 "#;
 
 #[test]
-fn views(rt: HostRuntime) {
-    play(&rt, ROWS);
+fn a_view_shows_its_slots(rt: HostRuntime) {
+    play_anew(&rt, ROWS);
 }
 
 /// Does an act on the view.

@@ -1,10 +1,9 @@
 //! The calls of a hub, as acts of rows. A number behind the word is a session, or the place of a room.
-use crate::rows::{Subject, UNKNOWN, play};
 use crate::shared::{Came, at_revision, number, owned, words};
 use crate::weights::WATCHING;
 use relay_hub::{Hub, HubConfig, HubFault, MessageCounts};
 use relay_tree::{Budget, Tree};
-use relay_wire::cut;
+use relay_wire::{Subject, cut, play};
 use std::alloc::{AllocGlobal, Global};
 use std::process::Abort;
 
@@ -12,21 +11,36 @@ use std::process::Abort;
 /// stands for the rows of [`WATCHING`].
 pub(crate) fn play_on_hubs(rt: &(impl Abort + AllocGlobal), rows: &str) {
     let rows = rows.replace(rt.alloc(), "\nwatching\n", WATCHING);
-    let mut hub = Hub::new(rt.alloc(), 1, 1, 64, 32).expect(rt, "a hub");
-    play(rt, &mut hub, rows.expect(rt, "memory").as_str());
+    let mut hubs = Hubs::new(rt);
+    play(rt, &mut hubs, rows.expect(rt, "memory").as_str()).expect(rt, "each row holds");
 }
 
-impl Subject for Hub {
-    fn act(&mut self, rt: &(impl Abort + AllocGlobal), act: &str) -> Came {
+/// The hub that acts are done to.
+#[derive(Drop)]
+struct Hubs {
+    hub: Hub,
+}
+
+impl Hubs {
+    fn new(rt: &(impl Abort + AllocGlobal)) -> Hubs {
+        Hubs {
+            hub: Hub::new(rt.alloc(), 1, 1, 64, 32).expect(rt, "a hub"),
+        }
+    }
+}
+
+impl<R: AllocGlobal> Subject<R> for Hubs {
+    fn act(&mut self, rt: &R, act: &str) -> Option<String> {
         let alloc = rt.alloc();
         let (word, rest) = cut(act);
+        let hub = &mut self.hub;
         match word {
-            "new" => begin_anew(alloc, self, config_of(rt, rest)),
-            "open" => words(alloc, self.open(alloc, rest)),
-            "told" => words(alloc, self.told().sessions.as_slice()),
-            "shed" => give_memory_back(alloc, self),
-            "counts" => counted(alloc, self.message_counts()),
-            _ => act_on_one(alloc, self, word, rest),
+            "new" => begin_anew(alloc, hub, config_of(rest)?),
+            "open" => words(alloc, hub.open(alloc, rest)),
+            "told" => words(alloc, hub.told().sessions.as_slice()),
+            "shed" => give_memory_back(alloc, hub),
+            "counts" => counted(alloc, hub.message_counts()),
+            _ => act_on_one(alloc, hub, word, rest),
         }
     }
 }
@@ -34,9 +48,7 @@ impl Subject for Hub {
 /// What comes of an act on a session, whose number stands in front of the text, if there is one.
 fn act_on_one(alloc: Global, hub: &mut Hub, word: &str, rest: &str) -> Came {
     let (number, text) = cut(rest);
-    let Ok(number) = number.parse::<u64>() else {
-        return owned(alloc, UNKNOWN);
-    };
+    let number = number.parse::<u64>().ok()?;
     match word {
         "say" => words(alloc, hub.receive(alloc, number, text)),
         "say-long" => say_long(alloc, hub, number),
@@ -54,7 +66,7 @@ fn seen_of_one(alloc: Global, hub: &Hub, word: &str, number: u64, text: &str) ->
         "truth" => seen(alloc, hub.truth(alloc, number)),
         "work" => words(alloc, hub.most_work(number, text)),
         "room-at" => words(alloc, hub.room_at(number as usize)),
-        _ => owned(alloc, UNKNOWN),
+        _ => None,
     }
 }
 
@@ -70,16 +82,16 @@ fn begin_anew(alloc: Global, hub: &mut Hub, config: HubConfig) -> Came {
 }
 
 /// The usual configuration with these changes.
-fn config_of(rt: &impl Abort, changes: &str) -> HubConfig {
+fn config_of(changes: &str) -> Option<HubConfig> {
     let mut config = HubConfig::new(1, 1, 64, 32);
     for change in changes.split_whitespace() {
-        let (name, value) = change.split_once('=').expect(rt, "NAME=NUMBER");
-        set(rt, &mut config, name, number(rt, value));
+        let (name, value) = change.split_once('=')?;
+        set(&mut config, name, number(value)?)?;
     }
-    config
+    Some(config)
 }
 
-fn set(rt: &impl Abort, config: &mut HubConfig, name: &str, value: u64) {
+fn set(config: &mut HubConfig, name: &str, value: u64) -> Option<()> {
     match name {
         "epoch" => config.epoch = value,
         "first" => config.first = value,
@@ -88,14 +100,15 @@ fn set(rt: &impl Abort, config: &mut HubConfig, name: &str, value: u64) {
         "history-weight" => config.history_weight = Budget::Left(value),
         "waiting-weight" => config.waiting_weight = Budget::Left(value),
         "telling-weight" => config.telling_weight = Budget::Left(value),
-        _ => panic!(rt; "no such limit"),
+        _ => return None,
     }
+    Some(())
 }
 
 /// The result of a draw, as text: the text itself, if there was one.
 fn drawn(alloc: Global, text: Result<Option<String>, HubFault>) -> Came {
     match text {
-        Ok(Some(text)) => Ok(text),
+        Ok(Some(text)) => Some(text),
         Ok(None) => owned(alloc, "nothing"),
         Err(fault) => words(alloc, fault),
     }
@@ -122,7 +135,7 @@ fn counted(alloc: Global, counts: &MessageCounts) -> Came {
     let (full, heavy, memory) = (by.patches, by.weight, by.memory);
     format!(in alloc;
         "{replies} {refusals} {patches}, watch {watch}, resume {resume}, edit {edit}, patches {full}, weight {heavy}, memory {memory}"
-    )
+    ).ok()
 }
 
 /// Gives memory back, which always succeeds.
@@ -133,9 +146,9 @@ fn give_memory_back(alloc: Global, hub: &mut Hub) -> Came {
 
 /// Says an edit that replaces the document by a text of 100,000 letters, which is too long to spell.
 fn say_long(alloc: Global, hub: &mut Hub, session: u64) -> Came {
-    let letters = "x".repeat(alloc, 100_000)?;
+    let letters = "x".repeat(alloc, 100_000).ok()?;
     let edit = format!(in alloc;
         r#"{{"do":"edit","id":3,"patch":[{{"op":"add","path":"","value":"{letters}"}}]}}"#
-    )?;
-    words(alloc, hub.receive(alloc, session, edit.as_str()))
+    );
+    words(alloc, hub.receive(alloc, session, edit.ok()?.as_str()))
 }

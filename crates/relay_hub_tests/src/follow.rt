@@ -1,10 +1,8 @@
 //! Tests of what a follower holds. Each text that it may receive, and each fault, is data in `tests/scripts`.
-use crate::rows::{Subject, UNKNOWN, play};
 use crate::shared::{Came, at_revision, number, owned, tree_of};
 use relay_follow::Follower;
-use relay_wire::cut;
+use relay_wire::{Subject, cut, play};
 use std::alloc::{AllocGlobal, Global};
-use std::process::Abort;
 
 /// The follower is new. `from 1 [[1]]` goes on with one that holds this view at revision 1. Of a text that is heard come the follower's
 /// answer, and what it holds afterwards.
@@ -21,28 +19,35 @@ hear {"kind":"patch","patch":[],"rev":2} => Ok(()), 2 [[1]]
 hear {"kind":"patch","patch":[{"op":"remove","path":"/0/0/x"}],"rev":3} => Err(Apply), 2 [[1]]
 "#;
 
-impl Subject for Follower {
-    fn act(&mut self, rt: &(impl Abort + AllocGlobal), act: &str) -> Came {
+/// The follower that acts are done to.
+#[derive(Drop)]
+struct Client {
+    follower: Follower,
+}
+
+impl<R: AllocGlobal> Subject<R> for Client {
+    fn act(&mut self, rt: &R, act: &str) -> Option<String> {
+        let alloc = rt.alloc();
         let (word, rest) = cut(act);
         match word {
-            "from" => follow_from(rt, self, rest),
-            "hear" => heard(rt.alloc(), self, rest),
-            _ => owned(rt.alloc(), UNKNOWN),
+            "from" => follow_from(alloc, &mut self.follower, rest),
+            "hear" => heard(alloc, &mut self.follower, rest),
+            _ => None,
         }
     }
 }
 
-fn follow_from(rt: &(impl Abort + AllocGlobal), follower: &mut Follower, rest: &str) -> Came {
+fn follow_from(alloc: Global, follower: &mut Follower, rest: &str) -> Came {
     let (rev, view) = cut(rest);
-    *follower = Follower::from_view(number(rt, rev), tree_of(rt, view));
-    owned(rt.alloc(), "")
+    *follower = Follower::from_view(number(rev)?, tree_of(alloc, view)?);
+    owned(alloc, "")
 }
 
 /// What the follower answers to a text, and what it holds afterwards.
 fn heard(alloc: Global, follower: &mut Follower, text: &str) -> Came {
     let answer = follower.hear(alloc, text);
     let held = held(alloc, follower)?;
-    format!(in alloc; "{answer:?}, {held}")
+    format!(in alloc; "{answer:?}, {held}").ok()
 }
 
 /// The revision and the view that the follower holds, as text.
@@ -55,5 +60,8 @@ fn held(alloc: Global, follower: &Follower) -> Came {
 
 #[test]
 fn holds_what_it_heard(rt: HostRuntime) {
-    play(&rt, &mut Follower::new(), ROWS);
+    let mut client = Client {
+        follower: Follower::new(),
+    };
+    play(&rt, &mut client, ROWS).expect(&rt, "each row holds");
 }

@@ -1,13 +1,11 @@
 //! Tests of histories whose revisions set the root to numbers, so that the numbers show which changes are kept.
-use crate::rows::{Subject, UNKNOWN, play};
 use crate::shared::{Came, number, owned, words};
 use relay_history::{History, HistoryFault, LAST_REVISION, RevisionSlot};
 use relay_patch::Change;
 use relay_pointer::Pointer;
 use relay_tree::{Budget, Node, Tree};
-use relay_wire::cut;
-use std::alloc::{AllocGlobal, Global};
-use std::process::Abort;
+use relay_wire::{Subject, cut, play};
+use std::alloc::{AllocError, AllocGlobal, Global};
 
 /// What `five` stands for: a history of five revisions. A whole number weighs 8 and the root's path nothing, so the third revision, which
 /// sets the root twice, weighs 16 and the others 8.
@@ -82,49 +80,57 @@ new 1 9007199254740991 => Ok(9007199254740991)
 new 1024 7 => Ok(7)
 ";
 
-impl Subject for History {
-    fn act(&mut self, rt: &(impl Abort + AllocGlobal), act: &str) -> Came {
+/// The history that acts are done to.
+#[derive(Drop)]
+struct Histories {
+    history: History,
+}
+
+impl<R: AllocGlobal> Subject<R> for Histories {
+    fn act(&mut self, rt: &R, act: &str) -> Option<String> {
+        let alloc = rt.alloc();
         let (word, rest) = cut(act);
+        let history = &mut self.history;
         match word {
-            "new" => begin_anew(rt, self, rest),
-            "push" => push(rt, self, rest),
-            "trim" => trim(rt, self, rest),
-            "kept" => words(rt.alloc(), (self.oldest(), self.newest())),
-            "after" => numbers_after(rt.alloc(), self, number(rt, rest)),
-            _ => owned(rt.alloc(), UNKNOWN),
+            "new" => begin_anew(alloc, history, rest),
+            "push" => push(alloc, history, rest),
+            "trim" => trim(alloc, history, rest),
+            "kept" => words(alloc, (history.oldest(), history.newest())),
+            "after" => numbers_after(alloc, history, number(rest)?),
+            _ => None,
         }
     }
 }
 
 /// Goes on with another history. Tells the revision from which it starts, or why it cannot be made.
-fn begin_anew(rt: &(impl Abort + AllocGlobal), history: &mut History, rest: &str) -> Came {
+fn begin_anew(alloc: Global, history: &mut History, rest: &str) -> Came {
     let (limit, start) = cut(rest);
-    match History::new(rt.alloc(), number(rt, limit), number(rt, start)) {
+    match History::new(alloc, number(limit)?, number(start)?) {
         Ok(made) => {
             *history = made;
-            words(rt.alloc(), Ok::<u64, HistoryFault>(history.newest()))
+            words(alloc, Ok::<u64, HistoryFault>(history.newest()))
         }
-        Err(fault) => words(rt.alloc(), Err::<u64, HistoryFault>(fault)),
+        Err(fault) => words(alloc, Err::<u64, HistoryFault>(fault)),
     }
 }
 
 /// Adds the next revision, if there is one left. It sets the root to each of the numbers.
-fn push(rt: &(impl Abort + AllocGlobal), history: &mut History, numbers: &str) -> Came {
-    let changes = changes_of(rt, numbers);
+fn push(alloc: Global, history: &mut History, numbers: &str) -> Came {
+    let changes = changes_of(alloc, numbers)?;
     if history.newest() < LAST_REVISION {
-        let slot = RevisionSlot::new(rt.alloc()).expect(rt, "memory");
+        let slot = RevisionSlot::new(alloc).ok()?;
         history.push(slot, changes);
     }
-    owned(rt.alloc(), "")
+    owned(alloc, "")
 }
 
-fn changes_of(rt: &(impl Abort + AllocGlobal), numbers: &str) -> Vec<Change> {
-    let mut changes = Vec::new(rt.alloc());
+fn changes_of(alloc: Global, numbers: &str) -> Option<Vec<Change>> {
+    let mut changes = Vec::new(alloc);
     for number in numbers.split_whitespace() {
-        let number = number.parse::<i64>().expect(rt, number);
-        changes.push(set(rt.alloc(), number)).expect(rt, "memory");
+        let number = number.parse::<i64>().ok()?;
+        changes.push(set(alloc, number)).ok()?;
     }
-    changes
+    Some(changes)
 }
 
 /// A change that sets the root to a number.
@@ -135,12 +141,12 @@ fn set(alloc: Global, number: i64) -> Change {
     }
 }
 
-fn trim(rt: &(impl Abort + AllocGlobal), history: &mut History, budget: &str) -> Came {
+fn trim(alloc: Global, history: &mut History, budget: &str) -> Came {
     history.trim(match budget {
         "unbounded" => Budget::Unbounded,
-        most => Budget::Left(number(rt, most)),
+        most => Budget::Left(number(most)?),
     });
-    owned(rt.alloc(), "")
+    owned(alloc, "")
 }
 
 /// The numbers that the root was set to after a revision, as text.
@@ -148,8 +154,10 @@ fn numbers_after(alloc: Global, history: &History, rev: u64) -> Came {
     let Some(since) = history.since(rev) else {
         return owned(alloc, "none");
     };
-    let numbers: Vec<i64> = since.filter_map(|change| number_of(change)).collect(alloc)?;
-    words(alloc, numbers)
+    let numbers: Result<Vec<i64>, AllocError> = since
+        .filter_map(|change| number_of(change))
+        .collect(alloc);
+    words(alloc, numbers.ok()?)
 }
 
 /// The number that a change sets the root to.
@@ -165,7 +173,10 @@ fn number_of(change: &Change) -> Option<i64> {
 
 #[test]
 fn keeps_the_newest_revisions(rt: HostRuntime) {
-    let mut history = History::new(rt.alloc(), 1, 0).expect(&rt, "a history");
+    let mut histories = Histories {
+        history: History::new(rt.alloc(), 1, 0).expect(&rt, "a history"),
+    };
     let rows = ROWS.replace(rt.alloc(), "\nfive\n", FIVE);
-    play(&rt, &mut history, rows.expect(&rt, "memory").as_str());
+    let rows = rows.expect(&rt, "memory");
+    play(&rt, &mut histories, rows.as_str()).expect(&rt, "each row holds");
 }

@@ -2,8 +2,8 @@
 //!
 //! They call what stands alone with success, and show what no script can: limits that a caller chooses, the last revision, the bytes of a
 //! handshake, and runs of events. What only a server asks of a hub (`config`, `waiting_weight`) is called by the tests of its rounds. What
-//! sessions receive is data in `tests/scripts`. Most tests are rows of text (`rows.rt`). A function that can fail in one place alone returns
-//! its result. Others mostly unwrap each with `expect`, since a returned error is one more exit to prove.
+//! sessions receive is data in `tests/scripts`. Most tests are rows of text, since a
+//! row costs a proof next to nothing, and a function that asserts it much.
 #![tactic(auto)]
 
 #[cfg(test)]
@@ -26,8 +26,6 @@ mod proto;
 mod replies;
 #[cfg(test)]
 mod room;
-#[cfg(test)]
-mod rows;
 #[cfg(test)]
 mod runs;
 #[cfg(test)]

@@ -1,5 +1,4 @@
 //! The limits, one by one, as `docs/PROTOCOL.md` lists them.
-use crate::rows::{Subject, play};
 use crate::shared::{Came, words};
 use relay_history::{LAST_REVISION, MAX_REVISIONS};
 use relay_hub::{DEFAULT_ROOMS, DEFAULT_SESSIONS, MAX_ROOMS, MAX_SESSIONS};
@@ -9,8 +8,8 @@ use relay_pointer::MAX_TOKENS;
 use relay_proto::{MAX_NAME, MAX_REQUEST};
 use relay_tree::MAX_COUNT;
 use relay_view::MAX_SLOTS;
+use relay_wire::{Subject, play};
 use std::alloc::AllocGlobal;
-use std::process::Abort;
 
 /// What each limit is of, in the order of [`LIMITS`].
 const ROWS: &str = "
@@ -59,16 +58,17 @@ const LIMITS: [u64; 18] = [
 #[derive(Drop)]
 struct Told(usize);
 
-impl Subject for Told {
+impl<R: AllocGlobal> Subject<R> for Told {
     /// Tells the next limit.
-    fn act(&mut self, rt: &(impl Abort + AllocGlobal), _act: &str) -> Came {
+    fn act(&mut self, rt: &R, _act: &str) -> Option<String> {
+        let alloc = rt.alloc();
         let place = self.0;
         self.0 = place.saturating_add(1);
-        words(rt.alloc(), LIMITS.get(place).copied().unwrap_or(0))
+        words(alloc, LIMITS.get(place).copied().unwrap_or(0))
     }
 }
 
 #[test]
 fn the_limits_are_those_of_the_protocol(rt: HostRuntime) {
-    play(&rt, &mut Told(0), ROWS);
+    play(&rt, &mut Told(0), ROWS).expect(&rt, "each row holds");
 }

@@ -1,10 +1,8 @@
 //! Tests of what waits in an outbox, and of the order in which it is drawn. How it affects sessions is data in `tests/scripts`.
-use crate::rows::{Subject, UNKNOWN, play};
 use crate::shared::{Came, number, owned, words};
 use relay_outbox::{Busy, Front, Outbox, OutboxFault};
-use relay_wire::cut;
+use relay_wire::{Subject, cut, play};
 use std::alloc::{AllocGlobal, Global};
-use std::process::Abort;
 
 /// `new 2` goes on with an outbox for 2 patches. Of `waits` come how many replies and how many patches wait, and whether a snapshot is due.
 /// A reply that finds no space is given back.
@@ -56,29 +54,36 @@ new 18446744073709551615 => Some(BadLimit)
 /// An outbox of numbered replies and patches.
 type Numbers = Outbox<u64, u64>;
 
-impl Subject for Numbers {
-    fn act(&mut self, rt: &(impl Abort + AllocGlobal), act: &str) -> Came {
+/// The outbox that acts are done to.
+#[derive(Drop)]
+struct Outboxes {
+    outbox: Numbers,
+}
+
+impl<R: AllocGlobal> Subject<R> for Outboxes {
+    fn act(&mut self, rt: &R, act: &str) -> Option<String> {
         let alloc = rt.alloc();
         let (word, rest) = cut(act);
+        let outbox = &mut self.outbox;
         match word {
-            "new" => words(alloc, begin_anew(alloc, self, number(rt, rest))),
-            "reply" => words(alloc, reply(self, number(rt, rest))),
-            "draw" => draw(alloc, self),
-            "waits" => words(alloc, (self.replies(), self.patches(), self.is_due())),
-            _ => change(rt, self, word, rest),
+            "new" => words(alloc, begin_anew(alloc, outbox, number(rest)?)),
+            "reply" => words(alloc, reply(outbox, number(rest)?)),
+            "draw" => draw(alloc, outbox),
+            "waits" => words(alloc, (outbox.replies(), outbox.patches(), outbox.is_due())),
+            _ => change(alloc, outbox, word, rest),
         }
     }
 }
 
 /// Does what returns nothing.
-fn change(rt: &(impl Abort + AllocGlobal), outbox: &mut Numbers, word: &str, rest: &str) -> Came {
+fn change(alloc: Global, outbox: &mut Numbers, word: &str, rest: &str) -> Came {
     match word {
-        "patch" => outbox.patch(number(rt, rest)),
+        "patch" => outbox.patch(number(rest)?),
         "fold" => outbox.fold(),
         "clear" => outbox.clear(),
-        _ => return owned(rt.alloc(), UNKNOWN),
+        _ => return None,
     }
-    owned(rt.alloc(), "")
+    owned(alloc, "")
 }
 
 /// Goes on with another outbox, for so many patches. Returns the fault if it cannot be made.
@@ -109,8 +114,8 @@ fn draw(alloc: Global, outbox: &mut Numbers) -> Came {
 
 fn in_words(alloc: Global, front: Front<'_, u64, u64>) -> Came {
     match front {
-        Front::Reply(number) => format!(in alloc; "reply {number}"),
-        Front::Patch(rev) => format!(in alloc; "patch {rev}"),
+        Front::Reply(number) => format!(in alloc; "reply {number}").ok(),
+        Front::Patch(rev) => format!(in alloc; "patch {rev}").ok(),
         Front::Snapshot => owned(alloc, "snapshot"),
         Front::Nothing => owned(alloc, "nothing"),
     }
@@ -118,6 +123,8 @@ fn in_words(alloc: Global, front: Front<'_, u64, u64>) -> Came {
 
 #[test]
 fn draws_in_order(rt: HostRuntime) {
-    let mut outbox: Numbers = Outbox::new(rt.alloc(), 2).expect(&rt, "an outbox");
-    play(&rt, &mut outbox, ROWS);
+    let mut outboxes = Outboxes {
+        outbox: Outbox::new(rt.alloc(), 2).expect(&rt, "an outbox"),
+    };
+    play(&rt, &mut outboxes, ROWS).expect(&rt, "each row holds");
 }

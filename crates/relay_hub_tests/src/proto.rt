@@ -1,11 +1,9 @@
 //! Tests of the texts of requests and messages, as `docs/PROTOCOL.md` shows them. The answer to each text is data in `tests/scripts`.
 use crate::replies::REPLIES;
-use crate::rows::{Subject, UNKNOWN, play};
 use crate::shared::{Came, number, owned, patch_of, tree_of, view_of, words};
 use relay_proto::{Message, Reply, Request, is_room_name, patch_text, shown_text, snapshot_text};
-use relay_wire::cut;
+use relay_wire::{Subject, cut, play};
 use std::alloc::{AllocGlobal, Global};
-use std::process::Abort;
 
 const ROWS: &str = r#"
 # Names of rooms have 1 to 64 letters, digits, `-` and `_`.
@@ -64,17 +62,18 @@ unwatch-of 1048577 => Refused(Refusal { fault: TooLong, id: None, at: None })
 #[derive(Drop)]
 struct Texts;
 
-impl Subject for Texts {
-    fn act(&mut self, rt: &(impl Abort + AllocGlobal), act: &str) -> Came {
+impl<R: AllocGlobal> Subject<R> for Texts {
+    fn act(&mut self, rt: &R, act: &str) -> Option<String> {
+        let alloc = rt.alloc();
         let (word, rest) = cut(act);
         match word {
-            "name" => words(rt.alloc(), is_room_name(rest)),
-            "reply" => reply_at(rt, rest).text(rt.alloc()),
-            "message-of-reply" => Message::Reply(reply_at(rt, rest)).text(rt.alloc()),
-            "patch" => patch_written(rt, rest),
-            "snapshot" => snapshot_written(rt, rest),
-            "shown" => shown_written(rt, rest),
-            _ => act_of_reading(rt.alloc(), word, rest),
+            "name" => words(alloc, is_room_name(rest)),
+            "reply" => reply_at(rest)?.text(alloc).ok(),
+            "message-of-reply" => Message::Reply(reply_at(rest)?).text(alloc).ok(),
+            "patch" => patch_written(alloc, rest),
+            "snapshot" => snapshot_written(alloc, rest),
+            "shown" => shown_written(alloc, rest),
+            _ => act_of_reading(alloc, word, rest),
         }
     }
 }
@@ -85,38 +84,37 @@ fn act_of_reading(alloc: Global, word: &str, text: &str) -> Came {
         "message" => written_again(alloc, text),
         "request" => asked(alloc, text),
         "unwatch-of" => asked_by_unwatch_of(alloc, text),
-        _ => owned(alloc, UNKNOWN),
+        _ => None,
     }
 }
 
 /// The reply at a place.
-fn reply_at(rt: &impl Abort, place: &str) -> Reply {
-    let reply = REPLIES.get(number(rt, place) as usize);
-    *reply.expect(rt, "a reply")
+fn reply_at(place: &str) -> Option<Reply> {
+    REPLIES.get(number(place)? as usize).copied()
 }
 
-fn patch_written(rt: &(impl Abort + AllocGlobal), rest: &str) -> Came {
+fn patch_written(alloc: Global, rest: &str) -> Came {
     let (rev, patch) = cut(rest);
-    patch_text(rt.alloc(), number(rt, rev), &patch_of(rt, patch))
+    patch_text(alloc, number(rev)?, &patch_of(alloc, patch)?).ok()
 }
 
-fn snapshot_written(rt: &(impl Abort + AllocGlobal), rest: &str) -> Came {
+fn snapshot_written(alloc: Global, rest: &str) -> Came {
     let (rev, view) = cut(rest);
-    snapshot_text(rt.alloc(), number(rt, rev), &tree_of(rt, view))
+    snapshot_text(alloc, number(rev)?, &tree_of(alloc, view)?).ok()
 }
 
 /// What a view shows of a document at a revision.
-fn shown_written(rt: &(impl Abort + AllocGlobal), rest: &str) -> Came {
+fn shown_written(alloc: Global, rest: &str) -> Came {
     let (rev, rest) = cut(rest);
     let (view, document) = cut(rest);
-    let view = view_of(rt, view);
-    shown_text(rt.alloc(), number(rt, rev), &view, &tree_of(rt, document))
+    let view = view_of(alloc, view)?;
+    shown_text(alloc, number(rev)?, &view, &tree_of(alloc, document)?).ok()
 }
 
 /// The text of the message that is read from a text, or why it is no message.
 fn written_again(alloc: Global, text: &str) -> Came {
     match Message::read(alloc, text) {
-        Ok(message) => message.text(alloc),
+        Ok(message) => message.text(alloc).ok(),
         Err(fault) => words(alloc, fault),
     }
 }
@@ -126,7 +124,7 @@ fn asked(alloc: Global, text: &str) -> Came {
     match Request::read(alloc, text) {
         Ok(Request::Edit { id, base, patch }) => {
             let count = patch.ops().len();
-            format!(in alloc; "edit {id} {base:?} {count}")
+            format!(in alloc; "edit {id} {base:?} {count}").ok()
         }
         Ok(Request::Watch { id, view }) => of_view(alloc, "watch", id, view.len()),
         Ok(Request::Resume { id, view, .. }) => of_view(alloc, "resume", id, view.len()),
@@ -136,21 +134,19 @@ fn asked(alloc: Global, text: &str) -> Came {
 }
 
 fn of_view(alloc: Global, what: &str, id: u64, len: u64) -> Came {
-    format!(in alloc; "{what} {id} {len}")
+    format!(in alloc; "{what} {id} {len}").ok()
 }
 
 /// What a valid request of so many bytes requests.
 fn asked_by_unwatch_of(alloc: Global, len: &str) -> Came {
-    let Ok(len) = len.parse::<usize>() else {
-        return owned(alloc, UNKNOWN);
-    };
+    let len = len.parse::<usize>().ok()?;
     let request = r#"{"do":"unwatch","id":1}"#;
-    let blanks = " ".repeat(alloc, len.saturating_sub(request.len()))?;
-    let text = format!(in alloc; "{request}{blanks}")?;
+    let blanks = " ".repeat(alloc, len.saturating_sub(request.len())).ok()?;
+    let text = format!(in alloc; "{request}{blanks}").ok()?;
     asked(alloc, text.as_str())
 }
 
 #[test]
 fn reads_and_writes_texts(rt: HostRuntime) {
-    play(&rt, &mut Texts, ROWS);
+    play(&rt, &mut Texts, ROWS).expect(&rt, "each row holds");
 }

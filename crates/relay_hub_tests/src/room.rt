@@ -1,15 +1,13 @@
 //! Tests of rooms: how they start, the last revision, and each call once. What edits do to a document, and what a client missed, is data in
 //! `tests/scripts`.
-use crate::rows::{Subject, UNKNOWN, play};
 use crate::shared::{Came, number, owned, patch_of, repeated, tree_of, view_of, words};
 use relay_history::RevisionSlot;
 use relay_patch::Patch;
 use relay_room::{CatchFault, CatchUp, Room, RoomFault};
 use relay_translate::WatchIndex;
 use relay_tree::{Node, Tree};
-use relay_wire::cut;
+use relay_wire::{Subject, cut, play};
 use std::alloc::{AllocGlobal, Global};
-use std::process::Abort;
 
 /// `start-nested 65 0 64` starts a room with lists that are 65 deep, at revision 0, and with a history of 64 revisions; `start-long` with a
 /// text of so many bytes. The last revision is 9,007,199,254,740,991, and a history holds 1,024 revisions at most. In front of a patch
@@ -68,19 +66,20 @@ struct WatchedRoom {
     watched: WatchIndex,
 }
 
-impl Subject for WatchedRoom {
-    fn act(&mut self, rt: &(impl Abort + AllocGlobal), act: &str) -> Came {
+impl<R: AllocGlobal> Subject<R> for WatchedRoom {
+    fn act(&mut self, rt: &R, act: &str) -> Option<String> {
+        let alloc = rt.alloc();
         let (word, rest) = cut(act);
         match word {
-            "new" => self.begin(rt.alloc(), Room::new(rt.alloc(), number(rt, rest))),
-            "start" => self.start(rt, rest),
-            "start-nested" => self.start_nested(rt, rest),
-            "start-long" => self.start_long(rt, rest),
-            "edit" => edit(rt, &mut self.room, rest),
-            "missed" => missed(rt, &self.room, rest),
-            "watch" => watch(rt, &mut self.watched, rest),
-            "concerned" => concerned(rt.alloc(), &self.room, &self.watched),
-            _ => owned(rt.alloc(), UNKNOWN),
+            "new" => self.begin(alloc, Room::new(alloc, number(rest)?)),
+            "start" => self.start(alloc, rest),
+            "start-nested" => self.start_nested(alloc, rest),
+            "start-long" => self.start_long(alloc, rest),
+            "edit" => edit(alloc, &mut self.room, rest),
+            "missed" => missed(alloc, &self.room, rest),
+            "watch" => watch(alloc, &mut self.watched, rest),
+            "concerned" => concerned(alloc, &self.room, &self.watched),
+            _ => None,
         }
     }
 }
@@ -97,92 +96,80 @@ impl WatchedRoom {
         }
     }
 
-    fn start(&mut self, rt: &(impl Abort + AllocGlobal), rest: &str) -> Came {
+    fn start(&mut self, alloc: Global, rest: &str) -> Came {
         let (rev, rest) = cut(rest);
         let (limit, document) = cut(rest);
-        self.start_with(rt, tree_of(rt, document), rev, limit)
+        self.start_with(alloc, tree_of(alloc, document)?, rev, limit)
     }
 
-    fn start_nested(&mut self, rt: &(impl Abort + AllocGlobal), rest: &str) -> Came {
+    fn start_nested(&mut self, alloc: Global, rest: &str) -> Came {
         let (levels, rest) = cut(rest);
         let (rev, limit) = cut(rest);
-        let document = nested(rt, number(rt, levels) as usize);
-        self.start_with(rt, document, rev, limit)
+        let document = nested(alloc, number(levels)?)?;
+        self.start_with(alloc, document, rev, limit)
     }
 
-    fn start_long(&mut self, rt: &(impl Abort + AllocGlobal), rest: &str) -> Came {
+    fn start_long(&mut self, alloc: Global, rest: &str) -> Came {
         let (bytes, rest) = cut(rest);
         let (rev, limit) = cut(rest);
-        let text = repeated(rt, "a", number(rt, bytes) as usize);
-        self.start_with(rt, Tree::from(Node::Text(text)), rev, limit)
+        let text = repeated(alloc, "a", number(bytes)?)?;
+        self.start_with(alloc, Tree::from(Node::Text(text)), rev, limit)
     }
 
-    fn start_with(
-        &mut self,
-        rt: &(impl Abort + AllocGlobal),
-        document: Tree,
-        rev: &str,
-        limit: &str,
-    ) -> Came {
-        let (rev, limit) = (number(rt, rev), number(rt, limit));
-        self.begin(
-            rt.alloc(),
-            Room::starting_at(rt.alloc(), document, rev, limit),
-        )
+    fn start_with(&mut self, alloc: Global, document: Tree, rev: &str, limit: &str) -> Came {
+        let (rev, limit) = (number(rev)?, number(limit)?);
+        self.begin(alloc, Room::starting_at(alloc, document, rev, limit))
     }
 }
 
 /// Nested lists, one in the other, so many levels deep.
-fn nested(rt: &(impl Abort + AllocGlobal), levels: usize) -> Tree {
-    let mut text = repeated(rt, "[", levels);
-    let ends = repeated(rt, "]", levels);
-    text.push_str(ends.as_str()).expect(rt, "memory");
-    tree_of(rt, text.as_str())
+fn nested(alloc: Global, levels: u64) -> Option<Tree> {
+    let mut text = repeated(alloc, "[", levels)?;
+    let ends = repeated(alloc, "]", levels)?;
+    text.push_str(ends.as_str()).ok()?;
+    tree_of(alloc, text.as_str())
 }
 
 /// The answer to an edit, and the document after it.
-fn edit(rt: &(impl Abort + AllocGlobal), room: &mut Room, rest: &str) -> Came {
+fn edit(alloc: Global, room: &mut Room, rest: &str) -> Came {
     let (base, patch) = cut(rest);
-    let patch = patch_of(rt, patch);
-    edit_by(rt.alloc(), room, base.parse::<u64>().ok(), &patch)
+    let patch = patch_of(alloc, patch)?;
+    edit_by(alloc, room, base.parse::<u64>().ok(), &patch)
 }
 
 fn edit_by(alloc: Global, room: &mut Room, base: Option<u64>, patch: &Patch) -> Came {
-    let answer = room.edit(alloc, RevisionSlot::new(alloc)?, base, patch);
-    let document = room.document().text(alloc)?;
-    format!(in alloc; "{answer:?}: {document}")
+    let answer = room.edit(alloc, RevisionSlot::new(alloc).ok()?, base, patch);
+    let document = room.document().text(alloc).ok()?;
+    format!(in alloc; "{answer:?}: {document}").ok()
 }
 
 /// What a client missed, as text, or why nothing tells it.
-fn missed(rt: &(impl Abort + AllocGlobal), room: &Room, rest: &str) -> Came {
+fn missed(alloc: Global, room: &Room, rest: &str) -> Came {
     let (rev, view) = cut(rest);
-    let view = view_of(rt, view);
-    missed_in_words(
-        rt.alloc(),
-        room.catch_up(rt.alloc(), number(rt, rev), &view),
-    )
+    let view = view_of(alloc, view)?;
+    missed_in_words(alloc, room.catch_up(alloc, number(rev)?, &view))
 }
 
 /// What a client missed, as text: a patch is written out.
 fn missed_in_words(alloc: Global, missed: Result<CatchUp, CatchFault>) -> Came {
     match missed {
-        Ok(CatchUp::Patch(patch)) => patch.to_tree(alloc)?.text(alloc),
+        Ok(CatchUp::Patch(patch)) => patch.to_tree(alloc).ok()?.text(alloc).ok(),
         Ok(CatchUp::Nothing) => owned(alloc, "nothing"),
         Ok(CatchUp::Snapshot) => owned(alloc, "snapshot"),
         Err(fault) => words(alloc, fault),
     }
 }
 
-fn watch(rt: &(impl Abort + AllocGlobal), watched: &mut WatchIndex, rest: &str) -> Came {
+fn watch(alloc: Global, watched: &mut WatchIndex, rest: &str) -> Came {
     let (session, view) = cut(rest);
-    let view = view_of(rt, view);
-    watched.put(rt.alloc(), number(rt, session), &view)?;
-    owned(rt.alloc(), "")
+    let view = view_of(alloc, view)?;
+    watched.put(alloc, number(session)?, &view).ok()?;
+    owned(alloc, "")
 }
 
 /// The sessions that the newest revision touches.
 fn concerned(alloc: Global, room: &Room, watched: &WatchIndex) -> Came {
-    words(alloc, room.touched(alloc, watched)?)
+    words(alloc, room.touched(alloc, watched).ok()?)
 }
 
 #[test]
@@ -191,5 +178,5 @@ fn keeps_a_document_and_its_changes(rt: HostRuntime) {
         room: Room::new(rt.alloc(), 1).expect(&rt, "a room"),
         watched: WatchIndex::new(rt.alloc()),
     };
-    play(&rt, &mut room, ROWS);
+    play(&rt, &mut room, ROWS).expect(&rt, "each row holds");
 }

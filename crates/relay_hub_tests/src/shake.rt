@@ -1,10 +1,8 @@
 //! Tests of what no contract states: that the definitions mean RFC 6455, and that the calls succeed.
-use crate::rows::{Subject, UNKNOWN, play};
-use crate::shared::{Came, number, owned, words};
+use crate::shared::{Came, number, owned, repeated, words};
 use relay_shake::{Shake, refusal, shake};
-use relay_wire::cut;
+use relay_wire::{Subject, cut, play};
 use std::alloc::{AllocGlobal, Global};
-use std::process::Abort;
 
 const SAMPLE: &str =
     "GET /rooms/a HTTP/1.1\r\nHost: localhost\r\nUpgrade: websocket\r\nConnection: keep-alive, Upgrade\r\nSec-WebSocket-Key: dGhlIHNhbXBsZSBub25jZQ==\r\nSec-WebSocket-Version: 13\r\nSec-WebSocket-Extensions: permessage-deflate\r\n\r\n";
@@ -71,48 +69,46 @@ refusal-503 => 503
 #[derive(Drop)]
 struct Handshakes;
 
-impl Subject for Handshakes {
-    fn act(&mut self, rt: &(impl Abort + AllocGlobal), act: &str) -> Came {
+impl<R: AllocGlobal> Subject<R> for Handshakes {
+    fn act(&mut self, rt: &R, act: &str) -> Option<String> {
         let alloc = rt.alloc();
         let (word, rest) = cut(act);
         match word {
             "sample" => answer_to(alloc, SAMPLE.as_bytes()),
-            "with" => answer_with(rt, rest),
-            "without" => answer_to_changed(rt, rest, ""),
+            "with" => answer_with(alloc, rest),
+            "without" => answer_to_changed(alloc, rest, ""),
             "each-part" => answer_to_each_part(alloc),
-            "unfinished" => answer_to_unfinished(alloc, number(rt, rest) as usize),
-            "lines" => answer_with_lines(rt, number(rt, rest) as usize),
+            "unfinished" => answer_to_unfinished(alloc, number(rest)?),
+            "lines" => answer_with_lines(alloc, number(rest)?),
             "byte-0" => answer_to(alloc, "\0".as_bytes()),
             "refusal-503" => refusal_503(alloc),
-            _ => owned(alloc, UNKNOWN),
+            _ => None,
         }
     }
 }
 
 /// The answer to the sample with a part replaced, as in `PART -> OTHER`.
-fn answer_with(rt: &(impl Abort + AllocGlobal), change: &str) -> Came {
-    let (part, other) = change.split_once(" -> ").expect(rt, "a change");
-    answer_to_changed(rt, part, other)
+fn answer_with(alloc: Global, change: &str) -> Came {
+    let (part, other) = change.split_once(" -> ")?;
+    answer_to_changed(alloc, part, other)
 }
 
 /// The answer to the sample with one of its parts replaced by another text. Both have `\r\n` and `\t` as letters.
-fn answer_to_changed(rt: &(impl Abort + AllocGlobal), part: &str, other: &str) -> Came {
-    let part = unescaped(rt.alloc(), part)?;
-    let (before, behind) = SAMPLE
-        .split_once(part.as_str())
-        .expect(rt, "a part of the sample");
-    let other = unescaped(rt.alloc(), other)?;
-    answer_to_joined(rt.alloc(), before, other.as_str(), behind)
+fn answer_to_changed(alloc: Global, part: &str, other: &str) -> Came {
+    let part = unescaped(alloc, part)?;
+    let (before, behind) = SAMPLE.split_once(part.as_str())?;
+    let other = unescaped(alloc, other)?;
+    answer_to_joined(alloc, before, other.as_str(), behind)
 }
 
 fn answer_to_joined(alloc: Global, before: &str, part: &str, behind: &str) -> Came {
-    let head = format!(in alloc; "{before}{part}{behind}")?;
+    let head = format!(in alloc; "{before}{part}{behind}").ok()?;
     answer_to(alloc, head.as_bytes())
 }
 
 fn unescaped(alloc: Global, text: &str) -> Came {
-    text.replace(alloc, r"\r\n", "\r\n")?
-        .replace(alloc, r"\t", "\t")
+    let text = text.replace(alloc, r"\r\n", "\r\n").ok()?;
+    text.as_str().replace(alloc, r"\t", "\t").ok()
 }
 
 /// The answer to each part that the sample begins with, if it is always that more has to come.
@@ -121,34 +117,30 @@ fn answer_to_each_part(alloc: Global) -> Came {
     for len in 0..bytes.len() {
         let answer = answer_to(alloc, &bytes[..len])?;
         if answer.as_str() != MORE {
-            return Ok(answer);
+            return Some(answer);
         }
     }
     owned(alloc, MORE)
 }
 
 /// The answer to so many bytes whose last header line does not end.
-fn answer_to_unfinished(alloc: Global, len: usize) -> Came {
+fn answer_to_unfinished(alloc: Global, len: u64) -> Came {
     let head = "GET /rooms/a HTTP/1.1\r\nX: ";
-    let rest = "a".repeat(alloc, len.saturating_sub(head.len()))?;
+    let rest = repeated(alloc, "a", len.saturating_sub(head.len() as u64))?;
     answer_to_joined(alloc, head, rest.as_str(), "")
 }
 
 /// The answer to the sample with so many more lines behind its line `Host`, which are ignored.
-fn answer_with_lines(rt: &(impl Abort + AllocGlobal), count: usize) -> Came {
-    let lines = "\r\nX: y".repeat(rt.alloc(), count)?;
-    let (host, _) = SAMPLE
-        .split_once("\r\nUpgrade")
-        .expect(rt, "a part of the sample");
-    let (_, behind) = SAMPLE
-        .split_once("localhost")
-        .expect(rt, "a part of the sample");
-    answer_to_joined(rt.alloc(), host, lines.as_str(), behind)
+fn answer_with_lines(alloc: Global, count: u64) -> Came {
+    let lines = repeated(alloc, "\r\nX: y", count)?;
+    let (host, _) = SAMPLE.split_once("\r\nUpgrade")?;
+    let (_, behind) = SAMPLE.split_once("localhost")?;
+    answer_to_joined(alloc, host, lines.as_str(), behind)
 }
 
 /// The answer to these bytes, as text.
 fn answer_to(alloc: Global, bytes: &[u8]) -> Came {
-    match shake(alloc, bytes)? {
+    match shake(alloc, bytes).ok()? {
         Shake::More => owned(alloc, MORE),
         Shake::Accept { room, reply } => acceptance_in_words(
             alloc,
@@ -163,9 +155,9 @@ const MORE: &str = "more";
 
 /// An acceptance, as text: the room and the accept value, if the rest of the reply is as it should be.
 fn acceptance_in_words(alloc: Global, room: &str, reply: &[u8]) -> Came {
-    let reply = String::from_utf8_lossy(alloc, reply)?;
+    let reply = String::from_utf8_lossy(alloc, reply).ok()?;
     let value = accept_value(reply.as_str()).unwrap_or("and another reply");
-    format!(in alloc; "{room} {value}")
+    format!(in alloc; "{room} {value}").ok()
 }
 
 fn accept_value(reply: &str) -> Option<&str> {
@@ -183,7 +175,7 @@ fn refusal_in_words(alloc: Global, status: u16, reply: &[u8]) -> Came {
 
 /// The refusal of those for whom there is no room, as text.
 fn refusal_503(alloc: Global) -> Came {
-    let reply = refusal(alloc, 503)?;
+    let reply = refusal(alloc, 503).ok()?;
     refusal_in_words(alloc, 503, reply.as_slice())
 }
 
@@ -207,5 +199,5 @@ fn refused(status: u16) -> &'static str {
 
 #[test]
 fn answers_handshakes(rt: HostRuntime) {
-    play(&rt, &mut Handshakes, ROWS);
+    play(&rt, &mut Handshakes, ROWS).expect(&rt, "each row holds");
 }

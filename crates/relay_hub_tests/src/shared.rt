@@ -1,47 +1,45 @@
-//! Reading and writing of texts.
+//! Reading and telling of texts. Each gives nothing if memory runs out or a text cannot be read, which fails the row.
 use relay_patch::{Patch, PatchLimits};
 use relay_tree::{Tree, read};
 use relay_view::View;
-use std::alloc::{AllocError, AllocGlobal, Global};
+use std::alloc::Global;
 use std::fmt::Debug;
-use std::process::Abort;
 
-/// What came of an act, as text. Where nothing else comes of it, the functions below need no handle and have one exit, which costs a proof
-/// less than an `expect` in each.
-pub(crate) type Came = Result<String, AllocError>;
+/// What came of an act, if that can be told.
+pub(crate) type Came = Option<String>;
 
 /// The `Debug` text of a value.
 pub(crate) fn words<T: Debug + Drop>(alloc: Global, value: T) -> Came {
-    format!(in alloc; "{value:?}")
+    format!(in alloc; "{value:?}").ok()
 }
 
 pub(crate) fn owned(alloc: Global, text: &str) -> Came {
-    String::from_str(alloc, text)
+    String::from_str(alloc, text).ok()
 }
 
-pub(crate) fn repeated(rt: &(impl Abort + AllocGlobal), text: &str, count: usize) -> String {
-    text.repeat(rt.alloc(), count).expect(rt, "memory")
+pub(crate) fn repeated(alloc: Global, text: &str, count: u64) -> Came {
+    text.repeat(alloc, usize::try_from(count).ok()?).ok()
 }
 
-/// The number that a text writes. There has to be one.
-pub(crate) fn number(rt: &impl Abort, text: &str) -> u64 {
-    text.parse::<u64>().expect(rt, text)
+/// The number that a word spells.
+pub(crate) fn number(word: &str) -> Option<u64> {
+    word.parse::<u64>().ok()
 }
 
-pub(crate) fn tree_of(rt: &(impl Abort + AllocGlobal), text: &str) -> Tree {
-    read(rt.alloc(), text).expect(rt, "a document")
+pub(crate) fn tree_of(alloc: Global, text: &str) -> Option<Tree> {
+    read(alloc, text).ok()
 }
 
-pub(crate) fn view_of(rt: &(impl Abort + AllocGlobal), text: &str) -> View {
-    View::read(rt.alloc(), &tree_of(rt, text)).expect(rt, "a view")
+pub(crate) fn view_of(alloc: Global, text: &str) -> Option<View> {
+    View::read(alloc, &tree_of(alloc, text)?).ok()
 }
 
-pub(crate) fn patch_of(rt: &(impl Abort + AllocGlobal), text: &str) -> Patch {
-    Patch::from_tree(rt.alloc(), &tree_of(rt, text), PatchLimits::REQUEST).expect(rt, "a patch")
+pub(crate) fn patch_of(alloc: Global, text: &str) -> Option<Patch> {
+    Patch::from_owned(alloc, tree_of(alloc, text)?, PatchLimits::REQUEST).ok()
 }
 
 /// A revision and a view, as text.
 pub(crate) fn at_revision(alloc: Global, rev: u64, view: &Tree) -> Came {
-    let view = view.text(alloc)?;
-    format!(in alloc; "{rev} {view}")
+    let view = view.text(alloc).ok()?;
+    format!(in alloc; "{rev} {view}").ok()
 }

@@ -1,18 +1,34 @@
 //! Fault injection: each call of a link on its stream fails once, with each kind of fault.
 //!
 //! The link joins session 1, which watches the whole document. Its client watches, edits twice and closes.
-use crate::link_fixture::{ASKS, LinkFixture, lent, new_hub};
+use crate::link_fixture::{ASKS, LinkFixture, hub_of};
 use relay_hub::{Event, Hub};
 use relay_link::{Stage, Turn};
-use relay_wire::{InjectedFault, Wire};
-use std::alloc::AllocGlobal;
+use relay_wire::{InjectedFault, Subject, Wire, play};
+use std::alloc::{AllocGlobal, Global};
 use std::cell::RefCell;
 use std::mem;
-use std::process::Abort;
+
+/// The calls of a run in which none fails; and then, for a fault of each kind, how many runs end as that one, by the peer, and by the stream,
+/// of the runs in which one call has the fault.
+const ROWS: &str = r#"
+calls => 23 calls: 6 reads, 6 writes
+
+# A call that is not ready, is interrupted or moves one byte changes nothing.
+not-ready => 23 whole, 0 by the peer, 0 by the stream
+interrupt => 23 whole, 0 by the peer, 0 by the stream
+one-byte => 23 whole, 0 by the peer, 0 by the stream
+
+# A call that fails ends the link.
+fail => 0 whole, 0 by the peer, 23 by the stream
+
+# A read of no bytes is the end of the input, and a write of none ends the link as a failure does. A flush moves no bytes anyway.
+end => 11 whole, 6 by the peer, 6 by the stream
+"#;
 
 const WATCH: &str = r#"{"do":"watch","id":1,"view":[""]}"#;
 
-/// The client's messages. Each is sent after the one before it was read and answered.
+/// What the client does. Each is done after the one before it was read and answered.
 const MESSAGES: [&str; 5] = [
     ASKS,
     r#"says {"do":"watch","id":1,"view":[""]}"#,
@@ -25,6 +41,17 @@ const MESSAGES: [&str; 5] = [
 const TURNS: u64 = 64;
 
 const MAX_CALLS: u64 = 40;
+
+/// The result of a run without faults: its causes, what session 1 draws, and what is written.
+const WHOLE: &str =
+    "Peer Peer Gone, 0 wrong\n{\"kind\":\"patch\",\"patch\":[{\"op\":\"replace\",\"path\":\"/0\",\"value\":[{\"x\":1}]}],\"rev\":1}\n{\"kind\":\"patch\",\"patch\":[{\"op\":\"replace\",\"path\":\"/0/0/x\",\"value\":2}],\"rev\":2}\n > switched > {\"epoch\":1,\"kind\":\"welcome\",\"rev\":0,\"session\":2} > {\"id\":1,\"kind\":\"watching\"} > {\"kind\":\"snapshot\",\"rev\":0,\"view\":[[null]]} > {\"id\":2,\"kind\":\"done\",\"rev\":1} > {\"kind\":\"patch\",\"patch\":[{\"op\":\"replace\",\"path\":\"/0\",\"value\":[{\"x\":1}]}],\"rev\":1} > {\"id\":3,\"kind\":\"done\",\"rev\":2} > {\"kind\":\"patch\",\"patch\":[{\"op\":\"replace\",\"path\":\"/0/0/x\",\"value\":2}],\"rev\":2} > close 1000\n";
+
+/// How the result begins of a run that ends by the peer, by a call that accepts nothing, and by one that fails.
+const BY_PEER: &str = "Peer Gone, 0 wrong\n";
+
+const BY_STREAM: &str = "Stream Gone, 0 wrong\n";
+
+const BY_FAILURE: &str = "Stream ! Gone, 0 wrong\n";
 
 /// A run of a link with session 2, and a twin of its hub, which replays the events that the link reports.
 #[derive(Drop)]
@@ -41,23 +68,22 @@ struct Run<'a> {
 }
 
 /// A hub with session 1, which watches, and whose outbox is empty.
-fn watched(rt: &(impl Abort + AllocGlobal)) -> Hub {
-    let mut hub = new_hub(rt);
-    assert_eq!(rt; hub.open(rt.alloc(), "a"), Ok(1));
-    assert!(rt; hub.receive(rt.alloc(), 1, WATCH).is_ok());
-    drop(drawn(rt, &mut hub));
-    hub
+fn watched(alloc: Global) -> Option<Hub> {
+    let mut hub = hub_of(alloc, 32)?;
+    hub.open(alloc, "a").ok()?;
+    drop(hub.receive(alloc, 1, WATCH).ok()?);
+    drop(drawn(alloc, &mut hub)?);
+    Some(hub)
 }
 
 /// Draws all texts of session 1's outbox, one per line.
-fn drawn(rt: &(impl Abort + AllocGlobal), hub: &mut Hub) -> String {
-    let mut texts = String::new(rt.alloc());
-    for _ in 0..hub.waiting(1).unwrap_or(0) {
-        let text = hub.draw(rt.alloc(), 1).expect(rt, "memory");
-        let text = text.expect(rt, "a text");
-        write!(texts, "{text}\n").expect(rt, "memory");
+fn drawn(alloc: Global, hub: &mut Hub) -> Option<String> {
+    let mut texts = String::new(alloc);
+    for _ in 0..hub.waiting(1)? {
+        let text = hub.draw(alloc, 1).ok()??;
+        write!(texts, "{text}\n").ok()?;
     }
-    texts
+    Some(texts)
 }
 
 /// Whether an event names session 2, or opens a session in room `a`.
@@ -71,62 +97,55 @@ fn is_own(event: &Event) -> bool {
 }
 
 impl<'a> Run<'a> {
-    fn new(rt: &(impl Abort + AllocGlobal), wire: &'a RefCell<Wire>) -> Run<'a> {
-        Run {
-            side: LinkFixture::new(rt, wire),
-            hub: watched(rt),
-            twin: watched(rt),
+    fn new(alloc: Global, wire: &'a RefCell<Wire>) -> Option<Run<'a>> {
+        Some(Run {
+            side: LinkFixture::new(alloc, wire)?,
+            hub: watched(alloc)?,
+            twin: watched(alloc)?,
             next: 0,
-            told: String::new(rt.alloc()),
+            told: String::new(alloc),
             wrong: 0,
-        }
+        })
     }
 
     /// Whether the next message may be sent.
-    fn may_come(&self, rt: &impl Abort) -> bool {
+    fn may_come(&self) -> Option<bool> {
         let is_ready = match self.side.link.stage() {
             Stage::Head => self.next == 0,
             Stage::Open => self.hub.waiting(2) == Some(0),
             Stage::Closing | Stage::Gone => false,
         };
-        is_ready && lent(rt, self.side.wire).is_read()
+        Some(is_ready && self.side.wire()?.is_read())
     }
 
     /// Sends the next message, if it may be sent.
-    fn feed(&mut self, rt: &(impl Abort + AllocGlobal)) {
-        if self.may_come(rt) {
+    fn feed(&mut self, alloc: Global) -> Option<()> {
+        if self.may_come()? {
             if let Some(act) = MESSAGES.get(self.next) {
-                self.side.prepare(rt, act);
                 self.next = self.next.saturating_add(1);
+                self.side.prepare(alloc, act)?;
             }
         }
+        Some(())
     }
 
     /// Runs a turn, and replays its events on the twin.
-    fn turn(&mut self, rt: &(impl Abort + AllocGlobal)) {
-        let failures = self.failures(rt);
+    fn turn(&mut self, alloc: Global) -> Option<()> {
+        let failures = self.side.wire()?.failures;
         let session = self.side.link.session();
-        let turn = self.side.turned(rt, &mut self.hub);
+        let turn = self.side.turned(alloc, &mut self.hub)?;
         self.judge_events(&turn, session);
-        self.tell_cause(rt, &turn, self.failures(rt) > failures);
-        assert!(rt; self.twin.run(rt.alloc(), turn.made.as_slice()).is_ok());
+        let failed = self.side.wire()?.failures > failures;
+        self.tell_cause(&turn, failed)?;
+        drop(self.twin.run(alloc, turn.made.as_slice()).ok()?);
+        Some(())
     }
 
-    fn failures(&self, rt: &impl Abort) -> u64 {
-        lent(rt, self.side.wire).failures
-    }
-
-    fn calls(&self, rt: &impl Abort) -> u64 {
-        lent(rt, self.side.wire).calls
-    }
-
-    fn tell_cause(&mut self, rt: &impl Abort, turn: &Turn, failed: bool) {
+    fn tell_cause(&mut self, turn: &Turn, failed: bool) -> Option<()> {
         if let Some(cause) = turn.cause {
-            write!(self.told, "{cause:?} ").expect(rt, "memory");
+            write!(self.told, "{cause:?} ").ok()?;
         }
-        if failed {
-            self.told.push_str("! ").expect(rt, "memory");
-        }
+        self.told.push_str(if failed { "! " } else { "" }).ok()
     }
 
     /// Counts a violation unless `holds`.
@@ -145,81 +164,45 @@ impl<'a> Run<'a> {
         self.must(is_left == is_closed);
     }
 
-    /// Runs all turns.
-    fn turns(&mut self, rt: &(impl Abort + AllocGlobal)) {
-        for _ in 0..TURNS {
-            self.feed(rt);
-            self.turn(rt);
-        }
-    }
-
     /// Runs all turns, and tells what came of them.
-    fn told(&mut self, rt: &(impl Abort + AllocGlobal)) -> String {
-        self.turns(rt);
-        self.tell_rest(rt);
-        mem::replace(&mut self.told, String::new(rt.alloc()))
+    fn told(&mut self, alloc: Global) -> Option<String> {
+        for _ in 0..TURNS {
+            self.feed(alloc)?;
+            self.turn(alloc)?;
+        }
+        self.tell_rest(alloc)?;
+        Some(mem::replace(&mut self.told, String::new(alloc)))
     }
 
     /// Appends what is left after the turns, and checks that session 1 draws the same from the hub and from its twin.
-    fn tell_rest(&mut self, rt: &(impl Abort + AllocGlobal)) {
-        let texts = drawn(rt, &mut self.hub);
-        let of_twin = drawn(rt, &mut self.twin);
+    fn tell_rest(&mut self, alloc: Global) -> Option<()> {
+        let texts = drawn(alloc, &mut self.hub)?;
+        let of_twin = drawn(alloc, &mut self.twin)?;
         self.must(of_twin.as_str() == texts.as_str());
         let is_closed = self.hub.waiting(2).is_none();
         self.must(is_closed);
-        let calls = self.calls(rt);
+        let calls = self.side.wire()?.calls;
         self.must(calls <= MAX_CALLS);
         let (stage, wrong) = (self.side.link.stage(), self.wrong);
-        let words = self.side.words_from(rt, 0);
-        let told = write!(self.told, "{stage:?}, {wrong} wrong\n{texts}{words}\n");
-        told.expect(rt, "memory");
+        let words = self.side.words_from(alloc, 0)?;
+        write!(self.told, "{stage:?}, {wrong} wrong\n{texts}{words}\n").ok()
     }
 }
 
-/// The result of a run over a wire, in words.
-fn told_of(rt: &(impl Abort + AllocGlobal), wire: &RefCell<Wire>) -> String {
-    Run::new(rt, wire).told(rt)
+/// What comes of a run over a wire.
+fn told_of(alloc: Global, wire: &RefCell<Wire>) -> Option<String> {
+    Run::new(alloc, wire)?.told(alloc)
 }
 
-/// The result of a run in which one call has a fault.
-fn told_at(rt: &(impl Abort + AllocGlobal), call: u64, trick: InjectedFault) -> String {
-    let wire = Wire::new(rt.alloc());
-    lent(rt, &wire).trick = Some((call, trick));
-    told_of(rt, &wire)
-}
-
-/// The result of a run without faults: its causes, what session 1 draws, and what is written.
-const WHOLE: &str =
-    "Peer Peer Gone, 0 wrong\n{\"kind\":\"patch\",\"patch\":[{\"op\":\"replace\",\"path\":\"/0\",\"value\":[{\"x\":1}]}],\"rev\":1}\n{\"kind\":\"patch\",\"patch\":[{\"op\":\"replace\",\"path\":\"/0/0/x\",\"value\":2}],\"rev\":2}\n > switched > {\"epoch\":1,\"kind\":\"welcome\",\"rev\":0,\"session\":2} > {\"id\":1,\"kind\":\"watching\"} > {\"kind\":\"snapshot\",\"rev\":0,\"view\":[[null]]} > {\"id\":2,\"kind\":\"done\",\"rev\":1} > {\"kind\":\"patch\",\"patch\":[{\"op\":\"replace\",\"path\":\"/0\",\"value\":[{\"x\":1}]}],\"rev\":1} > {\"id\":3,\"kind\":\"done\",\"rev\":2} > {\"kind\":\"patch\",\"patch\":[{\"op\":\"replace\",\"path\":\"/0/0/x\",\"value\":2}],\"rev\":2} > close 1000\n";
-
-/// The start of the result of a run that the stream ends: by a call that accepts nothing, or by one that fails.
-const ENDED: &str = "Stream Gone, 0 wrong\n";
-
-const FAILED: &str = "Stream ! Gone, 0 wrong\n";
-
-/// The number of calls of a run, in all and of each kind.
-#[derive(Clone, Copy)]
-struct Calls {
-    all: u64,
-    reads: u64,
-    writes: u64,
-}
-
-/// The calls of a run without faults.
-fn whole_run(rt: &(impl Abort + AllocGlobal)) -> Calls {
-    let wire = Wire::new(rt.alloc());
-    let told = told_of(rt, &wire);
-    assert_eq!(rt; told.as_str(), WHOLE);
-    let wire = lent(rt, &wire);
-    Calls {
-        all: wire.calls,
-        reads: wire.read_calls,
-        writes: wire.write_calls,
-    }
+/// What comes of a run in which one call has a fault.
+fn told_at(alloc: Global, call: u64, fault: InjectedFault) -> Option<String> {
+    let wire = Wire::new(alloc);
+    wire.try_borrow_mut().ok()?.trick = Some((call, fault));
+    told_of(alloc, &wire)
 }
 
 /// The number of runs with each kind of end.
-#[derive(Clone, Copy, Debug, PartialEq, Eq)]
+#[derive(Clone, Copy)]
 struct Ends {
     /// As a run without faults.
     whole: u64,
@@ -228,11 +211,11 @@ struct Ends {
 }
 
 impl Ends {
-    /// Counts a run by its result, if it has one of these ends.
+    /// Counts a run by its result, if it has one of these ends. `stream` is how it begins if the stream ended it.
     fn count(&mut self, told: &str, stream: &str) {
         if told == WHOLE {
             self.whole = self.whole.saturating_add(1);
-        } else if told.starts_with("Peer Gone, 0 wrong\n") {
+        } else if told.starts_with(BY_PEER) {
             self.peer = self.peer.saturating_add(1);
         } else if told.starts_with(stream) {
             self.stream = self.stream.saturating_add(1);
@@ -240,60 +223,55 @@ impl Ends {
     }
 }
 
-/// The ends of the runs in which one call has the fault: one run for each call. `stream` is the start of the result that counts as
-/// an end by the stream.
-fn ends_of(
-    rt: &(impl Abort + AllocGlobal),
-    calls: Calls,
-    trick: InjectedFault,
-    stream: &str,
-) -> Ends {
-    let mut ends = Ends {
-        whole: 0,
-        peer: 0,
-        stream: 0,
-    };
-    for call in 0..calls.all {
-        let told = told_at(rt, call, trick);
-        ends.count(told.as_str(), stream);
+/// The runs of a link, and how many calls it makes in one.
+#[derive(Clone, Copy)]
+struct Runs {
+    calls: u64,
+}
+
+impl<R: AllocGlobal> Subject<R> for Runs {
+    fn act(&mut self, rt: &R, act: &str) -> Option<String> {
+        let alloc = rt.alloc();
+        match act {
+            "calls" => self.count(alloc),
+            "not-ready" => self.ends(alloc, InjectedFault::Nothing, BY_STREAM),
+            "interrupt" => self.ends(alloc, InjectedFault::Interrupt, BY_STREAM),
+            "one-byte" => self.ends(alloc, InjectedFault::OneByte, BY_STREAM),
+            "fail" => self.ends(alloc, InjectedFault::Fail, BY_FAILURE),
+            "end" => self.ends(alloc, InjectedFault::End, BY_STREAM),
+            _ => None,
+        }
     }
-    ends
 }
 
-/// Asserts that with this fault `peer` runs end by the peer, `stream` runs by the stream, and the others as without faults.
-fn goes_wrong(
-    rt: &(impl Abort + AllocGlobal),
-    calls: Calls,
-    trick: InjectedFault,
-    words: &str,
-    peer: u64,
-    stream: u64,
-) {
-    let ends = ends_of(rt, calls, trick, words);
-    let whole = calls.all.saturating_sub(peer).saturating_sub(stream);
-    let wanted = Ends {
-        whole,
-        peer,
-        stream,
-    };
-    assert_eq!(rt; ends, wanted, "{trick:?}");
+impl Runs {
+    /// Counts the calls of a run without faults. Nothing is told if it does not come to what it has to.
+    fn count(&mut self, alloc: Global) -> Option<String> {
+        let wire = Wire::new(alloc);
+        let told = told_of(alloc, &wire)?;
+        let wire = wire.try_borrow_mut().ok()?;
+        self.calls = wire.calls;
+        let (reads, writes) = (wire.read_calls, wire.write_calls);
+        let counted = format!(in alloc; "{} calls: {reads} reads, {writes} writes", wire.calls);
+        (told.as_str() == WHOLE).then_some(counted.ok()?)
+    }
+
+    /// How the runs end in which one call has the fault: one run for each call.
+    fn ends(self, alloc: Global, fault: InjectedFault, by_stream: &str) -> Option<String> {
+        let mut ends = Ends {
+            whole: 0,
+            peer: 0,
+            stream: 0,
+        };
+        for call in 0..self.calls {
+            ends.count(told_at(alloc, call, fault)?.as_str(), by_stream);
+        }
+        let (whole, peer, stream) = (ends.whole, ends.peer, ends.stream);
+        format!(in alloc; "{whole} whole, {peer} by the peer, {stream} by the stream").ok()
+    }
 }
 
-/// A call that is not ready, is interrupted or moves one byte changes nothing. A call that fails ends the link. A read of no bytes
-/// is the end of the input, and a write of none ends the link as a failure does. A flush moves no bytes anyway.
 #[test]
 fn each_call_goes_wrong_in_each_way(rt: HostRuntime) {
-    let calls = whole_run(&rt);
-    goes_wrong(&rt, calls, InjectedFault::Nothing, ENDED, 0, 0);
-    goes_wrong(&rt, calls, InjectedFault::Interrupt, ENDED, 0, 0);
-    goes_wrong(&rt, calls, InjectedFault::OneByte, ENDED, 0, 0);
-    goes_wrong(&rt, calls, InjectedFault::Fail, FAILED, 0, calls.all);
-    goes_wrong(
-        &rt,
-        calls,
-        InjectedFault::End,
-        ENDED,
-        calls.reads,
-        calls.writes,
-    );
+    play(&rt, &mut Runs { calls: 0 }, ROWS).expect(&rt, "each row holds");
 }

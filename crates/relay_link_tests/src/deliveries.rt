@@ -1,41 +1,27 @@
 //! A client at the other end of a link: it receives what the link wrote in a turn.
-use crate::link_fixture::{LinkFixture, new_hub};
+use crate::link_fixture::{LinkFixture, hub_of};
 use relay_delivery::{
     ReceiveFault, SocketFault, client_on, hear_next, hear_texts, receive, write_turn,
 };
 use relay_follow::{Follower, HearFault};
 use relay_hub::Hub;
 use relay_link::MAX_DRAWS;
-use relay_wire::{Row, Wire};
-use std::alloc::AllocGlobal;
+use relay_wire::{Subject, Wire, cut, play};
+use std::alloc::{AllocGlobal, Global};
 use std::cell::RefCell;
 use std::process::Abort;
 use tungstenite::{Duplex, NoMask};
 
-/// The requests of a session that watches one pointer, each behind how many messages it gets then, and what its client holds afterwards.
-const REQUESTS: &str = r#"
-3 {"do":"watch","id":1,"view":["/n"]} => 0 [[]]
-2 {"do":"edit","id":2,"patch":[{"op":"add","path":"","value":{"n":1}}]} => 1 [[1]]
-2 {"do":"edit","id":3,"patch":[{"op":"replace","path":"/n","value":[2]}]} => 2 [[[2]]]
-1 {"do":"edit","id":4,"patch":[{"op":"remove","path":"/m"}]} => 2 [[[2]]]
-1 {"do":"edit","id":5,"patch":[{"op":"add","path":"/m","value":0}]} => 2 [[[2]]]
-2 {"do":"edit","id":6,"patch":[{"op":"remove","path":"/n/0"}]} => 4 [[[]]]
-"#;
-
-/// Asserts the revision and the view that a follower holds, as text.
-fn holds(rt: &(impl Abort + AllocGlobal), follower: &Follower, wanted: &str) {
-    assert_eq!(rt; held(rt, follower).as_str(), wanted);
-}
-
-fn held(rt: &(impl Abort + AllocGlobal), follower: &Follower) -> String {
+/// The revision and the view that a follower holds, as text.
+fn held(alloc: Global, follower: &Follower) -> Option<String> {
     let (Some(rev), Some(view)) = (follower.rev(), follower.view()) else {
-        return String::from_str(rt.alloc(), "nothing").expect(rt, "memory");
+        return String::from_str(alloc, "nothing").ok();
     };
-    let view = view.text(rt.alloc()).expect(rt, "memory");
-    format!(in rt.alloc(); "{rev} {view}").expect(rt, "memory")
+    let view = view.text(alloc).ok()?;
+    format!(in alloc; "{rev} {view}").ok()
 }
 
-/// A link whose session is open, its hub, and the client at the other end.
+/// A link, its hub, and the client at the other end.
 #[derive(Drop)]
 struct Delivery<'a> {
     hub: Hub,
@@ -44,81 +30,101 @@ struct Delivery<'a> {
 }
 
 impl<'a> Delivery<'a> {
-    fn new(rt: &(impl Abort + AllocGlobal), wire: &'a RefCell<Wire>) -> Delivery<'a> {
-        Delivery {
-            hub: new_hub(rt),
-            side: LinkFixture::new(rt, wire),
+    fn new(alloc: Global, wire: &'a RefCell<Wire>) -> Option<Delivery<'a>> {
+        Some(Delivery {
+            hub: hub_of(alloc, 32)?,
+            side: LinkFixture::new(alloc, wire)?,
             follower: Follower::new(),
-        }
+        })
     }
 
-    /// Opens the link. Nothing is drawn yet.
-    fn enter(&mut self, rt: &(impl Abort + AllocGlobal)) {
-        self.side.enter(rt, &mut self.hub);
+    /// Opens the link, and sets how much each later turn draws.
+    fn enter(&mut self, alloc: Global, draws: &str) -> Option<String> {
+        drop(self.side.enter(alloc, &mut self.hub)?);
+        self.side.prepare(alloc, draws)?;
+        Some(String::new(alloc))
     }
 
-    /// The client receives what the link writes in a write turn, after each request of its session.
-    fn receive_all(&mut self, rt: &(impl Abort + AllocGlobal)) {
-        self.enter(rt);
-        for row in REQUESTS.lines().filter_map(|line| Row::of(line)) {
-            let mut frames = self.told(rt, row.act);
-            let received = receive(rt.alloc(), frames.as_mut_slice(), &mut self.follower);
-            assert_eq!(rt; received, Ok(()));
-            holds(rt, &self.follower, row.wanted);
-        }
+    /// The client receives what the link writes in a write turn, after a request of its session. Tells what it holds then.
+    fn receive(&mut self, alloc: Global, request: &str) -> Option<String> {
+        drop(self.hub.receive(alloc, 1, request).ok()?);
+        let from = self.side.written_len()?;
+        let turn = write_turn(alloc, &mut self.side.link, &mut self.hub, MAX_DRAWS);
+        drop(turn.ok()?);
+        let mut frames = self.side.written_from(alloc, from)?;
+        receive(alloc, frames.as_mut_slice(), &mut self.follower).ok()?;
+        held(alloc, &self.follower)
     }
 
-    /// The bytes that the link writes in a write turn, after its session made a request.
-    fn told(&mut self, rt: &(impl Abort + AllocGlobal), request: &str) -> Vec<u8> {
-        assert!(rt; self.hub.receive(rt.alloc(), 1, request).is_ok());
-        let from = self.side.written_len(rt);
-        let turn = write_turn(rt.alloc(), &mut self.side.link, &mut self.hub, MAX_DRAWS);
-        drop(turn.expect(rt, "memory"));
-        self.side.written_from(rt, from)
-    }
-
-    /// The client hears each message by a socket, after each turn that read a request.
-    fn hear_all(&mut self, rt: &(impl Abort + AllocGlobal)) {
-        self.enter(rt);
-        self.side.prepare(rt, "draws 32");
-        for row in REQUESTS.lines().filter_map(|line| Row::of(line)) {
-            let frames = self.answered(rt, row.act);
-            hears(rt, frames.as_slice(), row.times, &mut self.follower);
-            holds(rt, &self.follower, row.wanted);
-        }
-    }
-
-    /// The bytes that the link writes in a turn in which it reads a request of its session.
-    fn answered(&mut self, rt: &(impl Abort + AllocGlobal), request: &str) -> Vec<u8> {
-        let from = self.side.written_len(rt);
-        let asked = format!(in rt.alloc(); "says {request}").expect(rt, "memory");
-        self.side.prepare(rt, asked.as_str());
-        drop(self.side.turned(rt, &mut self.hub));
-        self.side.written_from(rt, from)
+    /// The client hears so many messages by a socket, after a turn that read a request of its session. Tells what it holds then.
+    fn hear(&mut self, alloc: Global, count: &str, request: &str) -> Option<String> {
+        let from = self.side.written_len()?;
+        let asked = format!(in alloc; "says {request}").ok()?;
+        self.side.prepare(alloc, asked.as_str())?;
+        drop(self.side.turned(alloc, &mut self.hub)?);
+        let frames = self.side.written_from(alloc, from)?;
+        let count = count.parse::<usize>().ok()?;
+        hear_all(alloc, frames.as_slice(), count, &mut self.follower)?;
+        held(alloc, &self.follower)
     }
 }
+
+impl<R: AllocGlobal> Subject<R> for Delivery<'_> {
+    fn act(&mut self, rt: &R, act: &str) -> Option<String> {
+        let alloc = rt.alloc();
+        match cut(act) {
+            ("receive", request) => self.receive(alloc, request),
+            ("hear", rest) => self.hear(alloc, cut(rest).0, cut(rest).1),
+            ("enter", draws) => self.enter(alloc, draws),
+            _ => None,
+        }
+    }
+}
+
+/// Hears so many messages by a socket over these bytes.
+fn hear_all(alloc: Global, bytes: &[u8], count: usize, follower: &mut Follower) -> Option<()> {
+    let stream = Duplex {
+        reader: bytes,
+        writer: Vec::new(alloc),
+    };
+    let mut socket = client_on(alloc, stream, NoMask);
+    hear_texts(alloc, &mut socket, count, follower).ok()
+}
+
+/// The requests of a session that watches one pointer, and what its client holds after it received what the link wrote.
+const RECEIVED: &str = r#"
+enter draws 0
+receive {"do":"watch","id":1,"view":["/n"]} => 0 [[]]
+receive {"do":"edit","id":2,"patch":[{"op":"add","path":"","value":{"n":1}}]} => 1 [[1]]
+receive {"do":"edit","id":3,"patch":[{"op":"replace","path":"/n","value":[2]}]} => 2 [[[2]]]
+receive {"do":"edit","id":4,"patch":[{"op":"remove","path":"/m"}]} => 2 [[[2]]]
+receive {"do":"edit","id":5,"patch":[{"op":"add","path":"/m","value":0}]} => 2 [[[2]]]
+receive {"do":"edit","id":6,"patch":[{"op":"remove","path":"/n/0"}]} => 4 [[[]]]
+"#;
 
 #[test]
 fn a_client_holds_its_view_after_each_turn(rt: HostRuntime) {
     let wire = Wire::new(rt.alloc());
-    Delivery::new(&rt, &wire).receive_all(&rt);
+    let mut delivery = Delivery::new(rt.alloc(), &wire).expect(&rt, "memory");
+    play(&rt, &mut delivery, RECEIVED).expect(&rt, "each row holds");
 }
+
+/// The same requests, each behind how many messages the session gets then.
+const HEARD: &str = r#"
+enter draws 32
+hear 3 {"do":"watch","id":1,"view":["/n"]} => 0 [[]]
+hear 2 {"do":"edit","id":2,"patch":[{"op":"add","path":"","value":{"n":1}}]} => 1 [[1]]
+hear 2 {"do":"edit","id":3,"patch":[{"op":"replace","path":"/n","value":[2]}]} => 2 [[[2]]]
+hear 1 {"do":"edit","id":4,"patch":[{"op":"remove","path":"/m"}]} => 2 [[[2]]]
+hear 1 {"do":"edit","id":5,"patch":[{"op":"add","path":"/m","value":0}]} => 2 [[[2]]]
+hear 2 {"do":"edit","id":6,"patch":[{"op":"remove","path":"/n/0"}]} => 4 [[[]]]
+"#;
 
 #[test]
 fn a_socket_hears_what_a_turn_drew(rt: HostRuntime) {
     let wire = Wire::new(rt.alloc());
-    Delivery::new(&rt, &wire).hear_all(&rt);
-}
-
-/// Hears so many messages by a socket over these bytes.
-fn hears(rt: &(impl Abort + AllocGlobal), bytes: &[u8], count: u64, follower: &mut Follower) {
-    let stream = Duplex {
-        reader: bytes,
-        writer: Vec::new(rt.alloc()),
-    };
-    let mut socket = client_on(rt.alloc(), stream, NoMask);
-    let heard = hear_texts(rt.alloc(), &mut socket, count as usize, follower);
-    assert!(rt; heard.is_ok());
+    let mut delivery = Delivery::new(rt.alloc(), &wire).expect(&rt, "memory");
+    play(&rt, &mut delivery, HEARD).expect(&rt, "each row holds");
 }
 
 /// A frame with a snapshot.
@@ -145,7 +151,8 @@ const ENDS: [(&[u8], Result<(), ReceiveFault>); 10] = [
 fn receives(rt: &(impl Abort + AllocGlobal), frames: &mut [u8], wanted: Result<(), ReceiveFault>) {
     let mut follower = Follower::new();
     assert_eq!(rt; receive(rt.alloc(), frames, &mut follower), wanted);
-    holds(rt, &follower, "1 []");
+    let held = held(rt.alloc(), &follower).expect(rt, "memory");
+    assert_eq!(rt; held.as_str(), "1 []");
 }
 
 #[test]
@@ -156,14 +163,18 @@ fn a_client_stops_at_the_first_frame_that_is_no_message(rt: HostRuntime) {
     }
 }
 
-/// What a socket answers to these bytes.
-fn fault(rt: &(impl Abort + AllocGlobal), bytes: &[u8]) -> &'static str {
+/// Hears the first message by a socket over these bytes.
+fn heard(rt: &(impl Abort + AllocGlobal), bytes: &[u8]) -> Result<(), SocketFault> {
     let stream = Duplex {
         reader: bytes,
         writer: Vec::new(rt.alloc()),
     };
     let mut socket = client_on(rt.alloc(), stream, NoMask);
-    match hear_next(rt.alloc(), &mut socket, &mut Follower::new()) {
+    hear_next(rt.alloc(), &mut socket, &mut Follower::new())
+}
+
+fn name_of(heard: &Result<(), SocketFault>) -> &'static str {
+    match heard {
         Ok(()) => "heard",
         Err(SocketFault::Socket(_)) => "socket",
         Err(SocketFault::NotText) => "not text",
@@ -184,6 +195,6 @@ const ARRIVALS: [(&[u8], &str); 6] = [
 #[test]
 fn a_socket_says_why_it_heard_nothing(rt: HostRuntime) {
     for (bytes, wanted) in ARRIVALS {
-        assert_eq!(rt; fault(&rt, bytes), wanted, "at {bytes:?}");
+        assert_eq!(rt; name_of(&heard(&rt, bytes)), wanted, "at {bytes:?}");
     }
 }

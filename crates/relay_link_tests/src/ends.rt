@@ -1,5 +1,5 @@
 //! The end of a link in each stage: from this side, or because its stream ends or fails.
-use crate::links::play;
+use crate::links::play_anew;
 
 /// What leads to a stage, the row that ends the link, and that it stays ended.
 const ROWS: &str = r#"
@@ -143,5 +143,5 @@ idle => close 1; Gone by Peer
 
 #[test]
 fn ends_in_each_stage(rt: HostRuntime) {
-    play(&rt, ROWS);
+    play_anew(&rt, ROWS);
 }

@@ -1,5 +1,5 @@
 //! The frames that an open link receives (RFC 6455, section 5). All masks of the client are zeros.
-use crate::links::play;
+use crate::links::play_anew;
 
 /// What arrives at an open link, and what the link makes of it. The sections are those of RFC 6455.
 const ROWS: &str = r#"
@@ -126,6 +126,7 @@ fills 126 => close 1; Gone by Broken
 
 enter
 hex 09 80 00 00 00 00 => close 1; Gone by Broken
+idle => Gone
 
 enter
 bring hex 89 fe 00 7e 00 00 00 00
@@ -203,5 +204,5 @@ hex 88 82 00 00 00 00 03 f7 => close 1; Closing by Peer > close 1002 with a reas
 
 #[test]
 fn answers_or_ends_at_each_frame(rt: HostRuntime) {
-    play(&rt, ROWS);
+    play_anew(&rt, ROWS);
 }

@@ -1,5 +1,5 @@
 //! The handshake, from the first byte to the reply: the head may arrive in pieces, and the reply may be written in pieces.
-use crate::links::play;
+use crate::links::play_anew;
 
 /// What a new link makes of a head.
 const ROWS: &str = r#"
@@ -36,5 +36,5 @@ idle => open a; Open as 1 > switched
 
 #[test]
 fn opens_or_refuses(rt: HostRuntime) {
-    play(&rt, ROWS);
+    play_anew(&rt, ROWS);
 }

@@ -1,5 +1,5 @@
 //! A link beside other sessions of the same hub.
-use crate::links::play;
+use crate::links::play_anew;
 
 /// What a link does, and what comes of a session beside it.
 const ROWS: &str = r#"
@@ -26,5 +26,5 @@ says {"do":"edit","id":7,"patch":[]} => receive 2; draw 2; draw 2; draw 2; Open 
 
 #[test]
 fn leaves_the_others_alone(rt: HostRuntime) {
-    play(&rt, ROWS);
+    play_anew(&rt, ROWS);
 }

@@ -1,5 +1,5 @@
 //! Streams that interrupt, that move one byte at a time, or that never end.
-use crate::links::play;
+use crate::links::play_anew;
 
 /// What a stream does, and that each turn ends.
 const ROWS: &str = r#"
@@ -55,7 +55,7 @@ idle => receive 1; draw 1; Open as 1 > {"id":1,"kind":"unwatched"}
 
 #[test]
 fn no_stream_hangs_a_turn(rt: HostRuntime) {
-    play(&rt, ROWS);
+    play_anew(&rt, ROWS);
 }
 
 /// Each write takes one byte. `tests/refuse-allocations` refuses each allocation of this test in turn.
@@ -68,5 +68,5 @@ hex 88 82 00 00 00 00 03 e8 => close 1; Closing by Peer > close 1000
 
 #[test]
 fn writes_a_byte_at_a_time(rt: HostRuntime) {
-    play(&rt, BY_BYTES);
+    play_anew(&rt, BY_BYTES);
 }

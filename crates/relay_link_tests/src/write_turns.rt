@@ -1,5 +1,5 @@
 //! Read turns and write turns, what they hold, and whether a link is idle after a turn.
-use crate::links::play;
+use crate::links::play_anew;
 
 /// What arrives, and which turn reads it, holds it or sends what came of it.
 const ROWS: &str = r#"
@@ -109,5 +109,5 @@ draws 9 => draw 1; draw 1; draw 1; Open as 1 > {"epoch":1,"kind":"welcome","rev"
 
 #[test]
 fn turns_read_and_write(rt: HostRuntime) {
-    play(&rt, ROWS);
+    play_anew(&rt, ROWS);
 }

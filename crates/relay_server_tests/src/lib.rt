@@ -1,8 +1,8 @@
 //! Tests of the command line and of the program: its statuses and texts, the limits on lines, failing streams, a faulty network, `serve`,
 //! and its log.
 //!
-//! They test what no script can. The answers to lines are data in `tests/scripts`. Each module has rows of text, acts and what has to come of
-//! them, and a `Subject` that does the acts (`rows.rt`).
+//! They test what no script can. The answers to lines are data in `tests/scripts`. Each module has rows of text, and a subject that
+//! does their acts.
 #![tactic(auto)]
 
 #[cfg(test)]
@@ -17,8 +17,6 @@ mod options;
 mod polled_output;
 #[cfg(test)]
 mod program;
-#[cfg(test)]
-mod rows;
 #[cfg(test)]
 mod sockets;
 #[cfg(test)]

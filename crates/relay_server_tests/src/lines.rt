@@ -1,13 +1,9 @@
 //! Tests of the limits on lines, and of a script's limits.
-use crate::rows::{Subject, UNKNOWN, number, play};
-use crate::story::{owned, played};
+use crate::story::{number, on_one_line, played};
 use relay_options::{MAX_HISTORY, MAX_ROOMS, MAX_SESSIONS, MAX_WAITING_PATCHES};
 use relay_server::{MAX_LINE, MAX_LINES, connection_limit};
-use relay_wire::cut;
-use std::alloc::AllocGlobal;
-use std::net::Net;
-use std::process::Abort;
-use std::time::Clock;
+use relay_wire::{Subject, cut, play};
+use std::alloc::{AllocGlobal, Global};
 
 const ROWS: &str = r#"
 # The limits are those of the protocol. A server has this many connections beside so many sessions.
@@ -41,64 +37,67 @@ plays 1024 256 1 0 a open r => 0 unknown, then "a opened 1\n"
 
 #[test]
 fn scripts_have_limits(rt: HostRuntime) {
-    play::<ScriptLimits>(&rt, ROWS);
+    play(&rt, &mut ScriptLimits, ROWS).expect(&rt, "each row holds");
 }
 
+#[derive(Clone, Copy)]
 struct ScriptLimits;
 
-impl Subject for ScriptLimits {
-    fn act(rt: &(impl Abort + AllocGlobal + Clock + Net), act: &str) -> String {
+impl<R: AllocGlobal> Subject<R> for ScriptLimits {
+    fn act(&mut self, rt: &R, act: &str) -> Option<String> {
+        let alloc = rt.alloc();
         let (word, rest) = cut(act);
-        match word {
-            "limits" => limits(rt),
-            "connections" => connections(rt, rest),
-            "plays" => counted(rt, play_script(rt, rest)),
-            _ => owned(rt, UNKNOWN),
-        }
+        let told = match word {
+            "limits" => limits(alloc),
+            "connections" => connections(alloc, rest),
+            "plays" => counted(alloc, play_script(alloc, rest)?.as_str()),
+            _ => None,
+        };
+        on_one_line(alloc, told?.as_str())
     }
 }
 
-fn limits(rt: &(impl Abort + AllocGlobal)) -> String {
-    format!(in rt.alloc();
+fn limits(alloc: Global) -> Option<String> {
+    format!(in alloc;
         "{MAX_LINE} bytes of a line, {MAX_LINES} lines of a script, {MAX_HISTORY} revisions of a history, {MAX_WAITING_PATCHES} patches that wait, {MAX_ROOMS} rooms, {MAX_SESSIONS} sessions"
-    ).expect(rt, "memory")
+    ).ok()
 }
 
 /// How many connections there may be beside so many sessions.
-fn connections(rt: &(impl Abort + AllocGlobal), sessions: &str) -> String {
-    let limit = connection_limit(number(rt, sessions));
-    format!(in rt.alloc(); "{limit}").expect(rt, "memory")
+fn connections(alloc: Global, sessions: &str) -> Option<String> {
+    let limit = connection_limit(number(sessions)?);
+    format!(in alloc; "{limit}").ok()
 }
 
 /// The output of a script, and the fault that ended it, if there was one. The words are the number of revisions of its histories and that of
 /// patches in its outboxes, the number of lines, the length of a comment after them, and the lines' text.
-fn play_script(rt: &(impl Abort + AllocGlobal), words: &str) -> String {
+fn play_script(alloc: Global, words: &str) -> Option<String> {
     let (history, words) = cut(words);
     let (max_waiting_patches, words) = cut(words);
     let (lines, words) = cut(words);
     let (len, text) = cut(words);
-    let script = script_of(rt, text, number(rt, lines), number(rt, len));
+    let script = script_of(alloc, text, number(lines)?, number(len)?);
     played(
-        rt,
-        number(rt, history),
-        number(rt, max_waiting_patches),
-        script.as_bytes(),
+        alloc,
+        number(history)?,
+        number(max_waiting_patches)?,
+        script?.as_bytes(),
     )
 }
 
-fn script_of(rt: &(impl Abort + AllocGlobal), text: &str, lines: u64, len: u64) -> String {
-    let line = format!(in rt.alloc(); "{text}\n").expect(rt, "memory");
-    let script = line.repeat(rt.alloc(), lines as usize);
-    let mut script = script.expect(rt, "memory");
+fn script_of(alloc: Global, text: &str, lines: u64, len: u64) -> Option<String> {
+    let line = format!(in alloc; "{text}\n").ok()?;
+    let script = line.repeat(alloc, lines as usize);
+    let mut script = script.ok()?;
     for _ in 0..len {
-        script.push('#').expect(rt, "memory");
+        script.push('#').ok()?;
     }
-    script
+    Some(script)
 }
 
 /// How many answers say that a name is unknown, and what comes after them.
-fn counted(rt: &(impl Abort + AllocGlobal), written: String) -> String {
+fn counted(alloc: Global, written: &str) -> Option<String> {
     let unknown = written.matches("x unknown\n").count();
     let end = written.trim_start_matches("x unknown\n");
-    format!(in rt.alloc(); "{unknown} unknown, then {end:?}").expect(rt, "memory")
+    format!(in alloc; "{unknown} unknown, then {end:?}").ok()
 }

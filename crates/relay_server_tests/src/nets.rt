@@ -1,15 +1,13 @@
 //! Tests of `serve` and `loop` on a faulty network.
-use crate::rows::{Subject, play};
-use crate::story::with_status;
+use crate::story::{on_one_line, with_status};
 use relay_options::{Job, Settings};
 use relay_server::carry_out;
-use relay_wire::cut;
-use std::alloc::AllocGlobal;
+use relay_wire::{Subject, cut, play};
+use std::alloc::{AllocGlobal, Global};
 use std::io;
 use std::io::ErrorKind;
 use std::net::{Ipv4Addr, Net, OpenListener, SocketAddr, TcpStream};
 use std::os::fd::{AsRawFd, RawFd};
-use std::process::Abort;
 use std::time::{Clock, Duration};
 
 /// A job, and what its network lacks.
@@ -30,15 +28,18 @@ loop Descriptor => a stuck\nstatus 0
 
 #[test]
 fn a_job_says_what_its_network_lacks(rt: HostRuntime) {
-    play::<Nets>(&rt, ROWS);
+    play(&rt, &mut Nets, ROWS).expect(&rt, "each row holds");
 }
 
+#[derive(Clone, Copy)]
 struct Nets;
 
-impl Subject for Nets {
-    fn act(rt: &(impl Abort + AllocGlobal + Clock + Net), act: &str) -> String {
+impl<R: AllocGlobal> Subject<R> for Nets {
+    fn act(&mut self, rt: &R, act: &str) -> Option<String> {
+        let alloc = rt.alloc();
         let (job, lack) = cut(act);
-        done(rt, FaultyNet::without(rt, lack), job_named(rt, job))
+        let told = done(alloc, FaultyNet::without(lack)?, job_named(job)?);
+        on_one_line(alloc, told?.as_str())
     }
 }
 
@@ -53,11 +54,11 @@ const SERVE: Job = Job::Serve {
     },
 };
 
-fn job_named(rt: &impl Abort, name: &str) -> Job {
+fn job_named(name: &str) -> Option<Job> {
     match name {
-        "serve" => SERVE,
-        "loop" => Job::Loop(Settings::DEFAULT),
-        _ => panic!(rt; "no such job: {name}"),
+        "serve" => Some(SERVE),
+        "loop" => Some(Job::Loop(Settings::DEFAULT)),
+        _ => None,
     }
 }
 
@@ -75,13 +76,13 @@ enum FaultyNet {
 }
 
 impl FaultyNet {
-    fn without(rt: &impl Abort, lack: &str) -> FaultyNet {
+    fn without(lack: &str) -> Option<FaultyNet> {
         match lack {
-            "Port" => FaultyNet::NoPort,
-            "NonBlocking" => FaultyNet::NoNonBlocking,
-            "Address" => FaultyNet::NoAddress,
-            "Descriptor" => FaultyNet::NoDescriptor,
-            _ => panic!(rt; "no such lack: {lack}"),
+            "Port" => Some(FaultyNet::NoPort),
+            "NonBlocking" => Some(FaultyNet::NoNonBlocking),
+            "Address" => Some(FaultyNet::NoAddress),
+            "Descriptor" => Some(FaultyNet::NoDescriptor),
+            _ => None,
         }
     }
 }
@@ -142,13 +143,11 @@ impl AsRawFd for FaultyNet {
 }
 
 /// The output of a job on such a network, its error output, and its status.
-fn done(rt: &(impl Abort + AllocGlobal), net: FaultyNet, job: Job) -> String {
+fn done(alloc: Global, net: FaultyNet, job: Job) -> Option<String> {
     let mut input = "a open r\n".as_bytes();
-    let mut output = Vec::new(rt.alloc());
-    let mut errors = Vec::new(rt.alloc());
-    let ended = carry_out(rt.alloc(), &net, job, &mut input, &mut output, &mut errors);
-    output
-        .extend_from_slice(errors.as_slice())
-        .expect(rt, "memory");
-    with_status(rt, output.as_slice(), ended.code())
+    let mut output = Vec::new(alloc);
+    let mut errors = Vec::new(alloc);
+    let ended = carry_out(alloc, &net, job, &mut input, &mut output, &mut errors);
+    output.extend_from_slice(errors.as_slice()).ok()?;
+    with_status(alloc, output.as_slice(), ended.code())
 }

@@ -1,13 +1,9 @@
 //! Tests of the command line's parser.
-use crate::rows::{Subject, UNKNOWN, play};
-use crate::story::owned;
+use crate::story::{on_one_line, owned};
 use relay_options::{Job, Settings, Stop, job_of};
-use relay_wire::cut;
-use std::alloc::AllocGlobal;
+use relay_wire::{Subject, cut, play};
+use std::alloc::{AllocGlobal, Global};
 use std::fmt::Debug;
-use std::net::Net;
-use std::process::Abort;
-use std::time::Clock;
 
 /// Command lines, and the jobs that they ask for, as `Debug` shows them.
 const ROWS: &str = r#"
@@ -88,39 +84,42 @@ finds relay serve --help: it sleeps while nothing happens => true
 
 #[test]
 fn reads_command_lines(rt: HostRuntime) {
-    play::<Options>(&rt, ROWS);
+    play(&rt, &mut Options, ROWS).expect(&rt, "each row holds");
 }
 
+#[derive(Clone, Copy)]
 struct Options;
 
-impl Subject for Options {
-    fn act(rt: &(impl Abort + AllocGlobal + Clock + Net), act: &str) -> String {
+impl<R: AllocGlobal> Subject<R> for Options {
+    fn act(&mut self, rt: &R, act: &str) -> Option<String> {
+        let alloc = rt.alloc();
         let (word, rest) = cut(act);
-        match word {
-            "relay" => outcome(rt, act),
-            "finds" => found_in_help(rt, rest),
-            "defaults" => shown(rt, &Settings::DEFAULT),
-            _ => owned(rt, UNKNOWN),
-        }
+        let told = match word {
+            "relay" => outcome(alloc, act),
+            "finds" => found_in_help(alloc, rest),
+            "defaults" => shown(alloc, &Settings::DEFAULT),
+            _ => None,
+        };
+        on_one_line(alloc, told?.as_str())
     }
 }
 
 /// The words of a command line, of which the first is the program's name.
-pub fn words_of(rt: &(impl Abort + AllocGlobal), line: &str) -> Vec<String> {
-    let mut words = Vec::new(rt.alloc());
+pub fn words_of(alloc: Global, line: &str) -> Option<Vec<String>> {
+    let mut words = Vec::new(alloc);
     for word in line.split_whitespace() {
-        words.push(owned(rt, word)).expect(rt, "memory");
+        words.push(owned(alloc, word)?).ok()?;
     }
-    words
+    Some(words)
 }
 
 /// What a command line comes to: a job, a text that is to be printed, or misuse, of which there has to be a message.
-fn outcome(rt: &(impl Abort + AllocGlobal), line: &str) -> String {
-    match job_of(rt.alloc(), words_of(rt, line).as_slice()) {
-        Ok(job) => shown(rt, &job),
-        Err(Stop::Help(text)) => text,
-        Err(Stop::Misuse(text)) => owned(rt, word_for(text.as_str())),
-        Err(Stop::NoMemory) => owned(rt, "no memory"),
+fn outcome(alloc: Global, line: &str) -> Option<String> {
+    match job_of(alloc, words_of(alloc, line)?.as_slice()) {
+        Ok(job) => shown(alloc, &job),
+        Err(Stop::Help(text)) => Some(text),
+        Err(Stop::Misuse(text)) => owned(alloc, word_for(text.as_str())),
+        Err(Stop::NoMemory) => owned(alloc, "no memory"),
     }
 }
 
@@ -133,14 +132,13 @@ fn word_for(message: &str) -> &'static str {
     }
 }
 
-fn shown(rt: &(impl Abort + AllocGlobal), value: &impl Debug) -> String {
-    format!(in rt.alloc(); "{value:?}").expect(rt, "memory")
+fn shown(alloc: Global, value: &impl Debug) -> Option<String> {
+    format!(in alloc; "{value:?}").ok()
 }
 
 /// Whether what a command line comes to, which stands before a colon, has the part behind it.
-fn found_in_help(rt: &(impl Abort + AllocGlobal), line_and_part: &str) -> String {
-    let parted = line_and_part.split_once(": ");
-    let (line, part) = parted.unwrap_or((line_and_part, UNKNOWN));
-    let is_found = outcome(rt, line).contains(part);
-    shown(rt, &is_found)
+fn found_in_help(alloc: Global, line_and_part: &str) -> Option<String> {
+    let (line, part) = line_and_part.split_once(": ")?;
+    let is_found = outcome(alloc, line)?.contains(part);
+    shown(alloc, &is_found)
 }

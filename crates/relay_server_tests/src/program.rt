@@ -1,12 +1,10 @@
 //! Tests of the program's jobs and their statuses.
 use crate::options::words_of;
-use crate::rows::{Subject, UNKNOWN, play, typed};
-use crate::story::{kind_of, owned, with_end, with_status};
+use crate::story::{kind_of, on_one_line, typed, with_end, with_status};
 use relay_server::{ScriptFault, refuse_words, report, run_follow, start};
-use relay_wire::cut;
-use std::alloc::AllocGlobal;
+use relay_wire::{Subject, cut, play};
+use std::alloc::{AllocGlobal, Global};
 use std::net::Net;
-use std::process::Abort;
 use std::time::Clock;
 
 const ROWS: &str = r#"
@@ -49,98 +47,101 @@ finds relay < examples/first.script => yes, status 0
 
 #[test]
 fn does_what_its_words_say(rt: HostRuntime) {
-    play::<Program>(&rt, ROWS);
+    play(&rt, &mut Program, ROWS).expect(&rt, "each row holds");
 }
 
+#[derive(Clone, Copy)]
 struct Program;
 
-impl Subject for Program {
-    fn act(rt: &(impl Abort + AllocGlobal + Clock + Net), act: &str) -> String {
+impl<R: AllocGlobal + Clock + Net> Subject<R> for Program {
+    fn act(&mut self, rt: &R, act: &str) -> Option<String> {
+        let alloc = rt.alloc();
         let (word, rest) = cut(act);
-        match word {
-            "ends" | "refuses" => complained(rt, word, rest),
-            "follows" => followed(rt, rest),
+        let told = match word {
+            "ends" | "refuses" => complained(alloc, word, rest),
+            "follows" => followed(alloc, rest),
             "relay" => done(rt, act),
             "finds" => found_in_help(rt, rest),
-            _ => owned(rt, UNKNOWN),
-        }
+            _ => None,
+        };
+        on_one_line(alloc, told?.as_str())
     }
 }
 
 /// The end of a script, by the name of its fault.
-fn ended_by(rt: &impl Abort, name: &str) -> Result<(), ScriptFault> {
-    Err(match name {
-        "well" => return Ok(()),
+fn ended_by(name: &str) -> Option<Result<(), ScriptFault>> {
+    Some(Err(match name {
+        "well" => return Some(Ok(())),
         "Input" => ScriptFault::Input,
         "Output" => ScriptFault::Output,
         "LineTooLong" => ScriptFault::LineTooLong,
         "TooManyLines" => ScriptFault::TooManyLines,
         "BadLimit" => ScriptFault::BadLimit,
         "NoMemory" => ScriptFault::NoMemory,
-        _ => panic!(rt; "no such fault: {name}"),
-    })
+        _ => return None,
+    }))
 }
 
 /// The report of a script's end, or of arguments that cannot be read, for a reason of this name.
-fn complained(rt: &(impl Abort + AllocGlobal), word: &str, why: &str) -> String {
-    let mut errors = Vec::new(rt.alloc());
+fn complained(alloc: Global, word: &str, why: &str) -> Option<String> {
+    let mut errors = Vec::new(alloc);
     let status = if word == "ends" {
-        report(ended_by(rt, why), &mut errors).code()
+        report(ended_by(why)?, &mut errors).code()
     } else {
-        refuse_words(kind_of(rt, why), &mut errors)
+        refuse_words(kind_of(why)?, &mut errors)
     };
-    with_status(rt, errors.as_slice(), status)
+    with_status(alloc, errors.as_slice(), status)
 }
 
 /// What a follower answers to lines.
-fn followed(rt: &(impl Abort + AllocGlobal), lines: &str) -> String {
-    let lines = typed(rt, lines);
+fn followed(alloc: Global, lines: &str) -> Option<String> {
+    let lines = typed(alloc, lines)?;
     let mut input = lines.as_bytes();
-    let mut output = Vec::new(rt.alloc());
-    let ended = run_follow(rt.alloc(), &mut input, &mut output);
-    with_end(rt, output.as_slice(), ended)
+    let mut output = Vec::new(alloc);
+    let ended = run_follow(alloc, &mut input, &mut output);
+    with_end(alloc, output.as_slice(), ended)
 }
 
 /// Runs a command line over an input. Returns the output, followed by the status.
 pub fn run(
-    rt: &(impl Abort + AllocGlobal + Clock + Net),
+    rt: &(impl AllocGlobal + Clock + Net),
     line: &str,
     text: &str,
     errors: &mut Vec<u8>,
-) -> String {
-    let words = words_of(rt, line);
+) -> Option<String> {
+    let words = words_of(rt.alloc(), line)?;
     let mut input = text.as_bytes();
     let mut output = Vec::new(rt.alloc());
     let status = start(rt, words.as_slice(), &mut input, &mut output, errors);
-    with_status(rt, output.as_slice(), status)
+    with_status(rt.alloc(), output.as_slice(), status)
 }
 
 /// Whether the program wrote to standard error, its output, and its status.
-fn done(rt: &(impl Abort + AllocGlobal + Clock + Net), act: &str) -> String {
+fn done(rt: &(impl AllocGlobal + Clock + Net), act: &str) -> Option<String> {
     let (line, input) = act.split_once(" < ").unwrap_or((act, ""));
-    let input = typed(rt, input);
+    let input = typed(rt.alloc(), input)?;
     let mut errors = Vec::new(rt.alloc());
-    let told = run(rt, line, input.as_str(), &mut errors);
-    with_complaint(rt, errors.as_slice(), told.as_str())
+    let told = run(rt, line, input.as_str(), &mut errors)?;
+    with_complaint(rt.alloc(), errors.as_slice(), told.as_str())
 }
 
 /// Whether the program's help has a part, whether it wrote to standard error, and its status.
-fn found_in_help(rt: &(impl Abort + AllocGlobal + Clock + Net), part: &str) -> String {
+fn found_in_help(rt: &(impl AllocGlobal + Clock + Net), part: &str) -> Option<String> {
     let mut errors = Vec::new(rt.alloc());
-    let told = run(rt, "relay --help", "", &mut errors);
+    let told = run(rt, "relay --help", "", &mut errors)?;
     let told = if told.contains(part) && told.ends_with("status 0") {
         "yes, status 0"
     } else {
         told.as_str()
     };
-    with_complaint(rt, errors.as_slice(), told)
+    with_complaint(rt.alloc(), errors.as_slice(), told)
 }
 
 /// How the error output of a server begins that was given no epoch.
 const WARNING: &[u8] = b"relay: epoch 1, as without --epoch";
 
 /// A text after a word for the error output, if there was any.
-pub fn with_complaint(rt: &(impl Abort + AllocGlobal), errors: &[u8], told: &str) -> String {
+pub fn with_complaint(alloc: Global, errors: &[u8], told: &str) -> Option<String> {
     let complaint = if errors.is_empty() {
         ""
     } else if errors.starts_with(WARNING) {
@@ -148,5 +149,5 @@ pub fn with_complaint(rt: &(impl Abort + AllocGlobal), errors: &[u8], told: &str
     } else {
         "complaint, "
     };
-    format!(in rt.alloc(); "{complaint}{told}").expect(rt, "memory")
+    format!(in alloc; "{complaint}{told}").ok()
 }

@@ -1,15 +1,11 @@
 //! Tests with a reader and a writer that interrupt or fail at a chosen call.
-use crate::rows::{Subject, UNKNOWN, number, play};
-use crate::story::{kind_of, owned, with_end};
+use crate::story::{kind_of, number, on_one_line, with_end};
 use relay_hub::HubConfig;
 use relay_server::run_script;
-use relay_wire::cut;
-use std::alloc::AllocGlobal;
+use relay_wire::{Subject, cut, play};
+use std::alloc::{AllocGlobal, Global};
 use std::io;
 use std::io::{ErrorKind, Read, Write};
-use std::net::Net;
-use std::process::Abort;
-use std::time::Clock;
 
 /// A script of two lines is read or written with faults: after so many calls, so many of a kind.
 const ROWS: &str = r#"
@@ -26,19 +22,22 @@ writes 12 1 Other => x unknown\ny fault: output
 
 #[test]
 fn goes_on_after_999_interruptions(rt: HostRuntime) {
-    play::<Streams>(&rt, ROWS);
+    play(&rt, &mut Streams, ROWS).expect(&rt, "each row holds");
 }
 
+#[derive(Clone, Copy)]
 struct Streams;
 
-impl Subject for Streams {
-    fn act(rt: &(impl Abort + AllocGlobal + Clock + Net), act: &str) -> String {
+impl<R: AllocGlobal> Subject<R> for Streams {
+    fn act(&mut self, rt: &R, act: &str) -> Option<String> {
+        let alloc = rt.alloc();
         let (word, faults) = cut(act);
-        match word {
-            "reads" => played_with(rt, faults_of(rt, faults), NONE),
-            "writes" => played_with(rt, NONE, faults_of(rt, faults)),
-            _ => owned(rt, UNKNOWN),
-        }
+        let told = match word {
+            "reads" => played_with(alloc, faults_of(faults)?, NONE),
+            "writes" => played_with(alloc, NONE, faults_of(faults)?),
+            _ => None,
+        };
+        on_one_line(alloc, told?.as_str())
     }
 }
 
@@ -57,14 +56,14 @@ const NONE: Faults = Faults {
     kind: ErrorKind::Other,
 };
 
-fn faults_of(rt: &impl Abort, words: &str) -> Faults {
+fn faults_of(words: &str) -> Option<Faults> {
     let (before, rest) = cut(words);
     let (times, kind) = cut(rest);
-    Faults {
-        before: number(rt, before),
-        times: number(rt, times),
-        kind: kind_of(rt, kind),
-    }
+    Some(Faults {
+        before: number(before)?,
+        times: number(times)?,
+        kind: kind_of(kind)?,
+    })
 }
 
 impl Faults {
@@ -119,20 +118,15 @@ impl Write for FailingWriter {
 const TWO_LINES: &[u8] = b"x draw\ny draw";
 
 /// The output of a script that is read and written with faults, followed by the fault that ended it.
-fn played_with(rt: &(impl Abort + AllocGlobal), of_reads: Faults, of_writes: Faults) -> String {
+fn played_with(alloc: Global, of_reads: Faults, of_writes: Faults) -> Option<String> {
     let mut input = FailingReader {
         bytes: TWO_LINES,
         faults: of_reads,
     };
     let mut output = FailingWriter {
-        bytes: Vec::new(rt.alloc()),
+        bytes: Vec::new(alloc),
         faults: of_writes,
     };
-    let ended = run_script(
-        rt.alloc(),
-        &mut input,
-        &mut output,
-        HubConfig::new(1, 1, 64, 32),
-    );
-    with_end(rt, output.bytes.as_slice(), ended)
+    let ended = run_script(alloc, &mut input, &mut output, HubConfig::new(1, 1, 64, 32));
+    with_end(alloc, output.bytes.as_slice(), ended)
 }

@@ -2,8 +2,8 @@
 use crate::memory_server::{MemoryListener, ReadinessScript, ScriptedReadiness};
 use relay_hub::{Hub, HubConfig};
 use relay_serving::{AdminPort, AdminReadiness, NoLog, ReadyEvent, Server};
-use relay_wire::{End, Row, Wire, cut, push_signs};
-use std::alloc::{AllocError, AllocGlobal};
+use relay_wire::{End, Subject, Wire, cut, play, push_signs};
+use std::alloc::{AllocGlobal, Global};
 use std::cell::{RefCell, RefMut};
 use std::process::Abort;
 use std::time::{Clock, Duration};
@@ -90,13 +90,11 @@ fn answers_beside_its_rounds(rt: HostRuntime) {
 
 fn play_case(rt: &(impl Abort + AllocGlobal), case: &str) {
     let (client, operator) = (Wire::new(rt.alloc()), Wire::new(rt.alloc()));
-    let port = Port {
+    let mut port = Port {
         client: &client,
         operator: &operator,
     };
-    for row in case.lines().filter_map(|line| Row::of(line)) {
-        port.play_row(rt, row);
-    }
+    play(rt, &mut port, case).expect(rt, "each row holds");
 }
 
 /// The wires of a client and of an operator.
@@ -106,105 +104,86 @@ struct Port<'a> {
     operator: &'a RefCell<Wire>,
 }
 
-impl Port<'_> {
-    fn play_row(self, rt: &(impl Abort + AllocGlobal), row: Row<'_>) {
-        let mut told = String::new(rt.alloc());
-        self.act(rt, row.act, &mut told).expect(rt, "memory");
-        assert_eq!(rt; told.as_str().trim(), row.wanted, "{}", row.act);
-    }
-
+impl<R: AllocGlobal> Subject<R> for Port<'_> {
     /// Does an act, and tells what came of it:
     ///
     /// - `client ACT` and `operator ACT` do an act of a wire;
     /// - `run N` runs a server for at most so many rounds, and tells how many were run;
     /// - `body` tells the body of the reply to the operator, with `\n` for the end of a line, and `metric LINE` whether it has this line;
     /// - `client-signs` tells what the client was sent.
-    fn act(
-        self,
-        rt: &(impl Abort + AllocGlobal),
-        act: &str,
-        told: &mut String,
-    ) -> Result<(), AllocError> {
+    fn act(&mut self, rt: &R, act: &str) -> Option<String> {
+        let alloc = rt.alloc();
         let (word, rest) = cut(act);
         match word {
-            "client" => does(rt, self.client, rest),
-            "operator" => does(rt, self.operator, rest),
-            "run" => write!(told, "{}", self.run(rt, rest.parse().unwrap_or(0))),
-            "body" => tell_body(rt, &lent(rt, self.operator), told),
-            "metric" => write!(told, "{}", has_line(rt, &lent(rt, self.operator), rest)),
-            "client-signs" => push_signs(told, lent(rt, self.client).output.as_slice()),
-            _ => write!(told, "no such act"),
+            "client" => done(alloc, self.client, rest),
+            "operator" => done(alloc, self.operator, rest),
+            "run" => self.run(alloc, rest.parse::<u64>().ok()?),
+            "body" => body(alloc, self.operator),
+            "metric" => has_line(alloc, self.operator, rest),
+            "client-signs" => signs(alloc, self.client),
+            _ => None,
         }
     }
+}
 
-    /// Runs a server for at most so many rounds, to which the client and the operator are connected. Returns how many rounds were run.
-    fn run(self, rt: &(impl Abort + AllocGlobal), rounds: u64) -> u64 {
-        let script = ReadinessScript::new(rt.alloc());
-        add_incoming(rt, &script);
-        let mut admin = AdminPort::new(rt.alloc(), listener_with(rt, self.operator));
-        let listener = listener_with(rt, self.client);
-        server(rt, &script).run_administered(rt.alloc(), &listener, &mut admin, rounds, &mut NoLog)
+impl Port<'_> {
+    /// Runs a server for at most so many rounds, to which the client and the operator are connected. Tells how many rounds were run.
+    fn run(&self, alloc: Global, rounds: u64) -> Option<String> {
+        let script = ReadinessScript::new(alloc);
+        script.try_borrow_mut().ok()?.add(ReadyEvent::Incoming)?;
+        let mut admin = AdminPort::new(alloc, listener_with(alloc, self.operator)?);
+        let listener = listener_with(alloc, self.client)?;
+        let mut server = server(alloc, &script)?;
+        let run = server.run_administered(alloc, &listener, &mut admin, rounds, &mut NoLog);
+        format!(in alloc; "{run}").ok()
     }
 }
 
 /// Borrows a wire.
-fn lent<'w>(rt: &impl Abort, wire: &'w RefCell<Wire>) -> RefMut<'w, Wire> {
-    wire.try_borrow_mut().expect(rt, "a wire that is free")
+fn lent(wire: &RefCell<Wire>) -> Option<RefMut<'_, Wire>> {
+    wire.try_borrow_mut().ok()
 }
 
-fn does(
-    rt: &(impl Abort + AllocGlobal),
-    wire: &RefCell<Wire>,
-    act: &str,
-) -> Result<(), AllocError> {
-    let is_done = lent(rt, wire).perform(rt.alloc(), act)?;
-    assert!(rt; is_done, "no such act: {act}");
-    Ok(())
-}
-
-/// The next wait says that a connection may wait to be accepted.
-fn add_incoming(rt: &impl Abort, script: &RefCell<ReadinessScript>) {
-    let mut script = script.try_borrow_mut().expect(rt, "the script");
-    script.add(rt, ReadyEvent::Incoming);
+fn done(alloc: Global, wire: &RefCell<Wire>, act: &str) -> Option<String> {
+    let is_done = lent(wire)?.perform(alloc, act).ok()?;
+    is_done.then_some(String::new(alloc))
 }
 
 /// A listener at which a wire waits.
-fn listener_with<'a>(
-    rt: &(impl Abort + AllocGlobal),
-    wire: &'a RefCell<Wire>,
-) -> MemoryListener<'a> {
-    let listener = MemoryListener::new(rt.alloc());
-    listener.add(rt, wire);
-    listener
+fn listener_with(alloc: Global, wire: &RefCell<Wire>) -> Option<MemoryListener<'_>> {
+    let listener = MemoryListener::new(alloc);
+    listener.add(wire)?;
+    Some(listener)
 }
+
+/// The server of a port, whose readiness the test sets.
+type Administered<'a, 's> = Server<End<'a>, AdminReadiness<'s, ScriptedReadiness<'s>, Still>>;
 
 fn server<'a, 's>(
-    rt: &(impl Abort + AllocGlobal),
+    alloc: Global,
     script: &'s RefCell<ReadinessScript>,
-) -> Server<End<'a>, AdminReadiness<'s, ScriptedReadiness<'s>, Still>> {
-    let hub = Hub::with_config(rt.alloc(), HubConfig::new(1, 1, 64, 32)).expect(rt, "a hub");
+) -> Option<Administered<'a, 's>> {
+    let hub = Hub::with_config(alloc, HubConfig::new(1, 1, 64, 32)).ok()?;
     let readiness = AdminReadiness::new(ScriptedReadiness::of(script), &Still);
-    Server::new(rt.alloc(), hub, readiness)
+    Some(Server::new(alloc, hub, readiness))
 }
 
-/// The text that was written to a wire.
-fn text_of<'w>(rt: &impl Abort, wire: &'w Wire) -> &'w str {
-    str::from_utf8(wire.output.as_slice())
-        .ok()
-        .expect(rt, "a text")
-}
-
-fn tell_body(
-    rt: &(impl Abort + AllocGlobal),
-    wire: &Wire,
-    told: &mut String,
-) -> Result<(), AllocError> {
-    let text = text_of(rt, wire);
+fn body(alloc: Global, wire: &RefCell<Wire>) -> Option<String> {
+    let wire = lent(wire)?;
+    let text = str::from_utf8(wire.output.as_slice()).ok()?;
     let body = text.split_once("\r\n\r\n").map(|parts| parts.1);
-    let body = body.unwrap_or("nothing").replace(rt.alloc(), "\n", "\\n")?;
-    told.push_str(body.as_str())
+    body.unwrap_or("nothing").replace(alloc, "\n", "\\n").ok()
 }
 
-fn has_line(rt: &impl Abort, wire: &Wire, line: &str) -> bool {
-    text_of(rt, wire).lines().any(|it| it == line)
+fn has_line(alloc: Global, wire: &RefCell<Wire>, line: &str) -> Option<String> {
+    let wire = lent(wire)?;
+    let text = str::from_utf8(wire.output.as_slice()).ok()?;
+    let has = text.lines().any(|it| it == line);
+    format!(in alloc; "{has}").ok()
+}
+
+fn signs(alloc: Global, wire: &RefCell<Wire>) -> Option<String> {
+    let mut told = String::new(alloc);
+    push_signs(&mut told, lent(wire)?.output.as_slice()).ok()?;
+    told.as_str().trim().to_owned(alloc).ok()
 }

@@ -1,5 +1,5 @@
 //! Many connections of one server.
-use crate::clients::play;
+use crate::clients::play_anew;
 
 /// Which connections a server holds. Those of one wire open a session each, and those of another send nothing.
 const ROWS: &str = r#"
@@ -27,5 +27,5 @@ connections => 12
 
 #[test]
 fn a_crowd_keeps_nobody_out(rt: HostRuntime) {
-    play(&rt, ROWS);
+    play_anew(&rt, ROWS);
 }

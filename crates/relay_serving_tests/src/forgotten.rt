@@ -1,7 +1,8 @@
 //! No connection is forgotten: rounds go by queues, and behind each the queues are compared with a walk over all connections.
 use crate::clients::{Clients, wires};
 use crate::memory_server::ReadinessScript;
-use std::alloc::AllocGlobal;
+use relay_wire::play;
+use std::alloc::{AllocGlobal, Global};
 use std::process::Abort;
 
 /// How many clients there are, and how many of them stay to the end: the others may break off.
@@ -78,17 +79,29 @@ fn break_off(numbers: &mut Numbers, client: u64) -> &'static str {
     }
 }
 
-fn play(rt: &(impl Abort + AllocGlobal), numbers: &mut Numbers, clients: &mut Clients<'_>) {
+/// Rows for some steps of clients, as the numbers have it, with rounds between them.
+fn steps(alloc: Global, numbers: &mut Numbers) -> Option<String> {
+    let mut rows = String::new(alloc);
     for _ in 0..STEPS {
         let client = numbers.below(CLIENTS);
-        let key = format!(in rt.alloc(); "{client}").expect(rt, "memory");
-        let rows = step(numbers, client).replace(rt.alloc(), "@", key.as_str());
-        clients.play(rt, rows.expect(rt, "memory").as_str());
-        if numbers.below(2) == 0 {
-            clients.play(rt, "rounds 1");
-        }
+        let key = format!(in alloc; "{client}").ok()?;
+        let step = step(numbers, client).replace(alloc, "@", key.as_str());
+        rows.push_str(step.ok()?.as_str()).ok()?;
+        let round = if numbers.below(2) == 0 {
+            "rounds 1"
+        } else {
+            ""
+        };
+        write!(rows, "\n{round}\n").ok()?;
     }
+    Some(rows)
 }
+
+/// Many edits may wait for each of the clients, who enter.
+const BEGINS: &str = "
+server waiting=256
+each 6 enter
+";
 
 /// Each stream takes what is written, and the server sleeps in the end. It has read all that the staying clients sent.
 const SETTLES: &str = "
@@ -108,11 +121,16 @@ read 3 => true
 #[test]
 fn no_connection_is_forgotten(rt: HostRuntime) {
     for seed in 0..3 {
-        let script = ReadinessScript::new(rt.alloc());
-        let wires = wires(&rt);
-        let mut clients = Clients::new(&rt, &script, wires.as_slice());
-        clients.play(&rt, "server waiting=256\neach 6 enter");
-        play(&rt, &mut Numbers { state: seed }, &mut clients);
-        clients.play(&rt, SETTLES);
+        let steps = steps(rt.alloc(), &mut Numbers { state: seed });
+        play_steps(&rt, steps.expect(&rt, "memory").as_str());
+    }
+}
+
+fn play_steps(rt: &(impl Abort + AllocGlobal), steps: &str) {
+    let script = ReadinessScript::new(rt.alloc());
+    let wires = wires(rt.alloc()).expect(rt, "memory");
+    let mut clients = Clients::new(rt.alloc(), &script, wires.as_slice()).expect(rt, "memory");
+    for rows in [BEGINS, steps, SETTLES] {
+        play(rt, &mut clients, rows).expect(rt, "each row holds");
     }
 }

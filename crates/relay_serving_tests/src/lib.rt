@@ -14,7 +14,7 @@ mod forgotten;
 #[cfg(test)]
 mod logging;
 #[cfg(test)]
-mod loopback_fixture;
+mod loopback;
 #[cfg(test)]
 mod memory_server;
 #[cfg(test)]

@@ -1,5 +1,5 @@
 //! The log: which entries a connection's life makes, and what they say.
-use crate::clients::play;
+use crate::clients::play_anew;
 
 /// What happens, and the lines of the log, with ` / ` between them.
 const ROWS: &str = r#"
@@ -67,5 +67,5 @@ log => event=opened peer=127.0.0.1:1 link=0 session=1 room=r / event=refused pee
 
 #[test]
 fn logs_its_connections(rt: HostRuntime) {
-    play(&rt, ROWS);
+    play_anew(&rt, ROWS);
 }

@@ -2,11 +2,10 @@
 use relay_hub::{Hub, HubConfig};
 use relay_serving::{ConnectionLog, LogEntry, Readiness, ReadyEvent, Server};
 use relay_wire::{End, Wire};
-use std::alloc::{AllocGlobal, Global};
+use std::alloc::Global;
 use std::cell::{RefCell, RefMut};
 use std::io::ErrorKind;
 use std::net::{Ipv4Addr, OpenListener, SocketAddr};
-use std::process::Abort;
 use std::time::Duration;
 use std::{io, mem};
 
@@ -29,9 +28,8 @@ impl<'a> MemoryListener<'a> {
     }
 
     /// Adds a waiting connection.
-    pub fn add(&self, rt: &impl Abort, wire: &'a RefCell<Wire>) {
-        let mut waiting = self.waiting.try_borrow_mut().expect(rt, "a listener");
-        waiting.push(wire).expect(rt, "memory");
+    pub fn add(&self, wire: &'a RefCell<Wire>) -> Option<()> {
+        self.waiting.try_borrow_mut().ok()?.push(wire).ok()
     }
 }
 
@@ -79,8 +77,8 @@ impl ReadinessScript {
     }
 
     /// Adds an event to the next wait.
-    pub fn add(&mut self, rt: &impl Abort, event: ReadyEvent) {
-        self.next.push(event).expect(rt, "memory");
+    pub fn add(&mut self, event: ReadyEvent) -> Option<()> {
+        self.next.push(event).ok()
     }
 
     fn wait(&mut self, most: Duration, events: &mut Vec<ReadyEvent>) -> io::Result<()> {
@@ -146,46 +144,53 @@ pub(crate) struct MemoryServer<'a> {
 impl<'a> MemoryServer<'a> {
     /// A server of a new hub, without connections.
     pub fn new(
-        rt: &(impl Abort + AllocGlobal),
+        alloc: Global,
         script: &'a RefCell<ReadinessScript>,
         config: HubConfig,
-    ) -> MemoryServer<'a> {
-        let hub = Hub::with_config(rt.alloc(), config).expect(rt, "a hub");
-        MemoryServer {
-            listener: MemoryListener::new(rt.alloc()),
+    ) -> Option<MemoryServer<'a>> {
+        let hub = Hub::with_config(alloc, config).ok()?;
+        Some(MemoryServer {
+            listener: MemoryListener::new(alloc),
             script,
-            server: Server::new(rt.alloc(), hub, ScriptedReadiness::of(script)),
+            server: Server::new(alloc, hub, ScriptedReadiness::of(script)),
             log: FieldLines {
-                text: String::new(rt.alloc()),
+                text: String::new(alloc),
             },
-        }
+        })
     }
 
     /// Adds a waiting connection, and its event to the next round.
-    pub fn connect(&self, rt: &impl Abort, wire: &'a RefCell<Wire>) {
-        self.listener.add(rt, wire);
-        self.script(rt).add(rt, ReadyEvent::Incoming);
+    pub fn connect(&self, wire: &'a RefCell<Wire>) -> Option<()> {
+        self.listener.add(wire)?;
+        self.add(ReadyEvent::Incoming)
     }
 
-    /// What the next round learns of the streams.
-    pub fn script(&self, rt: &impl Abort) -> RefMut<'a, ReadinessScript> {
-        self.script.try_borrow_mut().expect(rt, "the script")
+    /// Adds an event to the next round.
+    pub fn add(&self, event: ReadyEvent) -> Option<()> {
+        self.script()?.add(event)
     }
 
     /// Limits the next wait to this number of events.
-    pub fn limit_next_wait(&self, rt: &impl Abort, capacity: usize) {
-        self.script(rt).capacity = capacity;
+    pub fn limit_next_wait(&self, capacity: usize) -> Option<()> {
+        self.script()?.capacity = capacity;
+        Some(())
     }
 
     /// Makes the next wait fail.
-    pub fn fail_next_wait(&self, rt: &impl Abort) {
-        self.script(rt).fails = true;
+    pub fn fail_next_wait(&self) -> Option<()> {
+        self.script()?.fails = true;
+        Some(())
     }
 
-    /// Runs a round, behind which every connection that wants a turn is queued for it. Returns the time limit of its wait, in milliseconds.
-    pub fn round(&mut self, rt: &(impl Abort + AllocGlobal)) -> u64 {
-        self.server.round(rt.alloc(), &self.listener, &mut self.log);
-        assert_eq!(rt; self.server.unqueued(), None);
-        self.script(rt).waited
+    /// What the next round learns of the streams.
+    fn script(&self) -> Option<RefMut<'a, ReadinessScript>> {
+        self.script.try_borrow_mut().ok()
+    }
+
+    /// Runs a round. Returns the time limit of its wait, in milliseconds; nothing if a connection that wants a turn is not queued for it.
+    pub fn round(&mut self, alloc: Global) -> Option<u64> {
+        self.server.round(alloc, &self.listener, &mut self.log);
+        let waited = self.script()?.waited;
+        self.server.unqueued().is_none().then_some(waited)
     }
 }

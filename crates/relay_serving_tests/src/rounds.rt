@@ -1,5 +1,5 @@
 //! What a round reads and writes, and when it sleeps.
-use crate::clients::play;
+use crate::clients::play_anew;
 
 /// What the streams of two clients do, and what the rounds come to.
 const ROWS: &str = r#"
@@ -277,5 +277,5 @@ round => 1, 0r0w, 0r0w
 
 #[test]
 fn a_round_does_what_is_ready(rt: HostRuntime) {
-    play(&rt, ROWS);
+    play_anew(&rt, ROWS);
 }

@@ -1,5 +1,5 @@
 //! Whose text a round receives: short ones that are little work first, then costly ones, and then a long one.
-use crate::clients::play;
+use crate::clients::play_anew;
 
 /// What clients send, and whose edits were accepted in which round.
 const ROWS: &str = r#"
@@ -86,5 +86,5 @@ done-before 3 => 16
 
 #[test]
 fn a_round_receives_what_is_light_first(rt: HostRuntime) {
-    play(&rt, ROWS);
+    play_anew(&rt, ROWS);
 }

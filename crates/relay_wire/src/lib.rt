@@ -3,8 +3,8 @@
 //! The promise: a test holds both ends of a stream. On its own side it feeds a [`Wire`], inspects the output, and injects faults, at every call
 //! or at one. The code under test reads and writes the [`End`], which never blocks. The tests of links and servers use it.
 //!
-//! A [`Row`] is a line of text: what is done, and what has to come of it. [`Wire::perform`] does what a client and its stream do, and
-//! [`in_words`] and [`push_signs`] tell what was written.
+//! A [`Row`] is a line of text: what is done, and what has to come of it. [`play`] plays rows to a [`Subject`], and tells the first that is
+//! wrong. [`Wire::perform`] does what a client and its stream do, and [`in_words`] and [`push_signs`] tell what was written.
 #![tactic(auto)]
 
 mod act;
@@ -12,6 +12,7 @@ mod end;
 mod injected_fault;
 mod row;
 mod signs;
+mod subject;
 mod wire;
 mod written;
 
@@ -19,5 +20,6 @@ pub use end::End;
 pub use injected_fault::InjectedFault;
 pub use row::{Row, cut};
 pub use signs::push_signs;
+pub use subject::{Subject, WrongRow, play};
 pub use wire::Wire;
 pub use written::in_words;

@@ -1,4 +1,4 @@
-//! Rows: tests as text, which costs a proof next to nothing, however many there are.
+//! Rows: tests as text, which costs a proof next to nothing, however long it is.
 
 /// A line of a test: what is done, how often, and what has to come of it each time.
 #[derive(Clone, Copy, Debug)]
