@@ -33,6 +33,7 @@ operator line
 run 3 => 3
 body => [{"name":"r","revision":0,"sessions":1,"weight":8}]
 client-signs => 101 welcome going-away
+sent-away => true
 
 # What the log says is counted.
 client line GET /nowhere HTTP/1.1
@@ -62,6 +63,7 @@ operator line
 run 1000 => 1
 body => stopping\n
 client-signs => 101 welcome going-away
+sent-away => true
 
 # A page's request for the stop is refused, and the server goes on.
 client asks 13 /rooms/r
@@ -77,8 +79,9 @@ client asks 13 /rooms/r
 operator line GET /health HTTP/1.1
 operator line Host: localhost
 run 5 => 5
-body => nothing
+unanswered => true
 client-signs => 101 welcome going-away
+sent-away => true
 "#;
 
 #[test]
@@ -110,7 +113,8 @@ impl<R: AllocGlobal> Subject<R> for Port<'_> {
     /// - `client ACT` and `operator ACT` do an act of a wire;
     /// - `run N` runs a server for at most so many rounds, and tells how many were run;
     /// - `body` tells the body of the reply to the operator, with `\n` for the end of a line, and `metric LINE` whether it has this line;
-    /// - `client-signs` tells what the client was sent.
+    /// - `unanswered` tells whether the operator got nothing at all;
+    /// - `client-signs` tells what the client was sent, and `sent-away` whether the last of it is a close frame with 1001.
     fn act(&mut self, rt: &R, act: &str) -> Option<String> {
         let alloc = rt.alloc();
         let (word, rest) = cut(act);
@@ -119,8 +123,10 @@ impl<R: AllocGlobal> Subject<R> for Port<'_> {
             "operator" => done(alloc, self.operator, rest),
             "run" => self.run(alloc, rest.parse::<u64>().ok()?),
             "body" => body(alloc, self.operator),
+            "unanswered" => is_unanswered(alloc, self.operator),
             "metric" => has_line(alloc, self.operator, rest),
             "client-signs" => signs(alloc, self.client),
+            "sent-away" => is_sent_away(alloc, self.client),
             _ => None,
         }
     }
@@ -171,8 +177,17 @@ fn server<'a, 's>(
 fn body(alloc: Global, wire: &RefCell<Wire>) -> Option<String> {
     let wire = lent(wire)?;
     let text = str::from_utf8(wire.output.as_slice()).ok()?;
-    let body = text.split_once("\r\n\r\n").map(|parts| parts.1);
-    body.unwrap_or("nothing").replace(alloc, "\n", "\\n").ok()
+    let (_, body) = text.split_once("\r\n\r\n")?;
+    body.replace(alloc, "\n", "\\n").ok()
+}
+
+fn is_unanswered(alloc: Global, wire: &RefCell<Wire>) -> Option<String> {
+    format!(in alloc; "{}", lent(wire)?.output.is_empty()).ok()
+}
+
+fn is_sent_away(alloc: Global, wire: &RefCell<Wire>) -> Option<String> {
+    let is_last = lent(wire)?.output.ends_with(&[0x88, 2, 0x03, 0xe9]);
+    format!(in alloc; "{is_last}").ok()
 }
 
 fn has_line(alloc: Global, wire: &RefCell<Wire>, line: &str) -> Option<String> {

@@ -18,11 +18,41 @@ const DONE: &str = r#""kind":"done""#;
 /// A client edits.
 const EDIT: &str = r#"says {"do":"edit","id":2,"patch":[{"op":"add","path":"","value":7}]}"#;
 
+/// What `enters` stands for: the first client of a new server connects, and receives its welcome.
+const ENTERS: &str = "
+connect 0
+wire 0 asks 13 /rooms/r
+round => 1, 1r2w 101 welcome, 0r0w
+round => 1, 0r0w, 0r0w
+";
+
+/// What `watches` stands for: the first client watches the whole document.
+const WATCHES: &str = r#"
+send 0 says {"do":"watch","id":1,"view":[""]}
+round => 1 sleeps, 1r1w watching snapshot, 0r0w
+"#;
+
+/// What `joins` stands for: a second client connects, and receives its welcome.
+const JOINS: &str = "
+connect 1
+wire 1 asks 13 /rooms/r
+round => 2 sleeps, 0r0w, 1r2w 101 welcome
+round => 2, 0r0w, 0r0w
+";
+
 /// Plays rows. A blank line begins anew, with a server that nobody is connected to.
 pub(crate) fn play_anew(rt: &(impl Abort + AllocGlobal), rows: &str) {
-    for case in rows.split("\n\n") {
+    let rows = spelled_out(rt.alloc(), rows).expect(rt, "memory");
+    for case in rows.as_str().split("\n\n") {
         play_case(rt, case);
     }
+}
+
+/// The rows, with those that stand for others spelled out.
+fn spelled_out(alloc: Global, rows: &str) -> Option<String> {
+    let rows = rows.replace(alloc, "\nenters\n", ENTERS).ok()?;
+    let rows = rows.as_str().replace(alloc, "\nwatches\n", WATCHES).ok()?;
+    rows.as_str().replace(alloc, "\njoins\n", JOINS).ok()
 }
 
 fn play_case(rt: &(impl Abort + AllocGlobal), case: &str) {
@@ -63,7 +93,8 @@ impl<R: AllocGlobal> Subject<R> for Clients<'_> {
     ///   was written, and how many writes there were, each since the last such question about the wire; `clear K` is such a question;
     /// - `done-before K` tells how many edits of the clients before it were accepted;
     /// - `edit-beside K` has a client edit, and tells what a round came to for it and for those before it;
-    /// - `read K` tells whether the server has read all that came, `log` what it logged, and `logs WORDS` whether it logged these words.
+    /// - `read K` tells whether the server has read all that came, `log` what it logged, and `logs WORDS` whether it logged these words; the
+    ///   end of a line stands as `\n`.
     fn act(&mut self, rt: &R, act: &str) -> Option<String> {
         let alloc = rt.alloc();
         let (word, rest) = cut(act);
@@ -76,8 +107,8 @@ impl<R: AllocGlobal> Subject<R> for Clients<'_> {
             "done-before" => told(alloc, self.done_before(alloc, number(rest)?)?),
             "edit-beside" => self.edit_beside(alloc, rest),
             "read" => told_whether(alloc, self.wire(rest)?.is_read()),
-            "logs" => told_whether(alloc, self.server.log.text.contains(rest)),
-            "log" => self.server.log.text.trim().replace(alloc, "\n", " / ").ok(),
+            "logs" => self.logs(alloc, rest),
+            "log" => self.server.log.text.replace(alloc, "\n", "\\n").ok(),
             _ => {
                 self.change(alloc, word, rest)?;
                 Some(String::new(alloc))
@@ -119,6 +150,11 @@ impl<'a> Clients<'a> {
             tell_wire(&mut told, &mut wire)?;
         }
         Some(told)
+    }
+
+    fn logs(&self, alloc: Global, words: &str) -> Option<String> {
+        let words = words.replace(alloc, "\\n", "\n").ok()?;
+        told_whether(alloc, self.server.log.text.contains(words.as_str()))
     }
 
     /// How often a part stands in what was written to a client since the last such question.

@@ -8,8 +8,8 @@ const ROWS: &str = r#"
 400 arrive 1
 enter 0
 connections => 320
-logs  session=256 room=r => true
-logs event=evicted peer=127.0.0.1:1 link=255 rounds=65 => true
+logs  session=256 room=r\n => true
+logs event=evicted peer=127.0.0.1:1 link=255 rounds=65\n => true
 logs event=evicted peer=127.0.0.1:1 link=0  => false
 logs event=evicted peer=127.0.0.1:1 link=254  => false
 logs event=ended => false
