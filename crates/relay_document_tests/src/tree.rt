@@ -4,6 +4,7 @@ use crate::stage::{Stage, play_anew};
 use relay_tree::{MAX_COUNT, Node, Tree, begin_text, end_text, insert_member, read};
 use relay_wire::cut;
 use std::alloc::Global;
+use std::collections::BTreeMap;
 
 const ROWS: &str = r#"
 # Counts up to 2 to the 53, less 1. The first document is the tree of a count.
@@ -53,7 +54,7 @@ drop b => 7
 text => {"a":[null,null],"c":"x"}
 
 # Builds objects, of members that are inserted in order.
-tree {}
+object
 insert b 1
 insert a null
 insert b 2
@@ -76,6 +77,10 @@ pub(crate) fn done(alloc: Global, stage: &mut Stage, verb: &str, rest: &str) -> 
             nothing(alloc)
         }
         "clear" => clear(alloc, tree),
+        "object" => {
+            *tree = Tree::from(Node::Members(BTreeMap::new(alloc)));
+            nothing(alloc)
+        }
         "insert" => insert(alloc, tree, rest),
         "count" => shown(alloc, tree.count()),
         "measure" => shown(alloc, (tree.depth(), tree.weight())),
