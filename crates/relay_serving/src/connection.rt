@@ -5,6 +5,7 @@ ghost use Rattle.relay_link.specs.declared.stage.Stage.TheVariants.{Closing};
 ghost use Rattle.relay_serving.specs.Advances.{IsNew};
 ghost use Rattle.relay_serving.specs.Connections.{has_room};
 
+use crate::read_share::TextsRead;
 use crate::readiness::StreamReady;
 use crate::ready::{Known, Watched};
 use relay_hub::{Hub, OPERATION_WORK};
@@ -26,6 +27,8 @@ pub(crate) enum Output {
 pub(crate) enum Weight {
     /// It sends short texts, of which each is little work: one operation on a largest document at most.
     Light,
+    /// Likewise, and its last text told many sessions something.
+    Loud,
     /// Its next text is short and may be much work.
     Costly,
     /// It sends long texts.
@@ -36,7 +39,7 @@ impl Weight {
     /// How much work a text may be that the hub is given in a read turn of this weight.
     pub(crate) fn most_work(self) -> u64 {
         match self {
-            Weight::Light => OPERATION_WORK,
+            Weight::Light | Weight::Loud => OPERATION_WORK,
             Weight::Costly | Weight::Long => u64::MAX,
         }
     }
@@ -61,6 +64,8 @@ pub(crate) struct Connection<S: Write + Drop> {
     pub known: Known,
     /// Whether something became ready since the last read turn of the link.
     pub read_pending: bool,
+    /// Whether its last text told a crowd something.
+    pub told_crowd: bool,
     /// Its position in the order of arrival, from 0.
     pub place: u64,
     /// The round in which it was accepted.
@@ -83,6 +88,7 @@ impl<S: Read + Write + Drop> Connection<S> {
             link: Link::new(alloc, stream)?,
             known,
             read_pending: true,
+            told_crowd: false,
             place,
             since,
         })
@@ -94,6 +100,15 @@ impl<S: Read + Write + Drop> Connection<S> {
     {
         self.known.add(ready);
         self.read_pending = true;
+    }
+
+    /// Notes what the last read turn passed to the hub. Nothing changes if that is no text.
+    pub(crate) fn note_texts(&mut self, read: TextsRead)
+        ensures { self.new.link ≡ self.old.link }
+    {
+        if read != TextsRead::NONE {
+            self.told_crowd = read.tell_a_crowd();
+        }
     }
 
     /// Gives the link a read turn if it is closing, so that a wait without events counts toward its limit of turns.
@@ -124,6 +139,8 @@ impl<S: Read + Write + Drop> Connection<S> {
             Weight::Costly
         } else if self.known.is_long() {
             Weight::Long
+        } else if self.told_crowd {
+            Weight::Loud
         } else {
             Weight::Light
         }

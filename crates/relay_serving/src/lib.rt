@@ -5,6 +5,7 @@ mod admin_connection;
 mod admin_port;
 mod admin_readiness;
 mod admin_view;
+mod backlog;
 mod connection;
 mod connection_log;
 mod counters;

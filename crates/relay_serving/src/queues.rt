@@ -8,6 +8,7 @@ use std::alloc::{AllocError, Global};
 #[derive(Drop)]
 pub(crate) struct Queues {
     light: KeyQueue,
+    loud: KeyQueue,
     costly: KeyQueue,
     long: KeyQueue,
     corked: KeyQueue,
@@ -19,6 +20,7 @@ impl Queues {
     pub(crate) fn new(alloc: Global) -> Queues {
         Queues {
             light: KeyQueue::new(alloc),
+            loud: KeyQueue::new(alloc),
             costly: KeyQueue::new(alloc),
             long: KeyQueue::new(alloc),
             corked: KeyQueue::new(alloc),
@@ -30,6 +32,7 @@ impl Queues {
     /// Takes the memory for a key in each queue. `AllocError` leaves the keys that are queued.
     pub(crate) fn admit(&mut self, key: usize) -> Result<(), AllocError> {
         self.light.admit(key)?;
+        self.loud.admit(key)?;
         self.costly.admit(key)?;
         self.long.admit(key)?;
         self.corked.admit(key)?;
@@ -41,6 +44,7 @@ impl Queues {
     pub(crate) fn push(&mut self, key: usize, wants: Wants) {
         match wants.read {
             Some(Weight::Light) => self.light.push(key),
+            Some(Weight::Loud) => self.loud.push(key),
             Some(Weight::Costly) => self.costly.push(key),
             Some(Weight::Long) => self.long.push(key),
             None => {}
@@ -65,6 +69,7 @@ impl Queues {
     pub(crate) fn pop_reader(&mut self, weight: Weight) -> Option<usize> {
         match weight {
             Weight::Light => self.light.pop(),
+            Weight::Loud => self.loud.pop(),
             Weight::Costly => self.costly.pop(),
             Weight::Long => self.long.pop(),
         }
@@ -92,6 +97,7 @@ impl Queues {
     pub(crate) fn readers(&self, weight: Weight) -> usize {
         match weight {
             Weight::Light => self.light.len(),
+            Weight::Loud => self.loud.len(),
             Weight::Costly => self.costly.len(),
             Weight::Long => self.long.len(),
         }
@@ -108,6 +114,7 @@ impl Queues {
     /// Whether no key waits for a turn.
     pub(crate) fn is_empty(&self) -> bool {
         self.light.is_empty()
+            && self.loud.is_empty()
             && self.costly.is_empty()
             && self.long.is_empty()
             && self.corked.is_empty()
@@ -118,6 +125,7 @@ impl Queues {
     pub(crate) fn has(&self, key: usize, wants: Wants) -> bool {
         let is_read = match wants.read {
             Some(Weight::Light) => self.light.contains(key),
+            Some(Weight::Loud) => self.loud.contains(key),
             Some(Weight::Costly) => self.costly.contains(key),
             Some(Weight::Long) => self.long.contains(key),
             None => true,

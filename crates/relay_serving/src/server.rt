@@ -13,11 +13,12 @@ mod queueing;
 mod reading;
 mod writing;
 
+use crate::backlog::Backlog;
 use crate::connection::Connection;
 use crate::connection_log::ConnectionLog;
 use crate::peers::Peers;
 use crate::queues::Queues;
-use crate::read_share::ReadShare;
+use crate::read_share::ReadShares;
 use crate::readiness::{Readiness, ReadyEvent};
 use crate::session_index::SessionIndex;
 use relay_hub::Hub;
@@ -48,8 +49,10 @@ pub struct Server<S: Write + Drop, R> {
     /// Whether a connection may wait to be accepted; `failed`: whether the last accept failed.
     accept_ready: bool,
     failed: bool,
-    /// How much a round reads from light connections, and from costly ones.
-    share: ReadShare,
+    /// How much a round reads.
+    shares: ReadShares,
+    /// What is written before loud connections are read again.
+    backlog: Backlog,
     /// The connections that may have a turn.
     queues: Queues,
     /// Which connection has which session.
@@ -65,7 +68,7 @@ pub struct Server<S: Write + Drop, R> {
 
 impl<S: Read + Write + OpenStream + Drop, R: Readiness<S>> Server<S, R> {
     /// A server of a hub, with no connection. A round reads half as many light texts as patches may wait for a session of the hub, 16 at
-    /// most, and half as many bytes as these may weigh, and of costly texts as much again ([`ReadShare::of`]).
+    /// most, and half as many bytes as these may weigh, and of costly texts as much again ([`ReadShares::of`]).
     #[tactic(auto, using(crate::proofs::Owners::none_connected))]
     pub fn new(alloc: Global, hub: Hub, readiness: R) -> Server<S, R>
         ensures empty { connections_of result ≡ 0 }
@@ -82,7 +85,8 @@ impl<S: Read + Write + OpenStream + Drop, R: Readiness<S>> Server<S, R> {
             events: Vec::new(alloc),
             accept_ready: true,
             failed: false,
-            share: ReadShare::of(config),
+            shares: ReadShares::of(config),
+            backlog: Backlog::of(0),
             queues: Queues::new(alloc),
             sessions: SessionIndex::new(alloc),
             peers: Peers::new(alloc),
@@ -106,6 +110,8 @@ impl<S: Read + Write + OpenStream + Drop, R: Readiness<S>> Server<S, R> {
     /// - reads: each light connection that may have input gets a read turn; the one that had its turn last comes last. The turn reads
     ///   one text and draws up to 32 messages, which are corked. A text that may be more work than one operation on a largest document
     ///   is held, and its connection is costly. This repeats until a pass reads no text, or until the round's share was read;
+    /// - reads likewise from loud connections, whose last text told a crowd something, unless what loud texts came to before waits to be
+    ///   written;
     /// - writes: each link with waiting messages or corked output, whose stream is writable, gets a write turn, which draws and
     ///   sends up to 32 more messages: first the links with corked output, then all, each time starting with the one that has waited
     ///   longest. Once the first pass has drawn 256 KiB, or the second 768 KiB, the others wait for the next one;

@@ -30,32 +30,55 @@ rounds 1
 count 1 "rev":1 => 1
 count 0 "rev":2 => 1
 
-# Of 16 texts of 6,064 bytes, each told to so many sessions of a room of 9, a round receives those that begin within 576 KiB.
-server waiting=256
+# Of 40 texts of 6,064 bytes that each tell 6 sessions of a room something a round receives 16.
+server waiting=32
 each 9 enter
+each 6 send says {"do":"watch","id":1,"view":[""]}
 rounds 2
-16 wire 8 stretches 6000 {"do":"edit","id":3,"patch":[{"op":"add","path":"","value":"*"}]}
+40 wire 8 stretches 6000 {"do":"edit","id":3,"patch":[{"op":"add","path":"","value":"*"}]}
 readable 8
 rounds 1
 done 8 => 16
 
-server waiting=256
+# With 7 they tell a crowd something: a round receives 28, and the next ones receive none before all are told. Others are heard meanwhile.
+server waiting=32
 each 9 enter
 each 7 send says {"do":"watch","id":1,"view":[""]}
 rounds 2
-16 wire 8 stretches 6000 {"do":"edit","id":3,"patch":[{"op":"add","path":"","value":"*"}]}
+each 7 clear
+40 wire 8 stretches 6000 {"do":"edit","id":3,"patch":[{"op":"add","path":"","value":"*"}]}
 readable 8
 rounds 1
-done 8 => 14
+done 8 => 28
+send 7 says {"do":"watch","id":1,"view":[""]}
+rounds 1
+count 7 "kind":"watching" => 1
+done 8 => 0
+rounds 1
+done 8 => 12
+rounds 1
+count 0 "kind":"patch" => 40
+count 6 "kind":"patch" => 40
 
-server waiting=256
+# Of a crowd's texts and light ones a round receives at most seven eighths of as many as patches may wait.
+server waiting=8
 each 9 enter
-each 8 send says {"do":"watch","id":1,"view":[""]}
+each 7 send says {"do":"watch","id":1,"view":[""]}
 rounds 2
-16 wire 8 stretches 6000 {"do":"edit","id":3,"patch":[{"op":"add","path":"","value":"*"}]}
+each 7 clear
+20 wire 8 stretches 6000 {"do":"edit","id":3,"patch":[{"op":"add","path":"","value":"*"}]}
 readable 8
 rounds 1
-done 8 => 13
+done 8 => 7
+rounds 1
+done 8 => 7
+5 wire 7 says {"do":"edit","id":2,"patch":[{"op":"test","path":"","value":7}]}
+readable 7
+rounds 1
+count 7 "kind":"refused" => 4
+done 8 => 3
+rounds 1
+count 0 "kind":"patch" => 20
 
 # While two clients have more short texts than a round receives, a third has a long one received in each round.
 server waiting=256

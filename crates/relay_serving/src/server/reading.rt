@@ -2,9 +2,10 @@
 ghost use Rattle.relay_serving.specs.Advances.{KeepsFewer};
 
 use super::Server;
-use crate::connection::Weight;
+use crate::backlog::Backlog;
+use crate::connection::{Output, Weight};
 use crate::connection_log::ConnectionLog;
-use crate::read_share::{MAX_TEXTS, ReadShare, TextRead};
+use crate::read_share::{ReadShare, TextsRead};
 use crate::readiness::Readiness;
 use relay_link::{MAX_DRAWS, Turn};
 use std::alloc::Global;
@@ -12,19 +13,39 @@ use std::io::{Read, Write};
 use std::net::OpenStream;
 
 impl<S: Read + Write + OpenStream + Drop, R: Readiness<S>> Server<S, R> {
-    /// Reads from the light connections, in passes, until a pass reads no text or the round's share is read.
+    /// Reads from the light connections. Then reads from the loud ones, if what their last texts came to is written.
     #[tactic(auto, using(crate::proofs::Rules::advances))]
     pub(super) fn read<J: ConnectionLog>(&mut self, alloc: Global, log: &mut J)
         ensures { KeepsFewer S.remaining self.old self.new }
     {
-        let mut left = self.share;
-        for _ in 0..MAX_TEXTS {
-            let before = left;
-            left = self.read_each(alloc, Weight::Light, left, log);
-            if left.is_spent() || left == before {
-                return;
+        let light = self.read_all(alloc, Weight::Light, self.shares.light, log);
+        if self.backlog.is_written() {
+            let share = self.shares.loud.behind(light);
+            let _ = self.read_all(alloc, Weight::Loud, share, log);
+            self.backlog = Backlog::of(self.queues.writers(Output::Waiting));
+        }
+    }
+
+    /// Reads from the connections of this weight, in passes, until a pass reads no text or the share is read. Returns what was read.
+    #[tactic(auto, using(crate::proofs::Rules::advances))]
+    fn read_all<J: ConnectionLog>(
+        &mut self,
+        alloc: Global,
+        weight: Weight,
+        share: ReadShare,
+        log: &mut J,
+    ) -> TextsRead
+        ensures { KeepsFewer S.remaining self.old self.new }
+    {
+        let mut read = TextsRead::NONE;
+        for _ in 0..share.texts() {
+            let before = read;
+            read = self.read_each(alloc, weight, share, read, log);
+            if read == before {
+                return read;
             }
         }
+        read
     }
 
     /// Reads from the costly connections, until their share is read, and sends what came of it.
@@ -32,55 +53,66 @@ impl<S: Read + Write + OpenStream + Drop, R: Readiness<S>> Server<S, R> {
     pub(super) fn exchange_costly<J: ConnectionLog>(&mut self, alloc: Global, log: &mut J)
         ensures { KeepsFewer S.remaining self.old self.new }
     {
-        let share = self.share.of_costly();
-        if self.read_each(alloc, Weight::Costly, share, log) != share {
+        let share = self.shares.costly;
+        if self.read_each(alloc, Weight::Costly, share, TextsRead::NONE, log) != TextsRead::NONE {
             self.write(alloc, log);
         }
     }
 
-    /// Reads once from each connection of this weight that is queued, until the share is read. Returns what is left of it.
+    /// Reads once from each connection of this weight that is queued, until the share is read. Returns what was read, also before.
     #[tactic(auto, using(crate::proofs::Rules::advances))]
     fn read_each<J: ConnectionLog>(
         &mut self,
         alloc: Global,
         weight: Weight,
         share: ReadShare,
+        before: TextsRead,
         log: &mut J,
-    ) -> ReadShare
+    ) -> TextsRead
         ensures { KeepsFewer S.remaining self.old self.new }
     {
-        let mut left = share;
+        let mut read = before;
         for _ in 0..self.queues.readers(weight) {
-            if left.is_spent() {
-                return left;
+            if !share.allows(read) {
+                return read;
             }
-            if let Some(text) = self.read_next(alloc, weight, log) {
-                left = left.less(text);
-            }
+            read = read.and(self.read_next(alloc, weight, log));
         }
-        left
+        read
     }
 
-    /// Gives the first connection of this weight's queue a read turn. Returns the text that the turn passed to the hub, if it passed one.
+    /// Gives the first connection of this weight's queue a read turn. Returns what the turn passed to the hub.
     #[tactic(auto, using(crate::proofs::Rules::advances))]
     fn read_next<J: ConnectionLog>(
         &mut self,
         alloc: Global,
         weight: Weight,
         log: &mut J,
-    ) -> Option<TextRead>
+    ) -> TextsRead
         ensures { KeepsFewer S.remaining self.old self.new }
     {
         let Some(key) = self.queues.pop_reader(weight) else {
-            return None;
+            return TextsRead::NONE;
         };
         let read = if self.may_read(key, weight) {
             self.read_link(alloc, key, weight, log)
         } else {
-            None
+            TextsRead::NONE
         };
+        self.note_texts(key, read);
         self.queue(key);
         read
+    }
+
+    /// Notes of a connection that is held what its last turn passed to the hub.
+    #[tactic(auto, using(crate::proofs::Rules::advances))]
+    fn note_texts(&mut self, key: usize, read: TextsRead)
+        ensures { KeepsFewer S.remaining self.old self.new }
+    {
+        let Some(connection) = self.connections.get_mut(key) else {
+            return;
+        };
+        connection.note_texts(read);
     }
 
     /// Gives the first long connection that may be read a read turn, and sends what came of it.
@@ -122,7 +154,7 @@ impl<S: Read + Write + OpenStream + Drop, R: Readiness<S>> Server<S, R> {
         }
     }
 
-    /// Gives a link a read turn of this weight. Returns the text that the turn passed to the hub, if it passed one.
+    /// Gives a link a read turn of this weight. Returns what the turn passed to the hub.
     #[tactic(auto, using(crate::proofs::Rules::advances))]
     fn read_link<J: ConnectionLog>(
         &mut self,
@@ -130,11 +162,11 @@ impl<S: Read + Write + OpenStream + Drop, R: Readiness<S>> Server<S, R> {
         key: usize,
         weight: Weight,
         log: &mut J,
-    ) -> Option<TextRead>
+    ) -> TextsRead
         ensures { KeepsFewer S.remaining self.old self.new }
     {
         let Some(connection) = self.connections.get_mut(key) else {
-            return None;
+            return TextsRead::NONE;
         };
         let before = connection.link.stage();
         let most_work = weight.most_work();
@@ -143,23 +175,19 @@ impl<S: Read + Write + OpenStream + Drop, R: Readiness<S>> Server<S, R> {
             .read_turn(alloc, &mut self.hub, MAX_DRAWS, most_work)
         else {
             self.shed(log);
-            return None;
+            return TextsRead::NONE;
         };
         connection.read_pending = false;
         connection.known.end_turn(received(&turn));
         self.settle(key, before, &turn, log);
-        self.text_read(&turn)
+        self.texts_read(&turn)
     }
 
-    /// The text that the last turn passed to the hub, if it passed one.
-    fn text_read(&self, turn: &Turn) -> Option<TextRead> {
+    /// What the last turn passed to the hub.
+    fn texts_read(&self, turn: &Turn) -> TextsRead {
         match received(turn) {
-            Some(bytes) => Some(TextRead {
-                bytes,
-                told: self.told() as u64,
-                work: turn.work,
-            }),
-            None => None,
+            Some(bytes) => TextsRead::one(bytes, self.told() as u64, turn.work),
+            None => TextsRead::NONE,
         }
     }
 }

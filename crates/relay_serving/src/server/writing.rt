@@ -64,6 +64,9 @@ impl<S: Read + Write + OpenStream + Drop, R: Readiness<S>> Server<S, R> {
             0
         };
         self.queue(key);
+        if output == Output::Waiting {
+            self.backlog = self.backlog.less(drawn);
+        }
         drawn
     }
 
