@@ -2,6 +2,7 @@
 //!
 //! The measure is weight that is walked over. It is meant as an upper bound, which no clause says, and is cheap to tell: most texts are too
 //! short to ask for much of a room as it is, and only of the others the words are counted.
+use memchr::memchr2_iter;
 use relay_patch::{MAX_OPS, MAX_WEIGHT};
 use relay_room::Room;
 use relay_view::MAX_SLOTS;
@@ -60,7 +61,7 @@ impl Asked {
         }
     }
 
-    /// What the words of a text ask for, told by one pass over its bytes; `None` if not every word may be found.
+    /// What the words of a text ask for, told by one pass over its quotes; `None` if not every word may be found.
     fn by_words(text: &str) -> Option<Asked> {
         let bytes = text.as_bytes();
         let mut asked = Asked {
@@ -69,30 +70,26 @@ impl Asked {
             views: false,
             resumes: false,
         };
-        let mut begun = 0;
-        for (place, byte) in bytes.iter().enumerate() {
-            if *byte == b'"' {
-                asked.add(bytes.get(begun..place)?);
-                begun = place + 1;
-            } else if *byte == b'\\' && is_disguise(bytes.get(place..)?) {
-                return None;
+        for place in memchr2_iter(b'"', b'\\', bytes) {
+            match bytes.get(place..)? {
+                [b'"', b'o', b'p', b'"', ..] => {
+                    asked.operations = asked.operations.saturating_add(1);
+                }
+                [b'"', b'c', b'o', b'p', b'y', b'"', ..] => {
+                    asked.copies = asked.copies.saturating_add(1);
+                }
+                [b'"', b'w', b'a', b't', b'c', b'h', b'"', ..] => asked.views = true,
+                [b'"', b'r', b'e', b's', b'u', b'm', b'e', b'"', ..] => {
+                    asked.views = true;
+                    asked.resumes = true;
+                }
+                // A small letter that is written by its number (RFC 8259, section 7), which no encoder does: then words may be there that
+                // are not found.
+                [b'\\', b'u', b'0', b'0', b'6' | b'7', ..] => return None,
+                _ => {}
             }
         }
         Some(asked)
-    }
-
-    /// Adds what a word asks for.
-    fn add(&mut self, word: &[u8]) {
-        match word {
-            b"op" => self.operations = self.operations.saturating_add(1),
-            b"copy" => self.copies = self.copies.saturating_add(1),
-            b"watch" => self.views = true,
-            b"resume" => {
-                self.views = true;
-                self.resumes = true;
-            }
-            _ => {}
-        }
     }
 
     /// What an edit walks over: each operation the document, as what a text of so many bytes brings and each copy make it heavier.
@@ -117,10 +114,4 @@ impl Asked {
         };
         shown.saturating_add(missed).saturating_mul(MAX_SLOTS)
     }
-}
-
-/// Whether bytes begin with a small letter that is written by its number (RFC 8259, section 7), which no encoder does: then words may be
-/// there that are not found.
-fn is_disguise(bytes: &[u8]) -> bool {
-    bytes.starts_with(b"\\u006") || bytes.starts_with(b"\\u007")
 }
