@@ -1,7 +1,8 @@
 use crate::shared::{shown, taken_text};
 use crate::stage::{Stage, play_anew};
 use crate::view;
-use relay_patch::{Bounds, Op, Patch, PatchLimits, apply};
+use relay_apply::apply;
+use relay_patch::{Bounds, Op, Patch, PatchLimits};
 use relay_pointer::{MAX_TOKENS, Pointer};
 use relay_tree::{Budget, Tree, begin_text, end_text};
 use std::alloc::Global;

@@ -2,7 +2,8 @@
 use crate::change::changes_text;
 use crate::shared::{nothing, patch_of, view_of};
 use crate::tree;
-use relay_patch::{Bounds, Change, Patch, apply};
+use relay_apply::apply;
+use relay_patch::{Bounds, Change, Patch};
 use relay_pointer::{MAX_TOKENS, Pointer};
 use relay_translate::WatchIndex;
 use relay_tree::{Tree, read};

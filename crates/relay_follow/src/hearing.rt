@@ -6,7 +6,8 @@ ghost use Rattle.relay_follow.specs.declared.fault.HearFault.TheVariants.{NoMemo
 
 use crate::fault::HearFault;
 use crate::follower::Follower;
-use relay_patch::{ApplyFault, Bounds, Cause, Patch, apply};
+use relay_apply::apply;
+use relay_patch::{ApplyFault, Bounds, Cause, Patch};
 use relay_proto::{Message, MessageFault};
 use relay_tree::Tree;
 use std::alloc::Global;
@@ -14,7 +15,7 @@ use std::alloc::Global;
 impl Follower {
     /// Applies the text of a message. A snapshot replaces the view and its revision, a patch brings the view to its revision, and a
     /// reply changes nothing. Returns the first fault in the order of [`HearFault`], or `NoMemory` if memory runs out; either leaves the
-    /// follower unchanged. A patch costs what `relay_patch::apply` costs on the view. See `docs/PROTOCOL.md`, "What a client does".
+    /// follower unchanged. A patch costs what `relay_apply::apply` costs on the view. See `docs/PROTOCOL.md`, "What a client does".
     pub fn hear(&mut self, alloc: Global, text: &str) -> Result<(), HearFault>
         ensures ok { OnOk result (told (as_client self.old) text.now ≡ Some (as_client self.new)) }
         ensures lost { IfErr result (λ fault. fault ≢ NoMemory → IsLost (told (as_client self.old) text.now)) }

@@ -2,8 +2,7 @@
 use Rattle.std.proofs.Common.{◌≡◌, ◌≢◌, Bool, true, false, Option, Some, None, Bor, Result, Ok, Err, IsOk, OnOk, IfErr, refl, ok_or, if◌then◌else◌, IfOk, option_copied}
 use Rattle.std.specs.Result.{result_ok}
 use Rattle.relay_tree.specs.Document.{Document}
-use Rattle.relay_patch.specs.Walk.{Cause, NoMemory, then_do}
-use Rattle.relay_patch.specs.Steps.{Refuses}
+use Rattle.relay_patch.specs.Walk.{Cause, NoMemory, then_do, Refuses}
 
 pub then_ok : {A B : Type 0} (r : Result A Cause) (f : A → Result B Cause) (y : B) → then_do r f ≡ Ok y → (x : A) × (r ≡ Ok x) × (f x ≡ Ok y)
 then_ok (Ok x) f y h = (x, refl, h)

@@ -1,5 +1,5 @@
 -- A document after a patch (RFC 6902, section 5): its operations in order, each within the bounds.
-use Rattle.std.specs.Prelude.{ℕ, suc, ◌+◌, ◌≡◌, List, [], ◌∷◌, Result, Ok, Err, is_some, if◌then◌else◌}
+use Rattle.std.specs.Prelude.{ℕ, suc, ◌+◌, ◌≡◌, List, [], ◌∷◌, take, slice_get, Some, Result, Ok, Err, IsOk, is_some, if◌then◌else◌}
 use Rattle.relay_tree.specs.Document.{Document}
 use Rattle.relay_tree.specs.Budget.{paid}
 use Rattle.relay_patch.specs.Walk.{Cause, TooHeavy, then_do}
@@ -37,6 +37,10 @@ after_from n spent bounds d (op ∷ ops) =
 -- the document after a patch, or the first refusal with its place
 abbrev pub after : Document → List Op → Bounds → Result Document ApplyFault
 after d ops bounds = after_from 0 0 bounds d ops
+
+-- the operations before place n pass, and the one at n is not refused by its own checks
+abbrev pub Reaches : Document → List Op → Bounds → ℕ → Type 0
+Reaches d ops bounds n = (e : Document) × (op : Op) × (after d (take n ops) bounds ≡ Ok e) × (slice_get ops n ≡ Some op) × IsOk (effect e op)
 
 -- The changes of an accepted patch lead from the old document to the new one.
 abbrev pub IsLed : Type 0

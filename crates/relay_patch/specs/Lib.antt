@@ -6,6 +6,4 @@ pub mod Sizes
 pub mod Measure
 pub mod Weight
 pub mod After
-pub mod Undo
-pub mod Steps
 pub mod Form

@@ -1,5 +1,5 @@
 -- A walk along a path that gives the cause if it ends early (RFC 6901, section 7).
-use Rattle.std.specs.Prelude.{ℕ, [], ◌∷◌, Bool, Option, Some, None, ok_or, Result, Ok, Err, bytes_eq, if◌then◌else◌}
+use Rattle.std.specs.Prelude.{ℕ, [], ◌∷◌, ◌≡◌, ◌≢◌, Bool, Option, Some, None, ok_or, Result, Ok, Err, IsOk, bytes_eq, if◌then◌else◌}
 use Rattle.relay_tree.specs.Document.{Document, list, object, Items}
 use Rattle.relay_tree.specs.Part.{item_at, member_at}
 use Rattle.relay_pointer.specs.Index.{Token, index_of}
@@ -11,6 +11,10 @@ pub use Rattle.relay_patch.specs.declared.fault.Cause.TheVariants.{Missing, NotI
 abbrev pub then_do : {A B : Type 0} → Result A Cause → (A → Result B Cause) → Result B Cause
 then_do (Ok x) f = f x
 then_do (Err e) f = Err e
+
+-- a fault: a step that passes ran out of memory, or the step is refused
+abbrev pub Refuses : {A : Type 0} → Result A Cause → Cause → Type 0
+Refuses r cause = (cause ≢ NoMemory → r ≡ Err cause) × (cause ≡ NoMemory → IsOk r)
 
 -- `-` names the place after the last element
 abbrev pub dash : Token

@@ -1,11 +1,10 @@
-//! JSON Patch (RFC 6902): patches of six operations, applied as a whole or not at all, and the changes that they made.
+//! JSON Patch (RFC 6902): patches of six operations as values, read from trees and written to them, the changes that they make, and the
+//! weight of both. `relay_apply` applies them.
 //!
-//! The promise: [`apply`] changes a tree as the operations do, one after the other, or leaves it as it was and names the
-//! first operation that is refused. The changes that it returns lead from the old document to the new one, so a holder of
-//! the old one can follow by applying them alone. Contracts see a [`Patch`] as the list of its operations.
+//! What a patch means stands in `specs`: the document after it, or the first operation that is refused, and the changes that lead
+//! there. Contracts see a [`Patch`] as the list of its operations.
 #![tactic(auto)]
 
-mod applying;
 mod bounds;
 mod change;
 mod fault;
@@ -15,7 +14,6 @@ mod op;
 mod patch;
 mod weight;
 
-pub use applying::{Applied, apply, apply_within};
 pub use bounds::{Bounds, MAX_CHANGES_WEIGHT, MAX_DEPTH, MAX_WEIGHT};
 pub use change::{Change, Place};
 pub use fault::{ApplyFault, Cause};

@@ -5,8 +5,7 @@ use Rattle.relay_patch.specs.declared.bounds.TheConstants.Bounds.{DOCUMENT}
 use Rattle.relay_patch.specs.declared.fault.ApplyFault.{ApplyFault}
 use Rattle.relay_patch.specs.declared.fault.Cause.TheVariants.{NoMemory}
 use Rattle.relay_patch.specs.declared.op.Op.{Op}
-use Rattle.relay_patch.specs.After.{after}
-use Rattle.relay_patch.specs.Steps.{Reaches}
+use Rattle.relay_patch.specs.After.{after, Reaches}
 use Rattle.relay_history.specs.declared.history.TheConstants.{LAST_REVISION}
 use Rattle.relay_room.specs.Room.{State, revision}
 use Rattle.relay_room.specs.declared.fault.EditFault.{EditFault}

@@ -9,8 +9,9 @@ ghost use Rattle.relay_room.specs.declared.fault.EditFault.TheVariants.{Exhauste
 
 use crate::fault::EditFault;
 use crate::room::Room;
+use relay_apply::{Applied, apply_within};
 use relay_history::{LAST_REVISION, RevisionSlot};
-use relay_patch::{Applied, Bounds, Patch, apply_within};
+use relay_patch::{Bounds, Patch};
 use std::alloc::Global;
 
 impl Room {
@@ -23,7 +24,7 @@ impl Room {
     /// unchanged.
     ///
     /// The changes are kept in the memory of `slot`, which an error frees. If the room already holds its limit of revisions, it forgets the
-    /// changes of the oldest one. Costs what [`relay_patch::apply_within`] costs; the document is not measured.
+    /// changes of the oldest one. Costs what [`relay_apply::apply_within`] costs; the document is not measured.
     pub fn edit(
         &mut self,
         alloc: Global,

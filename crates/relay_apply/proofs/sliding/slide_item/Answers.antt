@@ -1,0 +1,30 @@
+use Rattle.std.proofs.Common.{◌≡◌, ◌<◌, Some, length, get_or, sym, ◌∙◌, arith}
+use Rattle.std.specs.List.{insert, remove}
+use Rattle.std.specs.VecDeque.{deque_len}
+use Rattle.relay_tree.specs.Document.{null, items_of}
+use Rattle.relay_tree.proofs.Elements.{items_length-items_of}
+use Rattle.relay_apply.proofs.Slides.{slides_nowhere, slides}
+use Rattle.relay_apply.proofs.sliding.slide_item.Goals as goal
+
+pub returns-then-max-len-clause-slid : goal.returns-then-max-len-clause-slid
+returns-then-max-len-clause-slid c =
+    let v = c.args.items.now in
+    let ok = v.ok in
+    let long = items_length-items_of v.items in
+    sym (slides_nowhere (items_of v.items) c.args.from c.args.to (omega (arith, long, ok.0, c.len.ensures, c.if-max-len.true, c.max.ensures)))
+
+pub returns-clause-slid : goal.returns-clause-slid
+returns-clause-slid c =
+    let v = c.args.items.now in
+    let xs = v.items in
+    let ok = v.ok in
+    let from = c.args.from in
+    let to = c.args.to in
+    let e = c.unwrap-element.result in
+    let there : from < deque_len v = omega (arith, c.len.ensures, c.if-max-len.false, c.max.ensures) in
+    let within : to < length xs = omega (arith, ok.0, c.len.ensures, c.if-max-len.false, c.max.ensures) in
+    let taken : Some e ≡ Some (get_or xs from null) = sym c.unwrap-element.ensures ∙ c.remove.ensures.succeeds null there in
+    let is : e ≡ get_or xs from null = cc in
+    let without : c.remove.new.self.items ≡ remove xs from = rw c.unwrap-element.ensures at c.remove.ensures.items in
+    let whole : c.insert.new.self.items ≡ insert c.remove.new.self.items to e = rw c.unwrap.ensures at c.insert.ensures.items in
+    rw (whole, without, is) (slides xs from to (omega (arith, ok.0, there)) within)

@@ -1,0 +1,75 @@
+-- How changes are taken back: a replaced part is put back, an inserted one is dropped, an element that was removed from a list is inserted
+-- again, and one that slid within its list slides back.
+use Rattle.std.specs.Prelude.{ℕ, List, [], ◌∷◌, Option, Some, None, option_and_then, Result, Ok, Err, nat_lt, if◌then◌else◌, Bool, true, false}
+use Rattle.std.specs.VecDeque.{deque_capacity}
+use Rattle.relay_tree.specs.Document.{Document, list, Items}
+use Rattle.relay_tree.specs.Part.{items_length, item_at, insert_item, drop_item}
+use Rattle.relay_pointer.specs.Path.{Path, at, put}
+use Rattle.relay_patch.specs.declared.fault.Cause.{Cause}
+use Rattle.relay_patch.specs.Patch.{at_path, drop_child}
+use Rattle.relay_patch.specs.declared.change.Change.{Change}
+use Rattle.relay_apply.specs.declared.undo.Undo.{Undo}
+use Rattle.relay_apply.specs.declared.undo.Undo.TheVariants as undo
+use Rattle.relay_patch.specs.declared.change.Change.TheVariants as change
+
+-- the path at which a change puts its value, if that is all that it does
+abbrev pub target : Change → Option Path
+target (change.Set path v) = Some path
+target (change.AddMember path v) = Some path
+target (change.AddItem path v) = Some path
+target (change.DropMember path) = None
+target (change.DropItem path) = None
+target (change.Move from to v) = None
+target (change.Copy from to v) = Some to.path
+
+-- the record of a value that was put at the path: the part that it replaced, or that it was inserted
+abbrev pub brought : Path → Option Document → Undo
+brought path (Some part) = undo.Part path part
+brought path None = undo.Inserted path
+
+-- whether the record replaces the whole document, so that the document after the change does not matter
+abbrev pub replaces_document : Undo → Bool
+replaces_document (undo.Part [] part) = true
+replaces_document k = false
+
+abbrev pub or_same : Result Document Cause → Document → Document
+or_same (Ok e) d = e
+or_same (Err cause) d = d
+
+abbrev pub or_items : Option Items → Items → Items
+or_items (Some es) ds = es
+or_items None ds = ds
+
+-- the elements with e inserted at the index, if `capacity` has space for one more and the index is not past the end;
+-- otherwise unchanged
+abbrev pub refilled_items : ℕ → ℕ → Document → Items → Items
+refilled_items capacity i e ds = if nat_lt (items_length ds) capacity then or_items (insert_item ds i e) ds else ds
+
+abbrev pub refilled : ℕ → ℕ → Document → Document → Document
+refilled capacity i e (list ds) = list (refilled_items capacity i e ds)
+refilled capacity i e d = d
+
+-- the elements with the one at index i removed and inserted at index j of the others; unchanged if either index is past the end
+abbrev pub slid_items : ℕ → ℕ → Items → Items
+slid_items i j ds = or_items (option_and_then (λ e. option_and_then (λ es. insert_item es j e) (drop_item ds i)) (item_at ds i)) ds
+
+abbrev pub slid : ℕ → ℕ → Document → Document
+slid i j (list ds) = list (slid_items i j ds)
+slid i j d = d
+
+-- the document with its part at the path changed, if it has one
+abbrev pub with_part : (Document → Document) → Path → Option Document → Document → Document
+with_part change path (Some c) d = put d path (change c)
+with_part change path None d = d
+
+-- the document before the change of which this is the record
+abbrev pub undone : Undo → Document → Document
+undone (undo.Part path part) d = put d path part
+undone (undo.Inserted path) d = or_same (at_path drop_child path d) d
+undone (undo.Element path i e capacity) d = with_part (refilled (deque_capacity capacity) i e) path (at d path) d
+undone (undo.Slid path i j) d = with_part (slid i j) path (at d path) d
+
+-- the document before the changes of which these are the records: the last one is taken back first
+abbrev pub taken_back : Document → List Undo → Document
+taken_back d [] = d
+taken_back d (k ∷ kept) = undone k (taken_back d kept)

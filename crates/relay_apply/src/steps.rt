@@ -1,0 +1,300 @@
+//! One operation of a patch: its checks, the change that it makes, and the bounds on the document after it.
+ghost use Rattle.std.specs.Prelude.{◌≡◌, ◌≢◌, ◌<◌, ◌+◌, ◌++◌, Ok, Err, Some, false, is_some, IsOk, IsSome, OnOk, OnErr, IfOk, IfErr, IfSome};
+ghost use Rattle.relay_tree.specs.Document.{Document, weight};
+ghost use Rattle.relay_tree.specs.Budget.{paid};
+ghost use Rattle.relay_tree.specs.declared.budget.Budget.{Budget};
+ghost use Rattle.relay_patch.specs.Patch.{effect, within};
+ghost use Rattle.relay_patch.specs.After.{afforded, performed};
+ghost use Rattle.relay_patch.specs.Change.{Makes, Leads, changes_of};
+ghost use Rattle.relay_patch.specs.Measure.{carries, Known};
+ghost use Rattle.relay_apply.specs.Steps.{listed, IsOverspent};
+ghost use Rattle.relay_apply.specs.Undo.{taken_back};
+ghost use Rattle.relay_patch.specs.Weight.{changes_weight};
+ghost use Rattle.relay_patch.specs.declared.change.Change.TheVariants.{Move};
+ghost use Rattle.relay_patch.specs.declared.fault.Cause.TheVariants.{NoMemory};
+ghost use Rattle.relay_patch.specs.declared.op.Op.TheVariants as op;
+
+use crate::insert_target::resolve_insert;
+use crate::keeping::{make_keeping, put_in, take_out};
+use crate::making::make;
+use crate::measuring::{displaced, gone, measure, weight_after};
+use crate::recording::record;
+use crate::sliding::in_one_list;
+use crate::undo::Kept;
+use crate::walk::walk;
+use relay_patch::{Bounds, Cause, Change, Op, Place};
+use relay_pointer::Pointer;
+use relay_tree::{Budget, Tree};
+use std::alloc::Global;
+
+/// What the operations so far have done to the document.
+#[derive(Drop)]
+pub(crate) struct Done {
+    pub(crate) changes: Vec<Change>,
+    /// The weight of the document, once it is known to be within the bounds. Unspecified if the weight is not bounded.
+    pub(crate) weight: Option<u64>,
+    /// What the changes of the operations to come may weigh.
+    pub(crate) left: Budget,
+}
+
+/// Performs one operation, which `following` others follow, and checks the bounds. Keeps what takes it back, if others follow.
+#[tactic(auto, using(crate::proofs::Overspent::overspent))]
+pub(crate) fn perform(
+    alloc: Global,
+    tree: &mut Tree,
+    kept: &mut Kept,
+    done: Done,
+    op: &Op,
+    bounds: Bounds,
+    following: usize,
+) -> Result<Done, Cause>
+    requires known { Known bounds tree.old done.weight }
+    requires paid { paid (changes_weight done.changes.items) bounds.changes ≡ Some done.left }
+    ensures known { IfOk result (λ next. Known bounds tree.new next.weight) }
+    ensures paid { IfOk result (λ next. paid (changes_weight next.changes.items) bounds.changes ≡ Some next.left) }
+    ensures weighed { IfOk result (λ next. IsSome next.weight) }
+    ensures document { OnOk result (performed bounds (changes_weight done.changes.items) tree.old op.now ≡ Ok tree.new) }
+    ensures changes { IfOk result (λ next. next.changes.items ≡ done.changes.items ++ changes_of tree.old op.now) }
+    ensures refused { IfErr result (λ cause. cause ≢ NoMemory → performed bounds (changes_weight done.changes.items) tree.old op.now ≡ Err cause) }
+    ensures memory { IfErr result (λ cause. cause ≡ NoMemory → IsOk (effect tree.old op.now)) }
+    ensures back { OnOk result (0 < following → taken_back tree.new kept.new.undos.items ≡ taken_back tree.old kept.old.undos.items) }
+    ensures refused_back { OnErr result (taken_back tree.new kept.new.undos.items ≡ taken_back tree.old kept.old.undos.items) }
+{
+    if let Some(cause) = too_heavy(tree, op, done.left) {
+        return Err(cause);
+    }
+    let change = record(alloc, tree, op)?;
+    advance(alloc, tree, kept, done, change, bounds, following)
+}
+
+// Why an operation is refused whose value alone weighs more than its change may; `None` if it does not. So no value is copied that is far
+// too heavy. The value is walked only as far as the budget pays for.
+fn too_heavy(tree: &Tree, op: &Op, left: Budget) -> Option<Cause>
+    ensures refused { IfSome result (IsOverspent tree.now op.now left) }
+    ensures other { IfSome result (λ cause. cause ≢ NoMemory) }
+{
+    match op {
+        Op::Add { path, value } => match value.pay(left) {
+            Some(_) => None,
+            None => Some(heavy_insertion(tree, path)),
+        },
+        Op::Replace { path, value } => match value.pay(left) {
+            Some(_) => None,
+            None => Some(heavy_replacement(tree, path)),
+        },
+        Op::Remove { .. } | Op::Move { .. } | Op::Copy { .. } | Op::Test { .. } => None,
+    }
+}
+
+// Why an insertion of a value is refused that what is left does not pay for.
+#[tactic(auto, using(crate::proofs::Overspent::added_here, crate::proofs::Overspent::added_nowhere))]
+fn heavy_insertion(tree: &Tree, path: &Pointer) -> Cause
+    ensures refused { (v : Document) (left : Budget) → paid (weight v) left ≡ None → IsOverspent tree.now (op.Add path.now v) left result }
+    ensures other { result ≢ NoMemory }
+{
+    match resolve_insert(tree, path.tokens()) {
+        Ok(_) => Cause::TooHeavy,
+        Err(cause) => cause,
+    }
+}
+
+// The same of a replacement.
+#[tactic(auto, using(crate::proofs::Overspent::replaced_here, crate::proofs::Overspent::replaced_nowhere))]
+fn heavy_replacement(tree: &Tree, path: &Pointer) -> Cause
+    ensures refused { (v : Document) (left : Budget) → paid (weight v) left ≡ None → IsOverspent tree.now (op.Replace path.now v) left result }
+    ensures other { result ≢ NoMemory }
+{
+    match walk(tree, path.tokens()) {
+        Ok(_) => Cause::TooHeavy,
+        Err(cause) => cause,
+    }
+}
+
+// Makes the change, if there is one, within the bounds. It is paid for before it is made.
+#[tactic(auto, using(crate::proofs::Spent::paid_more, crate::proofs::Spent::paid_afforded, crate::proofs::Spent::too_heavy))]
+fn advance(
+    alloc: Global,
+    tree: &mut Tree,
+    kept: &mut Kept,
+    done: Done,
+    change: Option<Change>,
+    bounds: Bounds,
+    following: usize,
+) -> Result<Done, Cause>
+    requires makes { (next : Document) × Leads tree.old (listed change) next }
+    requires known { Known bounds tree.old done.weight }
+    requires paid { paid (changes_weight done.changes.items) bounds.changes ≡ Some done.left }
+    ensures known { IfOk result (λ next. Known bounds tree.new next.weight) }
+    ensures paid { IfOk result (λ next. paid (changes_weight next.changes.items) bounds.changes ≡ Some next.left) }
+    ensures weighed { IfOk result (λ next. IsSome next.weight) }
+    ensures fits { OnOk result (afforded bounds (changes_weight done.changes.items + changes_weight (listed change)) tree.new ≡ Ok tree.new) }
+    ensures document { OnOk result (Leads tree.old (listed change) tree.new) }
+    ensures changes { IfOk result (λ next. next.changes.items ≡ done.changes.items ++ listed change) }
+    ensures refused { IfErr result (λ cause. cause ≢ NoMemory → (next : Document) × Leads tree.old (listed change) next × (afforded bounds (changes_weight done.changes.items + changes_weight (listed change)) next ≡ Err cause)) }
+    ensures back { OnOk result (0 < following → taken_back tree.new kept.new.undos.items ≡ taken_back tree.old kept.old.undos.items) }
+    ensures refused_back { OnErr result (taken_back tree.new kept.new.undos.items ≡ taken_back tree.old kept.old.undos.items) }
+{
+    let Done {
+        mut changes,
+        weight,
+        left,
+    } = done;
+    let Some(change) = change else {
+        let weight = weigh(tree, weight, bounds)?;
+        return Ok(Done {
+            changes,
+            weight: Some(weight),
+            left,
+        });
+    };
+    let Some(left) = change.pay(left) else {
+        return Err(Cause::TooHeavy);
+    };
+    changes.reserve(1)?;
+    let weight = match alter(alloc, tree, kept, weight, &change, bounds, following) {
+        Ok(weight) => weight,
+        Err(cause) => return Err(cause),
+    };
+    changes.push_reserved(change);
+    Ok(Done {
+        changes,
+        weight: Some(weight),
+        left,
+    })
+}
+
+// The weight of a document that is within the bounds, measured unless it is known.
+fn weigh(tree: &Tree, known: Option<u64>, bounds: Bounds) -> Result<u64, Cause>
+    requires { Known bounds tree.now known }
+    ensures ok { IfOk result (λ n. Known bounds tree.now (Some n)) }
+    ensures err { IfErr result (λ cause. within bounds tree.now ≡ Err cause) }
+{
+    match known {
+        Some(weight) => Ok(weight),
+        None => measure(tree, bounds),
+    }
+}
+
+// Makes a change and returns the weight after it.
+fn alter(
+    alloc: Global,
+    tree: &mut Tree,
+    kept: &mut Kept,
+    known: Option<u64>,
+    change: &Change,
+    bounds: Bounds,
+    following: usize,
+) -> Result<u64, Cause>
+    requires makes { (next : Document) × Makes tree.old change.now next }
+    requires known { Known bounds tree.old known }
+    ensures known { IfOk result (λ n. Known bounds tree.new (Some n)) }
+    ensures made { OnOk result (Makes tree.old change.now tree.new) }
+    ensures refused { IfErr result (λ cause. cause ≢ NoMemory → (next : Document) × Makes tree.old change.now next × (within bounds next ≡ Err cause)) }
+    ensures back { OnOk result (0 < following → taken_back tree.new kept.new.undos.items ≡ taken_back tree.old kept.old.undos.items) }
+    ensures refused_back { OnErr result (taken_back tree.new kept.new.undos.items ≡ taken_back tree.old kept.old.undos.items) }
+{
+    match weigh(tree, known, bounds) {
+        Ok(weight) if following == 0 && !carries(change) => {
+            alter_last(alloc, tree, weight, change, bounds)
+        }
+        Ok(weight) => alter_keeping(alloc, tree, kept, weight, change, bounds),
+        Err(_) => alter_unjudged(alloc, tree, kept, change, bounds),
+    }
+}
+
+// Whether a change removes a value before it inserts it elsewhere, which may run out of memory.
+fn carries(change: &Change) -> bool
+    ensures { result ≡ carries change.now }
+{
+    carried(change).is_some()
+}
+
+// The value that a change carries, with its old and its new place. A move within one list carries nothing: the element slides.
+fn carried(change: &Change) -> Option<(&Place, &Place, &Tree)>
+    ensures what { IfSome result (λ m. change.now ≡ Move m.0.now m.1.now m.2.now) }
+    ensures carries { is_some result ≡ carries change.now }
+{
+    match change {
+        Change::Move { from, to, value } if !in_one_list(from, to) => Some((from, to, value)),
+        _ => None,
+    }
+}
+
+// Makes the last change of a patch, to a document of this weight. It is judged before it is made, so nothing has to be kept.
+fn alter_last(
+    alloc: Global,
+    tree: &mut Tree,
+    weight: u64,
+    change: &Change,
+    bounds: Bounds,
+) -> Result<u64, Cause>
+    requires makes { (next : Document) × Makes tree.old change.now next }
+    requires stays { carries change.now ≡ false }
+    requires known { Known bounds tree.old (Some weight) }
+    ensures known { IfOk result (λ n. Known bounds tree.new (Some n)) }
+    ensures made { OnOk result (Makes tree.old change.now tree.new) }
+    ensures refused { IfErr result (λ cause. cause ≢ NoMemory → (next : Document) × Makes tree.old change.now next × (within bounds next ≡ Err cause)) }
+    ensures unchanged { OnErr result (tree.new ≡ tree.old) }
+{
+    let weight = weight_after(weight, change, gone(tree, change), bounds)?;
+    drop(make(alloc, tree, change)?);
+    Ok(weight)
+}
+
+// Makes a change to a document of this weight and keeps what takes it back. A carried value is removed before the change is judged.
+fn alter_keeping(
+    alloc: Global,
+    tree: &mut Tree,
+    kept: &mut Kept,
+    weight: u64,
+    change: &Change,
+    bounds: Bounds,
+) -> Result<u64, Cause>
+    requires makes { (next : Document) × Makes tree.old change.now next }
+    requires known { Known bounds tree.old (Some weight) }
+    ensures known { IfOk result (λ n. Known bounds tree.new (Some n)) }
+    ensures made { OnOk result (Makes tree.old change.now tree.new) }
+    ensures refused { IfErr result (λ cause. cause ≢ NoMemory → (next : Document) × Makes tree.old change.now next × (within bounds next ≡ Err cause)) }
+    ensures back { taken_back tree.new kept.new.undos.items ≡ taken_back tree.old kept.old.undos.items }
+{
+    let most = copies_bound(weight, bounds);
+    let Some((from, to, value)) = carried(change) else {
+        let next = weight_after(weight, change, gone(tree, change), bounds)?;
+        make_keeping(alloc, tree, kept, change, most)?;
+        return Ok(next);
+    };
+    take_out(alloc, tree, kept, from, most)?;
+    let next = match weight_after(weight, change, displaced(tree, to), bounds) {
+        Ok(next) => next,
+        Err(cause) => return Err(cause),
+    };
+    put_in(alloc, tree, kept, to, value)?;
+    Ok(next)
+}
+
+// What the copies of objects that are kept may weigh: as much as the document, if its weight is known.
+fn copies_bound(weight: u64, bounds: Bounds) -> u64 {
+    if bounds.weight == u64::MAX {
+        u64::MAX
+    } else {
+        weight
+    }
+}
+
+// Makes a change to a document that is not within the bounds, keeps what takes it back, and measures the result.
+fn alter_unjudged(
+    alloc: Global,
+    tree: &mut Tree,
+    kept: &mut Kept,
+    change: &Change,
+    bounds: Bounds,
+) -> Result<u64, Cause>
+    requires { (next : Document) × Makes tree.old change.now next }
+    ensures known { IfOk result (λ n. Known bounds tree.new (Some n)) }
+    ensures made { OnOk result (Makes tree.old change.now tree.new) }
+    ensures refused { IfErr result (λ cause. cause ≢ NoMemory → (next : Document) × Makes tree.old change.now next × (within bounds next ≡ Err cause)) }
+    ensures back { taken_back tree.new kept.new.undos.items ≡ taken_back tree.old kept.old.undos.items }
+{
+    make_keeping(alloc, tree, kept, change, u64::MAX)?;
+    measure(tree, bounds)
+}

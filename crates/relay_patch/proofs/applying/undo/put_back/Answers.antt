@@ -1,5 +1,0 @@
-use Rattle.relay_patch.proofs.Undone.{puts_always}
-use Rattle.relay_patch.proofs.applying.undo.put_back.Goals as goal
-
-pub returns : goal.returns
-returns c = puts_always c.args.tree.now c.exchange.new.whole c.args.part c.args.path.now c.exchange.result c.exchange.ensures.old c.exchange.ensures.missing c.exchange.ensures.found
