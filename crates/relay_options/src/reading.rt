@@ -109,19 +109,6 @@ fn looped<'a>(alloc: Global) -> Result<Command<'a>, AllocError> {
 }
 
 fn serve<'a>(alloc: Global) -> Result<Command<'a>, AllocError> {
-    let port = number(alloc, "port", ValueParser::unsigned(0, MAX_PORT))
-        .help("The port, 0 to 65535; 0 lets the system choose")
-        .required(true);
-    let admin = number(alloc, "admin", ValueParser::unsigned(1, MAX_PORT)).help(
-        "The port for an operator on this machine, 1 to 65535: health, metrics, rooms, and the stop; none without it",
-    );
-    let turns = number(alloc, "turns", ValueParser::unsigned(1, MAX_TURNS))
-        .help("How many rounds to make, 1 to 1000000000000; a round sleeps while nothing happens")
-        .default_value(TURNS);
-    let log = Arg::new(alloc, "log")
-        .long("log")
-        .help("Tells of each connection that is opened, refused or ended, a line on standard error")
-        .action(ArgAction::SetTrue);
     let serve = Command::new(alloc, "serve")
         .about(SERVE_ABOUT)
         .after_help(SERVE_EXAMPLE);
@@ -129,10 +116,10 @@ fn serve<'a>(alloc: Global) -> Result<Command<'a>, AllocError> {
         .arg(history_weight(alloc).default_value(HISTORY_WEIGHT))?
         .arg(waiting_weight(alloc).default_value(WAITING_WEIGHT))?
         .arg(telling_weight(alloc).default_value(TELLING_WEIGHT))?
-        .arg(port)?
-        .arg(admin)?
-        .arg(turns)?
-        .arg(log)
+        .arg(port(alloc))?
+        .arg(admin(alloc))?
+        .arg(turns(alloc))?
+        .arg(log(alloc))
 }
 
 fn follow<'a>(alloc: Global) -> Command<'a> {
@@ -142,33 +129,48 @@ fn follow<'a>(alloc: Global) -> Command<'a> {
 }
 
 fn with_settings<'a>(alloc: Global, command: Command<'a>) -> Result<Command<'a>, AllocError> {
-    let history = number(alloc, "history", ValueParser::unsigned(1, MAX_HISTORY))
+    command
+        .arg(history(alloc))?
+        .arg(max_waiting_patches(alloc))?
+        .arg(rooms(alloc))?
+        .arg(sessions(alloc))?
+        .arg(epoch(alloc))
+}
+
+fn history<'a>(alloc: Global) -> Arg<'a> {
+    number(alloc, "history", ValueParser::unsigned(1, MAX_HISTORY))
         .help("How many revisions each room holds, 1 to 1024")
-        .default_value(HISTORY);
-    let max_waiting_patches = number(
+        .default_value(HISTORY)
+}
+
+fn max_waiting_patches<'a>(alloc: Global) -> Arg<'a> {
+    number(
         alloc,
         "outbox",
         ValueParser::unsigned(1, MAX_WAITING_PATCHES),
     )
     .help("How many patches wait for a session at most, 1 to 256")
-    .default_value(OUTBOX);
-    let rooms = number(alloc, "rooms", ValueParser::unsigned(1, MAX_ROOMS))
+    .default_value(OUTBOX)
+}
+
+fn rooms<'a>(alloc: Global) -> Arg<'a> {
+    number(alloc, "rooms", ValueParser::unsigned(1, MAX_ROOMS))
         .help("How many rooms there are at most, 1 to 65536; an idle room takes about 1.5 KiB")
-        .default_value(ROOMS);
-    let sessions = number(alloc, "sessions", ValueParser::unsigned(1, MAX_SESSIONS))
+        .default_value(ROOMS)
+}
+
+fn sessions<'a>(alloc: Global) -> Arg<'a> {
+    number(alloc, "sessions", ValueParser::unsigned(1, MAX_SESSIONS))
         .help(
             "How many sessions are open at most, 1 to 65536; an idle one takes about 6 KiB with its connection",
         )
-        .default_value(SESSIONS);
-    let epoch = number(alloc, "epoch", ValueParser::unsigned(0, MAX_EPOCH))
+        .default_value(SESSIONS)
+}
+
+fn epoch<'a>(alloc: Global) -> Arg<'a> {
+    number(alloc, "epoch", ValueParser::unsigned(0, MAX_EPOCH))
         .help("Which run of the relay this is, 0 to 9007199254740991")
-        .default_value(EPOCH);
-    command
-        .arg(history)?
-        .arg(max_waiting_patches)?
-        .arg(rooms)?
-        .arg(sessions)?
-        .arg(epoch)
+        .default_value(EPOCH)
 }
 
 fn history_weight<'a>(alloc: Global) -> Arg<'a> {
@@ -202,6 +204,31 @@ fn telling_weight<'a>(alloc: Global) -> Arg<'a> {
     .help(
         "How much the patches that are made for one edit weigh together at most; a script's may weigh any",
     )
+}
+
+fn port<'a>(alloc: Global) -> Arg<'a> {
+    number(alloc, "port", ValueParser::unsigned(0, MAX_PORT))
+        .help("The port, 0 to 65535; 0 lets the system choose")
+        .required(true)
+}
+
+fn admin<'a>(alloc: Global) -> Arg<'a> {
+    number(alloc, "admin", ValueParser::unsigned(1, MAX_PORT)).help(
+        "The port for an operator on this machine, 1 to 65535: health, metrics, rooms, and the stop; none without it",
+    )
+}
+
+fn turns<'a>(alloc: Global) -> Arg<'a> {
+    number(alloc, "turns", ValueParser::unsigned(1, MAX_TURNS))
+        .help("How many rounds to make, 1 to 1000000000000; a round sleeps while nothing happens")
+        .default_value(TURNS)
+}
+
+fn log<'a>(alloc: Global) -> Arg<'a> {
+    Arg::new(alloc, "log")
+        .long("log")
+        .help("Tells of each connection that is opened, refused or ended, a line on standard error")
+        .action(ArgAction::SetTrue)
 }
 
 /// An option that takes a number.
