@@ -1,6 +1,5 @@
 -- How what a link reads and what it passes to the hub go on together.
 use Rattle.std.proofs.Common.{◌≡◌, ◌⊎◌, inl, inr, ℕ, zero, suc, Bool, true, false, if◌then◌else◌, List, [], ◌∷◌, ◌++◌, Option, None, Some, Result, Ok, Err, OnOk, refl, sym, subst, ap, ◌∙◌, append_assoc, append-nil, arith}
-use Rattle.websocket.specs.Connection.{Connection}
 use Rattle.tungstenite.specs.Socket.{Socket, Reads}
 use Rattle.tungstenite.specs.declared.error.Error.{Error}
 use Rattle.tungstenite.specs.declared.message.Message.{Message}
@@ -13,6 +12,8 @@ use Rattle.relay_link.specs.Hears.{received_by, received, Passes, allowed_reads,
 use Rattle.relay_link.specs.Stage.{stage_of, session_of, entered, IsForward}
 use Rattle.relay_link.specs.Stream.{stream_of}
 use Rattle.relay_link.specs.Tells.{Hearing}
+use Rattle.relay_link.specs.Terms.{KeepsTerms}
+use Rattle.relay_link.proofs.Terms.{keeps_same}
 use Rattle.relay_link.specs.declared.corked_writer.CorkedWriter.{CorkedWriter}
 use Rattle.relay_link.specs.declared.open_socket.OpenSocket.{OpenSocket}
 use Rattle.relay_link.specs.declared.stage.Stage.TheVariants as stage
@@ -59,8 +60,8 @@ module _ {S : Type 0} where
   pub reads_on_then : {a b c : Socket (CorkedWriter S)} → ReadsOn a b → ReadsOn b c → ReadsOn a c
   reads_on_then f g = record { conn = g.conn ∙ f.conn; input = g.input ∙ f.input }
 
-  pub role_kept : {a b : Socket (CorkedWriter S)} → ReadsOn a b → b.conn.role ≡ a.conn.role
-  role_kept f = ap (λ (c : Connection). c.role) f.conn
+  pub terms_kept : {a b : Socket (CorkedWriter S)} → ReadsOn a b → KeepsTerms a.conn b.conn
+  terms_kept {a = a} {b = b} f = keeps_same a.conn b.conn f.conn
 
   pub goes_on_same : (a : OpenSocket S) → GoesOnFrom a a
   goes_on_same a = record { reads_on = reads_on_same a.socket; holds = refl }
@@ -108,21 +109,21 @@ module _ {S : Type 0} (remaining : S → Option (List ℕ)) where
 
   -- nothing was read, and no text was passed on
   pub hearing_none : (most : ℕ) (before after : List Event) (a b : OpenSocket S) → b ≡ a → after ≡ before → Hearing remaining most before after a b
-  hearing_none most before after a b same none = rw same (record { texts = []; passes = passes_same before after none; hears = hears_nothing most a; role = refl })
+  hearing_none most before after a b same none = rw same (record { texts = []; passes = passes_same before after none; hears = hears_nothing most a; terms = keeps_same a.socket.conn a.socket.conn refl })
 
   -- the next text was passed on, if there was one
-  pub hearing_found : (before after : List Event) (a b : OpenSocket S) (texts : List (List ℕ)) → HearsOnce remaining a b texts → b.socket.conn.role ≡ a.socket.conn.role → Passes before after texts
+  pub hearing_found : (before after : List Event) (a b : OpenSocket S) (texts : List (List ℕ)) → HearsOnce remaining a b texts → KeepsTerms a.socket.conn b.socket.conn → Passes before after texts
       → Hearing remaining 1 before after a b
-  hearing_found before after a b texts hears role passes = record { texts = texts; passes = passes; hears = hears; role = role }
+  hearing_found before after a b texts hears terms passes = record { texts = texts; passes = passes; hears = hears; terms = terms }
 
   -- it is held
-  pub hearing_held : (before after : List Event) (a b c : OpenSocket S) (text : List ℕ) → HearsOnce remaining a b (text ∷ []) → b.held ≡ None → b.socket.conn.role ≡ a.socket.conn.role
+  pub hearing_held : (before after : List Event) (a b c : OpenSocket S) (text : List ℕ) → HearsOnce remaining a b (text ∷ []) → b.held ≡ None → KeepsTerms a.socket.conn b.socket.conn
       → c.socket ≡ b.socket → c.held ≡ Some text → after ≡ before → Hearing remaining 1 before after a c
-  hearing_held before after a b c text hears none role same has quiet = record {
+  hearing_held before after a b c text hears none terms same has quiet = record {
     texts = [];
     passes = passes_same before after quiet;
     hears = held_back a b c text hears none same has;
-    role = ap (λ (s : Socket (CorkedWriter S)). s.conn.role) same ∙ role;
+    terms = subst (λ (s : Socket (CorkedWriter S)). KeepsTerms a.socket.conn s.conn) (sym same) terms;
   }
 
   pub hearing_most : {E : Type 0} (result : Result (Unit {0}) E) (hub : Hub) (s most : ℕ) (before after : List Event) (a b : OpenSocket S) → may_hear (hub_session hub s) ≡ true → most ≡ 1
@@ -136,7 +137,7 @@ module _ {S : Type 0} (remaining : S → Option (List ℕ)) where
     texts = hearing.texts;
     passes = passes_then hearing.texts before middle after hearing.passes none;
     hears = hearing.hears;
-    role = hearing.role;
+    terms = hearing.terms;
   }
 
   -- ---- what was passed on, whatever comes of it

@@ -5,5 +5,5 @@ pub mod SocketErrors
 pub mod Framing
 pub mod Hearing
 pub mod Replying
-pub mod Roles
+pub mod Terms
 pub mod Telling

@@ -21,7 +21,9 @@ use Rattle.relay_link.specs.declared.turn.Turn.{Turn}
 use Rattle.relay_link.specs.declared.state.State.TheVariants.{Head, Replying, Open, Closing, Gone}
 use Rattle.relay_link.specs.declared.corked_writer.CorkedWriter.{CorkedWriter}
 use Rattle.relay_link.specs.declared.open_socket.OpenSocket.{OpenSocket}
-use Rattle.relay_link.proofs.Hearing.{reads_on_same, reads_on_then, role_kept, hearing_none, hearing_then, passes_then}
+use Rattle.relay_link.specs.Terms.{Serves}
+use Rattle.relay_link.proofs.Hearing.{reads_on_same, reads_on_then, terms_kept, hearing_none, hearing_then, passes_then}
+use Rattle.relay_link.proofs.Terms.{keeps_then, serves_then}
 
 -- ---- what was drawn
 
@@ -62,7 +64,7 @@ module _ {S : Type 0} {contents : S → Option (List ℕ)} where
   frames_more : {a b c : Socket (CorkedWriter S)} (first second : List ℕ) → Frames contents a b first → Frames contents b c second → Frames contents a c (first ++ second)
   frames_more {a = a} {b = b} {c = c} first second f g = record {
     reads_on = reads_on_then f.reads_on g.reads_on;
-    bytes = λ server. Appends-trans (framed contents a) (framed contents b) (framed contents c) first second (f.bytes server) (g.bytes (role_kept f.reads_on ∙ server));
+    bytes = λ server. Appends-trans (framed contents a) (framed contents b) (framed contents c) first second (f.bytes server) (g.bytes ((terms_kept f.reads_on).role ∙ server));
   }
 
   frames_as : {a b : Socket (CorkedWriter S)} {first second : List ℕ} → second ≡ first → Frames contents a b first → Frames contents a b second
@@ -205,14 +207,15 @@ module _ {S : Type 0} (remaining contents : S → Option (List ℕ)) where
     goes_on = over_goes sends.passes_on.heard state over;
   }
 
-  -- the role stays
+  -- the terms stay
   pub serves_on : (texts : ℕ) (p : Point) (next : Hub) (made : List Event) (a : OpenSocket S) (state : State S) → IfOpen (Talks remaining contents texts) p a next made state
-      → a.socket.conn.role ≡ Server → IsServing state
-  serves_on texts p next made a (Open b t) talks server = role_kept talks.exchanges.tells.frames.reads_on ∙ talks.exchanges.hearing.role ∙ role_kept talks.sent.reads_on ∙ server
-  serves_on texts p next made a (Head stream bytes) talks server = tt
-  serves_on texts p next made a (Replying stream reply) talks server = tt
-  serves_on texts p next made a (Closing socket turns) talks server = tt
-  serves_on texts p next made a Gone talks server = tt
+      → Serves a.socket.conn → IsServing state
+  serves_on texts p next made a (Open b t) talks serves =
+      serves_then serves (keeps_then (terms_kept talks.sent.reads_on) (keeps_then talks.exchanges.hearing.terms (terms_kept talks.exchanges.tells.frames.reads_on)))
+  serves_on texts p next made a (Head stream bytes) talks serves = tt
+  serves_on texts p next made a (Replying stream reply) talks serves = tt
+  serves_on texts p next made a (Closing socket turns) talks serves = tt
+  serves_on texts p next made a Gone talks serves = tt
 
   -- of no reads none is made
   reads_nothing : (may : Bool) (a b : OpenSocket S) (texts : List (List ℕ)) → Hears remaining (if may then 0 else 0) a b texts → (b ≡ a) × (texts ≡ [])
@@ -236,7 +239,7 @@ module _ {S : Type 0} (remaining contents : S → Option (List ℕ)) where
     passes = talks.exchanges.hearing.passes;
     heard = talks.exchanges.heard;
     hears = talks.exchanges.hearing.hears;
-    told = told talks.exchanges.tells talks.exchanges.holds (talks.exchanges.hearing.role ∙ role_kept talks.sent.reads_on ∙ server);
+    told = told talks.exchanges.tells talks.exchanges.holds (talks.exchanges.hearing.terms.role ∙ (terms_kept talks.sent.reads_on).role ∙ server);
   }
 
 module _ {S : Type 0} (P Q : Point → Point → OpenSocket S → OpenSocket S → Type 0) (told_of : (p q : Point) (a b : OpenSocket S) → P p q a b → a.socket.conn.role ≡ Server → Q p q a b) where
@@ -248,11 +251,11 @@ module _ {S : Type 0} (P Q : Point → Point → OpenSocket S → OpenSocket S �
   if_open p a next made Gone holds server = tt
 
   while_open : (hub : Hub) (before : List Event) (old : State S) (next : Hub) (made : List Event) (new : State S) → IsServing old → WhileOpen P hub before old next made new → WhileOpen Q hub before old next made new
-  while_open hub before (Open a s) next made new server holds = if_open (at hub (Some s) before) a next made new holds server
-  while_open hub before (Head stream bytes) next made new server holds = tt
-  while_open hub before (Replying stream reply) next made new server holds = tt
-  while_open hub before (Closing socket turns) next made new server holds = tt
-  while_open hub before Gone next made new server holds = tt
+  while_open hub before (Open a s) next made new serves holds = if_open (at hub (Some s) before) a next made new holds serves.role
+  while_open hub before (Head stream bytes) next made new serves holds = tt
+  while_open hub before (Replying stream reply) next made new serves holds = tt
+  while_open hub before (Closing socket turns) next made new serves holds = tt
+  while_open hub before Gone next made new serves holds = tt
 
 module _ {S : Type 0} (remaining contents : S → Option (List ℕ)) where
   -- what a turn returns says so of a link

@@ -6,6 +6,7 @@ pub mod Stage
 pub mod SocketError
 pub mod Turns
 pub mod Ends
+pub mod Terms
 pub mod Hears
 pub mod Frames
 pub mod Tells

@@ -5,10 +5,10 @@ use Rattle.std.specs.Io.KnownBytes.{Appends}
 use Rattle.relay_hub.specs.State.{State as Hub}
 use Rattle.relay_hub.specs.declared.event.Event.{Event}
 use Rattle.tungstenite.specs.Socket.{Socket}
-use Rattle.websocket.specs.declared.protocol.config.Role.TheVariants.{Server}
 use Rattle.relay_link.specs.Follows.{Point, at, no_room, Follows, drawn}
 use Rattle.relay_link.specs.Frames.{text_frames, framed, Frames}
 use Rattle.relay_link.specs.Hears.{allowed_reads, Hears, Passes, GoesOnFrom}
+use Rattle.relay_link.specs.Terms.{Serves, KeepsTerms}
 use Rattle.relay_link.specs.declared.corked_writer.CorkedWriter.{CorkedWriter}
 use Rattle.relay_link.specs.declared.open_socket.OpenSocket.{OpenSocket}
 use Rattle.relay_link.specs.declared.state.State.{State}
@@ -33,7 +33,7 @@ module _ {S : Type 0} where
     pub texts : List (List ℕ)
     pub passes : Passes before after texts
     pub hears : Hears remaining most old new texts
-    pub role : new.socket.conn.role ≡ old.socket.conn.role
+    pub terms : KeepsTerms old.socket.conn new.socket.conn
 
   -- a link that has nothing to send hears, and then tells
   pub record Exchanges (remaining contents : S → Option (List ℕ)) (most : ℕ) (p q : Point) (old new : OpenSocket S) : Type 0 where
@@ -49,9 +49,9 @@ module _ {S : Type 0} where
     pub holds : ready.held ≡ old.held
     pub exchanges : Exchanges remaining contents most p q ready new
 
-  -- an open link speaks as a server, whose frames are not masked
+  -- an open link speaks as a server, within its limits
   abbrev pub IsServing : State S → Type 0
-  IsServing (Open opened s) = opened.socket.conn.role ≡ Server
+  IsServing (Open opened s) = Serves opened.socket.conn
   IsServing _ = ⊤
 
   -- a relation of an open link before a turn, which begins at the point, to it after the turn, if the turn leaves it open

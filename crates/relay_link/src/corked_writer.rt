@@ -105,6 +105,11 @@ impl<S: Write + Drop> CorkedWriter<S> {
         self.holds && self.has_output()
     }
 
+    /// Whether a read gave as many bytes as it asked for.
+    pub(crate) fn has_filled_a_read(&self) -> bool {
+        self.writer.get_ref().has_filled_a_read()
+    }
+
     /// Whether nothing has asked for another turn.
     pub(crate) fn is_idle(&self) -> bool
         ensures { result ≡ not (writer_inner self.now.writer).wants_poll }

@@ -255,11 +255,12 @@ fn advance<S: Read + Write + Drop>(
     hub: &mut Hub,
     made: &mut EventLog,
 ) -> Transition<S>
-    requires { length made.old + draws + 2 ≤ MAX_EVENTS }
+    requires space { length made.old + draws + 2 ≤ MAX_EVENTS }
+    requires serving { IsServing state }
     ensures follows { Follows (asked_by S.remaining state) (at hub.old (session_of state) made.old) (at hub.new (session_of result.state) made.new) }
     ensures received { Receives S.remaining state result.state }
     ensures talks { WhileOpen (Talks S.remaining S.contents (texts_of phase)) hub.old made.old state hub.new made.new result.state }
-    ensures serving { IsServing state → IsServing result.state }
+    ensures serving { IsServing result.state }
     ensures replies { Replies S.remaining S.contents state result.state }
     ensures passes { PassesTexts S.remaining (texts_of phase) hub.old state result.state made.old made.new }
     ensures adds { Adds (draws + 2) (texts_of phase) draws made.old made.new }

@@ -2,17 +2,19 @@
 use std::io;
 use std::io::{Error, ErrorKind, Read, Write};
 
-/// The maximum number of reads (of 1.25 KiB each) in a turn. So a side that never stops sending, in however small frames, cannot delay
+/// How many bytes the reads of a turn ask for together at most. So a side that never stops sending, in however small frames, cannot delay
 /// the others.
-const MAX_READS: u64 = 128;
+const MAX_ASKED: usize = 163_840;
 
 /// A stream that returns `WouldBlock` for an interruption, since a socket would otherwise retry at once and forever. It also returns
-/// `WouldBlock` after the maximum number of reads in a turn, and rejects writes after a write has failed.
+/// `WouldBlock` once the reads of a turn have asked for as much as they may, and rejects writes after a write has failed.
 #[derive(Drop)]
 pub(crate) struct NonBlocking<S> {
     stream: S,
-    /// The number of reads left in this turn.
-    reads: u64,
+    /// How many bytes may still be asked for in this turn.
+    left: usize,
+    /// Whether a read gave as many bytes as it asked for.
+    filled: bool,
     /// Whether another turn may have work although no new event is ready.
     wants_poll: bool,
     /// Whether a write failed, or accepted no byte.
@@ -27,7 +29,8 @@ impl<S> NonBlocking<S> {
     {
         NonBlocking {
             stream,
-            reads: MAX_READS,
+            left: MAX_ASKED,
+            filled: false,
             wants_poll: false,
             broken: false,
         }
@@ -37,7 +40,7 @@ impl<S> NonBlocking<S> {
     pub(crate) fn begin_poll(&mut self)
         ensures { self.new.stream ≡ self.old.stream }
     {
-        self.reads = MAX_READS;
+        self.left = MAX_ASKED;
         self.wants_poll = false;
     }
 
@@ -54,6 +57,11 @@ impl<S> NonBlocking<S> {
         ensures { result ≡ not self.now.wants_poll }
     {
         !self.wants_poll
+    }
+
+    /// Whether a read gave as many bytes as it asked for.
+    pub(crate) fn has_filled_a_read(&self) -> bool {
+        self.filled
     }
 
     /// The result of a call. An interrupted call asks for another turn, and becomes `WouldBlock`.
@@ -76,16 +84,18 @@ impl<S: Read> Read for NonBlocking<S> {
     ghost remaining = { λ n. S.remaining n.stream };
 
     fn read(&mut self, buf: &mut [u8]) -> io::Result<usize> {
-        match self.reads.checked_sub(1) {
-            Some(reads) => self.reads = reads,
+        match self.left.checked_sub(buf.len()) {
+            Some(left) => self.left = left,
             None => {
                 self.request_poll();
                 return Err(Error::from(ErrorKind::WouldBlock));
             }
         }
+        let asked = buf.len();
         let read = self.stream.read(buf);
-        if matches!(read, Ok(1..)) {
+        if let Ok(len @ 1..) = read {
             self.request_poll();
+            self.filled = self.filled || len == asked;
         }
         self.noted(read)
     }

@@ -6,17 +6,17 @@ ghost use Rattle.relay_link.specs.Follows.{Follows, no_room, at, given};
 ghost use Rattle.relay_link.specs.Stage.{leaves, stage_of, session_of, is_over, IsForward};
 ghost use Rattle.relay_link.specs.Hears.{allowed_reads, HearsOnce, Passes, PassesOn, SendsAndPassesOn, ReadsTexts};
 ghost use Rattle.relay_link.specs.Tells.{Drew, Hearing, Tells, Exchanges, Talks, IfOpen, IsServing};
+ghost use Rattle.relay_link.specs.Terms.{Serves, KeepsTerms};
 ghost use Rattle.relay_link.specs.declared.cause.Cause.TheVariants.{Silent};
 ghost use Rattle.relay_link.specs.declared.closing.TheConstants.{MAX_TURNS};
 ghost use Rattle.relay_link.specs.declared.event_log.TheConstants.{MAX_EVENTS};
-ghost use Rattle.websocket.specs.declared.protocol.config.Role.TheVariants.{Server};
 ghost use Rattle.relay_link.specs.declared.stage.Stage.TheVariants.{Open};
 
 use crate::cause::Cause;
 use crate::event_log::EventLog;
 use crate::events;
 use crate::open_socket::OpenSocket;
-use crate::socket::{Socket, close, flush, read, write};
+use crate::socket::{Socket, close, flush, read, widen, write};
 use crate::state::State;
 use crate::transition::Transition;
 use crate::turn_phase::TurnPhase;
@@ -44,7 +44,7 @@ impl From<Cause> for Ending {
 }
 
 /// A turn of an open link.
-#[tactic(auto, using(crate::proofs::Following::follows_same, crate::proofs::Following::follows_then, crate::proofs::Telling::reads_into, crate::proofs::Telling::talked_into, crate::proofs::Telling::serves_on))]
+#[tactic(auto, using(crate::proofs::Following::follows_same, crate::proofs::Following::follows_then, crate::proofs::Telling::serves_on))]
 pub(crate) fn turn<S: Read + Write + Drop>(
     alloc: Global,
     mut opened: OpenSocket<S>,
@@ -54,10 +54,11 @@ pub(crate) fn turn<S: Read + Write + Drop>(
     hub: &mut Hub,
     made: &mut EventLog,
 ) -> Transition<S>
-    requires { length made.old + draws + 2 ≤ MAX_EVENTS }
+    requires space { length made.old + draws + 2 ≤ MAX_EVENTS }
+    requires serves { Serves opened.socket.conn }
     ensures follows { Follows no_room (at hub.old (Some session) made.old) (at hub.new (session_of result.state) made.new) }
     ensures talks { IfOpen (Talks S.remaining S.contents (texts_of phase)) (at hub.old (Some session) made.old) opened hub.new made.new result.state }
-    ensures serving { opened.socket.conn.role ≡ Server → IsServing result.state }
+    ensures serving { IsServing result.state }
     ensures passes { ReadsTexts S.remaining (allowed_reads hub.old (Some session) (texts_of phase)) opened result.state made.old made.new }
     ensures adds { Adds (draws + 2) (texts_of phase) draws made.old made.new }
     ensures cause { is_some result.cause ≡ leaves Open (stage_of result.state) }
@@ -65,6 +66,7 @@ pub(crate) fn turn<S: Read + Write + Drop>(
     ensures prompt { result.cause ≢ Some Silent }
     ensures patient { MAX_TURNS ≤ turns_left result.state }
 {
+    widen(&mut opened.socket);
     if phase != TurnPhase::Write {
         opened.socket.get_ref().begin_poll();
     }
@@ -222,14 +224,14 @@ fn hear_text<S: Read + Write + Drop>(
 
 /// Takes the text that is held, or else reads a message, and takes its text if it is a text. Either may not be the last that was read, so
 /// the link asks for another turn.
-#[tactic(auto, using(crate::proofs::Hearing::hears_held, crate::proofs::Hearing::hears_found))]
+#[tactic(auto, using(crate::proofs::Hearing::hears_held, crate::proofs::Hearing::hears_found, crate::proofs::Terms::keeps_same))]
 fn next_text<S: Read + Write + Drop>(
     alloc: Global,
     opened: &mut OpenSocket<S>,
 ) -> Result<Option<Text>, Ending>
     ensures hears { IfOk result (λ text. HearsOnce S.remaining opened.old opened.new (given text)) }
     ensures empty { OnOk result (opened.new.held ≡ None) }
-    ensures role { OnOk result (opened.new.socket.conn.role ≡ opened.old.socket.conn.role) }
+    ensures terms { OnOk result (KeepsTerms opened.old.socket.conn opened.new.socket.conn) }
     ensures prompt { IfErr result (λ ending. IsPrompt (cause_of ending)) }
 {
     if let Some(text) = opened.held.take() {

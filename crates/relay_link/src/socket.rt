@@ -1,5 +1,6 @@
 //! The WebSocket of a link. No call blocks.
 ghost use Rattle.std.specs.Prelude.{◌≡◌, [], IfOk, OnOk, IfErr};
+ghost use Rattle.tungstenite.specs.Config.{HasLimits};
 ghost use Rattle.tungstenite.specs.Failure.{IsIo};
 ghost use Rattle.tungstenite.specs.Socket.{IsFresh};
 ghost use Rattle.websocket.specs.declared.protocol.config.Role.TheVariants.{Server};
@@ -8,6 +9,7 @@ ghost use Rattle.relay_link.specs.Frames.{Frames, text_frame};
 ghost use Rattle.relay_link.specs.Ends.{IsPrompt};
 ghost use Rattle.relay_link.specs.Hears.{Finds, text_of};
 ghost use Rattle.relay_link.specs.SocketError.{IsOfSocket};
+ghost use Rattle.relay_link.specs.Terms.{limits, Serves, KeepsTerms};
 
 use crate::cause::Cause;
 use crate::corked_writer::CorkedWriter;
@@ -25,6 +27,9 @@ pub(crate) type Socket<S> = WebSocket<CorkedWriter<S>, NoMask>;
 /// `tungstenite`, 128 KiB, is too much if many sockets are held.
 const READ_BUFFER: usize = 1_280;
 
+/// The size of the read buffer once a read has filled the smaller one: so many bytes at once take fewer reads.
+const WIDE_READ_BUFFER: usize = 8_192;
+
 /// The maximum size of an incoming message and of each of its frames, in bytes. It is a little more than the longest request, so
 /// that a request that is slightly too long still gets a reply. A longer message ends the link with [`Cause::Broken`].
 const MAX_MESSAGE: usize = 1_056_768;
@@ -33,15 +38,41 @@ const MAX_MESSAGE: usize = 1_056_768;
 const MAX_GATHERED: usize = 65_536;
 
 /// A socket on a stream whose handshake is done.
+#[tactic(auto, using(crate::proofs::Terms::serves_new))]
 pub(crate) fn socket_on<S: Read + Write + Drop>(alloc: Global, stream: CorkedWriter<S>) -> Socket<S>
-    ensures { IsFresh result stream Server }
+    ensures fresh { IsFresh result stream Server }
+    ensures serves { Serves result.conn }
 {
-    let config = WebSocketConfig::default()
-        .read_buffer_size(READ_BUFFER)
+    WebSocket::from_raw_socket(
+        alloc,
+        stream,
+        NoMask,
+        Role::Server,
+        Some(config_with(READ_BUFFER)),
+    )
+}
+
+/// The configuration of a socket with a read buffer of this size.
+fn config_with(read_buffer: usize) -> WebSocketConfig
+    ensures { HasLimits limits result }
+{
+    WebSocketConfig::default()
+        .read_buffer_size(read_buffer)
         .write_buffer_size(MAX_GATHERED)
         .max_message_size(Some(MAX_MESSAGE))
-        .max_frame_size(Some(MAX_MESSAGE));
-    WebSocket::from_raw_socket(alloc, stream, NoMask, Role::Server, Some(config))
+        .max_frame_size(Some(MAX_MESSAGE))
+}
+
+/// Gives a socket the wide read buffer once a read has filled the smaller one.
+#[tactic(auto, using(crate::proofs::Terms::widened))]
+pub(crate) fn widen<S: Read + Write + Drop>(socket: &mut Socket<S>)
+    requires { Serves socket.old.conn }
+    ensures { socket.new ≡ socket.old }
+{
+    let is_narrow = socket.get_config().read_buffer_size < WIDE_READ_BUFFER;
+    if is_narrow && socket.get_ref().has_filled_a_read() {
+        socket.set_config(config_with(WIDE_READ_BUFFER));
+    }
 }
 
 /// Reads one message. `None` if no complete message is available now. After a message the socket asks for another turn, since the
@@ -49,7 +80,7 @@ pub(crate) fn socket_on<S: Read + Write + Drop>(alloc: Global, stream: CorkedWri
 #[tactic(auto, using(crate::proofs::SocketErrors::read_error, crate::proofs::Hearing::finds_message, crate::proofs::Hearing::finds_none))]
 pub(crate) fn read<S: Read + Write + Drop>(socket: &mut Socket<S>) -> Result<Option<Message>, Cause>
     ensures prompt { IfErr result IsPrompt }
-    ensures role { OnOk result (socket.new.conn.role ≡ socket.old.conn.role) }
+    ensures terms { OnOk result (KeepsTerms socket.old.conn socket.new.conn) }
     ensures finds { IfOk result (λ found. Finds S.remaining socket.old socket.new (text_of found)) }
 {
     match socket.read() {

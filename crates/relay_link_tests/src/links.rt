@@ -37,7 +37,8 @@ impl<R: AllocGlobal> Subject<R> for Links<'_> {
     /// - `hub K` is a new hub that lets so many patches wait, and `full` fills it with as many sessions as it allows;
     /// - `join` opens session 2, which has no link, and `beside ACT` has it edit after an act;
     /// - `flags ACT` tells whether the link is idle, has output that is corked, and holds a text after an act;
-    /// - `waiting N` tells how many messages wait for a session, and `count-writes` how often the link wrote since it was last asked;
+    /// - `waiting N` tells how many messages wait for a session, and `count-reads` and `count-writes` how often the link read or wrote since it
+    ///   was last asked;
     /// - every other act is one of the link.
     fn act(&mut self, rt: &R, act: &str) -> Option<String> {
         let alloc = rt.alloc();
@@ -45,6 +46,7 @@ impl<R: AllocGlobal> Subject<R> for Links<'_> {
             ("beside", act) => self.beside(alloc, act),
             ("waiting", session) => self.waiting(alloc, session),
             ("flags", act) => self.flags(alloc, act),
+            ("count-reads", _) => self.reads(alloc),
             ("count-writes", _) => self.writes(alloc),
             ("enter" | "other" | "hub" | "full" | "join", _) => {
                 self.change(alloc, act)?;
@@ -98,6 +100,11 @@ impl<'a> Links<'a> {
     fn waiting(&self, alloc: Global, session: &str) -> Option<String> {
         let waiting = self.hub.waiting(session.parse::<u64>().ok()?);
         format!(in alloc; "{waiting:?}").ok()
+    }
+
+    fn reads(&self, alloc: Global) -> Option<String> {
+        let reads = mem::replace(&mut self.link.wire()?.read_calls, 0);
+        format!(in alloc; "{reads}").ok()
     }
 
     fn writes(&self, alloc: Global) -> Option<String> {

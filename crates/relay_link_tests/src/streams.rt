@@ -36,13 +36,25 @@ reads not-ready => Closing
 14 idle => Closing
 hex 88 82 00 00 00 00 03 e8 => Gone by Silent
 
-# A flood ends a turn, which makes at most 128 reads.
+# A flood ends a turn, which asks for at most 160 KiB: 128 reads of 1,280 bytes.
 enter
 reads one-byte => Open as 1
 hex 81 fe 02 00 00 00 00 00 => Open as 1
 fills 512 => Open as 1
 2 idle => Open as 1
 idle => receive 1; Open as 1
+
+# Once a read was filled, the next text of 16 KiB takes two reads in place of thirteen.
+enter
+count-reads => 1
+hex 81 fe 40 00 00 00 00 00 => Open as 1
+count-reads => 2
+fills 16384 => receive 1; Open as 1
+count-reads => 13
+hex 81 fe 40 00 00 00 00 00 => Open as 1
+count-reads => 2
+fills 16384 => receive 1; Open as 1
+count-reads => 2
 
 # While 32 replies wait, nothing is read.
 enter
