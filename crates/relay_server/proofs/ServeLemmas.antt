@@ -2,7 +2,7 @@
 use Rattle.std.proofs.Common.{◌≡◌, ◌≢◌, ◌∙◌, ℕ, ◌+◌, ◌≤◌, List, ◌++◌, length, take, Option, Some, None, Result, Ok, Err, OnOk, OnErr, IfErr, refl, sym, subst, arith, length-append, ◌⊎◌, inl, inr}
 use Rattle.std.proofs.lemmas.List.{take-append-le}
 use Rattle.std.proofs.Math.Seq.{take-append-add, take-length}
-use Rattle.std.specs.Io.KnownBytes.{Appends}
+use Rattle.std.specs.Io.KnownBytes.{Appends, Keeps}
 use Rattle.std.proofs.KnownBytes.{Appends-nil, Appends-trans, Keeps-refl}
 use Rattle.relay_hub.specs.declared.fault.HubNewFault.{HubNewFault}
 use Rattle.relay_hub.specs.declared.fault.HubNewFault.TheVariants as made
@@ -13,7 +13,7 @@ use Rattle.relay_lines.specs.declared.fault.ScriptFault.TheVariants.{BadLimit, O
 use Rattle.relay_loopback.specs.declared.fault.ServeFault.{ServeFault}
 use Rattle.relay_loopback.specs.declared.fault.ServeFault.TheVariants.{Ended, Listen, Wait}
 use Rattle.relay_loopback.specs.Faults.{IsListen}
-use Rattle.relay_server.specs.Jobs.{HasMade, Listens, ServeEnds, ServesUpTo}
+use Rattle.relay_server.specs.Jobs.{HasMade, HasNoSockets, Listens, ServeEnds, ServesUpTo}
 
 -- writing nothing writes a prefix
 pub part_none : (old : Option (List ℕ)) (bs : List ℕ) → AppendsPart old old bs
@@ -71,13 +71,34 @@ ends_stopped (Some admin) operator turns port (Err fault) old new e all (made, f
     (made, few, subst (λ f. ServeEnds made (Err f) old new) (sym memory) (port, uncut memory))
 
 -- without sockets nothing is printed
-pub ends_unheard : (admin : Option ℕ) (turns : ℕ) (fault : ServeFault) (old : Option (List ℕ)) → IsListen fault → ServesUpTo admin turns (Err fault) old old
-ends_unheard admin turns (Listen port code) old is = (turns, made_all admin turns, refl)
-ends_unheard admin turns Wait old is = absurd is
-ends_unheard admin turns (Ended fault) old is = absurd is
+pub ends_unheard : (admin : Option ℕ) (turns : ℕ) (fault : ServeFault) (old : Option (List ℕ)) → HasNoSockets fault → ServesUpTo admin turns (Err fault) old old
+ends_unheard admin turns (Listen port code) old none = (turns, made_all admin turns, refl)
+ends_unheard admin turns Wait old none = (turns, made_all admin turns, refl)
+ends_unheard admin turns (Ended fault) old none = absurd none
 
-pub ends_blind : (admin : Option ℕ) (turns : ℕ) (old : Option (List ℕ)) → ServesUpTo admin turns (Err Wait) old old
-ends_blind admin turns old = (turns, made_all admin turns, refl)
+-- and that is no fault of a limit
+pub unheard_unlimited : (fault : ServeFault) → HasNoSockets fault → fault ≢ Ended BadLimit
+unheard_unlimited (Listen port code) none = λ limit. cc
+unheard_unlimited Wait none = λ limit. cc
+unheard_unlimited (Ended fault) none = absurd none
+
+-- so ends a port that cannot be opened
+pub listen_none : (fault : ServeFault) → IsListen fault → HasNoSockets fault
+listen_none (Listen port code) is = tt
+listen_none Wait is = absurd is
+listen_none (Ended fault) is = absurd is
+
+-- ---- want of memory cuts no line
+
+pub uncut_first : {E : Type 0} (r : Result E ServeFault) (old new : Option (List ℕ)) (port : ℕ) → IfErr r (λ fault. fault ≡ Ended NoMemory → new ≡ old)
+    → IfErr r (λ fault. fault ≡ Ended NoMemory → Listens port old new)
+uncut_first (Ok x) old new port none = tt
+uncut_first (Err fault) old new port none = λ memory. inl (subst (Keeps old) (sym (none memory)) (Keeps-refl old))
+
+pub uncut_last : {E : Type 0} (r : Result E ServeFault) (old mid new : Option (List ℕ)) (port : ℕ) → Appends old mid (listening_text port)
+    → IfErr r (λ fault. fault ≡ Ended NoMemory → new ≡ mid) → IfErr r (λ fault. fault ≡ Ended NoMemory → Listens port old new)
+uncut_last (Ok x) old mid new port first none = tt
+uncut_last (Err fault) old mid new port first none = λ memory. inr (subst (λ c. Appends old c (listening_text port)) (sym (none memory)) first)
 
 -- a last print, after what was printed
 pub then_all : {E : Type 0} (r : Result (Unit {0}) E) (old mid new : Option (List ℕ)) (bs more : List ℕ) → Appends old mid bs → OnOk r (Appends mid new more)

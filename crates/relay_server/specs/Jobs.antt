@@ -1,5 +1,5 @@
 -- The ends of the program's jobs, and their statuses.
-use Rattle.std.specs.Prelude.{◌≡◌, ◌≤◌, ◌↔◌, ℕ, ◌⊎◌, List, Option, Some, None, Result, Ok, Err, IsErrOf, string_bytes}
+use Rattle.std.specs.Prelude.{◌≡◌, ◌≤◌, ◌↔◌, ℕ, ◌⊎◌, ⊤, List, Option, Some, None, Result, Ok, Err, IsErrOf, string_bytes}
 use Rattle.std.specs.Io.KnownBytes.{IsAtEnd, Appends, Keeps}
 use Rattle.std.specs.declared.io.ErrorKind.{ErrorKind}
 use Rattle.std.specs.declared.io.ErrorKind.TheVariants as kind
@@ -60,6 +60,11 @@ abbrev pub LoopEnds : Result (Unit {0}) ServeFault → Option (List ℕ) → Opt
 LoopEnds (Ok u) input left old new = Ends LoopbackAnswers unopened (Ok u) input left old new
 LoopEnds (Err (serve.Ended fault)) input left old new = Ends LoopbackAnswers unopened (Err fault) input left old new
 LoopEnds (Err _) input left old new = (left ≡ input) × (new ≡ old)
+
+-- there were no sockets, or no poll of them
+abbrev pub HasNoSockets : ServeFault → Type 0
+HasNoSockets (serve.Ended fault) = ⊥
+HasNoSockets _ = ⊤
 
 -- no line was cut: either nothing was written, or the first line
 abbrev pub Listens : ℕ → Option (List ℕ) → Option (List ℕ) → Type 0

@@ -4,6 +4,7 @@
 #![tactic(auto)]
 
 mod config;
+mod entrance;
 mod jobs;
 mod log_level;
 mod log_lines;

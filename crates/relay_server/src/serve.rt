@@ -5,18 +5,19 @@ ghost use Rattle.relay_hub.specs.Queries.{BadLimits};
 ghost use Rattle.relay_server.specs.Config.{config_of};
 ghost use Rattle.relay_server.specs.Jobs.{Listens, ServesUpTo};
 ghost use Rattle.relay_lines.specs.Lines.{AppendsPart};
-ghost use Rattle.relay_server.specs.Printed.{served_text};
+ghost use Rattle.relay_server.specs.Printed.{listening_text, served_text, turns_text};
 ghost use Rattle.relay_serving.specs.Rounds.{RoundsOf};
 ghost use Rattle.relay_lines.specs.declared.fault.ScriptFault.TheVariants.{BadLimit, NoMemory, Output};
 ghost use Rattle.relay_loopback.specs.declared.fault.ServeFault.TheVariants.{Ended};
 
 use crate::config::config_of;
+use crate::entrance::{self, Entrance};
 use crate::log_lines::LogLines;
 use relay_hub::Hub;
 use relay_lines::{ScriptFault, write_whole};
-use relay_loopback::{ServeFault, listen};
+use relay_loopback::ServeFault;
 use relay_options::Settings;
-use relay_serving::{AdminPort, AdminReadiness, ConnectionLog, NoLog, Polling, Readiness, Server};
+use relay_serving::{AdminPort, AdminReadiness, ConnectionLog, NoLog, Readiness, Server};
 use std::alloc::Global;
 use std::io::{Read, Write};
 use std::net::{Net, OpenListener, OpenStream};
@@ -80,7 +81,7 @@ fn serve_logged<N: Clock + Net, W: Write, J: ConnectionLog>(
 }
 
 /// Serves a hub.
-#[tactic(auto, using(crate::proofs::ServeLemmas::ends_unheard, crate::proofs::ServeLemmas::ends_blind))]
+#[tactic(auto, using(crate::proofs::ServeLemmas::ends_unheard, crate::proofs::ServeLemmas::unheard_unlimited))]
 fn serve_hub<N: Clock + Net, W: Write, J: ConnectionLog>(
     alloc: Global,
     net: &N,
@@ -92,69 +93,50 @@ fn serve_hub<N: Clock + Net, W: Write, J: ConnectionLog>(
     ensures ends { ServesUpTo served.admin served.turns result (W.contents writer.old) (W.contents writer.new) }
     ensures limits { IfErr result (λ fault. fault ≢ Ended BadLimit) }
 {
-    let listener = listen(net, served.port)?;
-    let address = match listener.local_addr() {
-        Ok(address) => address,
-        Err(error) => return Err(ServeFault::listen(served.port, &error)),
-    };
-    let Ok(polling) = Polling::new(alloc, net, &listener) else {
-        return Err(ServeFault::Wait);
-    };
+    let entrance = entrance::open(net, served.port)?;
+    let polling = entrance::poll(alloc, net, &entrance.listener)?;
     let Some(admin) = served.admin else {
         let mut server = Server::new(alloc, hub, polling);
-        return host(
-            alloc,
-            writer,
-            log,
-            &mut server,
-            &listener,
-            address.port(),
-            served.turns,
-        );
+        return host(alloc, writer, log, &mut server, &entrance, served.turns);
     };
-    let admin = listen(net, admin)?;
-    if polling.watch_admin(&admin).is_err() {
-        return Err(ServeFault::Wait);
-    }
+    let admin = entrance::open_admin(net, admin, &polling)?;
     let mut server = Server::new(alloc, hub, AdminReadiness::new(polling, net));
     host_administered(
         alloc,
         writer,
         log,
         &mut server,
-        &listener,
+        &entrance,
         &mut AdminPort::new(alloc, admin),
-        address.port(),
         served.turns,
     )
 }
 
 /// Prints the port, runs the rounds, ends every connection, and prints the number of rounds.
-#[tactic(auto, using(crate::proofs::ServeLemmas::part_none, relay_serving::proofs::Advancing::no_rounds))]
+#[tactic(auto, using(crate::proofs::ServeLemmas::uncut_first, crate::proofs::ServeLemmas::uncut_last, relay_serving::proofs::Advancing::no_rounds))]
 fn host<L: OpenListener, P: Readiness<L::Stream>, W: Write, J: ConnectionLog>(
     alloc: Global,
     writer: &mut W,
     log: &mut J,
     server: &mut Server<L::Stream, P>,
-    listener: &L,
-    port: u16,
+    entrance: &Entrance<L>,
     turns: u64,
 ) -> Result<(), ServeFault>
 where
     L::Stream: Read + Write + OpenStream + Drop,
     ensures rounds { RoundsOf L.Stream.remaining server.old server.new }
-    ensures done { OnOk result (Appends (W.contents writer.old) (W.contents writer.new) (served_text port turns)) }
-    ensures stopped { OnErr result (AppendsPart (W.contents writer.old) (W.contents writer.new) (served_text port turns)) }
-    ensures uncut { IfErr result (λ fault. fault ≡ Ended NoMemory → Listens port (W.contents writer.old) (W.contents writer.new)) }
+    ensures done { OnOk result (Appends (W.contents writer.old) (W.contents writer.new) (served_text entrance.now.port turns)) }
+    ensures stopped { OnErr result (AppendsPart (W.contents writer.old) (W.contents writer.new) (served_text entrance.now.port turns)) }
+    ensures uncut { IfErr result (λ fault. fault ≡ Ended NoMemory → Listens entrance.now.port (W.contents writer.old) (W.contents writer.new)) }
     ensures fault { IfErr result (λ fault. (fault ≡ Ended Output) ⊎ (fault ≡ Ended NoMemory)) }
 {
-    print(writer, format!(in alloc; "listening {port}\n")?.as_str())?;
-    server.run(alloc, listener, turns, log);
-    print(writer, format!(in alloc; "turns {turns}\n")?.as_str())
+    tell_port(alloc, writer, entrance.port)?;
+    server.run(alloc, &entrance.listener, turns, log);
+    tell_turns(alloc, writer, turns)
 }
 
 /// The same for a server with an admin port, which prints how many rounds it ran before it was stopped.
-#[tactic(auto, using(crate::proofs::ServeLemmas::none_made, crate::proofs::ServeLemmas::then_all_made, relay_serving::proofs::Advancing::no_rounds))]
+#[tactic(auto, using(crate::proofs::ServeLemmas::uncut_first, crate::proofs::ServeLemmas::uncut_last, relay_serving::proofs::Advancing::no_rounds))]
 fn host_administered<
     L: OpenListener,
     P: Readiness<L::Stream> + Drop,
@@ -166,22 +148,41 @@ fn host_administered<
     writer: &mut W,
     log: &mut J,
     server: &mut Server<L::Stream, AdminReadiness<'_, P, C>>,
-    listener: &L,
+    entrance: &Entrance<L>,
     admin: &mut AdminPort<L>,
-    port: u16,
     turns: u64,
 ) -> Result<(), ServeFault>
 where
     L::Stream: Read + Write + OpenStream + Drop,
     ensures rounds { RoundsOf L.Stream.remaining server.old server.new }
-    ensures done { OnOk result ((made : ℕ) × (made ≤ turns) × Appends (W.contents writer.old) (W.contents writer.new) (served_text port made)) }
-    ensures stopped { OnErr result ((made : ℕ) × (made ≤ turns) × AppendsPart (W.contents writer.old) (W.contents writer.new) (served_text port made)) }
-    ensures uncut { IfErr result (λ fault. fault ≡ Ended NoMemory → Listens port (W.contents writer.old) (W.contents writer.new)) }
+    ensures done { OnOk result ((made : ℕ) × (made ≤ turns) × Appends (W.contents writer.old) (W.contents writer.new) (served_text entrance.now.port made)) }
+    ensures stopped { OnErr result ((made : ℕ) × (made ≤ turns) × AppendsPart (W.contents writer.old) (W.contents writer.new) (served_text entrance.now.port made)) }
+    ensures uncut { IfErr result (λ fault. fault ≡ Ended NoMemory → Listens entrance.now.port (W.contents writer.old) (W.contents writer.new)) }
     ensures fault { IfErr result (λ fault. (fault ≡ Ended Output) ⊎ (fault ≡ Ended NoMemory)) }
 {
-    print(writer, format!(in alloc; "listening {port}\n")?.as_str())?;
-    let made = server.run_administered(alloc, listener, admin, turns, log);
-    print(writer, format!(in alloc; "turns {made}\n")?.as_str())
+    tell_port(alloc, writer, entrance.port)?;
+    let made = server.run_administered(alloc, &entrance.listener, admin, turns, log);
+    tell_turns(alloc, writer, made)
+}
+
+/// Prints on which port the server listens. `NoMemory` comes before a byte is written; so for [`tell_turns`].
+fn tell_port<W: Write>(alloc: Global, writer: &mut W, port: u16) -> Result<(), ServeFault>
+    ensures ok { OnOk result (Appends (W.contents writer.old) (W.contents writer.new) (listening_text port)) }
+    ensures err { OnErr result (AppendsPart (W.contents writer.old) (W.contents writer.new) (listening_text port)) }
+    ensures uncut { IfErr result (λ fault. fault ≡ Ended NoMemory → W.contents writer.new ≡ W.contents writer.old) }
+    ensures fault { IfErr result (λ fault. (fault ≡ Ended Output) ⊎ (fault ≡ Ended NoMemory)) }
+{
+    print(writer, format!(in alloc; "listening {port}\n")?.as_str())
+}
+
+/// Prints how many rounds the server ran.
+fn tell_turns<W: Write>(alloc: Global, writer: &mut W, turns: u64) -> Result<(), ServeFault>
+    ensures ok { OnOk result (Appends (W.contents writer.old) (W.contents writer.new) (turns_text turns)) }
+    ensures err { OnErr result (AppendsPart (W.contents writer.old) (W.contents writer.new) (turns_text turns)) }
+    ensures uncut { IfErr result (λ fault. fault ≡ Ended NoMemory → W.contents writer.new ≡ W.contents writer.old) }
+    ensures fault { IfErr result (λ fault. (fault ≡ Ended Output) ⊎ (fault ≡ Ended NoMemory)) }
+{
+    print(writer, format!(in alloc; "turns {turns}\n")?.as_str())
 }
 
 /// Writes a line and flushes it.

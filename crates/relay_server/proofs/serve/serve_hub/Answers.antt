@@ -3,15 +3,20 @@ use Rattle.std.proofs.lemmas.Result.{err_from_is_err_and}
 use Rattle.relay_server.proofs.ServeLemmas.{ends_all, ends_stopped, ends_unheard, never_limited}
 use Rattle.relay_server.proofs.serve.serve_hub.Goals as goal
 
-pub returns-in_err-listener-clause-ends : goal.returns-in_err-listener-clause-ends
-returns-in_err-listener-clause-ends g c =
+pub returns-in_err-entrance-clause-ends : goal.returns-in_err-entrance-clause-ends
+returns-in_err-entrance-clause-ends g c =
     let p = err_from_is_err_and c.from_residual.result c.from_residual.ensures.1 in
-    rw (p.1, p.2) (ends_unheard c.args.served.admin c.args.served.turns _ _ c.in_err-listener.ensures)
+    rw (p.1, p.2) (ends_unheard c.args.served.admin c.args.served.turns _ _ c.in_err-entrance.ensures)
 
-pub returns-in_default-admin-clause-ends : goal.returns-in_default-admin-clause-ends
-returns-in_default-admin-clause-ends g c =
+pub returns-in_err-polling-clause-ends : goal.returns-in_err-polling-clause-ends
+returns-in_err-polling-clause-ends g c =
+    let p = err_from_is_err_and c.from_residual-in_err-polling.result c.from_residual-in_err-polling.ensures.1 in
+    rw (p.1, p.2) (ends_unheard c.args.served.admin c.args.served.turns _ _ c.in_err-polling.ensures)
+
+pub returns-in_default-clause-ends : goal.returns-in_default-clause-ends
+returns-in_default-clause-ends g c =
     let host = c.host.ensures in
-    ends_all c.args.served.admin c.args.served.turns c.port.result c.host.result _ _ c.in_default-admin.is host.done host.stopped host.uncut host.fault
+    ends_all c.args.served.admin c.args.served.turns _ c.host.result _ _ c.in_default.is host.done host.stopped host.uncut host.fault
 
 pub returns-in_err-admin-clause-ends : goal.returns-in_err-admin-clause-ends
 returns-in_err-admin-clause-ends g c =
@@ -21,10 +26,10 @@ returns-in_err-admin-clause-ends g c =
 pub returns-clause-ends : goal.returns-clause-ends
 returns-clause-ends g c =
     let host = c.host_administered.ensures in
-    ends_stopped c.args.served.admin c.in-Some.admin c.args.served.turns c.port-2.result c.host_administered.result _ _ c.in-Some.is host.done host.stopped host.uncut host.fault
+    ends_stopped c.args.served.admin c.in-Some.admin c.args.served.turns _ c.host_administered.result _ _ c.in-Some.is host.done host.stopped host.uncut host.fault
 
-pub returns-in_default-admin-clause-limits : goal.returns-in_default-admin-clause-limits
-returns-in_default-admin-clause-limits g c = never_limited c.host.result c.host.ensures.fault
+pub returns-in_default-clause-limits : goal.returns-in_default-clause-limits
+returns-in_default-clause-limits g c = never_limited c.host.result c.host.ensures.fault
 
 pub returns-clause-limits : goal.returns-clause-limits
 returns-clause-limits g c = never_limited c.host_administered.result c.host_administered.ensures.fault
