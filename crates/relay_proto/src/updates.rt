@@ -12,9 +12,21 @@ ghost use Rattle.relay_proto.specs.declared.message.Message.TheVariants as messa
 
 use json::Writer;
 use relay_patch::Patch;
-use relay_tree::{Tree, begin_text, end_text};
+use relay_tree::{Budget, Tree, end_text};
 use relay_view::View;
 use std::alloc::{AllocError, Global};
+
+/// How many bytes a message takes but for what it carries, at most.
+const MESSAGE_BYTES: usize = 64;
+
+/// How many bytes an operation takes but for its path and its value, at most.
+const OPERATION_BYTES: usize = 40;
+
+/// How many bytes a snapshot's text begins with room for.
+const SNAPSHOT_BYTES: usize = 128;
+
+/// A patch that weighs more begins with room for as many bytes.
+const LIKELY_BYTES: u64 = 65_536;
 
 /// Returns the text of a patch message: the operations that bring a view to the revision `rev`. Copies no value; the text of each pointer is
 /// allocated briefly. It reads back as the message if the revision is a count, paths have at most 66 tokens and the text nests at most 127
@@ -23,7 +35,7 @@ pub fn patch_text(alloc: Global, rev: u64, patch: &Patch) -> Result<String, Allo
     ensures text { IfOk result (λ text. string_bytes text ≡ text_of (patch_message rev patch.now)) }
     ensures reads_back { IfOk result (λ text. IsWritable (message.Patch rev patch.now) → message_of_text (string_bytes text) ≡ Some (message.Patch rev patch.now)) }
 {
-    let mut out = begin_message(alloc, "patch")?;
+    let mut out = begin_message(alloc, "patch", likely_length(patch))?;
     out.key("patch")?;
     patch.write(alloc, &mut out)?;
     out.key("rev")?;
@@ -58,12 +70,26 @@ pub fn shown_text(
     end_message(out)
 }
 
-/// Writes a message up to its kind.
-fn begin_message(alloc: Global, kind: &str) -> Result<Writer, AllocError>
+/// About as many bytes as the text of a patch message has, so that it seldom grows: what the operations weigh, and their words.
+fn likely_length(patch: &Patch) -> usize {
+    let carried = match patch.pay(Budget::Left(LIKELY_BYTES)) {
+        Some(Budget::Left(left)) => LIKELY_BYTES.saturating_sub(left),
+        _ => LIKELY_BYTES,
+    };
+    patch
+        .ops()
+        .len()
+        .saturating_mul(OPERATION_BYTES)
+        .saturating_add(carried as usize)
+        .saturating_add(MESSAGE_BYTES)
+}
+
+/// Writes a message up to its kind, into a text with room for so many bytes.
+fn begin_message(alloc: Global, kind: &str, room: usize) -> Result<Writer, AllocError>
     ensures before { IfOk result (λ out. out.before ≡ []) }
     ensures tokens { IfOk result (λ out. out.tokens ≡ begin_object ∷ key (codes "kind") ∷ string kind.now ∷ []) }
 {
-    let mut out = begin_text(alloc)?;
+    let mut out = Writer::new(Vec::with_capacity(alloc, room)?);
     out.begin_object()?;
     out.key("kind")?;
     out.string(kind)?;
@@ -75,7 +101,7 @@ fn begin_snapshot(alloc: Global, rev: u64) -> Result<Writer, AllocError>
     ensures before { IfOk result (λ out. out.before ≡ []) }
     ensures tokens { IfOk result (λ out. out.tokens ≡ begin_object ∷ key (codes "kind") ∷ string (codes "snapshot") ∷ key (codes "rev") ∷ number (decimal rev) ∷ key (codes "view") ∷ []) }
 {
-    let mut out = begin_message(alloc, "snapshot")?;
+    let mut out = begin_message(alloc, "snapshot", SNAPSHOT_BYTES)?;
     out.key("rev")?;
     out.u64(rev)?;
     out.key("view")?;
