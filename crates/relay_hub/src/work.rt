@@ -2,7 +2,7 @@
 //!
 //! The measure is weight that is walked over. It is meant as an upper bound, which no clause says, and is cheap to tell: most texts are too
 //! short to ask for much of a room as it is, and only of the others the words are counted.
-use memchr::memchr2_iter;
+use memchr::{memchr, memchr_iter, memmem};
 use relay_patch::{MAX_OPS, MAX_WEIGHT};
 use relay_room::Room;
 use relay_view::MAX_SLOTS;
@@ -64,28 +64,28 @@ impl Asked {
     /// What the words of a text ask for, told by one pass over its quotes; `None` if not every word may be found.
     fn by_words(text: &str) -> Option<Asked> {
         let bytes = text.as_bytes();
+        if hides_letters(bytes) {
+            return None;
+        }
         let mut asked = Asked {
             operations: 0,
             copies: 0,
             views: false,
             resumes: false,
         };
-        for place in memchr2_iter(b'"', b'\\', bytes) {
-            match bytes.get(place..)? {
-                [b'"', b'o', b'p', b'"', ..] => {
+        for quote in memchr_iter(b'"', bytes) {
+            match bytes.get(quote..)? {
+                [_, b'o', b'p', b'"', ..] => {
                     asked.operations = asked.operations.saturating_add(1);
                 }
-                [b'"', b'c', b'o', b'p', b'y', b'"', ..] => {
+                [_, b'c', b'o', b'p', b'y', b'"', ..] => {
                     asked.copies = asked.copies.saturating_add(1);
                 }
-                [b'"', b'w', b'a', b't', b'c', b'h', b'"', ..] => asked.views = true,
-                [b'"', b'r', b'e', b's', b'u', b'm', b'e', b'"', ..] => {
+                [_, b'w', b'a', b't', b'c', b'h', b'"', ..] => asked.views = true,
+                [_, b'r', b'e', b's', b'u', b'm', b'e', b'"', ..] => {
                     asked.views = true;
                     asked.resumes = true;
                 }
-                // A small letter that is written by its number (RFC 8259, section 7), which no encoder does: then words may be there that
-                // are not found.
-                [b'\\', b'u', b'0', b'0', b'6' | b'7', ..] => return None,
                 _ => {}
             }
         }
@@ -114,4 +114,18 @@ impl Asked {
         };
         shown.saturating_add(missed).saturating_mul(MAX_SLOTS)
     }
+}
+
+/// Whether a small letter is written by its number (RFC 8259, section 7), which no encoder does: then words may be there that are not found.
+/// Most texts have no escape at all, which is cheaper to tell.
+fn hides_letters(bytes: &[u8]) -> bool {
+    if memchr(b'\\', bytes).is_none() {
+        return false;
+    }
+    for escape in memmem::find_iter(bytes, b"\\u00") {
+        if let Some([_, _, _, _, b'6' | b'7', ..]) = bytes.get(escape..) {
+            return true;
+        }
+    }
+    false
 }
