@@ -1,4 +1,5 @@
 pub mod Config
+pub mod Text
 pub mod State
 pub mod Representation
 pub mod EncodedPatch

@@ -82,7 +82,7 @@ fn open_first<T: Transport>(
     if let Some(session) = outcome.session_after(None) {
         add(clients, words, session)?;
     }
-    words.outcome(&outcome)
+    words.last_outcome(outcome)
 }
 
 /// Adds a name whose first session was just opened.

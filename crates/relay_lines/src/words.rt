@@ -53,6 +53,13 @@ impl Words<'_> {
         }
     }
 
+    /// The same of an outcome that nobody needs any more.
+    pub fn last_outcome(&self, outcome: Outcome) -> Result<String, AllocError>
+        ensures { IfOk result (λ text. string_bytes text ≡ outcome_text self.now.name.now outcome) }
+    {
+        self.outcome(&outcome)
+    }
+
     /// The answer for an answer of the hub.
     fn answered(&self, answer: &Answer) -> Result<String, AllocError>
         ensures { IfOk result (λ text. string_bytes text ≡ answer_text self.now.name.now answer.now) }

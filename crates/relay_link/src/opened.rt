@@ -207,7 +207,7 @@ fn hear_text<S: Read + Write + Drop>(
     ensures adds { Adds 1 1 0 made.old made.new }
     ensures prompt { IfErr result (λ ending. IsPrompt (cause_of ending)) }
 {
-    let Some(text) = next_text(alloc, opened)? else {
+    let Some(text) = next_text(opened)? else {
         return Ok(());
     };
     let work = hub.most_work(session, text.as_str());
@@ -225,10 +225,7 @@ fn hear_text<S: Read + Write + Drop>(
 /// Takes the text that is held, or else reads a message, and takes its text if it is a text. Either may not be the last that was read, so
 /// the link asks for another turn.
 #[tactic(auto, using(crate::proofs::Hearing::hears_held, crate::proofs::Hearing::hears_found, crate::proofs::Terms::keeps_same))]
-fn next_text<S: Read + Write + Drop>(
-    alloc: Global,
-    opened: &mut OpenSocket<S>,
-) -> Result<Option<Text>, Ending>
+fn next_text<S: Read + Write + Drop>(opened: &mut OpenSocket<S>) -> Result<Option<Text>, Ending>
     ensures hears { IfOk result (λ text. HearsOnce S.remaining opened.old opened.new (given text)) }
     ensures empty { OnOk result (opened.new.held ≡ None) }
     ensures terms { OnOk result (KeepsTerms opened.old.socket.conn opened.new.socket.conn) }
@@ -242,10 +239,7 @@ fn next_text<S: Read + Write + Drop>(
         return Ok(None);
     };
     match message {
-        Message::Text(words) => match String::from_str(alloc, words.as_str()) {
-            Ok(text) => Ok(Some(Text::of(text))),
-            Err(_) => Err(Ending::Gone(Cause::Memory)),
-        },
+        Message::Text(words) => Ok(Some(Text::shared(words))),
         Message::Binary(_) => {
             close(&mut opened.socket, CloseCode::Unsupported)?;
             Err(Ending::Closing(Cause::Binary))
