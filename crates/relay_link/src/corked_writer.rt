@@ -15,6 +15,7 @@ const OUTPUT_BUFFER: usize = 640;
 #[derive(Clone, Copy)]
 struct Orders {
     begins_poll: bool,
+    taken: usize,
     requests_poll: bool,
     holds: bool,
 }
@@ -41,6 +42,7 @@ impl<S: Write + Drop> CorkedWriter<S> {
                 holds: false,
                 orders: Cell::new(Orders {
                     begins_poll: false,
+                    taken: 0,
                     requests_poll: false,
                     holds: false,
                 }),
@@ -64,6 +66,13 @@ impl<S: Write + Drop> CorkedWriter<S> {
         self.orders.set(orders);
     }
 
+    /// Notes that a message of at least `len` bytes was taken off what was read. Asks for another turn if any may be left.
+    pub(crate) fn note_taken(&self, len: usize) {
+        let mut orders = self.orders.get();
+        orders.taken = orders.taken.saturating_add(len);
+        self.orders.set(orders);
+    }
+
     /// Asks for another turn.
     pub(crate) fn request_poll(&self) {
         let mut orders = self.orders.get();
@@ -80,12 +89,16 @@ impl<S: Write + Drop> CorkedWriter<S> {
         if orders.begins_poll {
             self.writer.get_mut().begin_poll();
         }
+        if orders.taken > 0 {
+            self.writer.get_mut().note_taken(orders.taken);
+        }
         if orders.requests_poll {
             self.writer.get_mut().request_poll();
         }
         self.holds = orders.holds;
         self.orders.set(Orders {
             begins_poll: false,
+            taken: 0,
             requests_poll: false,
             holds: orders.holds,
         });

@@ -58,6 +58,7 @@ pub(crate) fn listen<S: Read + Write + Drop>(
     match stream.read(&mut chunk) {
         Ok(0) => return Transition::gone(Cause::Peer),
         Ok(len) => {
+            stream.note_taken(len);
             if bytes.extend_from_slice(&chunk[..len]).is_err() {
                 return Transition::gone(Cause::Memory);
             }

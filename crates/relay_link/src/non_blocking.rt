@@ -13,8 +13,11 @@ pub(crate) struct NonBlocking<S> {
     stream: S,
     /// How many bytes may still be asked for in this turn.
     left: usize,
-    /// Whether a read gave as many bytes as it asked for.
+    /// Whether the last read gave as many bytes as it asked for, and whether any read did.
+    last_filled: bool,
     filled: bool,
+    /// How many of the bytes that were read are not yet taken, at most.
+    untaken: usize,
     /// Whether another turn may have work although no new event is ready.
     wants_poll: bool,
     /// Whether a write failed, or accepted no byte.
@@ -30,7 +33,9 @@ impl<S> NonBlocking<S> {
         NonBlocking {
             stream,
             left: MAX_ASKED,
+            last_filled: false,
             filled: false,
+            untaken: 0,
             wants_poll: false,
             broken: false,
         }
@@ -51,8 +56,19 @@ impl<S> NonBlocking<S> {
         self.wants_poll = true;
     }
 
-    /// Whether, since the last read turn began, no byte was read, no call was interrupted, and nothing asked for another turn.
-    /// A write does not ask for one: pending output waits until the stream is writable.
+    /// Notes that a message of at least `len` bytes was taken off what was read. Asks for another turn if any may be left, here or in the
+    /// stream, since they may be the next one.
+    pub(crate) fn note_taken(&mut self, len: usize)
+        ensures { self.new.stream ≡ self.old.stream }
+    {
+        self.untaken = self.untaken.saturating_sub(len);
+        if self.untaken > 0 || self.last_filled {
+            self.request_poll();
+        }
+    }
+
+    /// Whether, since the last read turn began, no call was interrupted, and nothing asked for another turn. A write does not ask for one:
+    /// pending output waits until the stream is writable.
     pub(crate) fn is_idle(&self) -> bool
         ensures { result ≡ not self.now.wants_poll }
     {
@@ -93,10 +109,10 @@ impl<S: Read> Read for NonBlocking<S> {
         }
         let asked = buf.len();
         let read = self.stream.read(buf);
-        if let Ok(len @ 1..) = read {
-            self.request_poll();
-            self.filled = self.filled || len == asked;
-        }
+        let len = if let Ok(len) = read { len } else { 0 };
+        self.untaken = self.untaken.saturating_add(len);
+        self.last_filled = len == asked;
+        self.filled = self.filled || self.last_filled;
         self.noted(read)
     }
 }

@@ -212,6 +212,7 @@ fn hear_text<S: Read + Write + Drop>(
     };
     let work = hub.most_work(session, text.as_str());
     if work > most_work {
+        opened.socket.get_ref().request_poll();
         opened.held = Some(text);
         return Ok(());
     }
@@ -222,7 +223,7 @@ fn hear_text<S: Read + Write + Drop>(
     }
 }
 
-/// Takes the text that is held, or else reads a message, and takes its text if it is a text. Either may not be the last that was read, so
+/// Takes the text that is held, or else reads a message, and takes its text if it is a text. If that may not be the last that was read,
 /// the link asks for another turn.
 #[tactic(auto, using(crate::proofs::Hearing::hears_held, crate::proofs::Hearing::hears_found, crate::proofs::Terms::keeps_same))]
 fn next_text<S: Read + Write + Drop>(opened: &mut OpenSocket<S>) -> Result<Option<Text>, Ending>

@@ -75,8 +75,7 @@ pub(crate) fn widen<S: Read + Write + Drop>(socket: &mut Socket<S>)
     }
 }
 
-/// Reads one message. `None` if no complete message is available now. After a message the socket asks for another turn, since the
-/// next one may already be buffered.
+/// Reads one message. `None` if no complete message is available now. A message may ask for another turn ([`note_found`]).
 #[tactic(auto, using(crate::proofs::SocketErrors::read_error, crate::proofs::Hearing::finds_message, crate::proofs::Hearing::finds_none))]
 pub(crate) fn read<S: Read + Write + Drop>(socket: &mut Socket<S>) -> Result<Option<Message>, Cause>
     ensures prompt { IfErr result IsPrompt }
@@ -85,12 +84,32 @@ pub(crate) fn read<S: Read + Write + Drop>(socket: &mut Socket<S>) -> Result<Opt
 {
     match socket.read() {
         Ok(message) => {
-            socket.get_ref().request_poll();
+            note_found(socket.get_ref(), &message);
             Ok(Some(message))
         }
         Err(Error::Io(error)) if is_nothing_now(&error) => Ok(None),
         Err(error) => Err(Cause::of(&error)),
     }
+}
+
+/// Notes that a message was found. It asks for another turn if bytes behind it were read, since they may be the next message, and if it is
+/// a close, since the next read tells that the connection is over.
+fn note_found<S: Write + Drop>(stream: &CorkedWriter<S>, message: &Message) {
+    stream.note_taken(least_len(message));
+    if message.is_close() {
+        stream.request_poll();
+    }
+}
+
+/// How many bytes the frames of a received message have at least: a header with a masking key, and the payload (RFC 6455, section 5.2).
+fn least_len(message: &Message) -> usize {
+    let payload = message.len();
+    let header = match payload {
+        0..=125 => 6,
+        126..=65_535 => 8,
+        _ => 14,
+    };
+    payload.saturating_add(header)
 }
 
 /// Sends pending output. `false` if output is still pending; so for `write` and `close`.

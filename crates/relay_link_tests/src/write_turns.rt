@@ -15,28 +15,49 @@ tell => draw 1; Open as 1
 bring draws 32
 idle => receive 1; draw 1; draw 1; Open as 1 > {"id":7,"kind":"unwatched"}
 
-# A link is not idle if its turn read a byte or was interrupted.
+# A link is idle once it has read a head, or a message with nothing behind it. It is not if it was interrupted, or bytes behind a message
+# were read: a second message, a part of one, or the headers of more frames than one, which count as such a part.
 flags idle => idle
 flags hex => idle
 flags idle => idle
-flags asks 13 /rooms/a => busy
+flags asks 13 /rooms/a => idle
 flags draws 0 => idle
-flags says {"do":"unwatch","id":7} => busy
-flags idle => idle
+flags says {"do":"unwatch","id":7} => idle
 flags draws 9 => idle
 flags idle => idle
+bring says {"do":"unwatch","id":7}
+flags says {"do":"unwatch","id":7} => busy
+flags idle => idle
+flags idle => idle
+bring says {"do":"unwatch","id":7}
+flags hex 81 => busy
+flags idle => idle
+flags hex 80 00 00 00 00 => idle
+flags hex 89 80 00 00 00 00 => idle
+flags hex 01 80 00 00 00 00 80 80 00 00 00 00 => busy
+flags idle => idle
+flags says {"do":"unwatch","id":7} => busy
+flags idle => idle
 flags reads interrupt => busy
+
+# Nor is one that found a close: the next turn learns that the connection is over.
+asks 13 /rooms/a => open a; Open as 1 > switched
+flags hex 88 82 00 00 00 00 03 e8 => busy
+look => Closing
+idle => Gone by Peer
 
 # The replies to two texts are sent by one write, in the write turn.
 asks 13 /rooms/a => open a; Open as 1 > switched
 idle => draw 1; draw 1; Open as 1 > {"epoch":1,"kind":"welcome","rev":0,"session":1}
 2 bring says {"do":"unwatch","id":7}
-2 hear => receive 1; draw 1; draw 1; Open as 1
+hear => receive 1; draw 1; draw 1; Open as 1
 flags look => busy, corked
+hear => receive 1; draw 1; draw 1; Open as 1
+flags look => idle, corked
 count-writes => 2
 tell => draw 1; Open as 1 > {"id":7,"kind":"unwatched"} > {"id":7,"kind":"unwatched"}
 count-writes => 1
-flags look => busy
+flags look => idle
 
 # A link that ends sends its corked output first.
 asks 13 /rooms/a => open a; Open as 1 > switched

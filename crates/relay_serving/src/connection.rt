@@ -62,7 +62,7 @@ pub(crate) struct Wants {
 pub(crate) struct Connection<S: Write + Drop> {
     pub link: Link<Watched<S>>,
     pub known: Known,
-    /// Whether something became ready since the last read turn of the link.
+    /// Whether something became ready since the last read turn of the link, or that turn left something to read in the stream.
     pub read_pending: bool,
     /// Whether its last text told a crowd something.
     pub told_crowd: bool,

@@ -56,6 +56,11 @@ impl Known {
         state.ready.readable && (state.is_long || state.unfinished < LONG)
     }
 
+    /// Whether another read turn may read bytes, or the end, without a new event: a turn that has output pending reads nothing.
+    pub(crate) fn may_go_on(&self) -> bool {
+        self.is_readable() && self.is_writable()
+    }
+
     pub(crate) fn is_writable(&self) -> bool {
         self.state.get().ready.writable
     }

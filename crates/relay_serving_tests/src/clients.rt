@@ -18,12 +18,32 @@ const DONE: &str = r#""kind":"done""#;
 /// A client edits.
 const EDIT: &str = r#"says {"do":"edit","id":2,"patch":[{"op":"add","path":"","value":7}]}"#;
 
+/// A stream is readable.
+const READABLE: StreamReady = StreamReady {
+    readable: true,
+    writable: false,
+    is_over: false,
+};
+
+/// A stream is writable.
+const WRITABLE: StreamReady = StreamReady {
+    readable: false,
+    writable: true,
+    is_over: false,
+};
+
+/// A stream is readable, and the other side closed it.
+const OVER: StreamReady = StreamReady {
+    is_over: true,
+    ..READABLE
+};
+
 /// What `enters` stands for: the first client of a new server connects, and receives its welcome.
 const ENTERS: &str = "
 connect 0
 wire 0 asks 13 /rooms/r
 round => 1, 1r2w 101 welcome, 0r0w
-round => 1, 0r0w, 0r0w
+round => 1 sleeps, 0r0w, 0r0w
 ";
 
 /// What `watches` stands for: the first client watches the whole document.
@@ -37,7 +57,7 @@ const JOINS: &str = "
 connect 1
 wire 1 asks 13 /rooms/r
 round => 2 sleeps, 0r0w, 1r2w 101 welcome
-round => 2, 0r0w, 0r0w
+round => 2 sleeps, 0r0w, 0r0w
 ";
 
 /// Plays rows. A blank line begins anew, with a server that nobody is connected to.
@@ -86,8 +106,8 @@ impl<R: AllocGlobal> Subject<R> for Clients<'_> {
     /// - `connect K` has a client connect, `arrive K` runs a round then, and `enter K` has it ask for the room `r`, and runs three rounds;
     /// - `wire K ACT` does an act of the wire, and `send K ACT` announces that it is readable, too; `each N ACT` does an act of each of the
     ///   first wires;
-    /// - `readable K` and `writable K` announce that a stream is ready, `capacity N` that the next wait has space for so many events, and
-    ///   `wait-fails` that it fails;
+    /// - `readable K` and `writable K` announce that a stream is ready, `over K` that it is readable, and over; `capacity N` that the next
+    ///   wait has space for so many events, and `wait-fails` that it fails;
     /// - `round` runs a round, and `rounds N` so many, which are not told; `sleep` runs rounds until one could have slept;
     /// - `connections` tells how many there are; `done K`, `count K PART` and `writes K` tell how many edits were accepted, how often a part
     ///   was written, and how many writes there were, each since the last such question about the wire; `clear K` is such a question;
@@ -194,8 +214,9 @@ impl<'a> Clients<'a> {
             "clear" => self.clear(rest),
             "wire" => self.perform(alloc, cut(rest)),
             "send" => self.send(alloc, cut(rest)),
-            "readable" => self.announce(rest, false),
-            "writable" => self.announce(rest, true),
+            "readable" => self.announce(rest, READABLE),
+            "writable" => self.announce(rest, WRITABLE),
+            "over" => self.announce(rest, OVER),
             "capacity" => self.server.limit_next_wait(key_of(rest)?),
             "wait-fails" => self.server.fail_next_wait(),
             _ => None,
@@ -287,16 +308,11 @@ impl<'a> Clients<'a> {
     /// Does an act of a wire, and announces it.
     fn send(&self, alloc: Global, words: (&str, &str)) -> Option<()> {
         self.perform(alloc, words)?;
-        self.announce(words.0, false)
+        self.announce(words.0, READABLE)
     }
 
-    /// Announces that a stream is readable, or that it is writable.
-    fn announce(&self, key: &str, writable: bool) -> Option<()> {
-        let ready = StreamReady {
-            readable: !writable,
-            writable,
-            is_over: false,
-        };
+    /// Announces what a stream is ready for.
+    fn announce(&self, key: &str, ready: StreamReady) -> Option<()> {
         let key = key_of(key)?;
         self.server.add(ReadyEvent::Stream { key, ready })
     }

@@ -11,7 +11,7 @@ round => 1 sleeps, 0r0w, 1r1w
 send 0 hex 82 81 00 00 00 00 78
 round => 1 sleeps, 1r1w unsupported, 0r0w
 send 0 hex 88 82 00 00 00 00 03 e8
-round => 1, 1r0w, 0r0w
+round => 1 sleeps, 1r0w, 0r0w
 round => 0, 0r0w, 0r0w
 log => event=opened peer=127.0.0.1:1 link=0 session=1 room=r\nevent=refused peer=127.0.0.1:1 link=1 status=404\nevent=ended peer=127.0.0.1:1 link=0 session=1 room=r cause=binary rounds=3\n
 
@@ -39,7 +39,7 @@ wire 1 writes not-ready
 round => 2 sleeps, 0r0w, 1r1w
 wire 1 writes well
 writable 1
-round => 1, 0r0w, 0r1w 503
+round => 1 sleeps, 0r0w, 0r1w 503
 log => event=opened peer=127.0.0.1:1 link=0 session=1 room=r\nevent=refused peer=127.0.0.1:1 link=1 status=503 cause=sessions\n
 
 server rooms=1

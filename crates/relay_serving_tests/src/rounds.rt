@@ -28,13 +28,12 @@ round => 2 sleeps, 0r0w, 0r0w
 server waiting=2
 enters
 watches
-round => 1, 0r0w, 0r0w
+round => 1 sleeps, 0r0w, 0r0w
 joins
 3 wire 1 says {"do":"edit","id":2,"patch":[{"op":"add","path":"","value":7}]}
 readable 1
 round => 2 sleeps, 0r1w patch, 1r1w done
 2 round => 2, 0r1w patch, 0r1w done
-round => 2, 0r0w, 0r0w
 round => 2 sleeps, 0r0w, 0r0w
 
 # If waiting patches may weigh 100, a round reads no other text after one of 50 bytes.
@@ -46,7 +45,6 @@ joins
 readable 1
 round => 2 sleeps, 0r1w patch, 1r1w done
 2 round => 2, 0r1w patch, 0r1w done
-round => 2, 0r0w, 0r0w
 round => 2 sleeps, 0r0w, 0r0w
 
 # The reply to a text is sent before later bytes of the same segment end the link.
@@ -60,6 +58,21 @@ wire 0 says {"do":"edit","id":2,"patch":[{"op":"add","path":"","value":7}]}
 send 0 hex 88 82 00 00 00 00 03 e8
 round => 1 sleeps, 1r1w done close, 0r0w
 round => 0, 0r0w, 0r0w
+
+# The end behind the last text is read in the same round, although no event tells of it alone.
+enters
+wire 0 says {"do":"edit","id":2,"patch":[{"op":"add","path":"","value":7}]}
+wire 0 ends
+over 0
+round => 0 sleeps, 2r1w done, 0r0w
+
+# The end behind a ping is read in the next one.
+enters
+wire 0 hex 89 80 00 00 00 00
+wire 0 ends
+over 0
+round => 1 sleeps, 1r1w, 0r0w
+round => 0, 1r0w, 0r0w
 
 # A watcher whose stream is full is written to again once it is writable.
 enters
@@ -157,8 +170,7 @@ watches
 joins
 send 1 hex 82 81 00 00 00 00 78
 round => 2 sleeps, 0r0w, 1r1w unsupported
-round => 2, 0r0w, 0r0w
-7 round => 2 sleeps, 0r0w, 0r0w
+8 round => 2 sleeps, 0r0w, 0r0w
 readable 0
 round => 2 sleeps, 1r0w, 0r0w
 7 round => 2 sleeps, 0r0w, 0r0w
@@ -169,7 +181,6 @@ watches
 joins
 send 1 hex 82 81 00 00 00 00 78
 round => 2 sleeps, 0r0w, 1r1w unsupported
-round => 2, 0r0w, 0r0w
 send 1 hex 88 82 00 00 00 00 03 e8
 round => 2 sleeps, 0r0w, 1r0w
 round => 1, 0r0w, 0r0w

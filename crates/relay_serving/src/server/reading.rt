@@ -177,8 +177,8 @@ impl<S: Read + Write + OpenStream + Drop, R: Readiness<S>> Server<S, R> {
             self.shed(log);
             return TextsRead::NONE;
         };
-        connection.read_pending = false;
         connection.known.end_turn(received(&turn));
+        connection.read_pending = connection.known.may_go_on();
         self.settle(key, before, &turn, log);
         self.texts_read(&turn)
     }

@@ -1,0 +1,7 @@
+-- The connection is added where there was none, and there was room for it.
+use Rattle.std.proofs.Common.{refl, arith}
+use Rattle.relay_serving.proofs.Held.{added}
+use Rattle.relay_serving.proofs.server.Server.add.Goals as goal
+
+pub returns : goal.returns
+returns g c = ((refl, added c.args.self.now.connections c.insert.new.self _ _ c.args.self.now.hub c.in_ok-insert.ensures.was_vacant c.in_ok-insert.ensures.updates c.in_ok-connection.ensures), λ within. omega (arith, c.len.ensures, c.if-len-self.false, c.in_ok-insert.ensures.len))
