@@ -5,7 +5,7 @@ ghost use Rattle.relay_hub.specs.Queries.{BadLimits};
 ghost use Rattle.relay_server.specs.Config.{config_of};
 ghost use Rattle.relay_server.specs.Jobs.{Listens, ServesUpTo};
 ghost use Rattle.relay_lines.specs.Lines.{AppendsPart};
-ghost use Rattle.relay_server.specs.Printed.{listening_text, served_text, turns_text};
+ghost use Rattle.relay_server.specs.Printed.{line_of, served_text};
 ghost use Rattle.relay_serving.specs.Rounds.{RoundsOf};
 ghost use Rattle.relay_lines.specs.declared.fault.ScriptFault.TheVariants.{BadLimit, NoMemory, Output};
 ghost use Rattle.relay_loopback.specs.declared.fault.ServeFault.TheVariants.{Ended};
@@ -130,9 +130,9 @@ where
     ensures uncut { IfErr result (λ fault. fault ≡ Ended NoMemory → Listens entrance.now.port (W.contents writer.old) (W.contents writer.new)) }
     ensures fault { IfErr result (λ fault. (fault ≡ Ended Output) ⊎ (fault ≡ Ended NoMemory)) }
 {
-    tell_port(alloc, writer, entrance.port)?;
+    tell(alloc, writer, "listening", entrance.port as u64)?;
     server.run(alloc, &entrance.listener, turns, log);
-    tell_turns(alloc, writer, turns)
+    tell(alloc, writer, "turns", turns)
 }
 
 /// The same for a server with an admin port, which prints how many rounds it ran before it was stopped.
@@ -160,29 +160,19 @@ where
     ensures uncut { IfErr result (λ fault. fault ≡ Ended NoMemory → Listens entrance.now.port (W.contents writer.old) (W.contents writer.new)) }
     ensures fault { IfErr result (λ fault. (fault ≡ Ended Output) ⊎ (fault ≡ Ended NoMemory)) }
 {
-    tell_port(alloc, writer, entrance.port)?;
+    tell(alloc, writer, "listening", entrance.port as u64)?;
     let made = server.run_administered(alloc, &entrance.listener, admin, turns, log);
-    tell_turns(alloc, writer, made)
+    tell(alloc, writer, "turns", made)
 }
 
-/// Prints on which port the server listens. `NoMemory` comes before a byte is written; so for [`tell_turns`].
-fn tell_port<W: Write>(alloc: Global, writer: &mut W, port: u16) -> Result<(), ServeFault>
-    ensures ok { OnOk result (Appends (W.contents writer.old) (W.contents writer.new) (listening_text port)) }
-    ensures err { OnErr result (AppendsPart (W.contents writer.old) (W.contents writer.new) (listening_text port)) }
+/// Prints a line of a word and a number. `NoMemory` comes before a byte is written.
+fn tell<W: Write>(alloc: Global, writer: &mut W, word: &str, number: u64) -> Result<(), ServeFault>
+    ensures ok { OnOk result (Appends (W.contents writer.old) (W.contents writer.new) (line_of word.now number)) }
+    ensures err { OnErr result (AppendsPart (W.contents writer.old) (W.contents writer.new) (line_of word.now number)) }
     ensures uncut { IfErr result (λ fault. fault ≡ Ended NoMemory → W.contents writer.new ≡ W.contents writer.old) }
     ensures fault { IfErr result (λ fault. (fault ≡ Ended Output) ⊎ (fault ≡ Ended NoMemory)) }
 {
-    print(writer, format!(in alloc; "listening {port}\n")?.as_str())
-}
-
-/// Prints how many rounds the server ran.
-fn tell_turns<W: Write>(alloc: Global, writer: &mut W, turns: u64) -> Result<(), ServeFault>
-    ensures ok { OnOk result (Appends (W.contents writer.old) (W.contents writer.new) (turns_text turns)) }
-    ensures err { OnErr result (AppendsPart (W.contents writer.old) (W.contents writer.new) (turns_text turns)) }
-    ensures uncut { IfErr result (λ fault. fault ≡ Ended NoMemory → W.contents writer.new ≡ W.contents writer.old) }
-    ensures fault { IfErr result (λ fault. (fault ≡ Ended Output) ⊎ (fault ≡ Ended NoMemory)) }
-{
-    print(writer, format!(in alloc; "turns {turns}\n")?.as_str())
+    print(writer, format!(in alloc; "{word} {number}\n")?.as_str())
 }
 
 /// Writes a line and flushes it.

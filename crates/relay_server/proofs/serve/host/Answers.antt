@@ -4,13 +4,13 @@ use Rattle.relay_server.specs.Printed.{listening_text, turns_text}
 use Rattle.relay_server.proofs.ServeLemmas.{part_front, then_all, then_part}
 use Rattle.relay_server.proofs.serve.host.Goals as goal
 
-pub returns-in_err-tell_port-clause-stopped : goal.returns-in_err-tell_port-clause-stopped
-returns-in_err-tell_port-clause-stopped g c =
+pub returns-in_err-tell-clause-stopped : goal.returns-in_err-tell-clause-stopped
+returns-in_err-tell-clause-stopped g c =
     let p = err_from_is_err_and c.from_residual.result c.from_residual.ensures.1 in
-    rw p.1 (part_front _ _ (listening_text _) (turns_text c.args.turns) c.in_err-tell_port.ensures.err)
+    rw p.1 (part_front _ _ (listening_text _) (turns_text c.args.turns) c.in_err-tell.ensures.err)
 
 pub returns-clause-done : goal.returns-clause-done
-returns-clause-done g c = then_all c.tell_turns.result _ _ _ (listening_text _) (turns_text c.args.turns) c.in_ok-tell_port.ensures.ok c.tell_turns.ensures.ok
+returns-clause-done g c = then_all c.tell-2.result _ _ _ (listening_text _) (turns_text c.args.turns) c.in_ok-tell.ensures.ok c.tell-2.ensures.ok
 
 pub returns-clause-stopped : goal.returns-clause-stopped
-returns-clause-stopped g c = then_part c.tell_turns.result _ _ _ (listening_text _) (turns_text c.args.turns) c.in_ok-tell_port.ensures.ok c.tell_turns.ensures.err
+returns-clause-stopped g c = then_part c.tell-2.result _ _ _ (listening_text _) (turns_text c.args.turns) c.in_ok-tell.ensures.ok c.tell-2.ensures.err
