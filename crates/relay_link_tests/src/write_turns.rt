@@ -42,7 +42,7 @@ flags reads interrupt => busy
 
 # Nor is one that found a close: the next turn learns that the connection is over.
 asks 13 /rooms/a => open a; Open as 1 > switched
-flags hex 88 82 00 00 00 00 03 e8 => busy
+flags hex 88 80 00 00 00 00 => busy
 look => Closing
 idle => Gone by Peer
 
