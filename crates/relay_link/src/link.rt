@@ -82,9 +82,9 @@ impl<S: Read + Write + Drop> Link<S> {
         self.state.stage()
     }
 
-    /// Whether a turn has no work until the stream is ready again or a message waits for the session. `false` if the link holds a text; if
-    /// the last read turn read bytes behind the message that it found, took the text that it held, found a close, or had a read that gave
-    /// all the bytes that it asked for, since more may have come; or if a turn since then was interrupted or out of memory.
+    /// Whether a turn has no work until the stream is ready again or a message waits for the session. `false` if the last read turn held its
+    /// text, or took the one that was held, or found a close; if it found a message and bytes behind it were read, or the stream's last read
+    /// gave all that it was asked for, since more may have come; or if a turn since then was interrupted or out of memory.
     pub fn is_idle(&self) -> bool
         ensures { result ≡ is_idle self.now }
     {

@@ -13,8 +13,9 @@ pub(crate) struct NonBlocking<S> {
     stream: S,
     /// How many bytes may still be asked for in this turn.
     left: usize,
-    /// Whether the last read gave as many bytes as it asked for, and whether any read did.
+    /// Whether the last read gave as many bytes as it asked for.
     last_filled: bool,
+    /// Whether any read did.
     filled: bool,
     /// How many of the bytes that were read are not yet taken, at most.
     untaken: usize,
