@@ -33,10 +33,11 @@ impl Change {
 pub fn pay_changes(changes: &[Change], budget: Budget) -> Option<Budget>
     ensures { result ≡ paid (changes_weight changes.now) budget }
 {
-    match changes {
-        [] => Some(budget),
-        [change, rest @ ..] => pay_changes(rest, change.pay(budget)?),
+    let mut left = budget;
+    for change in changes {
+        left = change.pay(left)?;
     }
+    Some(left)
 }
 
 impl Op {
@@ -87,19 +88,14 @@ pub fn pay_part(part: Option<&Tree>, budget: Budget) -> Option<Budget>
 
 impl Patch {
     /// Returns what is left of a budget after the operations are paid, or `None` if they weigh more.
+    #[tactic(auto, using(relay_tree::proofs::Budgets::paid_on, relay_tree::proofs::Budgets::paid_out))]
     pub fn pay(&self, budget: Budget) -> Option<Budget>
         ensures { result ≡ paid (ops_weight self.now) budget }
     {
-        pay_ops(self.ops(), budget)
-    }
-}
-
-#[tactic(auto, using(relay_tree::proofs::Budgets::paid_on, relay_tree::proofs::Budgets::paid_out))]
-fn pay_ops(ops: &[Op], budget: Budget) -> Option<Budget>
-    ensures { result ≡ paid (ops_weight ops.now) budget }
-{
-    match ops {
-        [] => Some(budget),
-        [op, rest @ ..] => pay_ops(rest, op.pay(budget)?),
+        let mut left = budget;
+        for op in self.ops() {
+            left = op.pay(left)?;
+        }
+        Some(left)
     }
 }

@@ -1,5 +1,5 @@
 -- The weight of a translation's operations, change by change.
-use Rattle.std.proofs.Common.{◌≡◌, ℕ, ◌+◌, List, [], ◌∷◌, ◌++◌, suc, ◌<◌, length, drop, get_or, Some, None, refl, sym, ◌∙◌, arith}
+use Rattle.std.proofs.Common.{◌≡◌, ℕ, ◌+◌, List, [], ◌∷◌, ◌++◌, suc, ◌<◌, length, drop, get_or, map, flat_map, Bor, Some, None, refl, sym, ◌∙◌, arith}
 use Rattle.std.proofs.lemmas.List.{drop_more}
 use Rattle.relay_tree.specs.Budget.{paid}
 use Rattle.relay_tree.specs.Document.{Document}
@@ -35,6 +35,13 @@ pub further_ops : (changes : List Change) (now : Document) (slots : List Slot) (
 further_ops changes now slots n s within is =
     let next : n + 1 ≡ suc n = omega arith in
     rw (drop_more slots n s within, ← is, next) refl
+
+-- the operations of a change, followed by those of the later changes
+pub further_changes : (op : Change → List Op) (changes : List (Bor Change)) (n : ℕ) (c : Bor Change) → n < length changes → c ≡ get_or changes n c
+    → flat_map op (map (λ c. c.now) (drop n changes)) ≡ op c.now ++ flat_map op (map (λ c. c.now) (drop (n + 1) changes))
+further_changes op changes n c within is =
+    let next : n + 1 ≡ suc n = omega arith in
+    rw (drop_more changes n c within, ← is, next) refl
 
 -- a budget that pays for the first operations pays for the others from what is left
 pub paid_further : (all done rest : List Op) (x y : Budget) → all ≡ done ++ rest → paid (ops_weight done) x ≡ Some y → paid (ops_weight rest) y ≡ paid (ops_weight all) x

@@ -118,7 +118,6 @@ fn push_reset(
 }
 
 /// Adds one operation for each change inside what a slot of this kind shows.
-#[tactic(auto, using(relay_tree::proofs::Budgets::paid_on, relay_tree::proofs::Budgets::paid_out))]
 fn push_inside(
     alloc: Global,
     site: &Site<'_>,
@@ -130,15 +129,31 @@ fn push_inside(
     ensures left { IfOk result (λ left. left ≡ paid (ops_weight (flat_map (slot_op site.now.number (record { pointer = site.now.pointer.now; kind = kind })) (map (λ c. c.now) changes.now))) budget) }
     ensures pushed { IfOk result (λ left. IsSome left → ops.new.items ≡ ops.old.items ++ flat_map (slot_op site.now.number (record { pointer = site.now.pointer.now; kind = kind })) (map (λ c. c.now) changes.now)) }
 {
-    let [change, rest @ ..] = changes else {
-        return Ok(Some(budget));
-    };
-    let Touch::Inside = touch(change, site.pointer, kind) else {
-        return push_inside(alloc, site, kind, rest, ops, budget);
-    };
-    match push_operation(alloc, site, change, ops, budget)? {
-        Some(left) => push_inside(alloc, site, kind, rest, ops, left),
-        None => Ok(None),
+    let mut left = budget;
+    for change in changes {
+        match push_change(alloc, site, kind, change, ops, left)? {
+            Some(rest) => left = rest,
+            None => return Ok(None),
+        }
+    }
+    Ok(Some(left))
+}
+
+/// Adds the operation of a change, if it is inside what a slot of this kind shows.
+fn push_change(
+    alloc: Global,
+    site: &Site<'_>,
+    kind: SlotKind,
+    change: &Change,
+    ops: &mut Vec<Op>,
+    budget: Budget,
+) -> Result<Option<Budget>, AllocError>
+    ensures left { IfOk result (λ left. left ≡ paid (ops_weight (slot_op site.now.number (record { pointer = site.now.pointer.now; kind = kind }) change.now)) budget) }
+    ensures pushed { IfOk result (λ left. IsSome left → ops.new.items ≡ ops.old.items ++ slot_op site.now.number (record { pointer = site.now.pointer.now; kind = kind }) change.now) }
+{
+    match touch(change, site.pointer, kind) {
+        Touch::Inside => push_operation(alloc, site, change, ops, budget),
+        Touch::Apart | Touch::Reset => Ok(Some(budget)),
     }
 }
 

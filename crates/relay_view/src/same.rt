@@ -17,13 +17,15 @@ impl View {
 fn same_slots(slots: &[Slot], others: &[Slot]) -> bool
     ensures { IsTrue result ↔ (slots.now ≡ others.now) }
 {
-    let [slot, rest @ ..] = slots else {
-        return others.is_empty();
-    };
-    let [other, onward @ ..] = others else {
+    if slots.len() != others.len() {
         return false;
-    };
-    same_slot(slot, other) && same_slots(rest, onward)
+    }
+    for (slot, other) in slots.iter().zip(others) {
+        if !same_slot(slot, other) {
+            return false;
+        }
+    }
+    true
 }
 
 fn same_slot(slot: &Slot, other: &Slot) -> bool
