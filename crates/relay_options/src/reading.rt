@@ -1,6 +1,7 @@
 //! The parser of the command line, by `clap`.
 ghost use Rattle.std.specs.Prelude.{IfOk, ◌≤◌};
 ghost use Rattle.relay_options.specs.Ranges.{AreSettings, IsAdmin, IsLimit, IsPossible};
+ghost use Rattle.relay_options.specs.declared.settings.TheConstants.{MAX_EPOCH};
 
 use crate::job::{Job, Stop};
 use crate::settings::{
@@ -36,7 +37,7 @@ const SERVE_ABOUT: &str =
     "Listens on 127.0.0.1, and serves WebSocket clients; it sleeps while nothing happens";
 
 const SERVE_EXAMPLE: &str =
-    "Example, on a port that the system chooses:\n\n  relay serve --port 0 --epoch $(date +%s)\n\nA client connects to ws://127.0.0.1:PORT/rooms/ROOM. Documents end with the program: give it an --epoch not used before when\nit is started again.";
+    "Example, on a port that the system chooses:\n\n  relay serve --port 0\n\nA client connects to ws://127.0.0.1:PORT/rooms/ROOM. Documents end with the program.";
 
 const FOLLOW_ABOUT: &str =
     "Hears the relay's messages, one a line, and tells after each what its client holds";
@@ -65,13 +66,17 @@ const WAITING_WEIGHT: &str = "65536";
 /// The default of `--max-telling-weight` for a server: the weight of four largest documents.
 const TELLING_WEIGHT: &str = "1048576";
 
-/// Parses the arguments `words`, of which the first is the program's name. Each number of the job is in range. Otherwise the reason is help
-/// or the version that was asked for, words that name no job or a number out of range, or that memory ran out ([`Stop`]).
-pub fn job_of(alloc: Global, words: &[String]) -> Result<Job, Stop>
+/// Parses the arguments `words`, of which the first is the program's name. Each number of the job is
+/// in range. Otherwise the reason is help or the version that was asked for, words that name no job
+/// or a number out of range, or that memory ran out ([`Stop`]).
+///
+/// `now` is the number of seconds since 1970, if the clock can be read. It is the epoch of a server
+/// without `--epoch`, so that each run has another one. Without both, the job is refused.
+pub fn job_of(alloc: Global, words: &[String], now: Option<u64>) -> Result<Job, Stop>
     ensures { IfOk result IsPossible }
 {
     match parsed(alloc, words) {
-        Ok(matches) => chosen(alloc, &matches),
+        Ok(matches) => chosen(alloc, &matches, now),
         Err(error) => Err(stop_of(alloc, &error)),
     }
 }
@@ -93,6 +98,7 @@ fn script<'a>(alloc: Global) -> Result<Command<'a>, AllocError> {
         .about(SCRIPT_ABOUT)
         .after_help(SCRIPT_EXAMPLE);
     with_settings(alloc, script)?
+        .arg(script_epoch(alloc))?
         .arg(history_weight(alloc))?
         .arg(waiting_weight(alloc))?
         .arg(telling_weight(alloc))
@@ -103,6 +109,7 @@ fn looped<'a>(alloc: Global) -> Result<Command<'a>, AllocError> {
         .about(LOOP_ABOUT)
         .after_help(LOOP_EXAMPLE);
     with_settings(alloc, looped)?
+        .arg(script_epoch(alloc))?
         .arg(history_weight(alloc))?
         .arg(waiting_weight(alloc))?
         .arg(telling_weight(alloc))
@@ -113,6 +120,7 @@ fn serve<'a>(alloc: Global) -> Result<Command<'a>, AllocError> {
         .about(SERVE_ABOUT)
         .after_help(SERVE_EXAMPLE);
     with_settings(alloc, serve)?
+        .arg(server_epoch(alloc))?
         .arg(history_weight(alloc).default_value(HISTORY_WEIGHT))?
         .arg(waiting_weight(alloc).default_value(WAITING_WEIGHT))?
         .arg(telling_weight(alloc).default_value(TELLING_WEIGHT))?
@@ -133,8 +141,7 @@ fn with_settings<'a>(alloc: Global, command: Command<'a>) -> Result<Command<'a>,
         .arg(history(alloc))?
         .arg(max_waiting_patches(alloc))?
         .arg(rooms(alloc))?
-        .arg(sessions(alloc))?
-        .arg(epoch(alloc))
+        .arg(sessions(alloc))
 }
 
 fn history<'a>(alloc: Global) -> Arg<'a> {
@@ -167,10 +174,20 @@ fn sessions<'a>(alloc: Global) -> Arg<'a> {
         .default_value(SESSIONS)
 }
 
-fn epoch<'a>(alloc: Global) -> Arg<'a> {
-    number(alloc, "epoch", ValueParser::unsigned(0, MAX_EPOCH))
+fn script_epoch<'a>(alloc: Global) -> Arg<'a> {
+    epoch(alloc)
         .help("Which run of the relay this is, 0 to 9007199254740991")
         .default_value(EPOCH)
+}
+
+fn server_epoch<'a>(alloc: Global) -> Arg<'a> {
+    epoch(alloc).help(
+        "Which run of the relay this is, 0 to 9007199254740991; without it, the seconds since 1970",
+    )
+}
+
+fn epoch<'a>(alloc: Global) -> Arg<'a> {
+    number(alloc, "epoch", ValueParser::unsigned(0, MAX_EPOCH))
 }
 
 fn history_weight<'a>(alloc: Global) -> Arg<'a> {
@@ -241,15 +258,15 @@ fn number<'a>(alloc: Global, name: &'a str, parser: ValueParser<'a>) -> Arg<'a> 
 }
 
 /// The job of the given subcommand.
-fn chosen(alloc: Global, matches: &ArgMatches<'_>) -> Result<Job, Stop>
+fn chosen(alloc: Global, matches: &ArgMatches<'_>, now: Option<u64>) -> Result<Job, Stop>
     ensures { IfOk result IsPossible }
 {
     match matches.subcommand() {
         None => Ok(Job::Script(Settings::DEFAULT)),
-        Some(("script", given)) => Ok(Job::Script(settings_of(alloc, given)?)),
-        Some(("loop", given)) => Ok(Job::Loop(settings_of(alloc, given)?)),
+        Some(("script", given)) => Ok(Job::Script(settings_of(alloc, given, None)?)),
+        Some(("loop", given)) => Ok(Job::Loop(settings_of(alloc, given, None)?)),
         Some(("follow", _)) => Ok(Job::Follow),
-        Some(("serve", given)) => serve_of(alloc, given),
+        Some(("serve", given)) => serve_of(alloc, given, now),
         Some((other, _)) => Err(Stop::Misuse(format!(in alloc;
             "error: unrecognized subcommand '{other}'\n"
         )?)),
@@ -257,7 +274,7 @@ fn chosen(alloc: Global, matches: &ArgMatches<'_>) -> Result<Job, Stop>
 }
 
 /// The job of `relay serve`.
-fn serve_of(alloc: Global, given: &ArgMatches<'_>) -> Result<Job, Stop>
+fn serve_of(alloc: Global, given: &ArgMatches<'_>, now: Option<u64>) -> Result<Job, Stop>
     ensures { IfOk result IsPossible }
 {
     let port = number_of(alloc, given, "port", 0, MAX_PORT)? as u16;
@@ -266,7 +283,7 @@ fn serve_of(alloc: Global, given: &ArgMatches<'_>) -> Result<Job, Stop>
         admin: admin_of(alloc, given, port)?,
         turns: number_of(alloc, given, "turns", 1, MAX_TURNS)?,
         log: given.get_flag("log"),
-        settings: settings_of(alloc, given)?,
+        settings: settings_of(alloc, given, now)?,
     })
 }
 
@@ -285,7 +302,8 @@ fn admin_of(alloc: Global, given: &ArgMatches<'_>, port: u16) -> Result<Option<u
     }
 }
 
-fn settings_of(alloc: Global, given: &ArgMatches<'_>) -> Result<Settings, Stop>
+/// The settings of a job. `epoch` is the one that it has without `--epoch`, if it may go without.
+fn settings_of(alloc: Global, given: &ArgMatches<'_>, epoch: Option<u64>) -> Result<Settings, Stop>
     ensures { IfOk result AreSettings }
 {
     Ok(Settings {
@@ -293,11 +311,26 @@ fn settings_of(alloc: Global, given: &ArgMatches<'_>) -> Result<Settings, Stop>
         max_waiting_patches: number_of(alloc, given, "outbox", 1, MAX_WAITING_PATCHES)?,
         rooms: number_of(alloc, given, "rooms", 1, MAX_ROOMS)?,
         sessions: number_of(alloc, given, "sessions", 1, MAX_SESSIONS)?,
-        epoch: number_of(alloc, given, "epoch", 0, MAX_EPOCH)?,
+        epoch: epoch_of(alloc, given, epoch)?,
         history_weight: weight_of(alloc, given, "max-history-weight")?,
         waiting_weight: weight_of(alloc, given, "max-waiting-weight")?,
         telling_weight: weight_of(alloc, given, "max-telling-weight")?,
     })
+}
+
+/// The epoch that is given, or else the other one, if there is one; checked again as in [`number_of`].
+fn epoch_of(alloc: Global, given: &ArgMatches<'_>, other: Option<u64>) -> Result<u64, Stop>
+    ensures { IfOk result (λ epoch. epoch ≤ MAX_EPOCH) }
+{
+    match given.get_one::<u64>("epoch").or(other) {
+        Some(epoch) if epoch <= MAX_EPOCH => Ok(epoch),
+        Some(_) => Err(Stop::Misuse(format!(in alloc;
+            "error: --epoch takes a number from 0 to {MAX_EPOCH}\n"
+        )?)),
+        None => Err(Stop::Misuse(format!(in alloc;
+            "error: the clock cannot be read: give --epoch a number not used before\n"
+        )?)),
+    }
 }
 
 /// The number of an option. `clap` already refuses a number that is out of range, with a message of its own. It is checked again,

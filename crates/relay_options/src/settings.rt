@@ -35,7 +35,8 @@ pub struct Settings {
     pub rooms: u64,
     /// `--sessions`: the number of sessions that may be open at once, 1 to 65,536.
     pub sessions: u64,
-    /// `--epoch`: the number of this run of the program, 0 to 2^53 - 1.
+    /// `--epoch`: the number of this run of the program, 0 to 2^53 - 1. A server takes the seconds since 1970 if it
+    /// is given none.
     pub epoch: u64,
     /// `--max-history-weight`: the maximum total weight of the changes that each room holds. `None` means no limit.
     pub history_weight: Option<u64>,

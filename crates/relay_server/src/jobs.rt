@@ -17,10 +17,6 @@ use std::io::{self, ErrorKind, Read, Write};
 use std::net::Net;
 use std::time::Clock;
 
-/// The warning for a server in the default epoch, which all runs without `--epoch` share.
-const SHARED_EPOCH: &str =
-    "relay: epoch 1, as without --epoch: a client of an earlier run may be told that nothing changed\nrelay: give --epoch a number not used before, as --epoch $(date +%s)\n";
-
 /// Runs the job that the arguments `words` ask for, over a reader and a writer, and reports faults on `errors`. The first word is the
 /// program's name. Returns the exit status: 0 if all was done or help was asked for, 1 for a fault of input, output, a line, a port or
 /// sockets, 2 for a fault of the arguments, 3 if out of memory. Requested help goes to the writer. If the arguments ask for no job,
@@ -35,10 +31,15 @@ pub fn start<H: AllocGlobal + Clock + Net, R: Read, W: Write, E: Write>(
     ensures { Starts result (R.remaining reader.old) (R.remaining reader.new) (W.contents writer.old) (W.contents writer.new) }
 {
     let alloc = rt.alloc();
-    match job_of(alloc, words) {
+    match job_of(alloc, words, seconds_since_1970(rt)) {
         Ok(job) => carry_out(alloc, rt, job, reader, writer, errors).code(),
         Err(stop) => explain(&stop, writer, errors).code(),
     }
+}
+
+/// The present time, if the clock can be read.
+fn seconds_since_1970<C: Clock>(clock: &C) -> Option<u64> {
+    Some(clock.since_1970().ok()?.as_secs())
 }
 
 /// Reports on `errors` why the arguments could not be read. Returns the exit status: 2 if one of them is not UTF-8, 3 if out of
@@ -88,7 +89,6 @@ pub fn carry_out<N: Clock + Net, R: Read, W: Write, E: Write>(
             log,
             settings,
         } => {
-            say_epoch(settings.epoch, errors);
             let served = Served {
                 port,
                 admin,
@@ -98,13 +98,6 @@ pub fn carry_out<N: Clock + Net, R: Read, W: Write, E: Write>(
             let ended = serve(alloc, net, writer, errors, served, settings);
             report_sockets(ended, errors)
         }
-    }
-}
-
-/// Warns on `errors` if `epoch` is the default one, which other runs may share.
-fn say_epoch<E: Write>(epoch: u64, errors: &mut E) {
-    if epoch == Settings::DEFAULT.epoch {
-        say(SHARED_EPOCH, errors);
     }
 }
 

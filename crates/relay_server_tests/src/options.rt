@@ -28,13 +28,21 @@ relay loop --rooms 2 => Loop(Settings { history: 64, max_waiting_patches: 32, ro
 relay loop --sessions 3 => Loop(Settings { history: 64, max_waiting_patches: 32, rooms: 64, sessions: 3, epoch: 1, history_weight: None, waiting_weight: None, telling_weight: None })
 
 # Reads the jobs of servers, which have defaults of their own for weights.
-relay serve --port 0 --turns 1 => Serve { port: 0, admin: None, turns: 1, log: false, settings: Settings { history: 64, max_waiting_patches: 32, rooms: 64, sessions: 256, epoch: 1, history_weight: Some(262144), waiting_weight: Some(65536), telling_weight: Some(1048576) } }
-relay serve --port 7 => Serve { port: 7, admin: None, turns: 1000000000000, log: false, settings: Settings { history: 64, max_waiting_patches: 32, rooms: 64, sessions: 256, epoch: 1, history_weight: Some(262144), waiting_weight: Some(65536), telling_weight: Some(1048576) } }
-relay serve --port 7 --log => Serve { port: 7, admin: None, turns: 1000000000000, log: true, settings: Settings { history: 64, max_waiting_patches: 32, rooms: 64, sessions: 256, epoch: 1, history_weight: Some(262144), waiting_weight: Some(65536), telling_weight: Some(1048576) } }
-relay serve --turns 1000000000000 --port 65535 => Serve { port: 65535, admin: None, turns: 1000000000000, log: false, settings: Settings { history: 64, max_waiting_patches: 32, rooms: 64, sessions: 256, epoch: 1, history_weight: Some(262144), waiting_weight: Some(65536), telling_weight: Some(1048576) } }
-relay serve --port 7 --turns 1 --rooms 1000 --sessions 2000 => Serve { port: 7, admin: None, turns: 1, log: false, settings: Settings { history: 64, max_waiting_patches: 32, rooms: 1000, sessions: 2000, epoch: 1, history_weight: Some(262144), waiting_weight: Some(65536), telling_weight: Some(1048576) } }
-relay serve --port 7 --admin 65535 --turns 1 => Serve { port: 7, admin: Some(65535), turns: 1, log: false, settings: Settings { history: 64, max_waiting_patches: 32, rooms: 64, sessions: 256, epoch: 1, history_weight: Some(262144), waiting_weight: Some(65536), telling_weight: Some(1048576) } }
-relay serve --port 0 --admin 1 --turns 1 => Serve { port: 0, admin: Some(1), turns: 1, log: false, settings: Settings { history: 64, max_waiting_patches: 32, rooms: 64, sessions: 256, epoch: 1, history_weight: Some(262144), waiting_weight: Some(65536), telling_weight: Some(1048576) } }
+relay serve --port 0 --turns 1 => Serve { port: 0, admin: None, turns: 1, log: false, settings: Settings { history: 64, max_waiting_patches: 32, rooms: 64, sessions: 256, epoch: 1764000000, history_weight: Some(262144), waiting_weight: Some(65536), telling_weight: Some(1048576) } }
+relay serve --port 7 => Serve { port: 7, admin: None, turns: 1000000000000, log: false, settings: Settings { history: 64, max_waiting_patches: 32, rooms: 64, sessions: 256, epoch: 1764000000, history_weight: Some(262144), waiting_weight: Some(65536), telling_weight: Some(1048576) } }
+relay serve --port 7 --log => Serve { port: 7, admin: None, turns: 1000000000000, log: true, settings: Settings { history: 64, max_waiting_patches: 32, rooms: 64, sessions: 256, epoch: 1764000000, history_weight: Some(262144), waiting_weight: Some(65536), telling_weight: Some(1048576) } }
+relay serve --turns 1000000000000 --port 65535 => Serve { port: 65535, admin: None, turns: 1000000000000, log: false, settings: Settings { history: 64, max_waiting_patches: 32, rooms: 64, sessions: 256, epoch: 1764000000, history_weight: Some(262144), waiting_weight: Some(65536), telling_weight: Some(1048576) } }
+relay serve --port 7 --turns 1 --rooms 1000 --sessions 2000 => Serve { port: 7, admin: None, turns: 1, log: false, settings: Settings { history: 64, max_waiting_patches: 32, rooms: 1000, sessions: 2000, epoch: 1764000000, history_weight: Some(262144), waiting_weight: Some(65536), telling_weight: Some(1048576) } }
+relay serve --port 7 --admin 65535 --turns 1 => Serve { port: 7, admin: Some(65535), turns: 1, log: false, settings: Settings { history: 64, max_waiting_patches: 32, rooms: 64, sessions: 256, epoch: 1764000000, history_weight: Some(262144), waiting_weight: Some(65536), telling_weight: Some(1048576) } }
+relay serve --port 0 --admin 1 --turns 1 => Serve { port: 0, admin: Some(1), turns: 1, log: false, settings: Settings { history: 64, max_waiting_patches: 32, rooms: 64, sessions: 256, epoch: 1764000000, history_weight: Some(262144), waiting_weight: Some(65536), telling_weight: Some(1048576) } }
+
+# A server's epoch is the seconds since 1970, or the one that it is given; without a clock it has to be given one.
+relay serve --port 7 --epoch 3 => Serve { port: 7, admin: None, turns: 1000000000000, log: false, settings: Settings { history: 64, max_waiting_patches: 32, rooms: 64, sessions: 256, epoch: 3, history_weight: Some(262144), waiting_weight: Some(65536), telling_weight: Some(1048576) } }
+timeless relay serve --port 7 --epoch 3 => Serve { port: 7, admin: None, turns: 1000000000000, log: false, settings: Settings { history: 64, max_waiting_patches: 32, rooms: 64, sessions: 256, epoch: 3, history_weight: Some(262144), waiting_weight: Some(65536), telling_weight: Some(1048576) } }
+timeless relay serve --port 7 => misuse
+timeless relay script --epoch 7 => Script(Settings { history: 64, max_waiting_patches: 32, rooms: 64, sessions: 256, epoch: 7, history_weight: None, waiting_weight: None, telling_weight: None })
+timeless relay loop => Loop(Settings { history: 64, max_waiting_patches: 32, rooms: 64, sessions: 256, epoch: 1, history_weight: None, waiting_weight: None, telling_weight: None })
+relay serve --port 7 --epoch 9007199254740992 => misuse
 
 # Numbers out of range, and words that belong to no job or to another one, are refused, with a message for standard error.
 relay script --outbox 0 => misuse
@@ -82,6 +90,9 @@ finds relay follow --help: | relay follow => true
 finds relay serve --help: it sleeps while nothing happens => true
 "#;
 
+/// The seconds since 1970, where the clock can be read.
+const NOW: u64 = 1_764_000_000;
+
 #[test]
 fn reads_command_lines(rt: HostRuntime) {
     play(&rt, &mut Options, ROWS).expect(&rt, "each row holds");
@@ -95,7 +106,8 @@ impl<R: AllocGlobal> Subject<R> for Options {
         let alloc = rt.alloc();
         let (word, rest) = cut(act);
         let told = match word {
-            "relay" => outcome(alloc, act),
+            "relay" => outcome(alloc, act, Some(NOW)),
+            "timeless" => outcome(alloc, rest, None),
             "finds" => found_in_help(alloc, rest),
             "defaults" => shown(alloc, &Settings::DEFAULT),
             _ => None,
@@ -113,9 +125,9 @@ pub fn words_of(alloc: Global, line: &str) -> Option<Vec<String>> {
     Some(words)
 }
 
-/// What a command line comes to: a job, a text that is to be printed, or misuse, of which there has to be a message.
-fn outcome(alloc: Global, line: &str) -> Option<String> {
-    match job_of(alloc, words_of(alloc, line)?.as_slice()) {
+/// What a command line comes to at that time: a job, a text that is to be printed, or misuse, of which there has to be a message.
+fn outcome(alloc: Global, line: &str, now: Option<u64>) -> Option<String> {
+    match job_of(alloc, words_of(alloc, line)?.as_slice(), now) {
         Ok(job) => shown(alloc, &job),
         Err(Stop::Help(text)) => Some(text),
         Err(Stop::Misuse(text)) => owned(alloc, word_for(text.as_str())),
@@ -139,6 +151,6 @@ fn shown(alloc: Global, value: &impl Debug) -> Option<String> {
 /// Whether what a command line comes to, which stands before a colon, has the part behind it.
 fn found_in_help(alloc: Global, line_and_part: &str) -> Option<String> {
     let (line, part) = line_and_part.split_once(": ")?;
-    let is_found = outcome(alloc, line)?.contains(part);
+    let is_found = outcome(alloc, line, Some(NOW))?.contains(part);
     shown(alloc, &is_found)
 }

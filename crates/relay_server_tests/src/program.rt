@@ -137,17 +137,8 @@ fn found_in_help(rt: &(impl AllocGlobal + Clock + Net), part: &str) -> Option<St
     with_complaint(rt.alloc(), errors.as_slice(), told)
 }
 
-/// How the error output of a server begins that was given no epoch.
-const WARNING: &[u8] = b"relay: epoch 1, as without --epoch";
-
 /// A text after a word for the error output, if there was any.
 pub fn with_complaint(alloc: Global, errors: &[u8], told: &str) -> Option<String> {
-    let complaint = if errors.is_empty() {
-        ""
-    } else if errors.starts_with(WARNING) {
-        "warning, "
-    } else {
-        "complaint, "
-    };
+    let complaint = if errors.is_empty() { "" } else { "complaint, " };
     format!(in alloc; "{complaint}{told}").ok()
 }

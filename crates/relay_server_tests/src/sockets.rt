@@ -7,8 +7,8 @@ use std::net::{Ipv4Addr, Net, OpenListener, SocketAddr};
 use std::time::Clock;
 
 const ROWS: &str = r#"
-# A server prints its port and its turns. It warns if it was given no epoch of its own, and otherwise says no more.
-relay serve --port 0 --turns 1 => warning, listening, turns 1\nstatus 0
+# A server prints its port and its turns, and says no more.
+relay serve --port 0 --turns 1 => listening, turns 1\nstatus 0
 relay serve --port 0 --turns 1 --epoch 2 => listening, turns 1\nstatus 0
 
 # A server whose port is in use says what it could not do, and the system's reason.
