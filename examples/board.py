@@ -16,20 +16,17 @@ EMPTY = {"todo": [], "doing": [], "done": [], "away": [], "here": {}}
 
 def show(change):
     """What is typed shows at once, and is `saving` until the relay has shown it."""
-    cards = change.slots[0][0] if change.slots[0] else ["no board yet"]
-    print(change.rev, "saving:" if change.pending else "saved:", ", ".join(map(str, cards)), flush=True)
+    print(change.rev, "saving:" if change.pending else "saved:", ", ".join(map(str, cards(change.slots))), flush=True)
+
+
+def cards(slots):
+    """Anybody may put another value there: then the board has no list."""
+    [slot] = slots
+    return slot[0] if slot and isinstance(slot[0], list) else ["no list of cards"]
 
 
 def taken_back(patch, cause):
     print("not done:", cause, flush=True)
-
-
-async def begin(board):
-    """Refused, and so without effect, if the room has a board already."""
-    try:
-        await board.edit([{"op": "test", "path": "", "value": None}, {"op": "add", "path": "", "value": EMPTY}], undo=False)
-    except (relay_client.Refused, relay_client.Unknown) as error:
-        print("not begun:", error, flush=True)
 
 
 async def undo(board):
@@ -41,9 +38,8 @@ async def undo(board):
 
 
 async def main(port, room="board"):
-    told = {"on_change": show, "on_taken_back": taken_back}
-    async with relay_client.connect(f"ws://127.0.0.1:{port}/rooms/{room}", view=["/todo"], **told) as board:
-        await begin(board)
+    url, told = f"ws://127.0.0.1:{port}/rooms/{room}", {"on_change": show, "on_taken_back": taken_back}
+    async with relay_client.connect(url, view=["/todo"], begin=EMPTY, **told) as board:
         newest = None
         while line := await asyncio.to_thread(sys.stdin.readline):
             if line.strip() == "undo":

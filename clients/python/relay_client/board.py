@@ -44,7 +44,12 @@ class Board:
 
     The first try after a loss waits at most `first_wait` seconds, each further one up to twice as long, and at most `longest_wait`.
     After `quiet` seconds without a message the relay is asked whether it is there, and a connection is given up if its oldest request
-    has no answer after `patience` seconds.
+    has no answer after `patience` seconds. While slots are on their way it is not asked, and is given up after both together. Each
+    connection in a row that is given up doubles the patience, at most 32 times, until slots come: a slow line may take long for them.
+
+    `begin` is the document that the room is given if it has none: the client adds it, if `null` stands there, on each connection before
+    anything else. So the slots show it, and edits that waited while the relay was restarted meet it. It is no edit for `undo`. If it is
+    refused for another reason than that the room has a document, as `too-heavy`, the board ends with that.
 
     `queue` says which edits that are made while the connection is lost are sent later: `all`, or only those that are `guarded`, by a
     `base` or by a `test` as their first operation; the others are refused, as `away`.
@@ -63,12 +68,13 @@ class Board:
         longest_wait: float = 10.0,
         quiet: float = 20.0,
         patience: float = 10.0,
+        begin: Json = None,
         queue: Literal["all", "guarded"] = "all",
         link: Optional[Dict[str, Any]] = None,
         open_link: Optional[OpenLink] = None,
     ):
         check_room(url)
-        options = Options(first_wait, longest_wait, quiet, patience, queue)
+        options = Options(first_wait, longest_wait, quiet, patience, queue, as_json(begin, "/begin"))
         self._on_state, self._on_taken_back = on_state, on_taken_back
         self._listeners = Listeners()
         self._listeners.add(on_change)

@@ -15,8 +15,9 @@ from typing import Any, Awaitable, Deque, List, Literal, Optional, Protocol
 from .faults import Closed, HandshakeFailed, Refused
 from .link import Link, LinkLost, OpenLink
 from .patch import DoesNotFit, applied
+from .patience import Patience
 from .requests import Asked, Edit, Message
-from .values import Patch, Slots, State, View
+from .values import Json, Patch, Slots, State, View
 
 ON_THE_WAY = 31
 """With one request more on the way 32 replies could wait, and the relay would read nothing from this client until it drew one."""
@@ -51,6 +52,7 @@ class Options:
     quiet: float
     patience: float
     queue: Literal["all", "guarded"]
+    begin: Json
 
 
 class Hearer(Protocol):
@@ -78,12 +80,15 @@ class _Waiter:
 class Session:
     def __init__(self, url: str, view: View, open_link: OpenLink, options: Options, hearer: Hearer):
         self._url, self._open_link, self._options, self._hearer = url, open_link, options, hearer
+        self._patience = Patience(options.quiet, options.patience)
         self._loop = asyncio.get_running_loop()
         self.held: Optional[Held] = None
         self.state: State = "connecting"
         self._wanted = Wanted(0, view)  # the view that was asked for last
         self._taken: Optional[Wanted] = None  # that which the newest `watching` or `resumed` of this connection is about
         self._resumed_by_patch = False  # the patch that comes next is of all that was missed
+        self._due = False  # slots were promised, and are on their way
+        self._slots_came = 0.0  # when they came that were due last
         self._waiters: List[_Waiter] = []
         self._unsent: Deque[Asked] = deque()
         self._sent: Deque[Asked] = deque()  # requests without an answer, oldest first
@@ -179,7 +184,7 @@ class Session:
         """What was sent has no answer any more, and only edits wait for the next connection, if there is to be one."""
         self._disarm()
         self._away = self._away or self._welcomed
-        self._link, self._welcome, self._taken, self._resumed_by_patch = None, None, None, False
+        self._link, self._welcome, self._taken, self._resumed_by_patch, self._due = None, None, None, False, False
         sent, self._sent = self._sent, deque()
         unsent, self._unsent = self._unsent, deque()
         self._unsent.extend(asked for asked in sent if isinstance(asked, Edit) and asked.lost())
@@ -216,11 +221,15 @@ class Session:
     def _listen(self) -> None:
         """Sets the time at which the connection is given up, or at which the relay is asked whether it is there."""
         self._disarm()
-        if self._sent:
+        if self._due:
+            # An answer would come behind the slots, and they may take long: to ask for one would say nothing about the peer.
+            self._timer = self._loop.call_later(self._patience.for_slots, self._give_up)
+        elif self._sent:
             # The oldest one: those that are sent behind it say nothing about the peer.
-            self._timer = self._loop.call_at(self._sent[0].sent_at + self._options.patience, self._give_up)
+            asked_at = max(self._sent[0].sent_at, self._slots_came)
+            self._timer = self._loop.call_at(asked_at + self._patience.for_answers, self._give_up)
         elif self._welcome is None:
-            self._timer = self._loop.call_later(self._options.patience, self._give_up)
+            self._timer = self._loop.call_later(self._patience.for_answers, self._give_up)
         else:
             self._timer = self._loop.call_later(self._options.quiet, self._ask, Asked({}))
 
@@ -230,6 +239,7 @@ class Session:
             self._timer = None
 
     def _give_up(self) -> None:
+        self._patience.lost()
         if self._link is not None:
             self._link.abort()
 
@@ -250,19 +260,29 @@ class Session:
                 self._ids += 1
                 asked.id, asked.sent_at = self._ids, self._loop.time()
                 self._sent.append(asked)
-                if len(self._sent) == 1:
+                if len(self._sent) == 1 and not self._due:
                     self._listen()
                 try:
                     await link.send(json.dumps({"id": asked.id, **asked.request}, ensure_ascii=False, separators=(",", ":")))
                 except LinkLost:
                     return
 
+    def _beginning(self) -> Asked:
+        """Gives the room its document, if it has none yet."""
+
+        def answered(reply: Message) -> None:
+            if reply["kind"] != "done" and reply["fault"] != "test-failed":
+                self._finish(Refused.by(reply))
+
+        patch = [{"op": "test", "path": "", "value": None}, {"op": "add", "path": "", "value": self._options.begin}]
+        return Asked({"do": "edit", "patch": patch}, answered)
+
     def _watching(self) -> Asked:
         wanted = self._wanted
 
         def answered(reply: Message) -> None:
             if reply["kind"] == "watching":
-                self._taken = wanted
+                self._taken, self._due = wanted, True
             else:
                 self._refuse_view(wanted, Refused.by(reply))
 
@@ -276,7 +296,9 @@ class Session:
                 return
             self._taken = held.of
             self._resumed_by_patch = reply["how"] == "patch"
-            if reply["how"] == "nothing":
+            self._due = reply["how"] != "nothing"
+            if not self._due:
+                self._patience.slots_came()
                 self._hearer.missed_nothing()
                 self._enter("open", None)
 
@@ -325,12 +347,15 @@ class Session:
         self._sent.popleft().answered(reply)
 
     def _enter_room(self, welcome: Message) -> None:
-        """The first request of a connection goes on where the slots are, if they are those of the view that is wanted."""
+        """The first request of a connection goes on where the slots are, if they are those of the view that is wanted. But before that the
+        room has to have a document, so that the slots are never of a room that has none."""
         if self._welcome is not None:
             raise _Astray()
         self._welcome, self._welcomed, self._away = welcome, True, False
         held = self.held
         self._unsent.appendleft(self._resuming(held) if held and held.of is self._wanted else self._watching())
+        if self._options.begin is not None:
+            self._unsent.appendleft(self._beginning())
 
     def _take(self, rev: int, slots: Slots) -> None:
         if self._taken is None or self._welcome is None or len(slots) != len(self._taken.view):
@@ -355,6 +380,9 @@ class Session:
                 waiter.shown.set_result(held.slots)
         self._waiters = [waiter for waiter in self._waiters if waiter.number > held.of.number]
         self._failures = 0
+        self._patience.slots_came()
+        if self._due:
+            self._due, self._slots_came = False, self._loop.time()
         self._hearer.held(before, held, single)
         self._enter("open", None)
         self._hearer.changed(patch)

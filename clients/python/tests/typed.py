@@ -18,7 +18,8 @@ def tell(state: relay_client.State, cause: Optional[Exception]) -> None:
 
 async def main() -> None:
     url = "ws://127.0.0.1:8080/rooms/board"
-    async with relay_client.connect(url, view=["/cards", {"size": "/cards"}], on_change=show, on_state=tell) as board:
+    view: relay_client.View = ["/cards", {"size": "/cards"}]
+    async with relay_client.connect(url, view=view, begin={"cards": []}, on_change=show, on_state=tell) as board:
         slots: relay_client.Slots = await board.ready
         rev: int = await board.edit([{"op": "add", "path": "/cards/-", "value": "milk"}], optimistic=True)
         rev = await board.edit([], base=board.rev, epoch=board.epoch)
