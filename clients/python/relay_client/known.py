@@ -10,7 +10,7 @@ from dataclasses import dataclass, field
 from typing import Any, Callable, Dict, Iterable, Optional
 
 from . import patch as values
-from .patch import DoesNotFit, check_move
+from .patch import DoesNotFit, Draft, check_move
 from .pointer import Path, index, shown_path, tokens
 from .values import Json, Operation, Shown, Slots, View, same
 
@@ -114,26 +114,29 @@ def at(document: Part, path: Iterable[str]) -> Part:
 
 def after(document: Part, patch: Iterable[Operation]) -> Part:
     """What is known after a patch; `DoesNotFit` if it is known to be refused."""
+    draft = Draft()
     for operation in patch:
-        document = step(document, operation)
+        document = step(document, operation, draft)
     return document
 
 
-def step(document: Part, operation: Operation) -> Part:
+def step(document: Part, operation: Operation, draft: Optional[Draft] = None) -> Part:
+    """What is known after one operation of a patch: with the patch's draft what is known before is written to, as far as it is the
+    draft's own."""
     try:
-        return _step(document, operation)
+        return _step(draft or Draft(), document, operation)
     except (KeyError, TypeError, AttributeError, ValueError) as error:
         raise DoesNotFit("shape") from error  # it has not the form of an operation
 
 
-def _step(document: Part, operation: Operation) -> Part:
+def _step(draft: Draft, document: Part, operation: Operation) -> Part:
     op, path = operation["op"], tokens(operation["path"])
     if op == "add":
-        return _added(document, path, operation["value"])
+        return _added(draft, document, path, operation["value"])
     if op == "remove":
-        return _removed(document, path)
+        return _removed(draft, document, path)
     if op == "replace":
-        return _replaced(document, path, operation["value"])
+        return _replaced(draft, document, path, operation["value"])
     if op == "test":
         part = _there(at(document, path))
         if is_value(part) and not same(part, operation["value"]):
@@ -143,10 +146,19 @@ def _step(document: Part, operation: Operation) -> Part:
     part = _there(at(document, origin))
     if op == "move":
         check_move(origin, path)
-        return _added(_removed(document, origin), path, part) if origin != path else document
+        return _added(draft, _removed(draft, document, origin), path, part) if origin != path else document
     if op == "copy":
-        return _added(document, path, part)
+        _share(draft, part)
+        return _added(draft, document, path, part)
     raise DoesNotFit(op)
+
+
+def _share(draft: Draft, part: Part) -> None:
+    if isinstance(part, Parts):
+        for known in part.known.values():
+            _share(draft, known)
+    else:
+        draft.share(part)
 
 
 def _there(part: Part) -> Part:
@@ -155,25 +167,25 @@ def _there(part: Part) -> Part:
     return part
 
 
-def _added(document: Part, path: Path, new: Part) -> Part:
+def _added(draft: Draft, document: Part, path: Path, new: Part) -> Part:
     if not path:
         return new
-    in_value = (lambda value, rest: values.added(value, rest, new)) if is_value(new) else (lambda value, rest: UNKNOWN)
+    in_value = (lambda value, rest: draft.added(value, rest, new)) if is_value(new) else (lambda value, rest: UNKNOWN)
     return _changed(document, path, in_value, lambda parts, token: _inserted(parts, token, new))
 
 
-def _removed(document: Part, path: Path) -> Part:
+def _removed(draft: Draft, document: Part, path: Path) -> Part:
     if not path:
         raise DoesNotFit("root")
-    return _changed(document, path, values.removed, _dropped)
+    return _changed(document, path, draft.removed, _dropped)
 
 
-def _replaced(document: Part, path: Path, new: Json) -> Part:
+def _replaced(draft: Draft, document: Part, path: Path, new: Json) -> Part:
     def exchanged(parts: Parts, token: str) -> Parts:
         _there(part_at(parts, token))
         return parts.having(token, new, parts.size)
 
-    return _changed(document, path, lambda value, rest: values.replaced(value, rest, new), exchanged) if path else new
+    return _changed(document, path, lambda value, rest: draft.replaced(value, rest, new), exchanged) if path else new
 
 
 def _changed(

@@ -5,6 +5,7 @@ from dataclasses import dataclass
 from typing import Iterable, List, Optional
 
 from .known import ABSENT, Part, Parts, at, goes_on, is_value, may_be_list, step
+from .patch import Draft
 from .pointer import Path, index, shown_path, tokens
 from .values import Operation, Shown, View
 
@@ -35,10 +36,13 @@ def place_of(document: Part, path: Path, exchanged: bool = False) -> Place:
 
 def touches(document: Part, patch: Iterable[Operation], view: View) -> bool:
     """Whether a patch surely touches a slot of a view. `DoesNotFit` if it is known to be refused."""
-    touched = False
+    draft, touched = Draft(), False
     for operation in patch:
+        if touched:
+            document = step(document, operation, draft)
+            continue
         after = step(document, operation)
-        touched = touched or any(_touches(shown, place) for shown in view for place in _places(document, operation))
+        touched = any(_touches(shown, place) for shown in view for place in _places(document, operation))
         document = after
     return touched
 

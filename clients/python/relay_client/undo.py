@@ -11,7 +11,7 @@ from dataclasses import dataclass, field
 from typing import Iterable, List, Optional
 
 from .known import ABSENT, UNKNOWN, Part, at, is_value, step
-from .patch import DoesNotFit
+from .patch import DoesNotFit, Draft
 from .pointer import Path, spelled, tokens
 from .touch import place_of, without_origin
 from .values import Json, Operation, Patch
@@ -51,21 +51,23 @@ def inverse(document: Part, patch: Iterable[Operation]) -> Optional[Inverse]:
 
 def fits(document: Part, patch: Patch) -> bool:
     """Whether an inverse can be applied to a document of which this is known, and overwrites nothing that it did not compare."""
+    draft = Draft()
     try:
         for operation in patch:
             if _comes_to_member(document, operation) and _target(document, operation) is not ABSENT:
                 return False
-            document = step(document, operation)
+            document = step(document, operation, draft)
     except DoesNotFit:
         return False
     return True
 
 
 def _puts_back(document: Part, patch: Patch) -> bool:
+    draft = Draft()
     for operation in patch:
         if _comes_to_member(document, operation):
             return True
-        document = step(document, operation)
+        document = step(document, operation, draft)
     return False
 
 

@@ -1,4 +1,4 @@
-"""Slots that take longer than the patience of a connection, and peers that are gone without a word. Times are a hundredth of the real ones."""
+"""Slots that take longer than the patience of a connection, and peers that are gone without a word. All times are scaled."""
 import asyncio, contextlib, json, unittest
 import websockets
 from fake import URL, FakeRelay, done, refused, relay_client, snapshot, unawaited, watching, welcome
