@@ -13,7 +13,10 @@ import (
 // With one request more on the way 32 replies could wait, and the relay would read nothing from this client until it drew one.
 const onTheWay = 31
 
-var errAstray = errors.New("relay: a message that does not follow from those before it")
+var (
+	errAstray = errors.New("relay: a message that does not follow from those before it")
+	errEnded  = errors.New("relay: the client has ended")
+)
 
 // Socket is a connection. Write does not wait for the peer: a client that waits for it does not read.
 type Socket interface {
@@ -40,6 +43,20 @@ type Answer struct {
 	Slots       []interface{}
 }
 
+// Options of a client; all may be left out.
+type Options struct {
+	// Begin is the document that the room is given if it has none: the client adds it, if null stands there, on each connection before
+	// anything else. So the slots show it, and edits that waited while the relay was restarted meet it. If it is refused for another reason
+	// than that the room has a document, the client ends.
+	Begin interface{}
+	// OnChange is told what is held after each change, in order.
+	OnChange func(Held)
+	// OnEnd is told of the refusal that ended the client, if one did.
+	OnEnd func(Answer)
+	// Wait is how long the client waits after a lost connection; after each further failure it waits longer. Half a second if it is zero.
+	Wait time.Duration
+}
+
 type asking struct {
 	number int
 	view   []interface{}
@@ -59,9 +76,9 @@ type request struct {
 
 // Client shows a view of a room. Its methods may be called from any goroutine.
 type Client struct {
-	dial     func() (Socket, error)
-	onChange func(Held)
-	wait     time.Duration
+	dial    func() (Socket, error)
+	begin   []interface{} // the patch that gives the room its document; nil if nothing does
+	options Options
 
 	mutex   sync.Mutex
 	held    Held
@@ -71,19 +88,27 @@ type Client struct {
 	taken   *asking // what the newest `watching` or `resumed` of this connection answers
 	socket  Socket
 	epoch   *int64 // of this connection; nil before its welcome
+	begun   bool   // the room was given its document on this connection, or had one
 	unsent  []request
 	sent    []request // without a reply, oldest first
 	waiters []waiter
 	ids     int64
 	closed  bool
+	ended   *Answer // why it was closed, if it was not by Close
 }
 
-// ConnectBy enters a room, and comes back to it until the client is closed: after a wait, and for each failure after a longer one. onChange
-// is told what is held after each change, in order.
-func ConnectBy(dial func() (Socket, error), view []interface{}, wait time.Duration, onChange func(Held)) *Client {
-	client := &Client{dial: dial, onChange: onChange, wait: wait, wanted: &asking{0, view}}
+// ConnectBy enters a room, and comes back to it until the client is closed. It fails if JSON cannot say the document to begin with.
+func ConnectBy(dial func() (Socket, error), view []interface{}, options Options) (*Client, error) {
+	begin, err := beginning(options.Begin)
+	if err != nil {
+		return nil, err
+	}
+	if options.Wait == 0 {
+		options.Wait = 500 * time.Millisecond
+	}
+	client := &Client{dial: dial, begin: begin, options: options, wanted: &asking{0, view}}
 	go client.run()
-	return client
+	return client, nil
 }
 
 // Look is what the client holds now.
@@ -145,9 +170,9 @@ func (c *Client) Close() {
 }
 
 func (c *Client) run() {
-	for wait := c.wait; ; wait *= 2 {
+	for wait := c.options.Wait; ; wait *= 2 {
 		if socket, err := c.dial(); err == nil && c.serve(socket) {
-			wait = c.wait
+			wait = c.options.Wait
 		}
 		c.mutex.Lock()
 		closed := c.closed
@@ -155,8 +180,8 @@ func (c *Client) run() {
 		if closed {
 			return
 		}
-		if wait > 32*c.wait {
-			wait = 32 * c.wait
+		if wait > 32*c.options.Wait {
+			wait = 32 * c.options.Wait
 		}
 		time.Sleep(wait/2 + time.Duration(rand.Int63n(int64(wait/2)+1)))
 	}
@@ -185,7 +210,7 @@ func (c *Client) serve(socket Socket) bool {
 // lose ends a connection: what was sent has no reply any more, and edits that were not sent wait for another one, if there is to be one.
 func (c *Client) lose() {
 	sent := c.sent
-	c.socket, c.epoch, c.asked, c.taken, c.sent = nil, nil, nil, nil, nil
+	c.socket, c.epoch, c.asked, c.taken, c.sent, c.begun = nil, nil, nil, nil, nil, false
 	for _, one := range sent {
 		one.answered(nil)
 	}
@@ -200,20 +225,27 @@ func (c *Client) hear(text string) error {
 	} else {
 		c.proceed()
 	}
-	held := c.held
+	held, ended := c.held, c.ended
 	c.mutex.Unlock()
-	if changed {
-		c.onChange(held)
+	if changed && c.options.OnChange != nil {
+		c.options.OnChange(held)
+	}
+	if ended != nil && c.options.OnEnd != nil {
+		c.options.OnEnd(*ended)
 	}
 	return err
 }
 
-// proceed sends what there is to send: what asks for the slots first.
+// proceed sends what there is to send: what begins the room, then what asks for the slots, then edits.
 func (c *Client) proceed() {
 	if c.closed {
 		c.drop()
 	}
 	for c.epoch != nil && len(c.sent) < onTheWay {
+		if c.begin != nil && !c.begun {
+			c.send(c.beginRoom())
+			continue
+		}
 		if c.asked != c.wanted {
 			c.send(c.askForSlots())
 			continue

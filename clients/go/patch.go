@@ -13,6 +13,11 @@ type operation struct {
 	Value          interface{}
 }
 
+// What a patch has copied is its own until it is done, and it writes to that and to nothing else: so it copies each container once. An own
+// container stands at one place, within others that are own.
+type ownList struct{ items []interface{} }
+type ownObject struct{ members map[string]interface{} }
+
 // applied is the slots after a patch. What it leaves alone is shared with the slots before, of which nothing is changed.
 func applied(slots []interface{}, patch []operation) ([]interface{}, error) {
 	var value interface{} = slots
@@ -22,7 +27,7 @@ func applied(slots []interface{}, patch []operation) ([]interface{}, error) {
 			return nil, err
 		}
 	}
-	slots, isList := value.([]interface{})
+	slots, isList := finished(value).([]interface{})
 	if !isList {
 		return nil, fmt.Errorf("relay: no slots: %v", value)
 	}
@@ -40,16 +45,20 @@ func step(value interface{}, one operation) (interface{}, error) {
 			return nil, err
 		}
 		if one.Op == "move" {
-			if value, err = changed(value, from, "remove", nil); err != nil {
-				return nil, err
-			}
+			value, err = changed(value, from, "remove", nil)
+		} else if isOwn(part) {
+			part = finished(part) // it comes to stand at a second place
+			value, err = changed(value, from, "replace", part)
+		}
+		if err != nil {
+			return nil, err
 		}
 		return changed(value, path, "add", part)
 	}
 	return nil, fmt.Errorf("relay: no operation: %q", one.Op)
 }
 
-// changed is the value with a part added, replaced or removed at a path.
+// changed is the value with a part added, replaced or removed at a path. The containers along the path are own.
 func changed(value interface{}, path []string, op string, part interface{}) (interface{}, error) {
 	if len(path) == 0 {
 		return part, nil
@@ -67,45 +76,98 @@ func changed(value interface{}, path []string, op string, part interface{}) (int
 			op = "replace"
 		}
 	}
-	switch holder := value.(type) {
-	case map[string]interface{}:
-		return changedObject(holder, token, op, part), nil
-	case []interface{}:
-		return changedList(holder, token, op, part)
+	switch own := owned(value).(type) {
+	case *ownObject:
+		own.change(token, op, part)
+		return own, nil
+	case *ownList:
+		return own, own.change(token, op, part)
 	}
 	return nil, fmt.Errorf("relay: no container of %q", token)
 }
 
-func changedObject(object map[string]interface{}, name, op string, part interface{}) map[string]interface{} {
-	after := make(map[string]interface{}, len(object)+1)
-	for other, value := range object {
-		after[other] = value
-	}
+func (own *ownObject) change(name, op string, part interface{}) {
 	if op == "remove" {
-		delete(after, name)
+		delete(own.members, name)
 	} else {
-		after[name] = part
+		own.members[name] = part
 	}
-	return after
 }
 
-func changedList(list []interface{}, token, op string, part interface{}) ([]interface{}, error) {
+func (own *ownList) change(token, op string, part interface{}) error {
 	place, err := strconv.Atoi(token)
-	if err != nil || place < 0 || place > len(list) {
-		return nil, fmt.Errorf("relay: no place in a list: %q", token)
+	if op == "add" && token == "-" {
+		place, err = len(own.items), nil
 	}
-	after := append(make([]interface{}, 0, len(list)+1), list[:place]...)
-	if op != "remove" {
-		after = append(after, part)
+	if err != nil || place < 0 || place > len(own.items) {
+		return fmt.Errorf("relay: no place in a list: %q", token)
 	}
-	if op != "add" {
-		place++ // in the place of what stood there
+	switch op {
+	case "add":
+		own.items = append(own.items, nil)
+		copy(own.items[place+1:], own.items[place:])
+		own.items[place] = part
+	case "remove":
+		own.items = append(own.items[:place], own.items[place+1:]...)
+	default:
+		own.items[place] = part
 	}
-	return append(after, list[place:]...), nil
+	return nil
+}
+
+// owned is an own copy of a container, or the container if it is own.
+func owned(value interface{}) interface{} {
+	switch holder := value.(type) {
+	case map[string]interface{}:
+		members := make(map[string]interface{}, len(holder)+1)
+		for name, part := range holder {
+			members[name] = part
+		}
+		return &ownObject{members}
+	case []interface{}:
+		return &ownList{append(make([]interface{}, 0, len(holder)+1), holder...)}
+	}
+	return value
+}
+
+// finished is a value as others may hold it: nothing of it is own any more.
+func finished(value interface{}) interface{} {
+	switch own := value.(type) {
+	case *ownObject:
+		for name, part := range own.members {
+			if isOwn(part) {
+				own.members[name] = finished(part)
+			}
+		}
+	case *ownList:
+		for place, part := range own.items {
+			own.items[place] = finished(part)
+		}
+	}
+	return bare(value)
+}
+
+func isOwn(value interface{}) bool {
+	switch value.(type) {
+	case *ownList, *ownObject:
+		return true
+	}
+	return false
+}
+
+// bare is the list or the object of a container that may be own.
+func bare(value interface{}) interface{} {
+	switch own := value.(type) {
+	case *ownObject:
+		return own.members
+	case *ownList:
+		return own.items
+	}
+	return value
 }
 
 func child(value interface{}, token string) (interface{}, error) {
-	switch holder := value.(type) {
+	switch holder := bare(value).(type) {
 	case map[string]interface{}:
 		if part, isThere := holder[token]; isThere {
 			return part, nil

@@ -54,6 +54,9 @@ func (c *Client) answer(reply *message) error {
 	one := c.sent[0]
 	c.sent = c.sent[1:]
 	one.answered(reply)
+	if c.ended != nil {
+		return errEnded
+	}
 	return nil
 }
 
@@ -74,7 +77,7 @@ func (c *Client) answerWaiters(are func(number int) bool, answer Answer) {
 	c.waiters = left
 }
 
-// askForSlots goes on where the slots are, if they are those of the view that is wanted, and this is the connection's first request.
+// askForSlots goes on where the slots are, if they are those of the view that is wanted, and this connection asks for the first time.
 func (c *Client) askForSlots() request {
 	resumes := c.asked == nil && c.shows == c.wanted
 	wanted := c.wanted

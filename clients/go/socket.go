@@ -1,7 +1,9 @@
 package relay
 
 import (
+	"context"
 	"fmt"
+	"net"
 	"regexp"
 	"sync"
 	"time"
@@ -9,44 +11,80 @@ import (
 	"github.com/gorilla/websocket"
 )
 
-// A peer that is gone without a word is found out by a ping without a pong.
-const (
-	quiet    = 20 * time.Second
-	patience = 2 * quiet
-)
+// keepalive says how a peer that is gone without a word is found out.
+type keepalive struct {
+	quiet time.Duration // between two pings
+	// A connection on which no byte comes for so long is dead. One on which bytes come is not, as slow as it may be: a pong waits behind
+	// them.
+	silence time.Duration
+	// But if no pong comes for so long, it is dead in the direction of the pings.
+	unanswered time.Duration
+}
+
+var usual = keepalive{quiet: 20 * time.Second, silence: 40 * time.Second, unanswered: 16 * time.Minute}
 
 var room = regexp.MustCompile(`^wss?://[^/?#]+/rooms/[A-Za-z0-9_-]{1,64}$`)
 
-// Connect enters a room, as ws://127.0.0.1:8080/rooms/board (see ConnectBy). It fails if the address is none of a room.
-func Connect(url string, view []interface{}, onChange func(Held)) (*Client, error) {
+// Connect enters a room, as ws://127.0.0.1:8080/rooms/board, and comes back to it until the client is closed. It fails if the address is
+// none of a room, or if JSON cannot say the document to begin with.
+func Connect(url string, view []interface{}, options Options) (*Client, error) {
 	if !room.MatchString(url) {
 		return nil, fmt.Errorf("relay: not the address of a room: %q", url)
 	}
-	return ConnectBy(func() (Socket, error) { return open(url) }, view, 500*time.Millisecond, onChange), nil
+	return ConnectBy(func() (Socket, error) { return open(url, usual) }, view, options)
+}
+
+// line is a connection that fails once it is dead. Its reader sets both times.
+type line struct {
+	net.Conn
+	keepalive
+	dead time.Time // if no pong comes before
+}
+
+func (l *line) pong() { l.dead = time.Now().Add(l.unanswered) }
+
+func (l *line) Read(into []byte) (int, error) {
+	until := time.Now().Add(l.silence)
+	if l.dead.Before(until) {
+		until = l.dead
+	}
+	if err := l.SetReadDeadline(until); err != nil {
+		return 0, err
+	}
+	return l.Conn.Read(into)
 }
 
 type webSocket struct {
 	conn   *websocket.Conn
+	alive  keepalive
 	texts  chan string // has room for all that may be on the way
 	closed chan struct{}
 	once   sync.Once
 }
 
-func open(url string) (Socket, error) {
-	conn, _, err := websocket.DefaultDialer.Dial(url, nil)
+func open(url string, alive keepalive) (Socket, error) {
+	var below *line
+	dialer := *websocket.DefaultDialer
+	dialer.NetDialContext = func(context context.Context, network, address string) (net.Conn, error) {
+		conn, err := new(net.Dialer).DialContext(context, network, address)
+		if err != nil {
+			return nil, err
+		}
+		below = &line{Conn: conn, keepalive: alive}
+		below.pong()
+		return below, nil
+	}
+	conn, _, err := dialer.Dial(url, nil)
 	if err != nil {
 		return nil, err
 	}
-	conn.SetPongHandler(func(string) error { return conn.SetReadDeadline(time.Now().Add(patience)) })
-	socket := &webSocket{conn: conn, texts: make(chan string, onTheWay), closed: make(chan struct{})}
+	conn.SetPongHandler(func(string) error { below.pong(); return nil })
+	socket := &webSocket{conn: conn, alive: alive, texts: make(chan string, onTheWay), closed: make(chan struct{})}
 	go socket.write()
 	return socket, nil
 }
 
 func (s *webSocket) Read() (string, error) {
-	if err := s.conn.SetReadDeadline(time.Now().Add(patience)); err != nil {
-		return "", err
-	}
 	_, text, err := s.conn.ReadMessage()
 	return string(text), err
 }
@@ -67,7 +105,7 @@ func (s *webSocket) Close() {
 
 func (s *webSocket) write() {
 	defer s.Close()
-	ticker := time.NewTicker(quiet)
+	ticker := time.NewTicker(s.alive.quiet)
 	defer ticker.Stop()
 	for {
 		var err error
@@ -75,7 +113,7 @@ func (s *webSocket) write() {
 		case text := <-s.texts:
 			err = s.conn.WriteMessage(websocket.TextMessage, []byte(text))
 		case <-ticker.C:
-			err = s.conn.WriteControl(websocket.PingMessage, nil, time.Now().Add(patience))
+			err = s.conn.WriteControl(websocket.PingMessage, nil, time.Now().Add(s.alive.silence))
 		case <-s.closed:
 			return
 		}

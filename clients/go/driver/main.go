@@ -77,7 +77,11 @@ func (d *driver) do(words line) error {
 	switch words.Do {
 	case "connect":
 		dial := func() (relay.Socket, error) { return d.dial(words.URL) }
-		d.client = relay.ConnectBy(dial, words.View, time.Millisecond, func(relay.Held) {})
+		client, err := relay.ConnectBy(dial, words.View, relay.Options{Wait: time.Millisecond})
+		if err != nil {
+			return err
+		}
+		d.client = client
 		<-d.rests
 	case "accept":
 		d.link = &link{driver: d, texts: make(chan string)}
