@@ -197,4 +197,5 @@ async def main():
                 await play.end()
 
 
-asyncio.run(main())
+if __name__ == "__main__":
+    asyncio.run(main())

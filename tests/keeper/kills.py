@@ -1,7 +1,8 @@
 """The relay, its keeper, or both are killed by signal 9 at random moments, while clients edit as fast as they can
 
-After each kill the file of each room has to be whole, and no older than what the relay had answered 100 milliseconds and two writes
-to this disk before; with --slow FACTOR that is as many times longer, for a machine that is slow, or busy with other work. Then what
+After each kill the file of each room has to be whole, and no older than what the relay had answered 100 milliseconds, two writes to
+this disk and the age of a document of that size before; with --slow FACTOR the first two are as many times longer, for a machine that is
+slow, or busy with other work. Then what
 was killed is started again. A room has to have its document again, unless another client was first: then the old document has to stand
 aside, whole. All the while a reader looks whether a whole document stands under each name.
 """
@@ -14,7 +15,9 @@ from keeper import Keeper, Manager
 from server import Relay, free_port
 
 OLDEST = 0.1
-"""How many seconds before a kill the state of a file may be, beside two writes."""
+"""How many seconds before a kill the state of a file may be, beside two writes and the age."""
+AGE, LARGE = 2.0, 1 << 20
+"""The age of a document of that many bytes, and in proportion of a smaller one."""
 SIZES = {"small": 0, "middle": 10_000, "large": 150_000}
 """The rooms, and how many bytes their documents have beside what is counted."""
 
@@ -99,7 +102,7 @@ class Play:
         self.relay = await Relay.begin(os.environ["RELAY"], self.epoch, 64, 32, self.port)
 
     async def start_keeper(self):
-        self.keeper = await Keeper.begin(self.port, self.folder, self.manager, SIZES, errors=asyncio.subprocess.DEVNULL)
+        self.keeper = await Keeper.begin(self.port, self.folder, self.manager, SIZES, "--age", str(AGE), errors=asyncio.subprocess.DEVNULL)
         await self.manager.hears("READY=1")
 
     def start_editors(self):
@@ -166,7 +169,7 @@ class Play:
         editor, document = self.editors[room], whole(self.file(room).read_text())
         age = editor.age(document["n"], moment)
         self.oldest = max(self.oldest, age)
-        may_miss = self.slow * (OLDEST + 2 * self.write)
+        may_miss = self.slow * (OLDEST + 2 * self.write) + AGE * SIZES[room] / LARGE
         assert document["n"] >= editor.answered_before(moment - may_miss), f"{room}: {age * 1000:.0f} ms old"
         assert document["n"] <= editor.sent
         return document

@@ -1,4 +1,4 @@
-"""The keeper: a client of the relay that keeps rooms in files, and puts them back after a restart (docs/RUNNING.md, "Keeping documents").
+"""The keeper: a client of the relay that keeps rooms in files, and puts them back after a restart (docs/RUNNING.md, "A restart").
 
 The relay holds documents in memory alone. The keeper is a client like any other, so durability costs the relay one session for each room
 that is kept, and nothing else.

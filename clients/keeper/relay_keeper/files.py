@@ -40,11 +40,11 @@ class Files:
         except FileNotFoundError:
             return None
 
-    def write(self, document: Json) -> None:
-        """Writes the document. What stood there before becomes an older state, if one is due."""
+    def write(self, document: Json) -> int:
+        """Writes the document. What stood there before becomes an older state, if one is due. Gives how many bytes were written."""
         if self._snapshots > 0:
             self._keep_older()
-        self._write(self._new, self._document, document)
+        return self._write(self._new, self._document, document)
 
     def epoch(self) -> Optional[int]:
         """The run of the relay that the document is of; None if that is not known."""
@@ -112,18 +112,20 @@ class Files:
         raise AssertionError("there is always another millisecond")
 
     @staticmethod
-    def _write(new: pathlib.Path, path: pathlib.Path, document: Json) -> None:
-        _replace(new, path, json.dumps(document, ensure_ascii=False, separators=(",", ":")) + "\n")
+    def _write(new: pathlib.Path, path: pathlib.Path, document: Json) -> int:
+        return _replace(new, path, json.dumps(document, ensure_ascii=False, separators=(",", ":")) + "\n")
 
 
-def _replace(new: pathlib.Path, path: pathlib.Path, text: str) -> None:
-    """Writes a file whole, under another name, and puts it in the place of an old one."""
-    with open(new, "w", encoding="utf-8") as out:
-        out.write(text)
+def _replace(new: pathlib.Path, path: pathlib.Path, text: str) -> int:
+    """Writes a file whole, under another name, and puts it in the place of an old one. Gives its bytes."""
+    encoded = text.encode()
+    with open(new, "wb") as out:
+        out.write(encoded)
         out.flush()
         os.fsync(out.fileno())
     os.replace(new, path)
     sync_folder(path.parent)
+    return len(encoded)
 
 
 def stamp(milliseconds: int) -> str:

@@ -9,23 +9,25 @@ from typing import Any, List
 
 from .files import Files
 from .notify import notify
+from .pace import Pace
 from .room import Room
 
 THREADS = 8
 """How many files are written side by side, since each waits for the disk."""
 MESSAGES, FEWEST = 128, 8
-"""How many messages are heard between two syncs, of all rooms together, and of each one at least."""
+"""How many messages are heard between two looks, of all rooms together, and of each one at least."""
 
 log = logging.getLogger("relay_keeper")
 
 
-async def keep(url: str, files: List[Files]) -> None:
-    """Until SIGTERM or SIGINT. Then everything that was heard is written. Fails with what closed a board, if something did."""
+async def keep(url: str, files: List[Files], times: float, age: float) -> None:
+    """Until SIGTERM or SIGINT. Then everything that was heard is written. Fails with what closed a board, if something did. `times` and
+    `age` are those of `Pace`."""
     stop = asyncio.Event()
     for sign in (signal.SIGTERM, signal.SIGINT):
         asyncio.get_running_loop().add_signal_handler(sign, stop.set)
     with ThreadPoolExecutor(THREADS) as disk:
-        rooms = [Room(url, each, max(MESSAGES // len(files), FEWEST), disk) for each in files]
+        rooms = [Room(url, each, max(MESSAGES // len(files), FEWEST), Pace(times, age), disk) for each in files]
         keeping: "List[asyncio.Future[Any]]" = [asyncio.ensure_future(room.keep()) for room in rooms]
         telling, stopping = asyncio.ensure_future(_tell_ready(rooms)), asyncio.ensure_future(stop.wait())
         await asyncio.wait([*keeping, stopping], return_when=asyncio.FIRST_COMPLETED)

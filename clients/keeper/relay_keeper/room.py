@@ -1,12 +1,14 @@
 """One room: its newest document goes to its files, and back into the room when a run of the relay begins.
 
-Syncs begin at least `PACE` apart, and each writes the newest document, so a keeper never falls behind by more than that and one write. A
-room that changes fast is muted: after `rush` messages the keeper watches nothing until its next sync, and then asks for the whole
-document. So what a room costs is bounded, however fast it is edited, and no queue of old patches builds up in the sockets.
+While something is unwritten the room is looked at every `PACE`, and the newest document is written once that is due (pace.py). A room that
+changes fast is muted: after `rush` messages between two looks the keeper watches nothing until a write is due, as it reckons by the bytes
+of those messages, and then asks for the whole document. So what a room costs is bounded, however fast it is edited, and no queue of old
+patches builds up in the sockets.
 """
 from __future__ import annotations
 
 import asyncio
+import json
 import logging
 from collections import deque
 from concurrent.futures import Executor
@@ -17,9 +19,12 @@ import relay_client
 from relay_client.values import same
 
 from .files import Files, Json
+from .pace import Pace
 
 PACE = 0.05
-"""Seconds from the beginning of a sync to that of the next one."""
+"""Seconds from one look at a room of which something is unwritten to the next one."""
+TICK = 0.001
+"""The shortest time by which a rate is reckoned."""
 AGAIN = 1.0
 """Seconds after which a write is tried again that the system refused."""
 
@@ -39,22 +44,34 @@ class Seen:
     document: Json
 
 
-class Room:
-    """`rush`: how many messages are heard between two syncs. Files are written by the threads of `disk`."""
+@dataclass(frozen=True)
+class Muted:
+    """Since when, and how many bytes edits brought in a second before."""
 
-    def __init__(self, url: str, files: Files, rush: int, disk: Executor):
-        self._files, self._rush, self._disk = files, rush, disk
+    since: float
+    rate: float
+
+
+class Room:
+    """`rush`: how many messages are heard between two looks. Files are written by the threads of `disk`."""
+
+    def __init__(self, url: str, files: Files, rush: int, pace: Pace, disk: Executor):
+        self._files, self._rush, self._pace, self._disk = files, rush, pace, disk
         self._name = files.room
+        self._loop = asyncio.get_running_loop()
         self._run: Optional[int] = None  # the run of which the file is, once its document was put back, found there or set aside
         self._rev = 0  # the revision that was written last
+        self._heard_of, self._heard = -1, 0  # the run and the revision that was heard last
         self._unwritten: Deque[Seen] = deque()  # the newest document of each run that was seen
         self._work = asyncio.Event()
-        self._messages = 0  # that were heard since the last sync
-        self._muted = False
+        self._looked = self._loop.time()
+        self._messages, self._bytes = 0, 0  # that were heard since then
+        self._muted: Optional[Muted] = None
+        self._is_behind = False  # the system refused the last write
         self._is_refused = False  # and that was told
         self._ended: Optional[Exception] = None
         self._closing = False
-        self.ready: "asyncio.Future[None]" = asyncio.get_running_loop().create_future()
+        self.ready: "asyncio.Future[None]" = self._loop.create_future()
         """The room has its document, and the file has the room's."""
         self._board = relay_client.connect(
             f"{url}/rooms/{self._name}",
@@ -67,14 +84,14 @@ class Room:
 
     async def keep(self) -> None:
         """Until the room is closed; then everything that was heard is written. Fails with what closed the board, if something else did."""
-        loop = asyncio.get_running_loop()
         while not self._closing and self._ended is None:
             await self._work.wait()
-            begun = loop.time()
             self._work.clear()
-            await self._listen()
-            wait = PACE if await self._sync() else AGAIN
-            await asyncio.sleep(begun + wait - loop.time())
+            self._looked, self._messages, self._bytes = self._loop.time(), 0, 0
+            wait = PACE if await self._look() else AGAIN
+            if self._unwritten:
+                self._work.set()
+            await asyncio.sleep(self._looked + wait - self._loop.time())
         await self._sync()
         if self._ended is not None:
             raise self._ended
@@ -92,14 +109,27 @@ class Room:
         if not change.slots or epoch is None:
             return  # muted
         [[document]] = change.slots
+        self._count(epoch, change)
         if self._unwritten and self._unwritten[-1].epoch == epoch and self._unwritten[-1].rev <= change.rev:
             self._unwritten.pop()
         self._unwritten.append(Seen(epoch, change.rev, document))
         self._work.set()
-        self._messages += 1
         if self._messages == self._rush:
-            self._muted = True
+            now = self._loop.time()
+            self._muted = Muted(now, self._bytes / max(now - self._looked, TICK))
             self._watch(NOTHING)
+
+    def _count(self, epoch: int, change: relay_client.Change) -> None:
+        """What edits brought by this change."""
+        now, self._messages = self._loop.time(), self._messages + 1
+        if change.patch is None:
+            heard = self._heard if self._heard_of == epoch else 0
+            self._pace.missed(now, change.rev - heard)
+        else:
+            size = len(json.dumps(change.patch, ensure_ascii=False, separators=(",", ":")).encode())
+            self._bytes += size
+            self._pace.patch(now, size)
+        self._heard_of, self._heard = epoch, change.rev
 
     def _enter(self, state: relay_client.State, cause: Optional[Exception]) -> None:
         if state == "closed":
@@ -118,25 +148,43 @@ class Room:
 
     async def _listen(self) -> None:
         """Asks for the newest document of a muted room, and waits a while for it."""
-        self._messages = 0
-        if self._muted and not self._closing:
-            self._muted = False
+        if self._muted is not None and not self._closing:
+            self._muted = None
             await asyncio.wait([self._watch(WHOLE)], timeout=PACE)
 
     # What is done about it.
 
+    async def _look(self) -> bool:
+        """Writes if that is due. Whether the system took it."""
+        if not self._is_due():
+            return True
+        await self._listen()  # what a muted room has missed may be less than was reckoned
+        return not self._is_due() or await self._sync()
+
+    def _is_due(self) -> bool:
+        """Whether what is unwritten is to be written. That of a run that has begun, and that of one that has ended, does not wait."""
+        if not self._unwritten:
+            return False
+        if self._is_behind or len(self._unwritten) > 1 or self._unwritten[-1].epoch != self._run:
+            return True
+        now, muted = self._loop.time(), self._muted
+        return self._pace.is_due(now, unheard=(now - muted.since) * muted.rate if muted is not None else 0.0)
+
     async def _sync(self) -> bool:
-        """Writes what was heard, the newest document of each run. Whether the system took it: else it is kept, to be written later."""
+        """Writes the newest document of each run. Whether the system took it: else it is kept, to be written later."""
         while self._unwritten:
             seen = self._unwritten[0]
+            self._pace.begin(self._loop.time())
             try:
                 await self._take(seen)
             except (OSError, ValueError) as error:
                 log.error("%s: the files are behind the room, and it is tried again: %s", self._name, error)
-                self._work.set()
+                self._is_behind = True
                 return False
-            if self._unwritten and self._unwritten[0] is seen:
-                self._unwritten.popleft()
+            self._is_behind = False
+            if self._unwritten[0] is not seen:
+                break  # edits came meanwhile
+            self._unwritten.popleft()
         return True
 
     async def _take(self, seen: Seen) -> None:
@@ -146,7 +194,7 @@ class Room:
         if not is_begun and not await self._begin(seen):
             return
         if seen.rev > 0 and self._run == seen.epoch:
-            await self._on_disk(lambda: self._files.write(seen.document))
+            self._pace.wrote(await self._on_disk(lambda: self._files.write(seen.document)))
         self._rev = seen.rev
         if not self.ready.done():
             self.ready.set_result(None)
@@ -191,7 +239,7 @@ class Room:
 
     async def _on_disk(self, work: Callable[[], T]) -> T:
         """In another thread, since the disk may be slow."""
-        return await asyncio.get_running_loop().run_in_executor(self._disk, work)
+        return await self._loop.run_in_executor(self._disk, work)
 
 
 ENDED = object()
