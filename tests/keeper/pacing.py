@@ -87,7 +87,6 @@ class Clock(unittest.TestCase):
         pace.patch(1.0, 100)
         pace.missed(1.0, 98)
         self.assertFalse(pace.is_due(1.0))
-        self.assertTrue(pace.is_due(1.0, unheard=100))
         pace.missed(1.0, 1)
         self.assertTrue(pace.is_due(1.0))
 
@@ -136,7 +135,7 @@ class Written(unittest.IsolatedAsyncioTestCase):
         self.assertLess(time.monotonic() - ended, 15)
 
     async def test_beside_edits_that_are_too_fast_to_be_heard(self):
-        """Of 16 rooms each hears 8 messages in 50 ms, and then nothing until a write is due."""
+        """Of 16 rooms each hears 8 messages in 50 ms, and then nothing until the next look."""
         document = {"n": 0, "rest": "x" * 200_000}
         async with keeping(document, ["one", *(f"room-{number}" for number in range(15))]) as (play, size):
             before = written(play)
@@ -144,8 +143,8 @@ class Written(unittest.IsolatedAsyncioTestCase):
             ended = time.monotonic()
             await play.kept("one", {**document, "n": last})
             print(f"{brought} bytes came in {last} edits: the keeper wrote {written(play) - before} bytes", flush=True)
-            # What it did not hear it reckons; and nobody paid for the last two.
-            self.assertLessEqual(written(play) - before, 1.3 * 10 * brought + 2.2 * size)
+            # The messages are a little longer than the patches, and nobody paid for the last document.
+            self.assertLessEqual(written(play) - before, 1.3 * 10 * brought + 1.1 * size)
             self.assertLess(time.monotonic() - ended, 15)
 
 

@@ -44,20 +44,21 @@ class Pace:
         if self._oldest is None:
             self._oldest = now
 
-    def is_due(self, now: float, unheard: float = 0.0) -> bool:
-        """Whether what was heard is to be written. `unheard`: bytes that edits are reckoned to have brought beside."""
+    def is_due(self, now: float) -> bool:
+        """Whether what was heard is to be written."""
         if self._oldest is None:
             return True
         share = min(self._cost / LARGE, 1.0)
         is_settled = now - self._newest >= SETTLED * share and now - self._unpaid >= self._age * share
-        return self._is_paid(unheard) or is_settled or now - self._oldest >= self._age * share
+        return self._is_paid or is_settled or now - self._oldest >= self._age * share
 
-    def _is_paid(self, unheard: float) -> bool:
-        return (self._brought + unheard) * self._times >= self._cost
+    @property
+    def _is_paid(self) -> bool:
+        return self._brought * self._times >= self._cost
 
     def begin(self, now: float) -> None:
         """A write begins of all that was heard."""
-        if not self._is_paid(0.0):
+        if not self._is_paid:
             self._unpaid = now
         self._brought, self._oldest = 0.0, None
 

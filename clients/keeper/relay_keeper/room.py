@@ -1,9 +1,8 @@
 """One room: its newest document goes to its files, and back into the room when a run of the relay begins.
 
 While something is unwritten the room is looked at every `PACE`, and the newest document is written once that is due (pace.py). A room that
-changes fast is muted: after `rush` messages between two looks the keeper watches nothing until a write is due, as it reckons by the bytes
-of those messages, and then asks for the whole document. So what a room costs is bounded, however fast it is edited, and no queue of old
-patches builds up in the sockets.
+changes fast is muted: after `rush` messages the keeper watches nothing until it looks again, and then asks for the whole document. So what
+a room costs is bounded, however fast it is edited, and no queue of old patches builds up in the sockets.
 """
 from __future__ import annotations
 
@@ -23,8 +22,6 @@ from .pace import Pace
 
 PACE = 0.05
 """Seconds from one look at a room of which something is unwritten to the next one."""
-TICK = 0.001
-"""The shortest time by which a rate is reckoned."""
 AGAIN = 1.0
 """Seconds after which a write is tried again that the system refused."""
 
@@ -44,14 +41,6 @@ class Seen:
     document: Json
 
 
-@dataclass(frozen=True)
-class Muted:
-    """Since when, and how many bytes edits brought in a second before."""
-
-    since: float
-    rate: float
-
-
 class Room:
     """`rush`: how many messages are heard between two looks. Files are written by the threads of `disk`."""
 
@@ -64,9 +53,8 @@ class Room:
         self._heard_of, self._heard = -1, 0  # the run and the revision that was heard last
         self._unwritten: Deque[Seen] = deque()  # the newest document of each run that was seen
         self._work = asyncio.Event()
-        self._looked = self._loop.time()
-        self._messages, self._bytes = 0, 0  # that were heard since then
-        self._muted: Optional[Muted] = None
+        self._messages = 0  # that were heard since the last look
+        self._muted = False
         self._is_behind = False  # the system refused the last write
         self._is_refused = False  # and that was told
         self._ended: Optional[Exception] = None
@@ -87,11 +75,12 @@ class Room:
         while not self._closing and self._ended is None:
             await self._work.wait()
             self._work.clear()
-            self._looked, self._messages, self._bytes = self._loop.time(), 0, 0
-            wait = PACE if await self._look() else AGAIN
+            begun = self._loop.time()
+            await self._listen()
+            wait = PACE if not self._is_due() or await self._sync() else AGAIN
             if self._unwritten:
                 self._work.set()
-            await asyncio.sleep(self._looked + wait - self._loop.time())
+            await asyncio.sleep(begun + wait - self._loop.time())
         await self._sync()
         if self._ended is not None:
             raise self._ended
@@ -115,8 +104,7 @@ class Room:
         self._unwritten.append(Seen(epoch, change.rev, document))
         self._work.set()
         if self._messages == self._rush:
-            now = self._loop.time()
-            self._muted = Muted(now, self._bytes / max(now - self._looked, TICK))
+            self._muted = True
             self._watch(NOTHING)
 
     def _count(self, epoch: int, change: relay_client.Change) -> None:
@@ -126,9 +114,7 @@ class Room:
             heard = self._heard if self._heard_of == epoch else 0
             self._pace.missed(now, change.rev - heard)
         else:
-            size = len(json.dumps(change.patch, ensure_ascii=False, separators=(",", ":")).encode())
-            self._bytes += size
-            self._pace.patch(now, size)
+            self._pace.patch(now, len(json.dumps(change.patch, ensure_ascii=False, separators=(",", ":")).encode()))
         self._heard_of, self._heard = epoch, change.rev
 
     def _enter(self, state: relay_client.State, cause: Optional[Exception]) -> None:
@@ -148,18 +134,12 @@ class Room:
 
     async def _listen(self) -> None:
         """Asks for the newest document of a muted room, and waits a while for it."""
-        if self._muted is not None and not self._closing:
-            self._muted = None
+        self._messages = 0
+        if self._muted and not self._closing:
+            self._muted = False
             await asyncio.wait([self._watch(WHOLE)], timeout=PACE)
 
     # What is done about it.
-
-    async def _look(self) -> bool:
-        """Writes if that is due. Whether the system took it."""
-        if not self._is_due():
-            return True
-        await self._listen()  # what a muted room has missed may be less than was reckoned
-        return not self._is_due() or await self._sync()
 
     def _is_due(self) -> bool:
         """Whether what is unwritten is to be written. That of a run that has begun, and that of one that has ended, does not wait."""
@@ -167,8 +147,7 @@ class Room:
             return False
         if self._is_behind or len(self._unwritten) > 1 or self._unwritten[-1].epoch != self._run:
             return True
-        now, muted = self._loop.time(), self._muted
-        return self._pace.is_due(now, unheard=(now - muted.since) * muted.rate if muted is not None else 0.0)
+        return self._pace.is_due(self._loop.time())
 
     async def _sync(self) -> bool:
         """Writes the newest document of each run. Whether the system took it: else it is kept, to be written later."""
