@@ -108,7 +108,7 @@ def start_nginx(folder, port, relays, connections):
     names = ["-subj", "/CN=localhost", "-addext", "subjectAltName=DNS:localhost"]
     files = ["-keyout", folder / "relay.key", "-out", folder / "relay.pem"]
     subprocess.run([*kind, *names, *files], check=True, stderr=subprocess.DEVNULL)
-    word = subprocess.run(["openssl", "passwd", "-apr1", "secret"], check=True, capture_output=True, text=True).stdout
+    word = subprocess.run(["openssl", "passwd", "-6", "secret"], check=True, capture_output=True, text=True).stdout
     (folder / "relay.passwords").write_text(f"anna:{word}")
     servers = "\n".join(f"    server 127.0.0.1:{relay.port} max_fails=0;" for relay in relays)
     documented = (ROOT / "docs/running/nginx.conf").read_text()
