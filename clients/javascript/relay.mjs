@@ -241,8 +241,8 @@ const jsonModule = (() => {
 
 const patchModule = (() => {
   // JSON Patch (RFC 6902) on values that are never written to: what a patch leads to has new parts where it differs, so a value that was
-  // handed out stays what it was.
-  const { index, tokens } = pointerModule;
+  // handed out stays what it was. A patch copies each container once, however many of its operations change it.
+  const { index, startsWith, tokens } = pointerModule;
   const { same } = jsonModule;
 
   /** @typedef {import("../relay.js").Operation} Operation */
@@ -250,33 +250,74 @@ const patchModule = (() => {
   /** An operation does not fit the value. */
   class Misfit extends Error {}
 
+  /** The containers that one patch made. Nobody else has them, and each stands in one place, so the patch may write to them. */
+  class Owned {
+    /** @type {Set<object>} */
+    #made = new Set();
+
+    /**
+     * The container itself if the patch made it, and else a copy that stands for it from now on.
+     * @param {any} part
+     */
+    writable(part) {
+      if (typeof part !== "object" || part === null) throw new Misfit("no list and no object");
+      if (this.#made.has(part)) return part;
+      const copy = Array.isArray(part) ? part.slice() : { ...part };
+      this.#made.add(copy);
+      return copy;
+    }
+
+    /**
+     * Before a value stands in a second place, or is kept: no later operation writes to it. What the patch did not make holds nothing that it
+     * made, since a container is made with all those around it.
+     * @param {any} part
+     */
+    share(part) {
+      if (!this.#made.delete(part)) return;
+      for (const inner of Object.values(part)) this.share(inner);
+    }
+  }
+
   /**
    * @param {any} whole
    * @param {readonly Operation[]} patch
    */
   function applied(whole, patch) {
-    return patch.reduce(step, whole);
+    const owned = new Owned();
+    return patch.reduce((present, operation) => step(present, operation, owned), whole);
   }
 
-  /** @param {any} whole @param {any} operation */
-  function step(whole, { op, path, from, value }) {
+  /** @param {any} whole @param {any} operation @param {Owned} owned */
+  function step(whole, { op, path, from, value }, owned) {
     switch (op) {
       case "add":
-        return added(whole, tokens(path), value);
+        return added(whole, tokens(path), value, owned);
       case "remove":
-        return removed(whole, tokens(path));
+        return removed(whole, tokens(path), owned);
       case "replace":
-        return replaced(whole, tokens(path), value);
-      case "move":
-        return added(removed(whole, tokens(from)), tokens(path), found(whole, tokens(from)));
-      case "copy":
-        return added(whole, tokens(path), found(whole, tokens(from)));
+        return replaced(whole, tokens(path), value, owned);
+      case "move": {
+        const moved = found(whole, tokens(from));
+        if (path === from) return whole;
+        checkMove(tokens(from), tokens(path));
+        return added(removed(whole, tokens(from), owned), tokens(path), moved, owned);
+      }
+      case "copy": {
+        const copied = found(whole, tokens(from));
+        owned.share(copied);
+        return added(whole, tokens(path), copied, owned);
+      }
       case "test":
         if (!same(found(whole, tokens(path)), value)) throw new Misfit(`another value at ${path}`);
         return whole;
       default:
         throw new TypeError(`no operation: ${op}`);
     }
+  }
+
+  /** @param {readonly string[]} from @param {readonly string[]} path */
+  function checkMove(from, path) {
+    if (path.length > from.length && startsWith(path, from)) throw new Misfit("into itself");
   }
 
   /** @param {any} part @param {string} token */
@@ -293,60 +334,59 @@ const patchModule = (() => {
     }, whole);
   }
 
-  /** @param {any} whole @param {readonly string[]} path @param {any} value */
-  function added(whole, path, value) {
-    return changed(whole, path, () => value, (part, token) => {
-      if (!Array.isArray(part)) return { ...part, [token]: value };
+  /** @param {any} whole @param {readonly string[]} path @param {any} value @param {Owned} owned */
+  function added(whole, path, value, owned) {
+    return changed(whole, path, owned, () => value, (part, token) => {
+      if (!Array.isArray(part)) return put(part, token, value);
       const place = token === "-" ? part.length : index(token) ?? Infinity;
       if (place > part.length) throw new Misfit(`no place ${token}`);
-      return [...part.slice(0, place), value, ...part.slice(place)];
+      part.splice(place, 0, value);
     });
   }
 
-  /** @param {any} whole @param {readonly string[]} path */
-  function removed(whole, path) {
+  /** @param {any} whole @param {readonly string[]} path @param {Owned} owned */
+  function removed(whole, path, owned) {
     found(whole, path);
     const atRoot = () => {
       throw new Misfit("the whole cannot be removed");
     };
-    return changed(whole, path, atRoot, (part, token) => {
-      if (Array.isArray(part)) return part.filter((_, k) => k !== Number(token));
-      const { [token]: gone, ...rest } = part;
-      return rest;
+    return changed(whole, path, owned, atRoot, (part, token) => {
+      if (Array.isArray(part)) part.splice(Number(token), 1);
+      else delete part[token];
     });
   }
 
-  /** @param {any} whole @param {readonly string[]} path @param {any} value */
-  function replaced(whole, path, value) {
+  /** @param {any} whole @param {readonly string[]} path @param {any} value @param {Owned} owned */
+  function replaced(whole, path, value, owned) {
     found(whole, path);
-    return changed(whole, path, () => value, (part, token) => exchanged(part, token, value));
+    return changed(whole, path, owned, () => value, (part, token) => put(part, token, value));
   }
 
+  // An assignment of `__proto__` would set no member.
   /** @param {any} part @param {string} token @param {any} value */
-  function exchanged(part, token, value) {
-    if (!Array.isArray(part)) return { ...part, [token]: value };
-    const copy = part.slice();
-    copy[Number(token)] = value;
-    return copy;
+  function put(part, token, value) {
+    Object.defineProperty(part, token, { value, writable: true, enumerable: true, configurable: true });
   }
 
   /**
-   * The whole with another part in the place of the one that holds the last token.
+   * The whole, in which what holds the last token is changed.
    * @param {any} whole
    * @param {readonly string[]} path
+   * @param {Owned} owned
    * @param {() => any} atRoot
-   * @param {(part: any, token: string) => any} change
+   * @param {(part: any, token: string) => void} change writes to a container of the patch's own
    * @returns {any}
    */
-  function changed(whole, path, atRoot, change) {
+  function changed(whole, path, owned, atRoot, change) {
     if (path.length === 0) return atRoot();
     const [token, ...rest] = path;
-    if (typeof whole !== "object" || whole === null) throw new Misfit("no list and no object");
-    if (rest.length === 0) return change(whole, token);
-    return exchanged(whole, token, changed(found(whole, [token]), rest, atRoot, change));
+    const part = owned.writable(whole);
+    if (rest.length === 0) change(part, token);
+    else put(part, token, changed(found(part, [token]), rest, owned, atRoot, change));
+    return part;
   }
 
-  return { Misfit, added, applied, found, has, removed, replaced };
+  return { Misfit, Owned, added, applied, checkMove, found, has, removed, replaced };
 })();
 
 const followerModule = (() => {
@@ -551,9 +591,9 @@ const knownModule = (() => {
   // What a client knows of the document by its slots, and of the documents to which its own patches lead: some values are known, some
   // places are known to be empty, and of the rest nothing is known. What an operation means to a slot (docs/PROTOCOL.md, "What a change
   // means to a slot") follows: the operation is done on what is known, and the slots are read again.
-  const { index, startsWith, tokens } = pointerModule;
+  const { index, tokens } = pointerModule;
   const { same } = jsonModule;
-  const { Misfit, added, has, removed, replaced } = patchModule;
+  const { Misfit, Owned, added, checkMove, has, removed, replaced } = patchModule;
 
   /**
    * A part of the document: a value; nothing (`absent`); unknown; or a container of which only some children, or the size, are known.
@@ -681,30 +721,90 @@ const knownModule = (() => {
    * What is known after one operation. Fails with `Misfit` where it is known to be refused.
    * @param {Part} whole
    * @param {Operation} operation
-   * @returns {Part}
    */
   function after(whole, operation) {
-    const path = tokens(operation.path);
-    switch (operation.op) {
-      case "add":
-        return put(whole, path, known(operation.value));
-      case "remove":
-        return taken(whole, path);
-      case "replace":
-        return exchanged(whole, path, known(operation.value));
-      case "test":
-        return tested(whole, path, operation.value);
-      case "copy":
-        return put(whole, path, source(whole, tokens(operation.from)));
-      case "move": {
-        const from = tokens(operation.from);
-        const moved = source(whole, from);
-        if (path.length > from.length && startsWith(path, from)) throw new Misfit("into itself");
-        if (operation.path === operation.from) return whole;
-        return put(taken(whole, from), path, moved);
+    return afterAll(whole, [operation]);
+  }
+
+  /** @param {Part} whole @param {readonly Operation[]} patch */
+  function afterAll(whole, patch) {
+    const draft = new Draft(whole);
+    for (const operation of patch) draft.do(operation);
+    return draft.whole;
+  }
+
+  /** What is known while a patch is done, operation by operation, on values that the draft alone has: so it copies each container once. */
+  class Draft {
+    #owned = new Owned();
+
+    /** @param {Part} whole */
+    constructor(whole) {
+      this.whole = whole;
+    }
+
+    /**
+     * The value at a path, which no later operation writes to; undefined where it is not known.
+     * @param {readonly string[]} path
+     */
+    kept(path) {
+      const part = read(this.whole, path);
+      if (part.is !== "value") return undefined;
+      this.#owned.share(part.value);
+      return part.value;
+    }
+
+    /**
+     * Fails with `Misfit` where the operation is known to be refused.
+     * @param {Operation} operation
+     * @param {() => void} [puts] told before something is added, copied or moved to a place; of a move, when it was taken from where it was
+     */
+    do(operation, puts = () => {}) {
+      const path = tokens(operation.path);
+      switch (operation.op) {
+        case "add":
+          return this.#put(path, known(operation.value), puts);
+        case "remove":
+          return this.#take(path);
+        case "replace":
+          this.whole = exchanged(this.whole, path, known(operation.value), this.#owned);
+          return;
+        case "test":
+          return tested(this.whole, path, operation.value);
+        case "copy":
+          return this.#put(path, this.#shared(source(this.whole, tokens(operation.from))), puts);
+        case "move":
+          return this.#move(operation, puts);
+        default:
+          throw new TypeError(`no operation: ${/** @type {any} */ (operation).op}`);
       }
-      default:
-        throw new TypeError(`no operation: ${/** @type {any} */ (operation).op}`);
+    }
+
+    /** @param {readonly string[]} path @param {Part} part @param {() => void} puts */
+    #put(path, part, puts) {
+      puts();
+      this.whole = put(this.whole, path, part, this.#owned);
+    }
+
+    /** @param {readonly string[]} path */
+    #take(path) {
+      this.whole = taken(this.whole, path, this.#owned);
+    }
+
+    /** @param {{ from: string, path: string }} operation @param {() => void} puts */
+    #move(operation, puts) {
+      const [from, path] = [tokens(operation.from), tokens(operation.path)];
+      const moved = source(this.whole, from);
+      if (operation.path === operation.from) return;
+      checkMove(from, path);
+      this.#take(from);
+      this.#put(path, moved, puts);
+    }
+
+    /** @param {Part} part */
+    #shared(part) {
+      if (part.is === "value") this.#owned.share(part.value);
+      if (part.is === "container") part.children.forEach((inner) => this.#shared(inner));
+      return part;
     }
   }
 
@@ -719,29 +819,28 @@ const knownModule = (() => {
   function tested(whole, path, value) {
     const part = read(whole, path);
     if (part.is === "absent" || (part.is === "value" && !same(part.value, value))) throw new Misfit("another value");
-    return whole;
   }
 
-  /** @param {Part} whole @param {readonly string[]} path @param {Part} part */
-  function put(whole, path, part) {
+  /** @param {Part} whole @param {readonly string[]} path @param {Part} part @param {Owned} owned */
+  function put(whole, path, part, owned) {
     return changed(whole, path, () => part, {
-      inValue: (value, rest) => (part.is === "value" ? known(added(value, rest, part.value)) : UNKNOWN),
+      inValue: (value, rest) => (part.is === "value" ? known(added(value, rest, part.value, owned)) : UNKNOWN),
       inContainer: (holder, token) => inserted(holder, token, part),
     });
   }
 
-  /** @param {Part} whole @param {readonly string[]} path */
-  function taken(whole, path) {
+  /** @param {Part} whole @param {readonly string[]} path @param {Owned} owned */
+  function taken(whole, path, owned) {
     const atRoot = () => {
       throw new Misfit("the whole cannot be removed");
     };
-    return changed(whole, path, atRoot, { inValue: (value, rest) => known(removed(value, rest)), inContainer: dropped });
+    return changed(whole, path, atRoot, { inValue: (value, rest) => known(removed(value, rest, owned)), inContainer: dropped });
   }
 
-  /** @param {Part} whole @param {readonly string[]} path @param {{ is: "value", value: any }} part */
-  function exchanged(whole, path, part) {
+  /** @param {Part} whole @param {readonly string[]} path @param {{ is: "value", value: any }} part @param {Owned} owned */
+  function exchanged(whole, path, part, owned) {
     return changed(whole, path, () => part, {
-      inValue: (value, rest) => known(replaced(value, rest, part.value)),
+      inValue: (value, rest) => known(replaced(value, rest, part.value, owned)),
       inContainer: (holder, token) => {
         if (child(holder, token).is === "absent") throw new Misfit("nothing to replace");
         return { ...holder, children: new Map(holder.children).set(token, part) };
@@ -843,13 +942,13 @@ const knownModule = (() => {
     return [Array.isArray(value) ? value.length : Object.keys(value).length];
   }
 
-  return { after, goesOn, knownBy, pathOf, placeOf, read, slotOf, slotsOf };
+  return { Draft, after, afterAll, goesOn, knownBy, pathOf, placeOf, read, slotOf, slotsOf };
 })();
 
 const inverseModule = (() => {
   // What takes a patch back, as far as the slots tell: each operation backwards, behind tests that nobody changed since what it did.
   const { pointer, startsWith, tokens } = pointerModule;
-  const { after, placeOf, read } = knownModule;
+  const { Draft, placeOf, read } = knownModule;
 
   /**
    * @typedef {import("./known.mjs").Part} Part
@@ -870,20 +969,17 @@ const inverseModule = (() => {
    * @returns {Inverse | null} null where the slots do not tell enough, or nothing is to be taken back.
    */
   function inverse(whole, patch) {
-    let present = whole;
-    /** @type {Operation[][]} */
-    const steps = [];
+    const draft = new Draft(whole);
+    /** @type {Operation[]} */
+    let back = [];
     try {
-      for (const operation of patch) {
-        steps.unshift(backwards(present, operation));
-        present = after(present, operation);
-      }
+      back = patch.map((operation) => backwards(draft, operation)).reverse().flat();
+      if (back.length === 0 || back.length > LONGEST) return null;
+      const free = newMembers(draft.whole, back);
+      return free.includes(false) ? null : { patch: back, putsBack: free.length > 0 };
     } catch {
       return null;
     }
-    const back = steps.flat();
-    if (back.length === 0 || back.length > LONGEST || !fits(present, back)) return null;
-    return { patch: back, putsBack: putsBack(present, back) };
   }
 
   /**
@@ -892,64 +988,66 @@ const inverseModule = (() => {
    * @param {readonly Operation[]} patch
    */
   function fits(whole, patch) {
-    let present = whole;
     try {
-      return patch.every((operation) => {
-        const path = newMember(present, operation);
-        const isFree = path === null || read(present, path).is === "absent";
-        present = after(present, operation);
-        return isFree;
-      });
+      return !newMembers(whole, patch).includes(false);
     } catch {
       return false;
     }
   }
 
-  /** @param {Part} whole @param {readonly Operation[]} patch */
-  function putsBack(whole, patch) {
-    let present = whole;
-    return patch.some((operation) => {
-      const path = newMember(present, operation);
-      present = after(present, operation);
-      return path !== null;
+  /**
+   * Of each operation that puts something elsewhere than in a list, whether nothing is known to stand there. Fails where one does not fit.
+   * @param {Part} whole
+   * @param {readonly Operation[]} patch
+   */
+  function newMembers(whole, patch) {
+    const draft = new Draft(whole);
+    return patch.flatMap((operation) => {
+      const path = tokens(operation.path);
+      const isFree = read(draft.whole, path).is === "absent";
+      let isMember = false;
+      draft.do(operation, () => (isMember = !placeOf(draft.whole, path).list));
+      return isMember ? [isFree] : [];
     });
   }
 
-  // Where it adds something elsewhere than in a list.
-  /** @param {Part} whole @param {Operation} operation */
-  function newMember(whole, operation) {
-    if (operation.op !== "add" && operation.op !== "move") return null;
-    const path = tokens(operation.path);
-    const between = operation.op === "move" ? after(whole, { op: "remove", path: operation.from }) : whole;
-    return placeOf(between, path).list ? null : path;
+  /**
+   * What takes an operation back, which is done.
+   * @param {Draft} draft
+   * @param {Operation} operation
+   * @returns {Operation[]}
+   */
+  function backwards(draft, operation) {
+    if (operation.op === "move") return movedBack(draft, operation);
+    const back = unmovedBack(draft, operation);
+    draft.do(operation);
+    return back;
   }
 
-  /** @param {Part} whole @param {Operation} operation @returns {Operation[]} */
-  function backwards(whole, operation) {
+  /** @param {Draft} draft @param {Operation} operation @returns {Operation[]} */
+  function unmovedBack(draft, operation) {
     const path = tokens(operation.path);
     switch (operation.op) {
       case "test":
         return [];
       case "replace":
-        return exchange(path, operation.value, valueAt(whole, path));
+        return exchange(path, operation.value, valueAt(draft, path));
       case "add":
-        return addedBack(whole, path, operation.value);
+        return addedBack(draft, path, operation.value);
       case "copy":
-        return addedBack(whole, path, valueAt(whole, tokens(operation.from)));
+        return addedBack(draft, path, valueAt(draft, tokens(operation.from)));
       case "remove":
-        return removedBack(whole, path);
-      case "move":
-        return operation.path === operation.from ? [] : movedBack(whole, tokens(operation.from), path);
+        return removedBack(draft, path);
       default:
         throw new NotKnown();
     }
   }
 
-  /** @param {Part} whole @param {readonly string[]} path */
-  function valueAt(whole, path) {
-    const part = read(whole, path);
-    if (part.is !== "value") throw new NotKnown();
-    return part.value;
+  /** @param {Draft} draft @param {readonly string[]} path */
+  function valueAt(draft, path) {
+    const value = draft.kept(path);
+    if (value === undefined) throw new NotKnown();
+    return value;
   }
 
   /** @param {readonly string[]} path @param {any} value What stands there. @param {any} old What is to stand there. @returns {Operation[]} */
@@ -957,45 +1055,53 @@ const inverseModule = (() => {
     return [{ op: "test", path: pointer(path), value }, { op: "replace", path: pointer(path), value: old }];
   }
 
-  /** @param {Part} whole @param {readonly string[]} path @param {any} value @returns {Operation[]} */
-  function addedBack(whole, path, value) {
-    const place = placeOf(whole, path);
+  /** @param {Draft} draft @param {readonly string[]} path @param {any} value @returns {Operation[]} */
+  function addedBack(draft, path, value) {
+    const place = placeOf(draft.whole, path);
     if (place.list === null || (place.list && place.at === null)) throw new NotKnown();
-    if (!place.list && read(whole, path).is !== "absent") return exchange(path, value, valueAt(whole, path));
+    if (!place.list && read(draft.whole, path).is !== "absent") return exchange(path, value, valueAt(draft, path));
     const there = pointer(place.path);
     return [{ op: "test", path: there, value }, { op: "remove", path: there }];
   }
 
-  /** @param {Part} whole @param {readonly string[]} path @returns {Operation[]} */
-  function removedBack(whole, path) {
-    const place = placeOf(whole, path);
+  /** @param {Draft} draft @param {readonly string[]} path @returns {Operation[]} */
+  function removedBack(draft, path) {
+    const place = placeOf(draft.whole, path);
     if (place.list === null) throw new NotKnown();
     /** @type {Operation} */
-    const add = { op: "add", path: pointer(place.path), value: valueAt(whole, path) };
-    return place.list ? [...neighbours(place), add] : [add];
+    const add = { op: "add", path: pointer(place.path), value: valueAt(draft, path) };
+    return place.list ? [...neighbours(draft, place), add] : [add];
   }
 
   // Where an element was removed from a list: between the same two, or in a list that is empty.
-  /** @param {{ path: readonly string[], holder: Part | null, at: number | null }} place @returns {Operation[]} */
-  function neighbours({ path, holder, at }) {
+  /** @param {Draft} draft @param {{ path: readonly string[], holder: Part | null, at: number | null }} place @returns {Operation[]} */
+  function neighbours(draft, { path, holder, at }) {
     if (holder?.is !== "value" || at === null) throw new NotKnown();
     const list = path.slice(0, -1);
-    if (holder.value.length === 1) return [{ op: "test", path: pointer(list), value: [] }];
-    /** @type {Operation[]} */
-    const tests = [];
-    if (at > 0) tests.push({ op: "test", path: pointer([...list, at - 1]), value: holder.value[at - 1] });
-    if (at + 1 < holder.value.length) tests.push({ op: "test", path: pointer([...list, at]), value: holder.value[at + 1] });
-    return tests;
+    const { length } = holder.value;
+    if (length === 1) return [{ op: "test", path: pointer(list), value: [] }];
+    /** @type {(place: number, at: number) => Operation} */
+    const test = (place, at) => ({ op: "test", path: pointer([...list, place]), value: valueAt(draft, [...list, String(at)]) });
+    return [...(at > 0 ? [test(at - 1, at - 1)] : []), ...(at + 1 < length ? [test(at, at + 1)] : [])];
   }
 
-  /** @param {Part} whole @param {readonly string[]} from @param {readonly string[]} path @returns {Operation[]} */
-  function movedBack(whole, from, path) {
-    const moved = valueAt(whole, from);
-    const origin = placeOf(whole, from);
+  /** @param {Draft} draft @param {{ op: "move", from: string, path: string }} operation @returns {Operation[]} */
+  function movedBack(draft, operation) {
+    if (operation.path === operation.from) return [];
+    const [from, path] = [tokens(operation.from), tokens(operation.path)];
+    const moved = valueAt(draft, from);
+    const origin = placeOf(draft.whole, from);
     if (origin.list === null) throw new NotKnown();
     // It came in the place of what it was taken from.
-    if (startsWith(from, path) && placeOf(whole, path).list === false) return exchange(path, moved, valueAt(whole, path));
-    const [test, last] = addedBack(after(whole, { op: "remove", path: pointer(from) }), path, moved);
+    if (startsWith(from, path) && placeOf(draft.whole, path).list === false) {
+      const back = exchange(path, moved, valueAt(draft, path));
+      draft.do(operation);
+      return back;
+    }
+    /** @type {Operation[]} */
+    let back = [];
+    draft.do(operation, () => (back = addedBack(draft, path, moved)));
+    const [test, last] = back;
     const place = pointer(origin.path);
     // A move back would be one into itself where it came in front of what it was taken from, and may shift a place that is put back.
     const isMove = !startsWith(from, path) && last.op === "remove";
@@ -1320,7 +1426,7 @@ const listenersModule = (() => {
 const touchModule = (() => {
   // Which changes surely touch a slot (docs/PROTOCOL.md, "What a change means to a slot"): of those the relay tells a watcher.
   const { index, startsWith, tokens } = pointerModule;
-  const { after, goesOn, pathOf, placeOf, read } = knownModule;
+  const { Draft, goesOn, pathOf, placeOf, read } = knownModule;
 
   /**
    * @typedef {import("./known.mjs").Part} Part
@@ -1336,33 +1442,31 @@ const touchModule = (() => {
    * @param {readonly Shown[]} view
    */
   function touches(whole, patch, view) {
-    let present = whole;
-    return patch.filter((operation) => {
-      const places = placesOf(present, operation);
-      present = after(present, operation);
-      return places.some((place) => view.some((shown) => touch(shown, place)));
-    }).length > 0;
+    const draft = new Draft(whole);
+    return patch.filter((operation) => changed(draft, operation).some((place) => view.some((shown) => touch(shown, place)))).length > 0;
   }
 
-  /** @param {Part} whole @param {Operation} operation @returns {Place[]} */
-  function placesOf(whole, operation) {
-    const path = tokens(operation.path);
-    switch (operation.op) {
-      case "test":
-        return [];
-      case "remove":
-        return [{ ...placeOf(whole, path), set: false }];
-      case "replace":
-        return [{ ...placeOf(whole, path), set: true }];
-      case "move": {
-        if (operation.path === operation.from) return [];
-        const from = placeOf(whole, tokens(operation.from));
-        const to = target(after(whole, { op: "remove", path: operation.from }), path);
-        return mayStay(from, to) ? [] : [{ ...from, set: false }, to];
-      }
-      default:
-        return [target(whole, path)];
+  /**
+   * The places that an operation changes, which is done.
+   * @param {Draft} draft
+   * @param {Operation} operation
+   */
+  function changed(draft, operation) {
+    const from = fromPlaces(draft.whole, operation);
+    /** @type {Place[]} */
+    let to = [];
+    draft.do(operation, () => (to = [target(draft.whole, tokens(operation.path))]));
+    if (operation.op !== "move") return [...from, ...to];
+    return to.length === 0 || mayStay(from[0], to[0]) ? [] : [from[0], to[0]];
+  }
+
+  // Where something is taken away or exchanged.
+  /** @param {Part} whole @param {Operation} operation @returns {(Place & { holder: Part | null })[]} */
+  function fromPlaces(whole, operation) {
+    if (operation.op === "remove" || operation.op === "replace") {
+      return [{ ...placeOf(whole, tokens(operation.path)), set: operation.op === "replace" }];
     }
+    return operation.op === "move" ? [{ ...placeOf(whole, tokens(operation.from)), set: false }] : [];
   }
 
   // Where something is added. Of a member that may be there already it is not known whether it is merely set: then no size surely changes.
@@ -1400,7 +1504,7 @@ const touchModule = (() => {
 
 const overlayModule = (() => {
   // This client's edits that the slots do not show yet, and the slots with those of them laid over that are to show at once.
-  const { after, knownBy, slotsOf } = knownModule;
+  const { afterAll, knownBy, slotsOf } = knownModule;
   const { touches } = touchModule;
   const { inverse } = inverseModule;
 
@@ -1519,7 +1623,7 @@ const overlayModule = (() => {
   function folded(whole, edits) {
     return edits.reduce((below, { patch }) => {
       try {
-        return patch.reduce(after, below);
+        return afterAll(below, patch);
       } catch {
         return below;
       }
@@ -2334,7 +2438,7 @@ const relayModule = (() => {
   const { Board } = boardModule;
   const { Room } = roomModule;
   const { checkRoom } = handshakeModule;
-  const { after, knownBy, slotOf, slotsOf } = knownModule;
+  const { afterAll, knownBy, slotOf, slotsOf } = knownModule;
 
   const { Closed, HandshakeFailed, Refused, Unknown } = errorsModule;
   const { presence } = presenceModule;
@@ -2362,7 +2466,7 @@ const relayModule = (() => {
    * @param {readonly Shown[]} view @param {readonly any[]} slots @param {readonly Operation[]} patch
    */
   function overlaid(view, slots, patch) {
-    const whole = patch.reduce(after, knownBy(view, slots));
+    const whole = afterAll(knownBy(view, slots), patch);
     return { slots: slotsOf(whole, view, slots), known: view.map((shown) => slotOf(whole, shown) !== null) };
   }
 

@@ -1,89 +1,13 @@
 // What the JavaScript client offers beyond slots that stay right: each in a room of its own of one relay (RELAY names the program).
 import assert from "node:assert/strict";
-import { spawn } from "node:child_process";
 import { copyFileSync, mkdirSync, mkdtempSync, rmSync, writeFileSync } from "node:fs";
 import { tmpdir } from "node:os";
 import { join } from "node:path";
-import { createInterface } from "node:readline";
-import { after, before, test } from "node:test";
+import { test } from "node:test";
 import { pathToFileURL } from "node:url";
 import { Closed, HandshakeFailed, Refused, connect, overlaid, presence, room } from "../../clients/javascript/relay.mjs";
 import { relayStore } from "../../clients/javascript/adapters/svelte.mjs";
-
-const BEGUN = { cards: ["milk", "bread"], title: "Shopping", count: 0, away: [] };
-let port;
-let relay;
-let rooms = 0;
-
-before(async () => {
-  [relay, port] = await serve();
-});
-after(() => relay.kill());
-
-async function serve(...words) {
-  const program = spawn(process.env.RELAY, ["serve", "--port", words[0] ?? "0", "--epoch", words[1] ?? "1000"], { stdio: ["ignore", "pipe", "ignore"] });
-  const { value } = await createInterface({ input: program.stdout })[Symbol.asyncIterator]().next();
-  return [program, Number(value.split(" ")[1])];
-}
-
-/** Boards of one new room, which has begun; they are closed when the test ends. */
-async function boards(t, ...views) {
-  const url = `ws://127.0.0.1:${port}/rooms/r${(rooms += 1)}`;
-  const begin = connect(url, { view: [] });
-  await begin.edit([{ op: "test", path: "", value: null }, { op: "add", path: "", value: BEGUN }]);
-  begin.close();
-  const all = views.map((options) => connect(url, { firstWait: 10, ...(Array.isArray(options) ? { view: options } : options) }));
-  t.after(() => all.forEach((board) => board.close()));
-  await Promise.all(all.map(({ ready }) => ready));
-  return all;
-}
-
-async function until(holds) {
-  for (let tries = 0; !holds(); tries += 1) {
-    assert.ok(tries < 500, `${holds} does not come to hold`);
-    await pause(5);
-  }
-}
-
-function pause(wait) {
-  return new Promise((resolve) => setTimeout(resolve, wait));
-}
-
-/** A class of sockets whose connections a test can cut, and keep from being made. */
-function cuttable() {
-  return class Cuttable extends WebSocket {
-    static all = new Set();
-    static away = false;
-    constructor(url) {
-      super(Cuttable.away ? url.replace(/:\d+/, ":1") : url);
-      Cuttable.all.add(this);
-    }
-    static cut(away) {
-      Cuttable.away = away;
-      for (const socket of Cuttable.all) socket.close();
-      Cuttable.all.clear();
-    }
-  };
-}
-
-/** A class of sockets to a relay that welcomes, and then answers as `answer` says, or not. */
-function scripted(answer) {
-  return class Scripted {
-    constructor() {
-      setTimeout(() => {
-        this.onopen();
-        this.tell({ kind: "welcome", epoch: 1, rev: 1, session: 1 });
-      });
-    }
-    tell(message) {
-      this.onmessage({ data: JSON.stringify(message) });
-    }
-    send(text) {
-      answer(JSON.parse(text), (message) => setTimeout(() => this.tell(message)));
-    }
-    close() {}
-  };
-}
+import { begunRoom, boards, boardsOf, cuttable, newRoom, pause, scripted, until } from "./rooms.mjs";
 
 test("a value that JSON cannot say, or the relay refuses, is named by its path", async (t) => {
   const [board] = await boards(t, ["/cards"]);
@@ -102,7 +26,7 @@ test("a value that JSON cannot say, or the relay refuses, is named by its path",
 
 test("a room's name is checked at once", () => {
   for (const name of ["", "a b", "ä", "a.b", "x".repeat(65)]) {
-    assert.throws(() => connect(`ws://127.0.0.1:${port}/rooms/${name}`, { view: [] }), RangeError);
+    assert.throws(() => connect(newRoom(name), { view: [] }), RangeError);
   }
   assert.throws(() => room("ws://127.0.0.1:1/rooms/a%20b"), RangeError);
 });
@@ -112,7 +36,7 @@ test("a failed handshake has a cause", async () => {
     new Promise((resolve) => {
       const board = connect(url, { view: [], onState: (state, cause) => state === "waiting" && (resolve(cause), board.close()) });
     });
-  const refused = await cause(`ws://127.0.0.1:${port}/elsewhere/a`);
+  const refused = await cause(newRoom().replace("rooms", "elsewhere"));
   assert.ok(refused instanceof HandshakeFailed);
   assert.deepEqual([refused.reason, refused.status], ["refused", 404]);
   const unreachable = await cause("ws://127.0.0.1:1/rooms/a");
@@ -335,9 +259,10 @@ test("what a page left in its storage the next one sends", async (t) => {
 });
 
 test("views of one room share connections of 16 slots", async (t) => {
-  const [other] = await boards(t, ["/cards"]);
+  const url = await begunRoom();
+  const [other] = await boardsOf(t, url, ["/cards"]);
   const counts = [];
-  const shared = room(`ws://127.0.0.1:${port}/rooms/r${rooms}`, { onConnections: (count) => counts.push(count) });
+  const shared = room(url, { onConnections: (count) => counts.push(count) });
   t.after(() => shared.close());
   const cards = shared.view(["/cards"]);
   const both = shared.view(["/title", "/cards"]);

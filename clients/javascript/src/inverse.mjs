@@ -1,6 +1,6 @@
 // What takes a patch back, as far as the slots tell: each operation backwards, behind tests that nobody changed since what it did.
 import { pointer, startsWith, tokens } from "./pointer.mjs";
-import { after, placeOf, read } from "./known.mjs";
+import { Draft, placeOf, read } from "./known.mjs";
 
 /**
  * @typedef {import("./known.mjs").Part} Part
@@ -21,20 +21,17 @@ class NotKnown extends Error {}
  * @returns {Inverse | null} null where the slots do not tell enough, or nothing is to be taken back.
  */
 export function inverse(whole, patch) {
-  let present = whole;
-  /** @type {Operation[][]} */
-  const steps = [];
+  const draft = new Draft(whole);
+  /** @type {Operation[]} */
+  let back = [];
   try {
-    for (const operation of patch) {
-      steps.unshift(backwards(present, operation));
-      present = after(present, operation);
-    }
+    back = patch.map((operation) => backwards(draft, operation)).reverse().flat();
+    if (back.length === 0 || back.length > LONGEST) return null;
+    const free = newMembers(draft.whole, back);
+    return free.includes(false) ? null : { patch: back, putsBack: free.length > 0 };
   } catch {
     return null;
   }
-  const back = steps.flat();
-  if (back.length === 0 || back.length > LONGEST || !fits(present, back)) return null;
-  return { patch: back, putsBack: putsBack(present, back) };
 }
 
 /**
@@ -43,64 +40,66 @@ export function inverse(whole, patch) {
  * @param {readonly Operation[]} patch
  */
 export function fits(whole, patch) {
-  let present = whole;
   try {
-    return patch.every((operation) => {
-      const path = newMember(present, operation);
-      const isFree = path === null || read(present, path).is === "absent";
-      present = after(present, operation);
-      return isFree;
-    });
+    return !newMembers(whole, patch).includes(false);
   } catch {
     return false;
   }
 }
 
-/** @param {Part} whole @param {readonly Operation[]} patch */
-function putsBack(whole, patch) {
-  let present = whole;
-  return patch.some((operation) => {
-    const path = newMember(present, operation);
-    present = after(present, operation);
-    return path !== null;
+/**
+ * Of each operation that puts something elsewhere than in a list, whether nothing is known to stand there. Fails where one does not fit.
+ * @param {Part} whole
+ * @param {readonly Operation[]} patch
+ */
+function newMembers(whole, patch) {
+  const draft = new Draft(whole);
+  return patch.flatMap((operation) => {
+    const path = tokens(operation.path);
+    const isFree = read(draft.whole, path).is === "absent";
+    let isMember = false;
+    draft.do(operation, () => (isMember = !placeOf(draft.whole, path).list));
+    return isMember ? [isFree] : [];
   });
 }
 
-// Where it adds something elsewhere than in a list.
-/** @param {Part} whole @param {Operation} operation */
-function newMember(whole, operation) {
-  if (operation.op !== "add" && operation.op !== "move") return null;
-  const path = tokens(operation.path);
-  const between = operation.op === "move" ? after(whole, { op: "remove", path: operation.from }) : whole;
-  return placeOf(between, path).list ? null : path;
+/**
+ * What takes an operation back, which is done.
+ * @param {Draft} draft
+ * @param {Operation} operation
+ * @returns {Operation[]}
+ */
+function backwards(draft, operation) {
+  if (operation.op === "move") return movedBack(draft, operation);
+  const back = unmovedBack(draft, operation);
+  draft.do(operation);
+  return back;
 }
 
-/** @param {Part} whole @param {Operation} operation @returns {Operation[]} */
-function backwards(whole, operation) {
+/** @param {Draft} draft @param {Operation} operation @returns {Operation[]} */
+function unmovedBack(draft, operation) {
   const path = tokens(operation.path);
   switch (operation.op) {
     case "test":
       return [];
     case "replace":
-      return exchange(path, operation.value, valueAt(whole, path));
+      return exchange(path, operation.value, valueAt(draft, path));
     case "add":
-      return addedBack(whole, path, operation.value);
+      return addedBack(draft, path, operation.value);
     case "copy":
-      return addedBack(whole, path, valueAt(whole, tokens(operation.from)));
+      return addedBack(draft, path, valueAt(draft, tokens(operation.from)));
     case "remove":
-      return removedBack(whole, path);
-    case "move":
-      return operation.path === operation.from ? [] : movedBack(whole, tokens(operation.from), path);
+      return removedBack(draft, path);
     default:
       throw new NotKnown();
   }
 }
 
-/** @param {Part} whole @param {readonly string[]} path */
-function valueAt(whole, path) {
-  const part = read(whole, path);
-  if (part.is !== "value") throw new NotKnown();
-  return part.value;
+/** @param {Draft} draft @param {readonly string[]} path */
+function valueAt(draft, path) {
+  const value = draft.kept(path);
+  if (value === undefined) throw new NotKnown();
+  return value;
 }
 
 /** @param {readonly string[]} path @param {any} value What stands there. @param {any} old What is to stand there. @returns {Operation[]} */
@@ -108,45 +107,53 @@ function exchange(path, value, old) {
   return [{ op: "test", path: pointer(path), value }, { op: "replace", path: pointer(path), value: old }];
 }
 
-/** @param {Part} whole @param {readonly string[]} path @param {any} value @returns {Operation[]} */
-function addedBack(whole, path, value) {
-  const place = placeOf(whole, path);
+/** @param {Draft} draft @param {readonly string[]} path @param {any} value @returns {Operation[]} */
+function addedBack(draft, path, value) {
+  const place = placeOf(draft.whole, path);
   if (place.list === null || (place.list && place.at === null)) throw new NotKnown();
-  if (!place.list && read(whole, path).is !== "absent") return exchange(path, value, valueAt(whole, path));
+  if (!place.list && read(draft.whole, path).is !== "absent") return exchange(path, value, valueAt(draft, path));
   const there = pointer(place.path);
   return [{ op: "test", path: there, value }, { op: "remove", path: there }];
 }
 
-/** @param {Part} whole @param {readonly string[]} path @returns {Operation[]} */
-function removedBack(whole, path) {
-  const place = placeOf(whole, path);
+/** @param {Draft} draft @param {readonly string[]} path @returns {Operation[]} */
+function removedBack(draft, path) {
+  const place = placeOf(draft.whole, path);
   if (place.list === null) throw new NotKnown();
   /** @type {Operation} */
-  const add = { op: "add", path: pointer(place.path), value: valueAt(whole, path) };
-  return place.list ? [...neighbours(place), add] : [add];
+  const add = { op: "add", path: pointer(place.path), value: valueAt(draft, path) };
+  return place.list ? [...neighbours(draft, place), add] : [add];
 }
 
 // Where an element was removed from a list: between the same two, or in a list that is empty.
-/** @param {{ path: readonly string[], holder: Part | null, at: number | null }} place @returns {Operation[]} */
-function neighbours({ path, holder, at }) {
+/** @param {Draft} draft @param {{ path: readonly string[], holder: Part | null, at: number | null }} place @returns {Operation[]} */
+function neighbours(draft, { path, holder, at }) {
   if (holder?.is !== "value" || at === null) throw new NotKnown();
   const list = path.slice(0, -1);
-  if (holder.value.length === 1) return [{ op: "test", path: pointer(list), value: [] }];
-  /** @type {Operation[]} */
-  const tests = [];
-  if (at > 0) tests.push({ op: "test", path: pointer([...list, at - 1]), value: holder.value[at - 1] });
-  if (at + 1 < holder.value.length) tests.push({ op: "test", path: pointer([...list, at]), value: holder.value[at + 1] });
-  return tests;
+  const { length } = holder.value;
+  if (length === 1) return [{ op: "test", path: pointer(list), value: [] }];
+  /** @type {(place: number, at: number) => Operation} */
+  const test = (place, at) => ({ op: "test", path: pointer([...list, place]), value: valueAt(draft, [...list, String(at)]) });
+  return [...(at > 0 ? [test(at - 1, at - 1)] : []), ...(at + 1 < length ? [test(at, at + 1)] : [])];
 }
 
-/** @param {Part} whole @param {readonly string[]} from @param {readonly string[]} path @returns {Operation[]} */
-function movedBack(whole, from, path) {
-  const moved = valueAt(whole, from);
-  const origin = placeOf(whole, from);
+/** @param {Draft} draft @param {{ op: "move", from: string, path: string }} operation @returns {Operation[]} */
+function movedBack(draft, operation) {
+  if (operation.path === operation.from) return [];
+  const [from, path] = [tokens(operation.from), tokens(operation.path)];
+  const moved = valueAt(draft, from);
+  const origin = placeOf(draft.whole, from);
   if (origin.list === null) throw new NotKnown();
   // It came in the place of what it was taken from.
-  if (startsWith(from, path) && placeOf(whole, path).list === false) return exchange(path, moved, valueAt(whole, path));
-  const [test, last] = addedBack(after(whole, { op: "remove", path: pointer(from) }), path, moved);
+  if (startsWith(from, path) && placeOf(draft.whole, path).list === false) {
+    const back = exchange(path, moved, valueAt(draft, path));
+    draft.do(operation);
+    return back;
+  }
+  /** @type {Operation[]} */
+  let back = [];
+  draft.do(operation, () => (back = addedBack(draft, path, moved)));
+  const [test, last] = back;
   const place = pointer(origin.path);
   // A move back would be one into itself where it came in front of what it was taken from, and may shift a place that is put back.
   const isMove = !startsWith(from, path) && last.op === "remove";

@@ -1,9 +1,9 @@
 // What a client knows of the document by its slots, and of the documents to which its own patches lead: some values are known, some
 // places are known to be empty, and of the rest nothing is known. What an operation means to a slot (docs/PROTOCOL.md, "What a change
 // means to a slot") follows: the operation is done on what is known, and the slots are read again.
-import { index, startsWith, tokens } from "./pointer.mjs";
+import { index, tokens } from "./pointer.mjs";
 import { same } from "./json.mjs";
-import { Misfit, added, has, removed, replaced } from "./patch.mjs";
+import { Misfit, Owned, added, checkMove, has, removed, replaced } from "./patch.mjs";
 
 /**
  * A part of the document: a value; nothing (`absent`); unknown; or a container of which only some children, or the size, are known.
@@ -131,30 +131,90 @@ export function placeOf(whole, path) {
  * What is known after one operation. Fails with `Misfit` where it is known to be refused.
  * @param {Part} whole
  * @param {Operation} operation
- * @returns {Part}
  */
 export function after(whole, operation) {
-  const path = tokens(operation.path);
-  switch (operation.op) {
-    case "add":
-      return put(whole, path, known(operation.value));
-    case "remove":
-      return taken(whole, path);
-    case "replace":
-      return exchanged(whole, path, known(operation.value));
-    case "test":
-      return tested(whole, path, operation.value);
-    case "copy":
-      return put(whole, path, source(whole, tokens(operation.from)));
-    case "move": {
-      const from = tokens(operation.from);
-      const moved = source(whole, from);
-      if (path.length > from.length && startsWith(path, from)) throw new Misfit("into itself");
-      if (operation.path === operation.from) return whole;
-      return put(taken(whole, from), path, moved);
+  return afterAll(whole, [operation]);
+}
+
+/** @param {Part} whole @param {readonly Operation[]} patch */
+export function afterAll(whole, patch) {
+  const draft = new Draft(whole);
+  for (const operation of patch) draft.do(operation);
+  return draft.whole;
+}
+
+/** What is known while a patch is done, operation by operation, on values that the draft alone has: so it copies each container once. */
+export class Draft {
+  #owned = new Owned();
+
+  /** @param {Part} whole */
+  constructor(whole) {
+    this.whole = whole;
+  }
+
+  /**
+   * The value at a path, which no later operation writes to; undefined where it is not known.
+   * @param {readonly string[]} path
+   */
+  kept(path) {
+    const part = read(this.whole, path);
+    if (part.is !== "value") return undefined;
+    this.#owned.share(part.value);
+    return part.value;
+  }
+
+  /**
+   * Fails with `Misfit` where the operation is known to be refused.
+   * @param {Operation} operation
+   * @param {() => void} [puts] told before something is added, copied or moved to a place; of a move, when it was taken from where it was
+   */
+  do(operation, puts = () => {}) {
+    const path = tokens(operation.path);
+    switch (operation.op) {
+      case "add":
+        return this.#put(path, known(operation.value), puts);
+      case "remove":
+        return this.#take(path);
+      case "replace":
+        this.whole = exchanged(this.whole, path, known(operation.value), this.#owned);
+        return;
+      case "test":
+        return tested(this.whole, path, operation.value);
+      case "copy":
+        return this.#put(path, this.#shared(source(this.whole, tokens(operation.from))), puts);
+      case "move":
+        return this.#move(operation, puts);
+      default:
+        throw new TypeError(`no operation: ${/** @type {any} */ (operation).op}`);
     }
-    default:
-      throw new TypeError(`no operation: ${/** @type {any} */ (operation).op}`);
+  }
+
+  /** @param {readonly string[]} path @param {Part} part @param {() => void} puts */
+  #put(path, part, puts) {
+    puts();
+    this.whole = put(this.whole, path, part, this.#owned);
+  }
+
+  /** @param {readonly string[]} path */
+  #take(path) {
+    this.whole = taken(this.whole, path, this.#owned);
+  }
+
+  /** @param {{ from: string, path: string }} operation @param {() => void} puts */
+  #move(operation, puts) {
+    const [from, path] = [tokens(operation.from), tokens(operation.path)];
+    const moved = source(this.whole, from);
+    if (operation.path === operation.from) return;
+    checkMove(from, path);
+    this.#take(from);
+    this.#put(path, moved, puts);
+  }
+
+  /** @param {Part} part */
+  #shared(part) {
+    if (part.is === "value") this.#owned.share(part.value);
+    if (part.is === "container") part.children.forEach((inner) => this.#shared(inner));
+    return part;
   }
 }
 
@@ -169,29 +229,28 @@ function source(whole, from) {
 function tested(whole, path, value) {
   const part = read(whole, path);
   if (part.is === "absent" || (part.is === "value" && !same(part.value, value))) throw new Misfit("another value");
-  return whole;
 }
 
-/** @param {Part} whole @param {readonly string[]} path @param {Part} part */
-function put(whole, path, part) {
+/** @param {Part} whole @param {readonly string[]} path @param {Part} part @param {Owned} owned */
+function put(whole, path, part, owned) {
   return changed(whole, path, () => part, {
-    inValue: (value, rest) => (part.is === "value" ? known(added(value, rest, part.value)) : UNKNOWN),
+    inValue: (value, rest) => (part.is === "value" ? known(added(value, rest, part.value, owned)) : UNKNOWN),
     inContainer: (holder, token) => inserted(holder, token, part),
   });
 }
 
-/** @param {Part} whole @param {readonly string[]} path */
-function taken(whole, path) {
+/** @param {Part} whole @param {readonly string[]} path @param {Owned} owned */
+function taken(whole, path, owned) {
   const atRoot = () => {
     throw new Misfit("the whole cannot be removed");
   };
-  return changed(whole, path, atRoot, { inValue: (value, rest) => known(removed(value, rest)), inContainer: dropped });
+  return changed(whole, path, atRoot, { inValue: (value, rest) => known(removed(value, rest, owned)), inContainer: dropped });
 }
 
-/** @param {Part} whole @param {readonly string[]} path @param {{ is: "value", value: any }} part */
-function exchanged(whole, path, part) {
+/** @param {Part} whole @param {readonly string[]} path @param {{ is: "value", value: any }} part @param {Owned} owned */
+function exchanged(whole, path, part, owned) {
   return changed(whole, path, () => part, {
-    inValue: (value, rest) => known(replaced(value, rest, part.value)),
+    inValue: (value, rest) => known(replaced(value, rest, part.value, owned)),
     inContainer: (holder, token) => {
       if (child(holder, token).is === "absent") throw new Misfit("nothing to replace");
       return { ...holder, children: new Map(holder.children).set(token, part) };

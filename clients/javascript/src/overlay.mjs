@@ -1,5 +1,5 @@
 // This client's edits that the slots do not show yet, and the slots with those of them laid over that are to show at once.
-import { after, knownBy, slotsOf } from "./known.mjs";
+import { afterAll, knownBy, slotsOf } from "./known.mjs";
 import { touches } from "./touch.mjs";
 import { inverse } from "./inverse.mjs";
 
@@ -118,7 +118,7 @@ export class Overlay {
 function folded(whole, edits) {
   return edits.reduce((below, { patch }) => {
     try {
-      return patch.reduce(after, below);
+      return afterAll(below, patch);
     } catch {
       return below;
     }

@@ -2,7 +2,7 @@
 import { Board } from "./board.mjs";
 import { Room } from "./room.mjs";
 import { checkRoom } from "./handshake.mjs";
-import { after, knownBy, slotOf, slotsOf } from "./known.mjs";
+import { afterAll, knownBy, slotOf, slotsOf } from "./known.mjs";
 
 export { Closed, HandshakeFailed, Refused, Unknown } from "./errors.mjs";
 export { presence } from "./presence.mjs";
@@ -30,7 +30,7 @@ export function room(url, options = {}) {
  * @param {readonly Shown[]} view @param {readonly any[]} slots @param {readonly Operation[]} patch
  */
 export function overlaid(view, slots, patch) {
-  const whole = patch.reduce(after, knownBy(view, slots));
+  const whole = afterAll(knownBy(view, slots), patch);
   return { slots: slotsOf(whole, view, slots), known: view.map((shown) => slotOf(whole, shown) !== null) };
 }
 

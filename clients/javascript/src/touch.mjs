@@ -1,6 +1,6 @@
 // Which changes surely touch a slot (docs/PROTOCOL.md, "What a change means to a slot"): of those the relay tells a watcher.
 import { index, startsWith, tokens } from "./pointer.mjs";
-import { after, goesOn, pathOf, placeOf, read } from "./known.mjs";
+import { Draft, goesOn, pathOf, placeOf, read } from "./known.mjs";
 
 /**
  * @typedef {import("./known.mjs").Part} Part
@@ -16,33 +16,31 @@ import { after, goesOn, pathOf, placeOf, read } from "./known.mjs";
  * @param {readonly Shown[]} view
  */
 export function touches(whole, patch, view) {
-  let present = whole;
-  return patch.filter((operation) => {
-    const places = placesOf(present, operation);
-    present = after(present, operation);
-    return places.some((place) => view.some((shown) => touch(shown, place)));
-  }).length > 0;
+  const draft = new Draft(whole);
+  return patch.filter((operation) => changed(draft, operation).some((place) => view.some((shown) => touch(shown, place)))).length > 0;
 }
 
-/** @param {Part} whole @param {Operation} operation @returns {Place[]} */
-function placesOf(whole, operation) {
-  const path = tokens(operation.path);
-  switch (operation.op) {
-    case "test":
-      return [];
-    case "remove":
-      return [{ ...placeOf(whole, path), set: false }];
-    case "replace":
-      return [{ ...placeOf(whole, path), set: true }];
-    case "move": {
-      if (operation.path === operation.from) return [];
-      const from = placeOf(whole, tokens(operation.from));
-      const to = target(after(whole, { op: "remove", path: operation.from }), path);
-      return mayStay(from, to) ? [] : [{ ...from, set: false }, to];
-    }
-    default:
-      return [target(whole, path)];
+/**
+ * The places that an operation changes, which is done.
+ * @param {Draft} draft
+ * @param {Operation} operation
+ */
+function changed(draft, operation) {
+  const from = fromPlaces(draft.whole, operation);
+  /** @type {Place[]} */
+  let to = [];
+  draft.do(operation, () => (to = [target(draft.whole, tokens(operation.path))]));
+  if (operation.op !== "move") return [...from, ...to];
+  return to.length === 0 || mayStay(from[0], to[0]) ? [] : [from[0], to[0]];
+}
+
+// Where something is taken away or exchanged.
+/** @param {Part} whole @param {Operation} operation @returns {(Place & { holder: Part | null })[]} */
+function fromPlaces(whole, operation) {
+  if (operation.op === "remove" || operation.op === "replace") {
+    return [{ ...placeOf(whole, tokens(operation.path)), set: operation.op === "replace" }];
   }
+  return operation.op === "move" ? [{ ...placeOf(whole, tokens(operation.from)), set: false }] : [];
 }
 
 // Where something is added. Of a member that may be there already it is not known whether it is merely set: then no size surely changes.
