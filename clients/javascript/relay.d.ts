@@ -120,7 +120,10 @@ export interface EditOptions {
   undo?: boolean;
 }
 
-/** One slot of a board. */
+/**
+ * What stands at a pointer that the view shows, by itself or as a part of another one: with the view `["/cards"]` also `/cards/0`. Reading and
+ * writing throw a `RangeError` if the view does not show it. An index names another element once somebody inserted or removed before it.
+ */
 export interface Place<T> {
   /** What stands there; undefined where nothing does, or before the first slots. */
   readonly value: T | undefined;
@@ -128,7 +131,10 @@ export interface Place<T> {
   readonly confirmed: T | undefined;
   /** Tells of each other value. Gives its end. */
   subscribe(listener: (value: T | undefined) => void): () => void;
-  /** Writes another value, which shows at once. Fails as `edit`. */
+  /**
+   * Writes another value, which shows at once: replaces what stands there, or adds a member, or an element at the end, where nothing does.
+   * Fails as `edit`, and throws before the first slots.
+   */
   set(value: T, options?: EditOptions): Promise<number>;
   /**
    * Writes the value that `change` makes of the one that stands there, and does it again until nobody was faster; where it makes
@@ -155,7 +161,7 @@ export interface Board<D = Json, V extends readonly Shown[] = readonly Shown[]> 
   readonly ready: Promise<SlotsOf<D, V>>;
   /** Tells a listener after each change. Gives its end. */
   subscribe(listener: (change: Change<SlotsOf<D, V>>) => void): () => void;
-  /** One slot of the view. */
+  /** What stands at a pointer. Equal pointers give the same place, as long as it is held or listened to. */
   at<P extends Shown>(shown: P): Place<ValueOf<D, P>>;
   /** Shows another view from now on. Gives its slots, or those of a later view where one was asked for in the meantime. Fails with `Refused`, and the view before stays; and with `Closed`. */
   watch<W extends readonly Shown[]>(view: readonly [...W]): Promise<SlotsOf<D, W>>;
@@ -211,6 +217,7 @@ export interface View<D = Json, V extends readonly Shown[] = readonly Shown[]> {
   readonly ready: Promise<SlotsOf<D, V>>;
   /** Tells a listener of each change of these slots. Gives its end. */
   subscribe(listener: (slots: SlotsOf<D, V>) => void): () => void;
+  /** What stands at a pointer that this view shows. Equal pointers give the same place, as long as it is held or listened to. */
   at<P extends Shown>(shown: P): Place<ValueOf<D, P>>;
   edit(patch: readonly Operation[], options?: EditOptions): Promise<number>;
   close(): void;

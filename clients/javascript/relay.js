@@ -1086,7 +1086,7 @@
       return [...(at > 0 ? [test(at - 1, at - 1)] : []), ...(at + 1 < length ? [test(at, at + 1)] : [])];
     }
 
-    /** @param {Draft} draft @param {{ op: "move", from: string, path: string }} operation @returns {Operation[]} */
+    /** @param {Draft} draft @param {{ op: "move" | "copy", from: string, path: string }} operation @returns {Operation[]} */
     function movedBack(draft, operation) {
       if (operation.path === operation.from) return [];
       const [from, path] = [tokens(operation.from), tokens(operation.path)];
@@ -1434,6 +1434,7 @@
      * @typedef {import("../relay.js").Shown} Shown
      * @typedef {import("../relay.js").Operation} Operation
      * @typedef {{ path: readonly string[], list: boolean | null, at: number | null, set: boolean }} Place
+     * @typedef {Place & { holder: Part | null }} Origin
      */
 
     /**
@@ -1462,7 +1463,7 @@
     }
 
     // Where something is taken away or exchanged.
-    /** @param {Part} whole @param {Operation} operation @returns {(Place & { holder: Part | null })[]} */
+    /** @param {Part} whole @param {Operation} operation @returns {Origin[]} */
     function fromPlaces(whole, operation) {
       if (operation.op === "remove" || operation.op === "replace") {
         return [{ ...placeOf(whole, tokens(operation.path)), set: operation.op === "replace" }];
@@ -1478,7 +1479,7 @@
     }
 
     // Whether a move may lead to its own place, and so change nothing: the last element of a list to the end of it, which may not be known.
-    /** @param {ReturnType<typeof placeOf>} from @param {Place} to */
+    /** @param {Origin} from @param {Place} to */
     function mayStay({ path, holder, at }, to) {
       if (to.path.length !== path.length) return false;
       if (startsWith(to.path, path)) return true;
@@ -1646,12 +1647,15 @@
   })();
 
   const placeModule = (() => {
-    // One slot of a board: its value, who hears of it, and changes of it.
+    // A value that a view shows, by itself or as a part of another one: who hears of it, and changes of it.
     const { Closed, Refused } = errorsModule;
-    const { tokens } = pointerModule;
+    const { startsWith, tokens } = pointerModule;
+    const { has } = patchModule;
+    const { same } = jsonModule;
 
     /** @typedef {import("../relay.js").Shown} Shown */
     /** @typedef {import("../relay.js").Operation} Operation */
+    /** @typedef {readonly (readonly any[])[] | null} Slots */
 
     // How often `update` tries, if nothing is said.
     const TRIES = 20;
@@ -1661,41 +1665,51 @@
     const LONGEST_PAUSE = 500;
 
     class Place {
+      #source;
       #board;
       #shown;
+      #path;
 
-      /** @param {any} board @param {Shown} shown */
-      constructor(board, shown) {
+      /**
+       * @param {{ view: readonly Shown[], slots: Slots, confirmed: Slots, ready: Promise<any>, subscribe: (listener: () => void) => () => void }} source
+       * @param {any} board
+       * @param {Shown} shown
+       */
+      constructor(source, board, shown) {
+        this.#source = source;
         this.#board = board;
         this.#shown = shown;
-        tokens(typeof shown === "string" ? shown : shown.size);
+        this.#path = tokens(typeof shown === "string" ? shown : shown.size);
         this.subscribe = this.subscribe.bind(this);
       }
 
       /** What stands there; undefined where nothing does, or before the first slots. */
       get value() {
-        return this.#slot(this.#board.slots)[0];
+        return this.#slot(this.#source.slots)[0];
       }
 
       /** What stands there as the relay showed it, without edits that wait. */
       get confirmed() {
-        return this.#slot(this.#board.confirmed)[0];
+        return this.#slot(this.#source.confirmed)[0];
       }
 
       /** @param {(value: any) => void} listener Told of each other value. Gives its end. */
       subscribe(listener) {
         let last = this.value;
-        return this.#board.subscribe(() => {
-          const { value } = this;
-          if (value === last) return;
-          last = value;
-          listener(value);
+        return this.#source.subscribe(() => {
+          // A view that was exchanged since tells nothing of it.
+          if (this.#cover() === null) return;
+          const before = last;
+          last = this.value;
+          if (!same(before, last)) listener(last);
         });
       }
 
       /** @param {any} value @param {any} [options] @returns {Promise<number>} */
       set(value, options = {}) {
-        return this.#board.edit([this.#write(this.#slot(this.#board.slots), value)], { optimistic: true, ...options });
+        const { slots } = this.#source;
+        if (slots === null) throw new Error("the slots are not there yet");
+        return this.#board.edit([this.#write(this.#slot(slots), value)], { optimistic: true, ...options });
       }
 
       /**
@@ -1704,20 +1718,30 @@
        * @returns {Promise<number>}
        */
       async update(change, { tries = TRIES, undo = true } = {}) {
-        await this.#board.ready;
+        await this.#source.ready;
         const make = () => {
-          const slot = this.#slot(this.#board.confirmed);
+          const slot = this.#slot(this.#source.confirmed);
           const value = change(slot[0]);
           return value === undefined ? null : [this.#write(slot, value)];
         };
         return compareAndSet(this.#board, tries, make, (patch, seen) => this.#board.edit(patch, { undo, ...seen }));
       }
 
-      // Nothing stands there where the view does not show it any more.
-      /** @param {readonly (readonly any[])[] | null} slots */
+      /** @param {Slots} slots @returns {readonly any[]} */
       #slot(slots) {
-        const at = this.#board.view.findIndex((/** @type {Shown} */ shown) => isSame(shown, this.#shown));
-        return slots?.[at] ?? [];
+        if (slots === null) return [];
+        const cover = this.#cover();
+        if (cover === null) throw new RangeError(`${JSON.stringify(this.#shown)} is not in the view ${JSON.stringify(this.#source.view)}`);
+        return cover.rest.reduce(part, slots[cover.at] ?? []);
+      }
+
+      // The slot that shows it, and where in that slot's value. A size is a slot of its own or nothing.
+      #cover() {
+        const { view } = this.#source;
+        const at = view.findIndex((shown) => isSame(shown, this.#shown));
+        if (at >= 0 || typeof this.#shown !== "string") return { at, rest: [] };
+        const outer = view.findIndex((shown) => typeof shown === "string" && startsWith(this.#path, tokens(shown)));
+        return outer < 0 ? null : { at: outer, rest: this.#path.slice(tokens(/** @type {string} */ (view[outer])).length) };
       }
 
       /** @param {readonly any[]} slot @param {any} value @returns {Operation} */
@@ -1725,6 +1749,11 @@
         if (typeof this.#shown !== "string") throw new TypeError("a size is not set: what it counts is");
         return { op: slot.length === 0 ? "add" : "replace", path: this.#shown, value };
       }
+    }
+
+    /** @param {readonly any[]} slot @param {string} token @returns {readonly any[]} */
+    function part(slot, token) {
+      return slot.length > 0 && has(slot[0], token) ? [slot[0][token]] : [];
     }
 
     /** @param {Shown} one @param {Shown} other */
@@ -1764,6 +1793,43 @@
     }
 
     return { Place, compareAndSet, isSame };
+  })();
+
+  const placesModule = (() => {
+    // The places of a board or a view. Each is made once, so that a component which asks for one each time it is drawn is given the same one. They
+    // are held weakly: one that nobody holds or listens to is forgotten, and made anew when it is asked for again.
+    const { Place } = placeModule;
+
+    /** @typedef {import("../relay.js").Shown} Shown */
+
+    class Places {
+      /** @type {Map<string, WeakRef<Place>>} */
+      #made = new Map();
+      /** @type {FinalizationRegistry<string>} */
+      #forgotten = new FinalizationRegistry((key) => {
+        // Another one may have been made under the same key.
+        if (this.#made.get(key)?.deref() === undefined) this.#made.delete(key);
+      });
+      #make;
+
+      /** @param {(shown: Shown) => Place} make */
+      constructor(make) {
+        this.#make = make;
+      }
+
+      /** @param {Shown} shown */
+      at(shown) {
+        const key = typeof shown === "string" ? `value ${shown}` : `size ${shown.size}`;
+        const made = this.#made.get(key)?.deref();
+        if (made !== undefined) return made;
+        const place = this.#make(shown);
+        this.#made.set(key, new WeakRef(place));
+        this.#forgotten.register(place, key);
+        return place;
+      }
+    }
+
+    return { Places };
   })();
 
   const queueModule = (() => {
@@ -1831,6 +1897,7 @@
     const { Listeners } = listenersModule;
     const { Overlay } = overlayModule;
     const { Place, compareAndSet } = placeModule;
+    const { Places } = placesModule;
     const { Queue } = queueModule;
     const { checked } = jsonModule;
     const { knownBy } = knownModule;
@@ -1869,6 +1936,7 @@
       #wasOpen = false;
       /** @type {any} */
       #shown = null;
+      #places = new Places((shown) => new Place(this, this, shown));
       /** @type {Promise<unknown>} */
       #stepping = Promise.resolve(); // the undo or redo that was asked for last
       /** @type {(() => void)[]} */
@@ -1946,7 +2014,7 @@
 
       /** @param {Shown} shown */
       at(shown) {
-        return new Place(this, shown);
+        return this.#places.at(shown);
       }
 
       /** @param {readonly Shown[]} view */
@@ -2137,7 +2205,8 @@
   const roomModule = (() => {
     // Several views of one room over as few connections as they need: each part of a page watches what it shows, and knows of no other part.
     const { Board } = boardModule;
-    const { isSame } = placeModule;
+    const { Place, isSame } = placeModule;
+    const { Places } = placesModule;
     const { pathOf } = knownModule;
 
     /** @typedef {import("../relay.js").Shown} Shown */
@@ -2240,26 +2309,45 @@
     class View {
       #shared;
       #pointers;
-      /** @type {{ slots: unknown, own: readonly unknown[] | null }} */
+      /** @type {{ slots: unknown, own: any }} */
       #seen = { slots: undefined, own: null };
+      #places;
 
       /** @param {Shared} shared @param {readonly Shown[]} pointers */
       constructor(shared, pointers) {
         this.#shared = shared;
         this.#pointers = pointers;
+        this.#places = new Places((shown) => new Place(this, shared.board, shown));
         this.ready = shared.join(this, pointers).then(() => this.slots);
         this.ready.catch(() => {});
         this.subscribe = this.subscribe.bind(this);
       }
 
+      get view() {
+        return this.#pointers;
+      }
+
       /** One slot for each pointer; null until they are there. */
       get slots() {
-        const { slots, view } = this.#shared.board;
+        const { slots } = this.#shared.board;
         if (this.#seen.slots !== slots) {
-          const own = slots && this.#pointers.map((shown) => slots[view.findIndex((/** @type {Shown} */ other) => isSame(other, shown))]);
-          this.#seen = { slots, own: own === null || own.includes(undefined) ? null : this.#stable(own) };
+          const own = this.#own(slots);
+          this.#seen = { slots, own: own && this.#stable(own) };
         }
         return this.#seen.own;
+      }
+
+      /** What the relay showed of them. */
+      get confirmed() {
+        return this.#own(this.#shared.board.confirmed);
+      }
+
+      // Of the board's slots those of this view; null until the board shows all of them.
+      /** @param {any} slots @returns {any} */
+      #own(slots) {
+        const { view } = this.#shared.board;
+        const own = slots && this.#pointers.map((shown) => slots[view.findIndex((/** @type {Shown} */ other) => isSame(other, shown))]);
+        return own === null || own.includes(undefined) ? null : own;
       }
 
       // The same list as before where no slot of this view changed.
@@ -2282,7 +2370,7 @@
 
       /** @param {Shown} shown */
       at(shown) {
-        return this.#shared.board.at(shown);
+        return this.#places.at(shown);
       }
 
       /** @param {readonly import("../relay.js").Operation[]} patch @param {any} [options] */

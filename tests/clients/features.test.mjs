@@ -177,7 +177,6 @@ test("one slot: its value, its listeners, and counting by many", async (t) => {
   await all[0].at("/title").set("Other");
   assert.deepEqual(seen, ["Party"]);
   assert.equal(await count.update(() => undefined), all[0].rev);
-  assert.equal(all[0].at("/nothing").value, undefined);
 });
 
 test("undo and redo", async (t) => {

@@ -325,9 +325,8 @@ REACT = """<!doctype html>
   import { connect } from "./relay.mjs";
   import { useRelay } from "./react.mjs";
   const board = connect(PORT, { view: ["/title", "/other"] });
-  const title = board.at("/title");
   globalThis.drawn = 0;
-  const Title = () => (drawn++, React.createElement("b", null, useRelay(title) ?? "nothing"));
+  const Title = () => (drawn++, React.createElement("b", null, useRelay(board.at("/title")) ?? "nothing"));
   globalThis.root = ReactDOM.createRoot(document.querySelector("p"));
   await board.ready;
   root.render(React.createElement(Title));

@@ -8,6 +8,7 @@ import { Link } from "./link.mjs";
 import { Listeners } from "./listeners.mjs";
 import { Overlay } from "./overlay.mjs";
 import { Place, compareAndSet } from "./place.mjs";
+import { Places } from "./places.mjs";
 import { Queue } from "./queue.mjs";
 import { checked } from "./json.mjs";
 import { knownBy } from "./known.mjs";
@@ -46,6 +47,7 @@ export class Board {
   #wasOpen = false;
   /** @type {any} */
   #shown = null;
+  #places = new Places((shown) => new Place(this, this, shown));
   /** @type {Promise<unknown>} */
   #stepping = Promise.resolve(); // the undo or redo that was asked for last
   /** @type {(() => void)[]} */
@@ -123,7 +125,7 @@ export class Board {
 
   /** @param {Shown} shown */
   at(shown) {
-    return new Place(this, shown);
+    return this.#places.at(shown);
   }
 
   /** @param {readonly Shown[]} view */

@@ -137,7 +137,7 @@ function neighbours(draft, { path, holder, at }) {
   return [...(at > 0 ? [test(at - 1, at - 1)] : []), ...(at + 1 < length ? [test(at, at + 1)] : [])];
 }
 
-/** @param {Draft} draft @param {{ op: "move", from: string, path: string }} operation @returns {Operation[]} */
+/** @param {Draft} draft @param {{ op: "move" | "copy", from: string, path: string }} operation @returns {Operation[]} */
 function movedBack(draft, operation) {
   if (operation.path === operation.from) return [];
   const [from, path] = [tokens(operation.from), tokens(operation.path)];

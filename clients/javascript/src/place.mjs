@@ -1,9 +1,12 @@
-// One slot of a board: its value, who hears of it, and changes of it.
+// A value that a view shows, by itself or as a part of another one: who hears of it, and changes of it.
 import { Closed, Refused } from "./errors.mjs";
-import { tokens } from "./pointer.mjs";
+import { startsWith, tokens } from "./pointer.mjs";
+import { has } from "./patch.mjs";
+import { same } from "./json.mjs";
 
 /** @typedef {import("../relay.js").Shown} Shown */
 /** @typedef {import("../relay.js").Operation} Operation */
+/** @typedef {readonly (readonly any[])[] | null} Slots */
 
 // How often `update` tries, if nothing is said.
 const TRIES = 20;
@@ -13,41 +16,51 @@ const PAUSE = 10;
 const LONGEST_PAUSE = 500;
 
 export class Place {
+  #source;
   #board;
   #shown;
+  #path;
 
-  /** @param {any} board @param {Shown} shown */
-  constructor(board, shown) {
+  /**
+   * @param {{ view: readonly Shown[], slots: Slots, confirmed: Slots, ready: Promise<any>, subscribe: (listener: () => void) => () => void }} source
+   * @param {any} board
+   * @param {Shown} shown
+   */
+  constructor(source, board, shown) {
+    this.#source = source;
     this.#board = board;
     this.#shown = shown;
-    tokens(typeof shown === "string" ? shown : shown.size);
+    this.#path = tokens(typeof shown === "string" ? shown : shown.size);
     this.subscribe = this.subscribe.bind(this);
   }
 
   /** What stands there; undefined where nothing does, or before the first slots. */
   get value() {
-    return this.#slot(this.#board.slots)[0];
+    return this.#slot(this.#source.slots)[0];
   }
 
   /** What stands there as the relay showed it, without edits that wait. */
   get confirmed() {
-    return this.#slot(this.#board.confirmed)[0];
+    return this.#slot(this.#source.confirmed)[0];
   }
 
   /** @param {(value: any) => void} listener Told of each other value. Gives its end. */
   subscribe(listener) {
     let last = this.value;
-    return this.#board.subscribe(() => {
-      const { value } = this;
-      if (value === last) return;
-      last = value;
-      listener(value);
+    return this.#source.subscribe(() => {
+      // A view that was exchanged since tells nothing of it.
+      if (this.#cover() === null) return;
+      const before = last;
+      last = this.value;
+      if (!same(before, last)) listener(last);
     });
   }
 
   /** @param {any} value @param {any} [options] @returns {Promise<number>} */
   set(value, options = {}) {
-    return this.#board.edit([this.#write(this.#slot(this.#board.slots), value)], { optimistic: true, ...options });
+    const { slots } = this.#source;
+    if (slots === null) throw new Error("the slots are not there yet");
+    return this.#board.edit([this.#write(this.#slot(slots), value)], { optimistic: true, ...options });
   }
 
   /**
@@ -56,20 +69,30 @@ export class Place {
    * @returns {Promise<number>}
    */
   async update(change, { tries = TRIES, undo = true } = {}) {
-    await this.#board.ready;
+    await this.#source.ready;
     const make = () => {
-      const slot = this.#slot(this.#board.confirmed);
+      const slot = this.#slot(this.#source.confirmed);
       const value = change(slot[0]);
       return value === undefined ? null : [this.#write(slot, value)];
     };
     return compareAndSet(this.#board, tries, make, (patch, seen) => this.#board.edit(patch, { undo, ...seen }));
   }
 
-  // Nothing stands there where the view does not show it any more.
-  /** @param {readonly (readonly any[])[] | null} slots */
+  /** @param {Slots} slots @returns {readonly any[]} */
   #slot(slots) {
-    const at = this.#board.view.findIndex((/** @type {Shown} */ shown) => isSame(shown, this.#shown));
-    return slots?.[at] ?? [];
+    if (slots === null) return [];
+    const cover = this.#cover();
+    if (cover === null) throw new RangeError(`${JSON.stringify(this.#shown)} is not in the view ${JSON.stringify(this.#source.view)}`);
+    return cover.rest.reduce(part, slots[cover.at] ?? []);
+  }
+
+  // The slot that shows it, and where in that slot's value. A size is a slot of its own or nothing.
+  #cover() {
+    const { view } = this.#source;
+    const at = view.findIndex((shown) => isSame(shown, this.#shown));
+    if (at >= 0 || typeof this.#shown !== "string") return { at, rest: [] };
+    const outer = view.findIndex((shown) => typeof shown === "string" && startsWith(this.#path, tokens(shown)));
+    return outer < 0 ? null : { at: outer, rest: this.#path.slice(tokens(/** @type {string} */ (view[outer])).length) };
   }
 
   /** @param {readonly any[]} slot @param {any} value @returns {Operation} */
@@ -77,6 +100,11 @@ export class Place {
     if (typeof this.#shown !== "string") throw new TypeError("a size is not set: what it counts is");
     return { op: slot.length === 0 ? "add" : "replace", path: this.#shown, value };
   }
+}
+
+/** @param {readonly any[]} slot @param {string} token @returns {readonly any[]} */
+function part(slot, token) {
+  return slot.length > 0 && has(slot[0], token) ? [slot[0][token]] : [];
 }
 
 /** @param {Shown} one @param {Shown} other */

@@ -1,6 +1,7 @@
 // Several views of one room over as few connections as they need: each part of a page watches what it shows, and knows of no other part.
 import { Board } from "./board.mjs";
-import { isSame } from "./place.mjs";
+import { Place, isSame } from "./place.mjs";
+import { Places } from "./places.mjs";
 import { pathOf } from "./known.mjs";
 
 /** @typedef {import("../relay.js").Shown} Shown */
@@ -103,26 +104,45 @@ function distinct(all) {
 class View {
   #shared;
   #pointers;
-  /** @type {{ slots: unknown, own: readonly unknown[] | null }} */
+  /** @type {{ slots: unknown, own: any }} */
   #seen = { slots: undefined, own: null };
+  #places;
 
   /** @param {Shared} shared @param {readonly Shown[]} pointers */
   constructor(shared, pointers) {
     this.#shared = shared;
     this.#pointers = pointers;
+    this.#places = new Places((shown) => new Place(this, shared.board, shown));
     this.ready = shared.join(this, pointers).then(() => this.slots);
     this.ready.catch(() => {});
     this.subscribe = this.subscribe.bind(this);
   }
 
+  get view() {
+    return this.#pointers;
+  }
+
   /** One slot for each pointer; null until they are there. */
   get slots() {
-    const { slots, view } = this.#shared.board;
+    const { slots } = this.#shared.board;
     if (this.#seen.slots !== slots) {
-      const own = slots && this.#pointers.map((shown) => slots[view.findIndex((/** @type {Shown} */ other) => isSame(other, shown))]);
-      this.#seen = { slots, own: own === null || own.includes(undefined) ? null : this.#stable(own) };
+      const own = this.#own(slots);
+      this.#seen = { slots, own: own && this.#stable(own) };
     }
     return this.#seen.own;
+  }
+
+  /** What the relay showed of them. */
+  get confirmed() {
+    return this.#own(this.#shared.board.confirmed);
+  }
+
+  // Of the board's slots those of this view; null until the board shows all of them.
+  /** @param {any} slots @returns {any} */
+  #own(slots) {
+    const { view } = this.#shared.board;
+    const own = slots && this.#pointers.map((shown) => slots[view.findIndex((/** @type {Shown} */ other) => isSame(other, shown))]);
+    return own === null || own.includes(undefined) ? null : own;
   }
 
   // The same list as before where no slot of this view changed.
@@ -145,7 +165,7 @@ class View {
 
   /** @param {Shown} shown */
   at(shown) {
-    return this.#shared.board.at(shown);
+    return this.#places.at(shown);
   }
 
   /** @param {readonly import("../relay.js").Operation[]} patch @param {any} [options] */

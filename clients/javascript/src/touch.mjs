@@ -7,6 +7,7 @@ import { Draft, goesOn, pathOf, placeOf, read } from "./known.mjs";
  * @typedef {import("../relay.js").Shown} Shown
  * @typedef {import("../relay.js").Operation} Operation
  * @typedef {{ path: readonly string[], list: boolean | null, at: number | null, set: boolean }} Place
+ * @typedef {Place & { holder: Part | null }} Origin
  */
 
 /**
@@ -35,7 +36,7 @@ function changed(draft, operation) {
 }
 
 // Where something is taken away or exchanged.
-/** @param {Part} whole @param {Operation} operation @returns {(Place & { holder: Part | null })[]} */
+/** @param {Part} whole @param {Operation} operation @returns {Origin[]} */
 function fromPlaces(whole, operation) {
   if (operation.op === "remove" || operation.op === "replace") {
     return [{ ...placeOf(whole, tokens(operation.path)), set: operation.op === "replace" }];
@@ -51,7 +52,7 @@ function target(whole, path) {
 }
 
 // Whether a move may lead to its own place, and so change nothing: the last element of a list to the end of it, which may not be known.
-/** @param {ReturnType<typeof placeOf>} from @param {Place} to */
+/** @param {Origin} from @param {Place} to */
 function mayStay({ path, holder, at }, to) {
   if (to.path.length !== path.length) return false;
   if (startsWith(to.path, path)) return true;
