@@ -49,7 +49,7 @@ export type Operation =
  * - `connecting`: a connection is being made, or its slots are awaited.
  * - `open`: the slots are those of the relay, but for what is on its way.
  * - `waiting`: the connection was lost, or could not be had; the next try comes after a while. The slots stay as they were.
- * - `closed`: by `close`, or since the relay refused the first view.
+ * - `closed`: by `close`, or since the relay refused the first view or what `begin` has.
  */
 export type State = "connecting" | "open" | "waiting" | "closed";
 
@@ -82,6 +82,11 @@ export interface Store {
 export interface Options<V extends readonly Shown[] = readonly Shown[], Slots = readonly Slot<any>[]> {
   /** What is to be shown, at most 16. */
   view: readonly [...V];
+  /**
+   * The document that the room is to begin with. Each connection writes it first, before any edit that waits, if the document is `null`: in a
+   * new room, and after a restart of the relay. It is no edit for `undo`. If the relay refuses it, as `too-heavy`, the board is closed.
+   */
+  begin?: Writable;
   /** Told after each change of the slots, and of how many edits wait. */
   onChange?: (change: Change<Slots>) => void;
   /** Told of each new state: with `waiting` and a `HandshakeFailed`, where no connection could be had; with `closed` and its cause, if there is one. */
@@ -157,7 +162,7 @@ export interface Board<D = Json, V extends readonly Shown[] = readonly Shown[]> 
   /** How many optimistic edits wait. */
   readonly pending: number;
   readonly state: State;
-  /** The first slots. Fails with `Refused` where the view is refused, and with `Closed`. */
+  /** The first slots. Fails with `Refused` where the view or the document of `begin` is refused, and with `Closed`. */
   readonly ready: Promise<SlotsOf<D, V>>;
   /** Tells a listener after each change. Gives its end. */
   subscribe(listener: (change: Change<SlotsOf<D, V>>) => void): () => void;

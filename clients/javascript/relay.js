@@ -1886,6 +1886,27 @@
     return { Queue };
   })();
 
+  const beginModule = (() => {
+    // The document that a room begins with: each connection writes it before anything else, and the relay refuses that if the room has one.
+    const { Refused } = errorsModule;
+    const { checked } = jsonModule;
+
+    /**
+     * The request that does it.
+     * @param {unknown} value
+     * @param {(cause: Refused) => void} refused told of every refusal, but that there is a document
+     */
+    function beginning(value, refused) {
+      const patch = [{ op: "test", path: "", value: null }, { op: "add", path: "", value: checked(value, ["begin"]) }];
+      const answered = (/** @type {any} */ reply) => {
+        if (reply.kind !== "done" && reply.fault !== "test-failed") refused(new Refused(reply));
+      };
+      return { request: { do: "edit", patch }, answered };
+    }
+
+    return { beginning };
+  })();
+
   const boardModule = (() => {
     // A room, as an application has it: the slots of a view, and edits.
     const { Closed, Refused } = errorsModule;
@@ -1899,6 +1920,7 @@
     const { Place, compareAndSet } = placeModule;
     const { Places } = placesModule;
     const { Queue } = queueModule;
+    const { beginning } = beginModule;
     const { checked } = jsonModule;
     const { knownBy } = knownModule;
 
@@ -1943,12 +1965,16 @@
       #quietWaiters = []; // told when no edit of this client waits to be shown
 
       /** @param {string} url @param {any} options */
-      constructor(url, { view, ...options }) {
+      constructor(url, { view, begin = null, ...options }) {
         this.#options = { WebSocket: globalThis.WebSocket, onState: () => {}, onTakenBack: null, ...DEFAULTS, ...options };
         if (options.onChange) this.#changes.add(options.onChange);
+        const first = begin === null ? null : beginning(begin, (cause) => this.#end(cause));
         this.#queue = new Queue(options.queue, options.storage, options.storageKey ?? url);
         this.#link = new Link(url, this.#options, {
-          entered: () => this.#follower.entered(),
+          entered: () => {
+            this.#follower.entered();
+            if (first !== null) this.#link.askFirst(first);
+          },
           told: (message) => this.#follower.told(message),
           lost: (cause) => this.#enter("waiting", cause),
           connecting: () => this.#enter("connecting", null),

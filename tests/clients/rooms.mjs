@@ -45,6 +45,25 @@ export async function boardsOf(t, url, ...views) {
   return all;
 }
 
+/** A relay of its own that a test stops and starts again, each time as another run. */
+export async function restartable(t) {
+  // Below the ports that the system gives to connections, so that it is free again.
+  const port = 20_000 + Math.floor(Math.random() * 10_000);
+  let [program] = await serve(port, 1);
+  let epoch = 1;
+  t.after(() => program.kill());
+  return {
+    url: `ws://127.0.0.1:${port}/rooms/own`,
+    async stop() {
+      program.kill();
+      await new Promise((resolve) => program.once("exit", resolve));
+    },
+    async start() {
+      [program] = await serve(port, (epoch += 1));
+    },
+  };
+}
+
 export async function until(holds) {
   for (let tries = 0; !holds(); tries += 1) {
     assert.ok(tries < 500, `${holds} does not come to hold`);

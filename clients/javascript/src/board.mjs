@@ -10,6 +10,7 @@ import { Overlay } from "./overlay.mjs";
 import { Place, compareAndSet } from "./place.mjs";
 import { Places } from "./places.mjs";
 import { Queue } from "./queue.mjs";
+import { beginning } from "./begin.mjs";
 import { checked } from "./json.mjs";
 import { knownBy } from "./known.mjs";
 
@@ -54,12 +55,16 @@ export class Board {
   #quietWaiters = []; // told when no edit of this client waits to be shown
 
   /** @param {string} url @param {any} options */
-  constructor(url, { view, ...options }) {
+  constructor(url, { view, begin = null, ...options }) {
     this.#options = { WebSocket: globalThis.WebSocket, onState: () => {}, onTakenBack: null, ...DEFAULTS, ...options };
     if (options.onChange) this.#changes.add(options.onChange);
+    const first = begin === null ? null : beginning(begin, (cause) => this.#end(cause));
     this.#queue = new Queue(options.queue, options.storage, options.storageKey ?? url);
     this.#link = new Link(url, this.#options, {
-      entered: () => this.#follower.entered(),
+      entered: () => {
+        this.#follower.entered();
+        if (first !== null) this.#link.askFirst(first);
+      },
       told: (message) => this.#follower.told(message),
       lost: (cause) => this.#enter("waiting", cause),
       connecting: () => this.#enter("connecting", null),
