@@ -241,21 +241,23 @@ export function room<D = Json>(url: string, options?: Omit<Options, "view" | "on
 
 export interface Presence<E extends object> {
   readonly id: string;
-  /** The entries of all who are here, by their ids. */
+  /** The entries of all who are here, by their ids. What is no object is left out. */
   readonly people: Readonly<Record<string, E & { readonly beat: number }>>;
+  /** When the entry is written for the first time. Fails where the board is closed before, or does not show the pointer. */
   readonly ready: Promise<void>;
   /** Tells who is here with each change. Gives its end. */
   subscribe(listener: (people: Readonly<Record<string, E & { readonly beat: number }>>) => void): () => void;
-  /** Shows another entry of this client from now on. */
+  /** Shows another entry of this client from now on; without a connection, once it is there again. The promise need not be looked at. */
   set(entry: E): Promise<void>;
   /** Takes this client's entry away. */
   leave(): Promise<void>;
 }
 
 /**
- * Keeps an entry of this client in the object at a pointer of the board's view, renews it every 20 seconds, and takes away entries that were
- * not renewed for a minute, by this client's clock. Each renewal is an edit: a revision of the room, told to every watcher of the object,
- * and it makes an edit with an earlier `base` stale.
+ * Keeps an entry of this client in the object at a pointer of the board's view: makes the object if there is none, writes the entry each time
+ * that the board is `open`, renews it every 20 seconds (`every`), and takes away entries that were not renewed for 150 seconds (`gone`), by this
+ * client's clock. Where it is refused, as in a room that has no document yet, it is tried again when the document changes. Each renewal is an
+ * edit: a revision of the room, told to every watcher of the object, and it makes an edit with an earlier `base` stale.
  */
 export function presence<E extends object>(board: Board<any, any>, path: Pointer, entry: E, options?: { id?: string; every?: number; gone?: number }): Presence<E>;
 

@@ -223,6 +223,15 @@
     }
 
     /**
+     * Whether a value has members, and so is no list.
+     * @param {unknown} value
+     * @returns {value is Record<string, any>}
+     */
+    function isObject(value) {
+      return typeof value === "object" && value !== null && !Array.isArray(value);
+    }
+
+    /**
      * Whether two values are equal as RFC 6902, section 4.6, says.
      * @param {Json} one
      * @param {Json} other
@@ -237,7 +246,7 @@
       return names.length === Object.keys(other).length && names.every((name) => Object.hasOwn(other, name) && same(parts[name], others[name]));
     }
 
-    return { checked, same };
+    return { checked, isObject, same };
   })();
 
   const patchModule = (() => {
@@ -1520,12 +1529,14 @@
      * @typedef {{
      *   patch: Operation[],
      *   optimistic: boolean,
+     *   silent: boolean,
      *   rev: number | null,
      *   epoch: number | null,
      *   left: (inverse: Inverse | null) => void,
      *   laid?: { below: Part, slots: readonly Slot[], whole: Part, shown: readonly Slot[] },
      * }} Unconfirmed
-     * An edit, in the order in which they were made; `rev` and `epoch` are of its `done`, and `left` is told when the slots show it.
+     * An edit, in the order in which they were made; `rev` and `epoch` are of its `done`, and `left` is told when the slots show it. Of a
+     * silent one that is taken back the application is told nothing: the client made it by itself.
      */
 
     class Overlay {
@@ -1952,6 +1963,8 @@
       #queue;
       /** @type {Listeners<any>} */
       #changes = new Listeners();
+      /** @type {Listeners<State>} */
+      #states = new Listeners();
       #options;
       /** @type {State} */
       #state = "connecting";
@@ -2038,6 +2051,14 @@
         return this.#changes.add(listener);
       }
 
+      /**
+       * For what this client keeps going by itself.
+       * @param {(state: State) => void} listener Told of each new state. Gives its end.
+       */
+      states(listener) {
+        return this.#states.add(listener);
+      }
+
       /** @param {Shown} shown */
       at(shown) {
         return this.#places.at(shown);
@@ -2072,11 +2093,12 @@
       // Edits.
 
       /** @param {readonly Operation[]} patch @param {any} options @param {Role | null} role @returns {Promise<number>} */
-      #edit(patch, { base, epoch = this.epoch, optimistic = false }, role) {
+      #edit(patch, { base, epoch = this.epoch, optimistic = false, silent = false }, role) {
+        const left = (/** @type {import("./inverse.mjs").Inverse | null} */ inverse) => inverse && role && this.#history.record(role, inverse);
         const done = new Promise((resolve, reject) => {
           const own = checked(patch);
           /** @type {import("./overlay.mjs").Unconfirmed} */
-          const unconfirmed = { patch: own, optimistic, rev: null, epoch: null, left: (inverse) => inverse && role && this.#history.record(role, inverse) };
+          const unconfirmed = { patch: own, optimistic, silent, rev: null, epoch: null, left };
           const edit = new Edit({ patch: own, base: revision(base), epoch }, {
             done: (rev, run) => {
               Object.assign(unconfirmed, { rev, epoch: run });
@@ -2119,7 +2141,7 @@
         try {
           this.#tell(null);
         } finally {
-          this.#options.onTakenBack?.({ patch: edit.patch, cause });
+          if (!edit.silent) this.#options.onTakenBack?.({ patch: edit.patch, cause });
         }
       }
 
@@ -2211,7 +2233,11 @@
         if (this.#state === state) return;
         this.#state = state;
         if (state === "open") this.#wasOpen = true;
-        this.#options.onState(state, cause);
+        try {
+          this.#options.onState(state, cause);
+        } finally {
+          this.#states.tell(state);
+        }
       }
     }
 
@@ -2415,12 +2441,18 @@
   const presenceModule = (() => {
     // Who is here: an entry of this client in an object of the document, renewed while it is here, and taken away where it was not renewed.
     // The relay has no such thing by itself, so each renewal is an edit: a revision, told to every watcher of the object.
-    const { Closed, Refused } = errorsModule;
+    const { Closed, Refused, Unknown } = errorsModule;
+    const { checked, isObject } = jsonModule;
     const { pointer, tokens } = pointerModule;
 
     /** @typedef {{ beat: number } & Record<string, unknown>} Entry */
+    /** @typedef {{ resolve: () => void, reject: (cause: unknown) => void }} Waiter */
 
-    const DEFAULTS = { every: 20_000, gone: 60_000 };
+    // A page in the background has its timers run once a minute, so an entry outlives two such renewals.
+    const DEFAULTS = { every: 20_000, gone: 150_000 };
+
+    // What the client does by itself: nothing to be undone, and nothing to tell the application of where it is refused.
+    const BY_ITSELF = { optimistic: true, undo: false, silent: true };
 
     class Presence {
       #board;
@@ -2430,9 +2462,19 @@
       #id;
       #entry;
       #beat = 0;
+      /** @type {{ value: unknown, people: Record<string, Entry> }} */
+      #shown = { value: undefined, people: {} };
       /** @type {Map<string, { beat: unknown, since: number }>} */
       #seen = new Map(); // since when each entry has not been renewed, by this client's clock
-      #timer;
+      #isHere = false; // whether the entry was written on this connection
+      /** @type {Promise<void> | null} */
+      #entering = null; // while the entry is being written
+      /** @type {unknown} */
+      #failedOn = null; // the slots on which it could not be written
+      /** @type {Waiter[]} */
+      #waiters = []; // each is told when the entry is written
+      /** @type {(() => void)[]} */
+      #ends;
       #left = false;
 
       /**
@@ -2447,19 +2489,24 @@
         this.#place = board.at(path);
         this.#options = { ...DEFAULTS, ...options };
         this.#id = id;
-        this.#entry = entry;
-        this.#timer = setInterval(() => this.#renew(), this.#options.every);
-        this.ready = this.#begin();
-        this.ready.catch(() => {});
+        this.#entry = checked(entry);
+        this.ready = this.#written();
+        const timer = setInterval(() => this.#renew(), this.#options.every);
+        const states = board.states((/** @type {string} */ state) => this.#turned(state));
+        const changes = board.subscribe(() => this.#changed());
+        this.#ends = [() => clearInterval(timer), states, changes];
+        this.#turned(board.state);
       }
 
       get id() {
         return this.#id;
       }
 
-      /** The entries of all who are here, by their ids. */
+      /** The entries of all who are here, by their ids. What is no object is no entry. */
       get people() {
-        return /** @type {Record<string, Entry>} */ (this.#place.value ?? {});
+        const { value } = this.#place;
+        if (this.#shown.value !== value) this.#shown = { value, people: entries(value) };
+        return this.#shown.people;
       }
 
       /** @param {(people: Record<string, Entry>) => void} listener Gives its end. */
@@ -2472,40 +2519,91 @@
        * @param {object} entry
        */
       set(entry) {
-        this.#entry = entry;
-        return this.#write();
+        this.#entry = checked(entry);
+        if (!this.#isHere) return this.#written();
+        const done = this.#write();
+        done.catch(() => this.#fail());
+        return done;
       }
 
       /** Takes the entry away. */
       async leave() {
-        this.#left = true;
-        clearInterval(this.#timer);
-        await this.#board.edit([{ op: "remove", path: this.#own }], { optimistic: true, undo: false }).catch(ignoreRefusal);
+        if (this.#left) return;
+        this.#end(new Closed());
+        await this.#board.edit([{ op: "remove", path: this.#own }], BY_ITSELF).catch(() => {});
       }
 
       get #own() {
         return this.#path + pointer([this.#id]);
       }
 
+      /** @returns {Promise<void>} */
+      #written() {
+        const written = new Promise((resolve, reject) => {
+          if (this.#left) reject(new Closed());
+          else this.#waiters.push({ resolve: () => resolve(undefined), reject });
+        });
+        written.catch(() => {});
+        return /** @type {Promise<void>} */ (written);
+      }
+
+      /** @param {unknown} cause */
+      #end(cause) {
+        this.#left = true;
+        for (const end of this.#ends) end();
+        for (const { reject } of this.#waiters.splice(0)) reject(cause);
+      }
+
+      // A connection that is new may lead to a document without the entry.
+      /** @param {string} state */
+      #turned(state) {
+        this.#isHere = false;
+        if (state === "open") this.#enter();
+        if (state === "closed") this.#end(new Closed());
+      }
+
+      // Where the entry could not be written, as in a room that has not begun, another document is another try.
+      #changed() {
+        if (!this.#isHere && this.#board.state === "open" && this.#board.confirmed !== this.#failedOn) this.#enter();
+      }
+
+      #renew() {
+        if (this.#board.state === "open") this.#enter();
+      }
+
+      // One try at a time. It fails for nobody: what is refused is tried again.
+      #enter() {
+        this.#entering ??= this.#try().finally(() => (this.#entering = null));
+      }
+
+      async #try() {
+        try {
+          await this.#makeObject();
+          await this.#write();
+          this.#isHere = this.#board.state === "open";
+          for (const { resolve } of this.#waiters.splice(0)) resolve();
+          for (const id of this.#gone()) this.#remove(id);
+        } catch (error) {
+          this.#fail();
+          if (error instanceof Refused || error instanceof Unknown) return;
+          for (const { reject } of this.#waiters.splice(0)) reject(error);
+        }
+      }
+
+      #fail() {
+        this.#isHere = false;
+        this.#failedOn = this.#board.confirmed;
+      }
+
       // Whoever comes first makes the object, which no patch can do without wiping one that is there: so it is made on what was seen.
-      async #begin() {
-        await this.#board.ready;
-        await this.#place.update((/** @type {any} */ people) => (people === undefined ? {} : undefined), { undo: false });
-        await this.#write();
+      #makeObject() {
+        return this.#place.update((/** @type {unknown} */ people) => (isObject(people) ? undefined : {}), { undo: false });
       }
 
       async #write() {
-        if (this.#left) return;
+        if (this.#left) throw new Closed();
         this.#beat += 1;
-        const value = { ...this.#entry, beat: this.#beat };
-        await this.#board.edit([{ op: "add", path: this.#own, value }], { optimistic: true, undo: false });
-      }
-
-      async #renew() {
-        if (this.#board.state === "closed") return clearInterval(this.#timer);
-        if (this.#board.state !== "open") return;
-        await this.#write().catch(ignoreRefusal);
-        await Promise.all(this.#gone().map((id) => this.#remove(id)));
+        await this.#board.edit([{ op: "add", path: this.#own, value: { ...this.#entry, beat: this.#beat } }], BY_ITSELF);
       }
 
       #gone() {
@@ -2522,14 +2620,15 @@
       /** @param {string} id */
       #remove(id) {
         const path = this.#path + pointer([id]);
-        const patch = [{ op: "test", path: `${path}/beat`, value: this.people[id].beat }, { op: "remove", path }];
-        return this.#board.edit(patch, { undo: false }).catch(ignoreRefusal);
+        const patch = [{ op: "test", path, value: this.people[id] }, { op: "remove", path }];
+        this.#board.edit(patch, { undo: false }).catch(() => {});
       }
     }
 
-    /** @param {unknown} error */
-    function ignoreRefusal(error) {
-      if (!(error instanceof Refused || error instanceof Closed || (error instanceof Error && error.name === "Unknown"))) throw error;
+    /** @param {unknown} value @returns {Record<string, Entry>} */
+    function entries(value) {
+      if (!isObject(value)) return {};
+      return Object.fromEntries(Object.entries(value).filter(([, entry]) => isObject(entry)));
     }
 
     function newId() {

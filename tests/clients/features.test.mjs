@@ -5,7 +5,7 @@ import { tmpdir } from "node:os";
 import { join } from "node:path";
 import { test } from "node:test";
 import { pathToFileURL } from "node:url";
-import { Closed, HandshakeFailed, Refused, connect, overlaid, presence, room } from "../../clients/javascript/relay.mjs";
+import { Closed, HandshakeFailed, Refused, connect, overlaid, room } from "../../clients/javascript/relay.mjs";
 import { relayStore } from "../../clients/javascript/adapters/svelte.mjs";
 import { begunRoom, boards, boardsOf, cuttable, newRoom, pause, scripted, until } from "./rooms.mjs";
 
@@ -283,25 +283,6 @@ test("views of one room share connections of 16 slots", async (t) => {
   const another = shared.view(["/count", ...Array.from({ length: 14 }, (_, k) => `/others/${k}`)]);
   assert.deepEqual((await another.ready)[0], [0]);
   assert.equal(shared.connections, 2);
-});
-
-test("who is here, and who is not any more", async (t) => {
-  const [ann, bob] = await boards(t, ["/here"], ["/here"]);
-  const waits = { every: 30, gone: 150 };
-  const first = presence(ann, "/here", { name: "Ann" }, waits);
-  const second = presence(bob, "/here", { name: "Bob" }, waits);
-  await Promise.all([first.ready, second.ready]);
-  const names = (here) => Object.values(here.people).map(({ name }) => name).sort().join();
-  await until(() => names(first) === "Ann,Bob" && names(second) === "Ann,Bob");
-  await first.set({ name: "Anne" });
-  await until(() => names(second) === "Anne,Bob");
-  bob.close();
-  await pause(100);
-  assert.equal(names(first), "Anne,Bob");
-  await until(() => names(first) === "Anne");
-  assert.equal(ann.undoable, 0);
-  await first.leave();
-  await until(() => names(first) === "");
 });
 
 test("a Svelte store tells at once, and is written", async (t) => {

@@ -42,6 +42,8 @@ export class Board {
   #queue;
   /** @type {Listeners<any>} */
   #changes = new Listeners();
+  /** @type {Listeners<State>} */
+  #states = new Listeners();
   #options;
   /** @type {State} */
   #state = "connecting";
@@ -128,6 +130,14 @@ export class Board {
     return this.#changes.add(listener);
   }
 
+  /**
+   * For what this client keeps going by itself.
+   * @param {(state: State) => void} listener Told of each new state. Gives its end.
+   */
+  states(listener) {
+    return this.#states.add(listener);
+  }
+
   /** @param {Shown} shown */
   at(shown) {
     return this.#places.at(shown);
@@ -162,11 +172,12 @@ export class Board {
   // Edits.
 
   /** @param {readonly Operation[]} patch @param {any} options @param {Role | null} role @returns {Promise<number>} */
-  #edit(patch, { base, epoch = this.epoch, optimistic = false }, role) {
+  #edit(patch, { base, epoch = this.epoch, optimistic = false, silent = false }, role) {
+    const left = (/** @type {import("./inverse.mjs").Inverse | null} */ inverse) => inverse && role && this.#history.record(role, inverse);
     const done = new Promise((resolve, reject) => {
       const own = checked(patch);
       /** @type {import("./overlay.mjs").Unconfirmed} */
-      const unconfirmed = { patch: own, optimistic, rev: null, epoch: null, left: (inverse) => inverse && role && this.#history.record(role, inverse) };
+      const unconfirmed = { patch: own, optimistic, silent, rev: null, epoch: null, left };
       const edit = new Edit({ patch: own, base: revision(base), epoch }, {
         done: (rev, run) => {
           Object.assign(unconfirmed, { rev, epoch: run });
@@ -209,7 +220,7 @@ export class Board {
     try {
       this.#tell(null);
     } finally {
-      this.#options.onTakenBack?.({ patch: edit.patch, cause });
+      if (!edit.silent) this.#options.onTakenBack?.({ patch: edit.patch, cause });
     }
   }
 
@@ -301,7 +312,11 @@ export class Board {
     if (this.#state === state) return;
     this.#state = state;
     if (state === "open") this.#wasOpen = true;
-    this.#options.onState(state, cause);
+    try {
+      this.#options.onState(state, cause);
+    } finally {
+      this.#states.tell(state);
+    }
   }
 }
 

@@ -53,6 +53,15 @@ function wrong(path, words) {
 }
 
 /**
+ * Whether a value has members, and so is no list.
+ * @param {unknown} value
+ * @returns {value is Record<string, any>}
+ */
+export function isObject(value) {
+  return typeof value === "object" && value !== null && !Array.isArray(value);
+}
+
+/**
  * Whether two values are equal as RFC 6902, section 4.6, says.
  * @param {Json} one
  * @param {Json} other

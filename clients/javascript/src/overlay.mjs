@@ -13,12 +13,14 @@ import { inverse } from "./inverse.mjs";
  * @typedef {{
  *   patch: Operation[],
  *   optimistic: boolean,
+ *   silent: boolean,
  *   rev: number | null,
  *   epoch: number | null,
  *   left: (inverse: Inverse | null) => void,
  *   laid?: { below: Part, slots: readonly Slot[], whole: Part, shown: readonly Slot[] },
  * }} Unconfirmed
- * An edit, in the order in which they were made; `rev` and `epoch` are of its `done`, and `left` is told when the slots show it.
+ * An edit, in the order in which they were made; `rev` and `epoch` are of its `done`, and `left` is told when the slots show it. Of a
+ * silent one that is taken back the application is told nothing: the client made it by itself.
  */
 
 export class Overlay {

@@ -1,0 +1,158 @@
+// Who is here: over restarts, in rooms that have not begun, and beside clients that write something else there.
+import assert from "node:assert/strict";
+import { spawn } from "node:child_process";
+import { test } from "node:test";
+import { connect, presence } from "../../clients/javascript/relay.mjs";
+import { begunRoom, boards, boardsOf, newRoom, pause, restartable, until } from "./rooms.mjs";
+
+const names = (here) => Object.values(here.people).map(({ name }) => name).sort().join();
+
+test("who is here, and who is not any more", async (t) => {
+  const [ann, bob] = await boards(t, ["/here"], ["/here"]);
+  const waits = { every: 30, gone: 150 };
+  const first = presence(ann, "/here", { name: "Ann" }, waits);
+  const second = presence(bob, "/here", { name: "Bob" }, waits);
+  await Promise.all([first.ready, second.ready]);
+  await until(() => names(first) === "Ann,Bob" && names(second) === "Ann,Bob");
+  await first.set({ name: "Anne" });
+  await until(() => names(second) === "Anne,Bob");
+  bob.close();
+  await pause(100);
+  assert.equal(names(first), "Anne,Bob");
+  await until(() => names(first) === "Anne");
+  assert.equal(ann.undoable, 0);
+  await first.leave();
+  await until(() => names(first) === "");
+  await assert.rejects(first.set({ name: "Ann" }), { name: "Closed" });
+});
+
+for (const begin of [undefined, { here: {} }, { cards: [] }]) {
+  test(`it comes back after a restart, with ${JSON.stringify(begin) ?? "nothing"} to begin with`, async (t) => {
+    const relay = await restartable(t);
+    const options = { view: ["/here"], begin };
+    const [ann, bob, other] = await boardsOf(t, relay.url, options, options, [""]);
+    const start = () => begin === undefined && other.edit([{ op: "add", path: "", value: { cards: [] } }]);
+    await start();
+    const [first, second] = [presence(ann, "/here", { name: "Ann" }), presence(bob, "/here", { name: "Bob" })];
+    await until(() => names(first) === "Ann,Bob" && names(second) === "Ann,Bob");
+    await relay.stop();
+    await until(() => [ann, bob, other].every(({ state }) => state === "waiting"));
+    const told = first.set({ name: "Anne" });
+    await relay.start();
+    await until(() => [ann, bob, other].every(({ state }) => state === "open"));
+    await start();
+    await told;
+    await until(() => names(first) === "Anne,Bob" && names(second) === "Anne,Bob");
+  });
+}
+
+test("in a room that has not begun it waits for the document", async (t) => {
+  const url = newRoom();
+  const [ann, other] = await boardsOf(t, url, ["/in/here"], [""]);
+  const here = presence(ann, "/in/here", { name: "Ann" });
+  let ready = false;
+  here.ready.then(() => (ready = true));
+  for (const value of [{ cards: [] }, 5, { in: "text" }]) {
+    await other.edit([{ op: "add", path: "", value }]);
+    await pause(30);
+  }
+  assert.deepEqual([ready, names(here)], [false, ""]);
+  await other.edit([{ op: "add", path: "", value: { in: {} } }]);
+  await here.ready;
+  await until(() => names(here) === "Ann");
+});
+
+test("what is no object is replaced, and what is no entry is left out", async (t) => {
+  for (const here of [null, 5, "text", ["a"]]) {
+    const [ann, other] = await boardsOf(t, await begunRoom({ here }), ["/here"], ["/here"]);
+    const shown = presence(ann, "/here", { name: "Ann" }, { every: 20 });
+    await shown.ready;
+    await until(() => names(shown) === "Ann");
+    await other.edit(["x", "y", "z"].map((id, k) => ({ op: "add", path: `/here/${id}`, value: [null, 7, [1]][k] })));
+    await until(() => Object.keys(ann.slots[0][0]).length === 4);
+    assert.deepEqual([Object.keys(shown.people), shown.people], [[shown.id], shown.people]);
+    assert.equal(shown.people, shown.people);
+    await pause(50);
+    const isBack = () => Object.keys(ann.confirmed[0][0] ?? {}).includes(shown.id);
+    // A client that spoils it: it is there again with the next renewal.
+    await other.edit([{ op: "replace", path: "/here", value: here }]);
+    await until(isBack);
+    await other.edit([{ op: "remove", path: "/here" }]);
+    await until(isBack);
+  }
+});
+
+test("an entry lives 150 seconds, so that one renewal in a minute keeps it", async (t) => {
+  const [ann, other] = await boardsOf(t, await begunRoom({ here: {} }), ["/here"], ["/here"]);
+  t.mock.timers.enable({ apis: ["setInterval", "Date"] });
+  const here = presence(ann, "/here", { name: "Ann" });
+  await here.ready;
+  const seconds = async (count) => {
+    for (let k = 0; k < count; k += 20) {
+      t.mock.timers.tick(20_000);
+      await pause(10);
+    }
+  };
+  for (let beat = 0; beat < 4; beat += 1) {
+    await other.edit([{ op: "add", path: "/here/hidden", value: { name: "Hidden", beat } }]);
+    await until(() => here.people.hidden?.beat === beat);
+    await seconds(60);
+  }
+  await seconds(80);
+  assert.equal(names(here), "Ann,Hidden");
+  await seconds(40);
+  await until(() => names(here) === "Ann");
+});
+
+test("the application is not told of what presence is refused", async (t) => {
+  const relay = await restartable(t);
+  const taken = [];
+  const [ann, other] = await boardsOf(t, relay.url, { view: ["/here"], onTakenBack: (told) => taken.push(told) }, [""]);
+  await other.edit([{ op: "add", path: "", value: { here: {} } }]);
+  const here = presence(ann, "/here", { name: "Ann" }, { every: 5 });
+  await here.ready;
+  for (let tries = 0; tries < 20; tries += 1) {
+    await other.edit([{ op: "replace", path: "/here", value: 1 }]);
+    await pause(5);
+  }
+  await relay.stop();
+  await relay.start();
+  await until(() => ann.state === "open");
+  await pause(50);
+  assert.deepEqual(taken, []);
+});
+
+test("nothing that the client does by itself ends the process", async (t) => {
+  const relay = await restartable(t);
+  const script = `
+    import { connect, presence } from "./clients/javascript/relay.mjs";
+    const kept = JSON.stringify([{ patch: [{ op: "remove", path: "/nothing" }], epoch: null }, { patch: [], base: 7, epoch: 3 }]);
+    const storage = { getItem: () => kept, setItem() {}, removeItem() {} };
+    const states = [];
+    const board = connect("${relay.url}", { view: ["/here"], begin: { here: 5 }, storage, firstWait: 10, onState: (state) => console.log(state) });
+    const here = presence(board, "/here", { name: "Ann" }, { every: 5 });
+    const elsewhere = presence(board, "/elsewhere", { name: "Ann" }, { every: 5 });
+    setInterval(() => { here.set({ name: "Ann" }); elsewhere.set({ name: "Ann" }); }, 7);
+    process.stdin.on("data", () => board.close()).on("end", () => process.exit(0));
+  `;
+  const child = spawn(process.execPath, [...process.execArgv.filter((word) => word.includes("websocket")), "--no-warnings", "--input-type=module", "-e", script], {
+    stdio: ["pipe", "pipe", "inherit"],
+  });
+  t.after(() => child.kill());
+  let told = "";
+  child.stdout.on("data", (text) => (told += text));
+  const ended = new Promise((resolve) => child.once("exit", resolve));
+  await until(() => told.includes("open"));
+  const other = connect(relay.url, { view: [""], firstWait: 10 });
+  t.after(() => other.close());
+  await other.edit([{ op: "add", path: "", value: 5 }]);
+  await relay.stop();
+  await until(() => told.includes("waiting"));
+  await relay.start();
+  await until(() => told.split("open").length === 3);
+  child.stdin.write("close\n");
+  await until(() => told.includes("closed"));
+  await pause(50);
+  child.stdin.end();
+  assert.equal(await ended, 0, told);
+});
