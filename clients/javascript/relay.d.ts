@@ -110,7 +110,10 @@ export interface Options<V extends readonly Shown[] = readonly Shown[], Slots = 
   longestWait?: number;
   /** After how many milliseconds without a message the relay is asked for one. 20,000 if nothing is said. */
   quiet?: number;
-  /** For how many milliseconds the oldest request may have no answer, before the connection is given up. 10,000 if nothing is said. */
+  /**
+   * For how many milliseconds the oldest request may have no answer, before the connection is given up. 10,000 if nothing is said. A snapshot may
+   * take six times as long. Each connection in a row that is given up doubles both, up to 16 times, until slots come.
+   */
   patience?: number;
 }
 

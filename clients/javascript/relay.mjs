@@ -1180,6 +1180,12 @@ const linkModule = (() => {
   // With one more on the way 32 replies could wait, and the relay would read nothing from this client until it drew one.
   const ON_THE_WAY = 31;
 
+  // A snapshot may take as many times as long as an answer: it has up to 25 MB, and whatever is answered meanwhile comes behind it.
+  const SNAPSHOT = 6;
+
+  // How often patience is doubled at most, since connections were given up.
+  const DOUBLINGS = 4;
+
   /**
    * A request: what is sent, and what becomes of it. Only an edit has the last four; others end with their connection.
    *
@@ -1215,8 +1221,10 @@ const linkModule = (() => {
     #unsent = [];
     /** @type {Asked[]} */
     #sent = []; // without an answer, oldest first
+    #isDue = false; // whether a snapshot is on its way
     #ids = 0;
     #failures = 0;
+    #givenUp = 0; // connections in a row, since slots came
     /** @type {ReturnType<typeof setTimeout> | undefined} */
     #timer;
     /** @type {ReturnType<typeof setTimeout> | undefined} */
@@ -1289,6 +1297,7 @@ const linkModule = (() => {
       clearTimeout(this.#patience);
       this.#socket = null;
       this.#welcome = null;
+      this.#isDue = false;
       const again = this.#sent.splice(0).filter((asked) => asked.lost?.());
       this.#unsent = [...again, ...this.#unsent.filter((asked) => asked.dropped)];
       this.#on.waiting(this.#unsent);
@@ -1321,16 +1330,35 @@ const linkModule = (() => {
     }
 
     // Whether the other end is there. What has waited longest for an answer, or for the welcome, says it; each answer shows that it is. Where
-    // nothing waits and nothing comes, a request that does nothing asks for an answer: it has no `do`, and is refused.
+    // nothing waits and nothing comes, a request that does nothing asks for an answer: it has no `do`, and is refused. While a snapshot is on its
+    // way nothing is asked, since the answer would come behind it, and the snapshot is what is waited for. A line that is slower than that gets
+    // it all the same: each connection that is given up doubles the patience of the next one.
 
     #beginPatience() {
       clearTimeout(this.#patience);
-      const gone = () => this.#abandon(this.#opened ? null : new HandshakeFailed("unreachable"));
-      this.#patience = setTimeout(gone, this.#options.patience);
+      this.#patience = setTimeout(() => this.#giveUp(), this.#longest);
+    }
+
+    get #longest() {
+      const { patience } = this.#options;
+      if (this.#welcome === null) return patience;
+      return patience * (this.#isDue ? SNAPSHOT : 1) * 2 ** Math.min(this.#givenUp, DOUBLINGS);
+    }
+
+    #giveUp() {
+      if (this.#welcome !== null) this.#givenUp += 1;
+      this.#abandon(this.#opened ? null : new HandshakeFailed("unreachable"));
+    }
+
+    // Something came that shows that the other end is there.
+    #goOn() {
+      clearTimeout(this.#patience);
+      if (this.#isDue || this.#sent.length > 0) this.#beginPatience();
     }
 
     #listen() {
       clearTimeout(this.#timer);
+      if (this.#isDue) return;
       this.#timer = setTimeout(() => this.ask({ request: {}, answered: () => {} }), this.#options.quiet);
     }
 
@@ -1342,7 +1370,7 @@ const linkModule = (() => {
         if (asked.goesTo?.(this.#welcome) === false) continue;
         this.#ids += 1;
         this.#sent.push(asked);
-        if (this.#sent.length === 1) this.#beginPatience();
+        if (this.#sent.length === 1 && !this.#isDue) this.#beginPatience();
         this.#socket.send(JSON.stringify({ id: this.#ids, ...asked.request }));
       }
       if (this.#welcome === null) this.#on.waiting(this.#unsent);
@@ -1352,7 +1380,7 @@ const linkModule = (() => {
     #hear(message) {
       try {
         if (message.kind === "welcome") this.#enter(message);
-        else if (message.kind === "snapshot" || message.kind === "patch") this.#on.told(message);
+        else if (message.kind === "snapshot" || message.kind === "patch") this.#tell(message);
         else this.#answer(message);
       } finally {
         // Also where an application's function throws.
@@ -1371,11 +1399,22 @@ const linkModule = (() => {
       this.#on.entered(welcome);
     }
 
+    /** @param {any} message A snapshot or a patch. */
+    #tell(message) {
+      this.#givenUp = 0;
+      if (message.kind === "snapshot" && this.#isDue) {
+        this.#isDue = false;
+        this.#goOn();
+      }
+      this.#on.told(message);
+    }
+
     /** @param {any} reply */
     #answer(reply) {
       const asked = this.#sent.shift();
-      clearTimeout(this.#patience);
-      if (this.#sent.length > 0) this.#beginPatience();
+      if (reply.kind === "watching" || reply.how === "snapshot") this.#isDue = true;
+      if (reply.how === "nothing") this.#givenUp = 0;
+      this.#goOn();
       asked?.answered(reply);
     }
   }

@@ -7,7 +7,7 @@ import { test } from "node:test";
 import { pathToFileURL } from "node:url";
 import { Closed, HandshakeFailed, Refused, connect, overlaid, room } from "../../clients/javascript/relay.mjs";
 import { relayStore } from "../../clients/javascript/adapters/svelte.mjs";
-import { begunRoom, boards, boardsOf, cuttable, newRoom, pause, scripted, until } from "./rooms.mjs";
+import { begunRoom, boards, boardsOf, cuttable, newRoom, until } from "./rooms.mjs";
 
 test("a value that JSON cannot say, or the relay refuses, is named by its path", async (t) => {
   const [board] = await boards(t, ["/cards"]);
@@ -41,26 +41,6 @@ test("a failed handshake has a cause", async () => {
   assert.deepEqual([refused.reason, refused.status], ["refused", 404]);
   const unreachable = await cause("ws://127.0.0.1:1/rooms/a");
   assert.deepEqual([unreachable.reason, unreachable.status], ["unreachable", null]);
-});
-
-test("patience counts from the oldest request without an answer", async () => {
-  const begun = Date.now();
-  const sockets = scripted((asked, tell) => {
-    if (asked.do !== "watch") return;
-    tell({ kind: "watching", id: asked.id });
-    tell({ kind: "snapshot", rev: 1, view: [[1]] });
-  });
-  const noticed = new Promise((resolve) => {
-    const board = connect("ws://127.0.0.1:1/rooms/a", { view: ["/n"], WebSocket: sockets, patience: 300, onState: (state) => {
-      if (state !== "waiting") return;
-      clearInterval(editing);
-      board.close();
-      resolve(Date.now() - begun);
-    } });
-    const editing = setInterval(() => board.edit([]).catch(() => {}), 50);
-  });
-  const took = await noticed;
-  assert.ok(took < 600, `a peer that is gone was noticed after ${took} ms`);
 });
 
 test("an optimistic edit shows at once, and stays", async (t) => {
