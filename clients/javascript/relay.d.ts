@@ -83,8 +83,8 @@ export interface Options<V extends readonly Shown[] = readonly Shown[], Slots = 
   /** What is to be shown, at most 16. */
   view: readonly [...V];
   /**
-   * The document that the room is to begin with. Each connection writes it first, before any edit that waits, if the document is `null`: in a
-   * new room, and after a restart of the relay. It is no edit for `undo`. If the relay refuses it, as `too-heavy`, the board is closed.
+   * The document that the room is to begin with. Each connection writes it first, before any edit that waits, if the document is `null`:
+   * in a new room, and after a restart of the relay. It is no edit for `undo`. If the relay refuses it, as `too-heavy`, the board is closed.
    */
   begin?: Writable;
   /** Told after each change of the slots, and of how many edits wait. */
@@ -111,8 +111,8 @@ export interface Options<V extends readonly Shown[] = readonly Shown[], Slots = 
   /** After how many milliseconds without a message the relay is asked for one. 20,000 if nothing is said. */
   quiet?: number;
   /**
-   * For how many milliseconds the oldest request may have no answer, before the connection is given up. 10,000 if nothing is said. A snapshot may
-   * take six times as long. Each connection in a row that is given up doubles both, up to 16 times, until slots come.
+   * For how many milliseconds the oldest request may have no answer, before the connection is given up. 10,000 if nothing is said. A
+   * snapshot may take six times as long. Each connection in a row that is given up doubles both, up to 16 times, until slots come.
    */
   patience?: number;
 }
@@ -129,8 +129,8 @@ export interface EditOptions {
 }
 
 /**
- * What stands at a pointer that the view shows, by itself or as a part of another one: with the view `["/cards"]` also `/cards/0`. Reading and
- * writing throw a `RangeError` if the view does not show it. An index names another element once somebody inserted or removed before it.
+ * What stands at a pointer that the view shows, by itself or as a part of another one: with the view `["/cards"]` also `/cards/0`. Reading
+ * and writing throw a `RangeError` if the view does not show it. An index names another element once somebody inserted or removed before it.
  */
 export interface Place<T> {
   /** What stands there; undefined where nothing does, or before the first slots. */
@@ -257,10 +257,10 @@ export interface Presence<E extends object> {
 }
 
 /**
- * Keeps an entry of this client in the object at a pointer of the board's view: makes the object if there is none, writes the entry each time
- * that the board is `open`, renews it every 20 seconds (`every`), and takes away entries that were not renewed for 150 seconds (`gone`), by this
- * client's clock. Where it is refused, as in a room that has no document yet, it is tried again when the document changes. Each renewal is an
- * edit: a revision of the room, told to every watcher of the object, and it makes an edit with an earlier `base` stale.
+ * Keeps an entry of this client in the object at a pointer of the board's view: makes the object if there is none, writes the entry each
+ * time that the board is `open`, renews it every 20 seconds (`every`), and takes away entries that were not renewed for 150 seconds (`gone`),
+ * by this client's clock. Where it is refused, as in a room that has no document yet, it is tried again when the document changes. Each
+ * renewal is an edit: a revision of the room, told to every watcher of the object, and it makes an edit with an earlier `base` stale.
  */
 export function presence<E extends object>(board: Board<any, any>, path: Pointer, entry: E, options?: { id?: string; every?: number; gone?: number }): Presence<E>;
 

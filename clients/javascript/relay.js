@@ -1331,9 +1331,9 @@
       }
 
       // Whether the other end is there. What has waited longest for an answer, or for the welcome, says it; each answer shows that it is. Where
-      // nothing waits and nothing comes, a request that does nothing asks for an answer: it has no `do`, and is refused. While a snapshot is on its
-      // way nothing is asked, since the answer would come behind it, and the snapshot is what is waited for. A line that is slower than that gets
-      // it all the same: each connection that is given up doubles the patience of the next one.
+      // nothing waits and nothing comes, a request that does nothing asks for an answer: it has no `do`, and is refused. While a snapshot is on
+      // its way nothing is asked, since the answer would come behind it, and the snapshot is what is waited for. A line that is slower than
+      // that gets it all the same: each connection that is given up doubles the patience of the next one.
 
       #beginPatience() {
         clearTimeout(this.#patience);
@@ -1706,6 +1706,8 @@
     /** @typedef {import("../relay.js").Shown} Shown */
     /** @typedef {import("../relay.js").Operation} Operation */
     /** @typedef {readonly (readonly any[])[] | null} Slots */
+    /** @typedef {(listener: () => void) => () => void} Subscribe */
+    /** @typedef {{ view: readonly Shown[], slots: Slots, confirmed: Slots, ready: Promise<any>, subscribe: Subscribe }} Source */
 
     // How often `update` tries, if nothing is said.
     const TRIES = 20;
@@ -1721,7 +1723,7 @@
       #path;
 
       /**
-       * @param {{ view: readonly Shown[], slots: Slots, confirmed: Slots, ready: Promise<any>, subscribe: (listener: () => void) => () => void }} source
+       * @param {Source} source a board or a view
        * @param {any} board
        * @param {Shown} shown
        */
@@ -1846,8 +1848,8 @@
   })();
 
   const placesModule = (() => {
-    // The places of a board or a view. Each is made once, so that a component which asks for one each time it is drawn is given the same one. They
-    // are held weakly: one that nobody holds or listens to is forgotten, and made anew when it is asked for again.
+    // The places of a board or a view. Each is made once, so that a component which asks for one each time it is drawn is given the same one.
+    // They are held weakly: one that nobody holds or listens to is forgotten, and made anew when it is asked for again.
     const { Place } = placeModule;
 
     /** @typedef {import("../relay.js").Shown} Shown */

@@ -63,7 +63,8 @@ test("it is sent on each connection, before the view, and before an edit that wa
   sockets.newest.onclose({});
   await until(() => said.length === 4);
   const resume = { do: "resume", epoch: 1, rev: 1, view: ["/items"] };
-  assert.deepEqual(said, [{ do: "edit", base: 1, patch: again }, { do: "edit", patch: BEGIN }, resume, { do: "edit", base: 1, patch: again }]);
+  const edit = { do: "edit", base: 1, patch: again };
+  assert.deepEqual(said, [edit, { do: "edit", patch: BEGIN }, resume, edit]);
   await until(() => board.state === "open");
 });
 

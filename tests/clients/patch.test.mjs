@@ -38,7 +38,8 @@ test("a patch writes to nothing that was handed out, and to no part in two place
   const value = (deep) => {
     if (deep === 0 || chance(4) === 0) return one([0, "a", null]);
     const parts = Array.from({ length: 1 + chance(3) }, () => value(deep - 1));
-    return chance(2) ? parts : JSON.parse(`{${parts.map((part, k) => `"${one(["a", "b", "0", "__proto__"])}${k || ""}":${JSON.stringify(part)}`)}}`);
+    const member = (part, k) => `"${one(["a", "b", "0", "__proto__"])}${k || ""}":${JSON.stringify(part)}`;
+    return chance(2) ? parts : JSON.parse(`{${parts.map(member)}}`);
   };
   // Mostly a path of the document, and at times one that goes on from it.
   const path = (part) => {
@@ -54,7 +55,8 @@ test("a patch writes to nothing that was handed out, and to no part in two place
     const patch = [];
     let wanted = document;
     for (let more = 0; more < 6; more += 1) {
-      const operation = frozen({ op: one(["add", "add", "remove", "replace", "move", "copy", "copy"]), path: path(wanted), from: path(wanted), value: chance(2) ? shared : value(1) });
+      const op = one(["add", "add", "remove", "replace", "move", "copy", "copy"]);
+      const operation = frozen({ op, path: path(wanted), from: path(wanted), value: chance(2) ? shared : value(1) });
       const led = plainly(wanted, [operation]);
       if (led === undefined && chance(8) > 0) continue;
       patch.push(operation);
@@ -71,11 +73,12 @@ test("a patch writes to nothing that was handed out, and to no part in two place
 
 test("what takes a patch back keeps the values of before it", () => {
   const document = frozen({ list: [{ n: 1 }, { n: 2 }, { n: 3 }], map: { a: { n: 1 } } });
+  const add = { op: "add", path: "/map/a/m", value: 0 };
   for (const patch of [
     [{ op: "add", path: "/list/0/m", value: 0 }, { op: "remove", path: "/list/1" }, { op: "replace", path: "/list/0/n", value: 9 }],
-    [{ op: "add", path: "/map/a/m", value: 0 }, { op: "move", from: "/map/a", path: "/list/1" }, { op: "replace", path: "/list/1/n", value: 9 }],
-    [{ op: "add", path: "/map/a/m", value: 0 }, { op: "copy", from: "/map/a", path: "/map/b" }, { op: "replace", path: "/map/b/n", value: 9 }],
-    [{ op: "add", path: "/map/a/m", value: 0 }, { op: "replace", path: "/map/a", value: {} }, { op: "add", path: "/map/a/k", value: 1 }],
+    [add, { op: "move", from: "/map/a", path: "/list/1" }, { op: "replace", path: "/list/1/n", value: 9 }],
+    [add, { op: "copy", from: "/map/a", path: "/map/b" }, { op: "replace", path: "/map/b/n", value: 9 }],
+    [add, { op: "replace", path: "/map/a", value: {} }, { op: "add", path: "/map/a/k", value: 1 }],
   ]) {
     const back = inverse(knownBy([""], [[document]]), frozen(patch));
     assert.deepEqual(applied(applied(document, patch), back.patch), document, JSON.stringify(back.patch));

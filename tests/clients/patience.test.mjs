@@ -13,7 +13,8 @@ async function throttled(t, url, rate) {
   const proxy = { lost: 0, bytes: 0, url, told: (state, cause) => (proxy.lost += Number(state === "waiting" && cause === null)) };
   const server = createServer((near) => {
     const far = dial(new URL(url).port, "127.0.0.1");
-    for (const socket of [near, far]) sockets.add(socket.on("error", () => {}).on("close", () => [near, far].forEach((end) => end.destroy())));
+    const end = () => [near, far].forEach((socket) => socket.destroy());
+    for (const socket of [near, far]) sockets.add(socket.on("error", () => {}).on("close", end));
     near.pipe(far);
     far.on("data", (bytes) => {
       near.write(bytes);

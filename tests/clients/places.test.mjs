@@ -22,7 +22,8 @@ test("a part of a slot is read and set, and what is there is replaced", async (t
   await board.at("/people/bob").set({ age: 4 });
   await board.at("/cards/-").set("tea");
   await until(() => other.rev === board.rev && board.pending === 0);
-  assert.deepEqual(other.slots, [[{ cards: ["eggs", "bread", "tea"], people: { ann: { age: null }, bob: { age: 4 } }, "a/b": { "m~n": 2 }, none: null }]]);
+  const people = { ann: { age: null }, bob: { age: 4 } };
+  assert.deepEqual(other.slots, [[{ cards: ["eggs", "bread", "tea"], people, "a/b": { "m~n": 2 }, none: null }]]);
   assert.deepEqual(board.confirmed, board.slots);
 });
 
@@ -84,7 +85,8 @@ test("a part is counted by many without a loss", async (t) => {
 test("a part that went is told, and not written elsewhere", async (t) => {
   const [board, other] = await boardsOf(t, await begunRoom(PLAN), ["/cards"], [""]);
   await other.edit([{ op: "remove", path: "/cards/1" }]);
-  await assert.rejects(board.at("/cards/1").set("rye"), (error) => error instanceof Refused && ["missing", "past-end"].includes(error.fault));
+  const gone = (error) => error instanceof Refused && ["missing", "past-end"].includes(error.fault);
+  await assert.rejects(board.at("/cards/1").set("rye"), gone);
 });
 
 test("the same pointer is the same place", async (t) => {

@@ -129,15 +129,15 @@ test("nothing that the client does by itself ends the process", async (t) => {
     const kept = JSON.stringify([{ patch: [{ op: "remove", path: "/nothing" }], epoch: null }, { patch: [], base: 7, epoch: 3 }]);
     const storage = { getItem: () => kept, setItem() {}, removeItem() {} };
     const states = [];
-    const board = connect("${relay.url}", { view: ["/here"], begin: { here: 5 }, storage, firstWait: 10, onState: (state) => console.log(state) });
+    const onState = (state) => console.log(state);
+    const board = connect("${relay.url}", { view: ["/here"], begin: { here: 5 }, storage, firstWait: 10, onState });
     const here = presence(board, "/here", { name: "Ann" }, { every: 5 });
     const elsewhere = presence(board, "/elsewhere", { name: "Ann" }, { every: 5 });
     setInterval(() => { here.set({ name: "Ann" }); elsewhere.set({ name: "Ann" }); }, 7);
     process.stdin.on("data", () => board.close()).on("end", () => process.exit(0));
   `;
-  const child = spawn(process.execPath, [...process.execArgv.filter((word) => word.includes("websocket")), "--no-warnings", "--input-type=module", "-e", script], {
-    stdio: ["pipe", "pipe", "inherit"],
-  });
+  const words = [...process.execArgv.filter((word) => word.includes("websocket")), "--no-warnings", "--input-type=module", "-e", script];
+  const child = spawn(process.execPath, words, { stdio: ["pipe", "pipe", "inherit"] });
   t.after(() => child.kill());
   let told = "";
   child.stdout.on("data", (text) => (told += text));

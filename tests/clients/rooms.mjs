@@ -10,7 +10,8 @@ let rooms = 0;
 
 /** A run of the relay, and its port. */
 export async function serve(port = 0, epoch = 1000) {
-  const program = spawn(process.env.RELAY, ["serve", "--port", String(port), "--epoch", String(epoch)], { stdio: ["ignore", "pipe", "ignore"] });
+  const words = ["serve", "--port", String(port), "--epoch", String(epoch)];
+  const program = spawn(process.env.RELAY, words, { stdio: ["ignore", "pipe", "ignore"] });
   const { value } = await createInterface({ input: program.stdout })[Symbol.asyncIterator]().next();
   return [program, Number(value.split(" ")[1])];
 }

@@ -155,9 +155,9 @@ export class Link {
   }
 
   // Whether the other end is there. What has waited longest for an answer, or for the welcome, says it; each answer shows that it is. Where
-  // nothing waits and nothing comes, a request that does nothing asks for an answer: it has no `do`, and is refused. While a snapshot is on its
-  // way nothing is asked, since the answer would come behind it, and the snapshot is what is waited for. A line that is slower than that gets
-  // it all the same: each connection that is given up doubles the patience of the next one.
+  // nothing waits and nothing comes, a request that does nothing asks for an answer: it has no `do`, and is refused. While a snapshot is on
+  // its way nothing is asked, since the answer would come behind it, and the snapshot is what is waited for. A line that is slower than
+  // that gets it all the same: each connection that is given up doubles the patience of the next one.
 
   #beginPatience() {
     clearTimeout(this.#patience);

@@ -7,6 +7,8 @@ import { same } from "./json.mjs";
 /** @typedef {import("../relay.js").Shown} Shown */
 /** @typedef {import("../relay.js").Operation} Operation */
 /** @typedef {readonly (readonly any[])[] | null} Slots */
+/** @typedef {(listener: () => void) => () => void} Subscribe */
+/** @typedef {{ view: readonly Shown[], slots: Slots, confirmed: Slots, ready: Promise<any>, subscribe: Subscribe }} Source */
 
 // How often `update` tries, if nothing is said.
 const TRIES = 20;
@@ -22,7 +24,7 @@ export class Place {
   #path;
 
   /**
-   * @param {{ view: readonly Shown[], slots: Slots, confirmed: Slots, ready: Promise<any>, subscribe: (listener: () => void) => () => void }} source
+   * @param {Source} source a board or a view
    * @param {any} board
    * @param {Shown} shown
    */
