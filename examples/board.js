@@ -17,15 +17,15 @@ class Droppable extends WebSocket {
 
 const board = connect(`ws://127.0.0.1:${port}/rooms/${room}`, {
   view: ["/todo"],
+  begin: { todo: [], doing: [], done: [], away: [] },
   WebSocket: Droppable,
-  onChange: ({ slots, rev, patch }) => console.log(rev, patch ? "patch:" : "snapshot:", ...(slots[0][0] ?? ["no board yet"])),
+  onChange: ({ slots, rev, patch }) => console.log(rev, patch ? "patch:" : "snapshot:", ...shown(slots[0][0])),
   onState: (state) => console.log(state),
 });
 
-const edit = (...patch) => board.edit(patch).catch((error) => console.log(error.message));
+const shown = (cards) => (Array.isArray(cards) ? cards : ["no list yet"]);
+const add = (value) => board.edit([{ op: "add", path: "/todo/-", value }]).catch((error) => console.log(error.message));
 
-// Refused, and so without effect, where the room has a board already.
-edit({ op: "test", path: "", value: null }, { op: "add", path: "", value: { todo: [], doing: [], done: [], away: [] } });
 createInterface({ input: process.stdin })
-  .on("line", (line) => (line === "drop" ? socket.close() : edit({ op: "add", path: "/todo/-", value: line })))
+  .on("line", (line) => (line === "drop" ? socket.close() : add(line)))
   .on("close", () => board.close());

@@ -1,5 +1,5 @@
 // The cards of board.html on the page. A card keeps its element while it is shown, wherever it goes, so that it flies from where it was to
-// where it is, and keeps the focus. It is known by its text, and among equal ones by which of them it is.
+// where it is, and keeps the focus. It is known by its value, mostly a text, and among equal ones by which of them it is.
 "use strict";
 
 const FLIGHT = { duration: 160, easing: "cubic-bezier(.2, .7, .3, 1)" };
@@ -8,36 +8,38 @@ class Cards {
   #lists; // elements, one for each list
   #make;
   #shown = new Map(); // from what a card is known by to its element
+  #values = new WeakMap(); // of the elements that are cards
 
-  /** @param lists elements that hold cards @param make gives the element of a text */
+  /** @param lists elements that hold cards @param make gives the element of a value */
   constructor(lists, make) {
     this.#lists = lists;
     this.#make = make;
   }
 
-  /** Where an element's card is: its list, its place there, and its text. */
+  /** Where an element's card is: its list, its place there, and its value. */
   seen(element) {
     const list = this.#lists.indexOf(element.parentElement);
-    return { list, place: this.of(list).indexOf(element), text: element.dataset.text };
+    return { list, place: this.of(list).indexOf(element), value: this.#values.get(element) };
   }
 
   /** The elements of the cards of a list. */
   of(list) {
-    return [...this.#lists[list].children].filter((item) => item.dataset.text !== undefined);
+    return [...this.#lists[list].children].filter((item) => this.#values.has(item));
   }
 
-  /** The element of a text; of equal ones, the last. */
-  find(text) {
-    return [...this.#shown.values()].filter((element) => element.dataset.text === text).at(-1);
+  /** The element of a value; of equal ones, the last. */
+  find(value) {
+    const wanted = JSON.stringify(value);
+    return [...this.#shown.values()].filter((element) => JSON.stringify(this.#values.get(element)) === wanted).at(-1);
   }
 
-  /** Shows lists of texts. */
-  show(texts) {
+  /** Shows lists of values. */
+  show(lists) {
     const before = new Map([...this.#shown.values()].map((element) => [element, element.getBoundingClientRect()]));
     const kept = this.#shown;
     this.#shown = new Map();
     const counts = new Map();
-    const wanted = texts.map((list) => list.map((text) => this.#element(text, counts, kept)));
+    const wanted = lists.map((list) => list.map((value) => this.#element(value, counts, kept)));
     const focused = document.activeElement;
     for (const gone of before.keys()) if (!wanted.flat().includes(gone)) gone.remove();
     this.#lists.forEach((list, k) => this.#fill(k, list, wanted[k]));
@@ -45,11 +47,13 @@ class Cards {
     for (const [element, box] of before) fly(element, box);
   }
 
-  #element(text, counts, kept) {
-    const count = counts.get(text) ?? 0;
-    counts.set(text, count + 1);
-    const key = `${count} ${text}`;
-    const element = kept.get(key) ?? this.#make(text);
+  #element(value, counts, kept) {
+    const written = JSON.stringify(value);
+    const count = counts.get(written) ?? 0;
+    counts.set(written, count + 1);
+    const key = `${count} ${written}`;
+    const element = kept.get(key) ?? this.#make(value);
+    this.#values.set(element, value);
     this.#shown.set(key, element);
     return element;
   }

@@ -1,11 +1,12 @@
 """Two windows on one board, one wide and one narrow, and 300 ms between them and the relay: what is done in a window is there in the next
-frame, and each shows what the other one did. Then the form and the lobby."""
-import asyncio, base64, functools, http.server, json, os, shutil, sys, tempfile, threading
+frame, and each shows what the other one did. Then the form and the lobby; each page beside a client that writes other shapes, and over a
+restart."""
+import asyncio, base64, functools, http.server, json, os, shutil, sys, tempfile, threading, urllib.parse
 
 ROOT = os.path.dirname(os.path.dirname(os.path.dirname(os.path.abspath(__file__))))
 sys.path.insert(0, f"{ROOT}/tests/clients")
 from browser import Browser, Page
-from server import Proxy, Relay
+from server import Proxy, Relay, free_port
 
 DELAY = 0.15
 """Seconds from a window to the relay, and as many back."""
@@ -14,6 +15,7 @@ WORD = """document.querySelector('#word').hidden ? null : document.querySelector
 AWAY = """document.querySelector('#away').textContent"""
 STATE = """document.querySelector('#state').textContent"""
 PEOPLE = """document.querySelectorAll('#people li').length"""
+WRITE = """(() => { const input = document.querySelector('input'); input.focus(); input.value = 'The hall'; input.blur(); })()"""
 FRAME = "new Promise((done) => requestAnimationFrame(() => requestAnimationFrame(() => done(%s))))"
 KEYS = {"Enter": 13, "Escape": 27, "Delete": 46, "ArrowLeft": 37, "ArrowUp": 38, "ArrowRight": 39, "ArrowDown": 40, "z": 90}
 ALT, CTRL, SHIFT = 1, 2, 8
@@ -174,7 +176,7 @@ async def use_board(wide, narrow, folder):
     await wide.until(LISTS, [[posters], ["Buy oat milk"], ["Paint the door"]])
     await asyncio.sleep(3 * DELAY)
     await narrow.key("Enter")
-    await narrow.until(WORD, "Not done: that card is gone.")
+    await narrow.until(WORD, "Not done: that is gone.")
     await both_show([posters], ["Buy oat milk"], ["Paint the door"])
     print("an edit of a card that went elsewhere is refused, in words")
 
@@ -183,7 +185,7 @@ async def use_board(wide, narrow, folder):
     await wide.evaluate(f"document.querySelector('{card(1, 1)} .on').click()")
     await narrow.mouse("mouseReleased", x, y)
     same(await narrow.next_frame(LISTS), [[], ["Buy oat milk"], [posters, "Paint the door"]])
-    await narrow.until(WORD, "Not done: that card is gone.")
+    await narrow.until(WORD, "Not done: that is gone.")
     await both_show([], ["Buy oat milk", posters], ["Paint the door"])
     print("a move that somebody else was faster with flies back, with a word")
 
@@ -198,7 +200,7 @@ async def use_board(wide, narrow, folder):
     same(await wide.next_frame(LISTS), [[], [posters, "Buy oat milk"], []])
     await wide.key("ArrowLeft", ALT)
     same(await wide.next_frame(LISTS), [[posters], ["Buy oat milk"], []])
-    same(await wide.evaluate("document.activeElement.dataset.text"), posters)
+    same(await wide.evaluate("document.activeElement.querySelector('.text').textContent"), posters)
     await both_show([posters], ["Buy oat milk"], [])
     await wide.until("document.querySelector('#undo').disabled", False)
     await wide.key("z", CTRL)
@@ -295,25 +297,163 @@ async def lobby(browser, port, folder):
     await bob.leave()
 
 
-async def tutorial(browser, port):
+def tutorial_in(place):
     """The page of docs/CLIENTS.md, in a folder beside the client."""
     with open(f"{ROOT}/docs/CLIENTS.md") as document:
         page = document.read().split("```html\n")[1].split("```")[0]
+    shutil.copy(f"{ROOT}/clients/javascript/relay.js", place)
+    with open(f"{place}/list.html", "w") as out:
+        out.write(page)
+    return f"{place}/list.html"
+
+
+async def tutorial(browser, relay):
     with tempfile.TemporaryDirectory() as place:
-        shutil.copy(f"{ROOT}/clients/javascript/relay.js", place)
-        with open(f"{place}/list.html", "w") as out:
-            out.write(page)
-        windows = [await Window.open(browser, f"file://{place}/list.html?port={port}") for _ in range(2)]
+        windows = [await Window.open(browser, f"file://{tutorial_in(place)}?port={relay.port}") for _ in range(2)]
         items = "[...document.querySelectorAll('li')].map((item) => item.textContent)"
         for window in windows:
+            await window.say("Runtime.enable")
             await window.until("document.readyState === 'complete' && board.state === 'open' && board.slots[0].length", 1)
         for window, text in zip(windows, ("milk", "bread")):
             await window.evaluate(f"document.querySelector('input').value = '{text}', document.querySelector('form').requestSubmit()")
             await window.until("board.pending", 0)
         for window in windows:
             await window.until(items, ["milk", "bread"])
+        await relay.request("list", {"do": "edit", "patch": [{"op": "add", "path": "/items", "value": 5}]}, "done")
+        await windows[0].until(items, [])
+        await windows[0].evaluate("document.querySelector('form').requestSubmit()")
+        await windows[0].until("document.querySelector('p').textContent", "Not added: no-container at 0.")
+        for window in windows:
+            same(window.told.get("Runtime.exceptionThrown"), None)
             await window.leave()
     print("the tutorial's page is a shared list")
+
+
+SHAPES = [None, 5, "text", [None, 3, {"a": 1}, "card"], {"x": None, "y": 1, "z": [], "v": {"name": 7, "text": [], "by": {}}}]
+"""What anyone may write to where a page has a list, an object or a text."""
+PAGES = {
+    "board": ["", "/todo", "/doing", "/away", "/here"],
+    "form": ["", "/place", "/notes"],
+    "lobby": ["", "/here", "/tables", "/tables/north", "/tables/north/players"],
+}
+OPEN = """document.readyState === 'complete' && board.state"""
+
+
+async def shapes(browser, relay):
+    """Each page goes on, whatever another client writes."""
+    for name, pointers in PAGES.items():
+        address = urllib.parse.quote(f"ws://127.0.0.1:{relay.port}/rooms/shapes-{name}", safe="")
+        page = await Window.open(browser, f"file://{ROOT}/examples/{name}.html?url={address}&name=Ann")
+        await page.say("Runtime.enable")
+        await page.until(OPEN, "open")
+        begun = await relay.request(f"shapes-{name}", {"do": "watch", "view": [""]}, "snapshot")
+        for pointer in pointers:
+            for shape in SHAPES:
+                patch = [{"op": "add", "path": "", "value": begun["view"][0][0]}, {"op": "add", "path": pointer, "value": shape}]
+                await relay.request(f"shapes-{name}", {"do": "edit", "patch": patch}, "done")
+        # The page still shows what is written, and its presence takes the place of what is no object.
+        await relay.request(f"shapes-{name}", {"do": "edit", "patch": [{"op": "add", "path": "", "value": PROPER[name]}]}, "done")
+        await page.until(*SHOWN[name])
+        same(page.told.get("Runtime.exceptionThrown"), None)
+        await page.leave()
+    print("a page goes on beside a client that writes other shapes")
+
+
+PROPER = {
+    "board": {"todo": ["milk", None, 5], "doing": 7, "done": [], "away": [], "here": None},
+    "form": {"place": {"text": "The hall", "by": "Bob"}, "time": None, "guests": 5, "notes": {"text": [], "by": {}}},
+    "lobby": {"here": 5, "tables": {"north": {"players": {"a": 1}}, "east": None}},
+}
+SHOWN = {
+    "board": (f"JSON.stringify([{LISTS}, {PEOPLE}])", '[[["milk","",""],[],[]],1]'),
+    "form": ("[...document.querySelectorAll('input, textarea')].map(({ value }) => value).join()", "The hall,,,"),
+    "lobby": ("['#people', '#tables p'].map((each) => document.querySelector(each).textContent).join()", "1 here: Ann,1 of 2 players"),
+}
+
+
+async def mend(browser, relay):
+    """What is no list a card replaces, and what is no text too."""
+    room = {"board": {"todo": 5, "doing": [None], "done": [], "away": [], "here": {}}, "form": {"place": None}}
+    for name, value in room.items():
+        await relay.request(f"mend-{name}", {"do": "edit", "patch": [{"op": "add", "path": "", "value": value}]}, "done")
+    page = await Window.open(browser, f"file://{ROOT}/examples/board.html?port={relay.port}&room=mend-board")
+    await page.have(1400, 560)
+    await page.until(STATE, "connected")
+    await page.add(1, "milk")
+    await page.until(LISTS, [["milk"], [""], []])
+    await page.click(f"{card(2, 1)} .off")
+    await page.until(LISTS, [["milk"], [], []])
+    await page.leave()
+    form = await Window.open(browser, f"file://{ROOT}/examples/form.html?port={relay.port}&room=mend-form&name=Ann")
+    await form.until("document.querySelector('input').disabled", False)
+    await form.evaluate(WRITE)
+    await form.until("JSON.stringify(board.confirmed[0])", '[{"by":"Ann","text":"The hall"}]')
+    await form.leave()
+    print("a card or a text takes the place of something else")
+
+
+async def told(browser, relay):
+    """An edit that is refused is told, and is no unhandled rejection."""
+    full = {"here": {}, "tables": {"north": {"free": {}}}}
+    await relay.request("full", {"do": "edit", "patch": [{"op": "add", "path": "", "value": full}]}, "done")
+    lobby = await Window.open(browser, f"file://{ROOT}/examples/lobby.html?port={relay.port}&room=full&name=Ann")
+    await lobby.say("Runtime.enable")
+    await lobby.until("document.querySelectorAll('#tables button').length", 4)
+    await lobby.evaluate("document.querySelector('#tables button').click()")
+    await lobby.until(WORD, "No seat is free in the north.")
+    await lobby.evaluate("document.querySelectorAll('#tables button')[1].click()")
+    await lobby.until("document.querySelector('#word').textContent !== 'No seat is free in the north.'", True)
+    same(lobby.told.get("Runtime.exceptionThrown"), None)
+    await lobby.leave()
+    await relay.request("flat", {"do": "edit", "patch": [{"op": "add", "path": "", "value": 5}]}, "done")
+    form = await Window.open(browser, f"file://{ROOT}/examples/form.html?port={relay.port}&room=flat&name=Ann")
+    await form.say("Runtime.enable")
+    await form.until("document.querySelector('input').disabled", False)
+    await form.evaluate(WRITE)
+    await form.until("document.querySelector('.note').textContent", "Not done: the document has no place for that.")
+    same(form.told.get("Runtime.exceptionThrown"), None)
+    await form.leave()
+    print("a refused edit is told")
+
+
+async def restart(browser):
+    """What is typed while the relay restarts is not lost, and who was here is here again."""
+    port, program = free_port(), os.environ["RELAY"]
+    relay = await Relay.begin(program, 1, 64, 32, port)
+    with tempfile.TemporaryDirectory() as place:
+        shared = await Window.open(browser, f"file://{tutorial_in(place)}?port={port}")
+        board = await Window.open(browser, f"file://{ROOT}/examples/board.html?port={port}&room=restart&name=Ann")
+        form = await Window.open(browser, f"file://{ROOT}/examples/form.html?port={port}&room=form&name=Ann")
+        lobby = await Window.open(browser, f"file://{ROOT}/examples/lobby.html?port={port}&room=lobby&name=Ann")
+        pages = [shared, board, form, lobby]
+        for page in pages:
+            await page.have(1400, 560)
+            await page.say("Runtime.enable")
+            await page.until(OPEN, "open")
+        await board.until(PEOPLE, 1)
+        await lobby.until("document.querySelectorAll('#tables button').length", 4)
+        await lobby.evaluate("document.querySelector('#tables button').click()")
+        await lobby.until("document.querySelector('#tables button').textContent", "Leave")
+        await relay.end()
+        for page in pages:
+            await page.until("board.state !== 'open'", True)
+        await shared.evaluate("document.querySelector('input').value = 'milk', document.querySelector('form').requestSubmit()")
+        await board.evaluate("document.querySelector('form input').value = 'bread', document.querySelector('form').requestSubmit()")
+        await form.evaluate(WRITE)
+        relay = await Relay.begin(program, 2, 64, 32, port)
+        try:
+            await shared.until("JSON.stringify(board.confirmed)", '[[["milk"]]]')
+            await board.until(f"JSON.stringify([{LISTS}, board.pending, {PEOPLE}])", '[[["bread"],[],[]],0,1]')
+            await form.until("JSON.stringify(board.confirmed[0])", '[{"by":"Ann","text":"The hall"}]')
+            await lobby.until("document.querySelector('#people').textContent", "1 here: Ann")
+            # Nobody sits in the new run.
+            await lobby.until("document.querySelector('#tables button').textContent", "Sit down")
+            for page in pages:
+                same(page.told.get("Runtime.exceptionThrown"), None)
+                await page.leave()
+        finally:
+            await relay.end()
+    print("what is typed while the relay restarts is not lost")
 
 
 REACT = """<!doctype html>
@@ -380,7 +520,9 @@ async def main(folder=None):
     browser = await Browser.begin(os.environ["BROWSER_PROGRAM"])
     try:
         wide = await asyncio.wait_for(board(browser, relay, late, folder), 120)
-        for use in (form(browser, late, folder), lobby(browser, relay.port, folder), tutorial(browser, relay.port), react(browser, relay)):
+        uses = [form(browser, late, folder), lobby(browser, relay.port, folder), tutorial(browser, relay), react(browser, relay)]
+        uses += [shapes(browser, relay), mend(browser, relay), told(browser, relay), restart(browser)]
+        for use in uses:
             await asyncio.wait_for(use, 120)
         await relay.end()
         await wide.until(f"{STATE} !== 'connected'", True)
