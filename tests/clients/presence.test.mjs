@@ -62,6 +62,28 @@ test("in a room that has not begun it waits for the document", async (t) => {
   await until(() => names(here) === "Ann");
 });
 
+test("in a document that is full it waits for another one, and asks for nothing meanwhile", async (t) => {
+  let sent = 0;
+  const counting = class extends WebSocket {
+    send(text) {
+      sent += 1;
+      super.send(text);
+    }
+  };
+  const url = await begunRoom({ here: {}, text: "x".repeat(262_050) });
+  const [ann, other] = await boardsOf(t, url, { view: ["", "/here"], WebSocket: counting }, [""]);
+  const here = presence(ann, "/here", { name: "Ann", more: "y".repeat(100) });
+  await pause(200);
+  assert.deepEqual([sent, names(here)], [2, ""]);
+  // What is laid over it and taken back is no other document.
+  await ann.edit([{ op: "remove", path: "/nothing" }], { optimistic: true }).catch(() => {});
+  await pause(50);
+  assert.equal(sent, 3);
+  await other.edit([{ op: "replace", path: "/text", value: "" }]);
+  await here.ready;
+  assert.deepEqual([sent, names(here)], [4, "Ann"]);
+});
+
 test("what is no object is replaced, and what is no entry is left out", async (t) => {
   for (const here of [null, 5, "text", ["a"]]) {
     const [ann, other] = await boardsOf(t, await begunRoom({ here }), ["/here"], ["/here"]);

@@ -67,7 +67,7 @@ export async function restartable(t) {
 
 export async function until(holds) {
   for (let tries = 0; !holds(); tries += 1) {
-    assert.ok(tries < 500, `${holds} does not come to hold`);
+    assert.ok(tries < 2000, `${holds} does not come to hold`);
     await pause(5);
   }
 }

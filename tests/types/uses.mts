@@ -29,6 +29,7 @@ use<boolean | undefined>(plan.at("/cards/0/done").value);
 use<boolean | undefined>(plan.at("/a~1b/m~0n").value);
 use<number | undefined>(plan.at({ size: "/cards" }).value);
 use<Promise<number>>(plan.at("/count").update((count = 0) => count + 1));
+use<Promise<number>>(plan.at("/cards/0").set(card));
 // @ts-expect-error: a number is no title.
 plan.at("/title").set(5);
 // @ts-expect-error: there is no such member.
@@ -48,7 +49,12 @@ use<Json>(() => 0);
 // @ts-expect-error: a removal has no value to move from.
 whole.edit([{ op: "move", path: "/title" }]);
 
-const shared = room<Plan>(url);
+// A room begins with an interface, or with any JSON.
+const empty: Plan = { cards: [card], title: "", count: 0, here: {}, "a/b": { "m~n": true } };
+connect<Plan>(url, { view, begin: empty });
+
+const shared = room<Plan>(url, { begin: { cards: [], title: null } });
+use<boolean | undefined>(shared.view(["/cards"]).at("/cards/0/done").value);
 use<string | undefined>(shared.view(["/title"]).slots?.[0][0]);
 use<string | undefined>(presence(whole, "/here", { name: "Ann" }).people["1"]?.name);
 whole.edit([]).catch((error) => error instanceof Refused && use<string>(error.fault));
