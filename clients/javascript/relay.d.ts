@@ -112,7 +112,7 @@ export interface Options<V extends readonly Shown[] = readonly Shown[], Slots = 
   quiet?: number;
   /**
    * For how many milliseconds the oldest request may have no answer, before the connection is given up. 10,000 if nothing is said. A
-   * snapshot may take six times as long. Each connection in a row that is given up doubles both, up to 16 times, until slots come.
+   * snapshot may take six times as long. Each connection in a row that is given up doubles both, up to eightfold, until slots come.
    */
   patience?: number;
 }

@@ -1184,7 +1184,7 @@ const linkModule = (() => {
   const SNAPSHOT = 6;
 
   // How often patience is doubled at most, since connections were given up.
-  const DOUBLINGS = 4;
+  const DOUBLINGS = 3;
 
   /**
    * A request: what is sent, and what becomes of it. Only an edit has the last four; others end with their connection.

@@ -100,8 +100,8 @@ test("a snapshot that never comes is given up, later each time, and no request i
     said.push(request.do);
     if (request.do === "watch") tell({ kind: "watching", id: request.id });
   });
-  about(await losses(t, { WebSocket: sockets, quiet: 10, patience: 10 }, 6), [60, 120, 240, 480, 960, 960]);
-  assert.deepEqual(said, Array(6).fill("watch"));
+  about(await losses(t, { WebSocket: sockets, quiet: 10, patience: 10 }, 5), [60, 120, 240, 480, 480]);
+  assert.deepEqual(said, Array(5).fill("watch"));
 });
 
 test("once slots came the first patience is back", async (t) => {
