@@ -5,6 +5,8 @@ URL = "ws://127.0.0.1:1/rooms/board"
 """A room's address at which nothing listens: the client's connections are played over the driver's lines."""
 PATIENCE = 60
 """Seconds for an answer of the driver, or for another connection."""
+SHORT = 200
+"""Characters of a value in the words of a failure."""
 
 
 class Failed(Exception):
@@ -16,6 +18,8 @@ class Driver:
         pipe = subprocess.PIPE
         self.process = subprocess.Popen(command, stdin=pipe, stdout=pipe, text=True, encoding="utf-8")
         self.lines = queue.Queue()
+        self.traits = []  # what the driver says of the client
+        self.heard, self.held = None, None  # the relay's last text, and what was held when the client was looked at last
         threading.Thread(target=self._read, daemon=True).start()
 
     def begin(self, view):
@@ -41,10 +45,16 @@ class Driver:
         except OSError as error:
             raise Failed("the client has ended") from error
 
+    def hear(self, text):
+        """The relay's text arrives."""
+        self.heard = text
+        self.tell(do="hear", text=text)
+
     def look(self):
         """What the client holds, when it has done all that follows from what it was told."""
         self.tell(do="look")
-        return self._until("held")
+        self.held = self._until("held")
+        return self.held
 
     def until_opening(self):
         """Waits for the next handshake, if it has not begun yet."""
@@ -69,12 +79,14 @@ class Driver:
                 told = json.loads(line)
                 self._take(told)
             except (ValueError, TypeError, KeyError) as error:
-                raise Failed(f"not a line of a driver: {line.strip()[:200]}") from error
+                raise Failed(f"not a line of a driver: {line.strip()[:SHORT]}") from error
             if word in told:
                 return told[word]
 
     def _take(self, told):
-        if "opens" in told:
+        if "traits" in told:
+            self.traits = told["traits"]
+        elif "opens" in told:
             self.opened += 1
             if told["opens"] != URL:
                 raise Failed(f"it opens {told['opens']}, and not {URL}")
@@ -88,3 +100,9 @@ class Driver:
             self.ended[told.pop("ends")] = told
         elif "held" not in told:
             raise KeyError("no known member")
+
+
+def short(value):
+    """A value's text, cut where a line would be too long to read."""
+    told = value if isinstance(value, str) else json.dumps(value, ensure_ascii=False, sort_keys=True)
+    return told if len(told) < SHORT else f"{told[:SHORT]}.."

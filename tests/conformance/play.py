@@ -1,6 +1,6 @@
 """What a case of the suite says: a client under test, a relay, and what is between them."""
 import json
-from driver import Failed
+from driver import Failed, short
 from relay import shows, text
 
 
@@ -8,6 +8,7 @@ class Play:
     def __init__(self, driver, relay, view):
         self.driver, self.relay = driver, relay
         self.keys = 0
+        self.more = {}  # members that the relay's messages have besides
         self.resumes_of = None  # what the slots are that a resume has to be of
         driver.begin(view)
 
@@ -47,7 +48,7 @@ class Play:
         """A resume is of what the client holds."""
         held = self.resumes_of
         if held is None or held["slots"] is None:
-            raise Failed(f"it resumes, and holds nothing: {request}")
+            raise Failed(f"it resumes, and holds nothing that it could go on from: {request}")
         for member in ("view", "rev", "epoch"):
             if request[member] != held[member]:
                 raise Failed(f"it resumes with the {member} {request[member]}, and its slots are of {held}")
@@ -66,6 +67,17 @@ class Play:
             raise Failed(f"it says {requests}, and first of all neither resume nor watch")
         return requests
 
+    def asks_anew(self):
+        """What came does not follow from what is held, so that may be wrong: the client watches, on this connection or on another one, and
+        does not resume."""
+        requests = self.heard()
+        if self.driver.left:
+            self.resumes_of = None
+            self.accept()
+            requests = self.heard()
+        if [request.get("do") for request in requests][:1] != ["watch"]:
+            raise Failed(f"it says {requests}, and does not watch anew")
+
     # What the relay says.
 
     def draw(self, count=None):
@@ -83,7 +95,7 @@ class Play:
 
     def say(self, message):
         """In the relay's words: compact, with members in order."""
-        self.driver.tell(do="hear", text=json.dumps(message, ensure_ascii=False, separators=(",", ":"), sort_keys=True))
+        self.driver.hear(json.dumps({**message, **self.more}, ensure_ascii=False, separators=(",", ":"), sort_keys=True))
 
     def talk(self, rounds=20):
         """Both say what they have to say, until nobody says more. Connections that the client leaves are opened anew."""
@@ -114,10 +126,17 @@ class Play:
         return self.driver.look()
 
     def holds(self, view, slots, rev, epoch=7):
-        held, wanted = self.held(), {"view": view, "slots": slots, "rev": rev, "epoch": epoch}
+        self.look_for({"view": view, "slots": slots, "rev": rev, "epoch": epoch})
+
+    def shows(self, slots):
+        """What a client shows that lays its own edits over the slots."""
+        self.look_for({"shown": slots})
+
+    def look_for(self, wanted):
+        held = self.held()
         for member, value in wanted.items():
-            if text(held[member]) != text(value):
-                raise Failed(f"it holds the {member} {short(held[member])}, and not {short(value)}")
+            if text(held.get(member)) != text(value):
+                raise Failed(f"it holds the {member} {short(held.get(member))}, and not {short(value)}")
 
     def holds_nothing(self):
         if self.held()["slots"] is not None:
@@ -127,17 +146,16 @@ class Play:
         self.holds(view, shows(self.relay.document, view), self.relay.rev, self.relay.epoch)
 
     def ended(self, key, **wanted):
-        self.driver.look()
-        end = self.driver.ended.get(key)
+        end = self.end_of(key)
         if end is None or any(end.get(member) != value for member, value in wanted.items()):
             raise Failed(f"request {key} ends with {end}, and not with {wanted}")
 
-    def has_not_ended(self, key):
+    def end_of(self, key):
+        """How a request ended; None if it has not."""
         self.driver.look()
-        if key in self.driver.ended:
-            raise Failed(f"request {key} ends with {self.driver.ended[key]}, and has no answer yet")
+        return self.driver.ended.get(key)
 
-
-def short(value):
-    told = text(value)
-    return told if len(told) < 200 else f"{told[:200]}.."
+    def has_not_ended(self, key):
+        end = self.end_of(key)
+        if end is not None:
+            raise Failed(f"request {key} ends with {end}, and has no answer yet")

@@ -1,11 +1,13 @@
 """The relay's part: a room, and one session that is played to the client (docs/PROTOCOL.md). Nothing is said until it is drawn."""
 import json
 import jsonpatch
-from driver import Failed
+from driver import Failed, short
 
 LARGEST = 2**53 - 1
 HISTORY = 8
 """Revisions that the room can be resumed from."""
+ON_THE_WAY = 31
+"""Requests without a reply: with one more 32 replies could wait, and the relay would read nothing until one was drawn."""
 
 
 class Relay:
@@ -47,7 +49,9 @@ class Relay:
         request = json.loads(text)
         number = request.get("id") if isinstance(request, dict) else None
         if not is_count(number):
-            raise Failed(f"a request whose id is no count: {text[:200]}")
+            raise Failed(f"a request whose id is no count: {short(text)}")
+        if len(self.replies) >= ON_THE_WAY:
+            raise Failed(f"a request while {ON_THE_WAY} are without a reply: {short(text)}")
         self.requests += 1
         answers = {"edit": self._edit, "watch": self._watch, "resume": self._resume, "unwatch": self._unwatch}
         answers.get(request.get("do"), self._nothing)(number, request)

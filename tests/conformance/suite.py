@@ -1,35 +1,86 @@
 #!/usr/bin/env python3
 """Plays a relay to a client: tests/conformance/run CLIENT_COMMAND, or with `--case NAME` in front one case alone."""
-import sys
+import os, sys
+from concurrent.futures import ThreadPoolExecutor
+from dataclasses import dataclass
+from typing import List, Optional
 from cases import CASES
-from driver import Driver, Failed
+from driver import Driver, Failed, short
+
+ABREAST = os.cpu_count() or 1
+"""Cases that are played side by side, each with a driver of its own."""
 
 
-def play(command, case):
+@dataclass(frozen=True)
+class Played:
+    """How a case came out: `wrong` is None if the client did what it has to, and `asked` is false if the case does not concern it."""
+
+    name: str
+    asked: bool = True
+    wrong: Optional[List[str]] = None
+
+
+def traits_of(command):
+    """What the driver says of its client."""
     driver = Driver(command)
     try:
-        case(driver)
+        driver.begin([""])
+        driver.look()
+    except Failed as failed:
+        sys.exit(f"tests/conformance: {failed}")
+    finally:
+        driver.quit()
+    return driver.traits
+
+
+def play(command, traits, case):
+    if not case.concerns(traits):
+        return Played(case.name, asked=False)
+    driver = Driver(command)
+    try:
+        case.act(driver)
         driver.end()
         status = driver.quit()
-        return None if status == 0 else f"the driver ends with {status}"
+        return Played(case.name, wrong=None if status == 0 else [f"the driver ends with {status}"])
     except Failed as failed:
         driver.quit()
-        return str(failed)
+        return Played(case.name, wrong=[str(failed), *circumstances(case, driver)])
+
+
+def circumstances(case, driver):
+    """What a reader of a failure needs to know."""
+    heard, held = short(driver.heard or "nothing"), short(driver.held or "nothing")
+    return [f"wanted: {case.wants}", f"heard last: {heard}", f"held when looked at last: {held}"]
+
+
+def play_all(command, cases=CASES, abreast=ABREAST):
+    """How each of these cases comes out, in their order."""
+    traits = traits_of(command)
+    with ThreadPoolExecutor(abreast) as players:
+        yield from players.map(lambda case: play(command, traits, case), cases)
+
+
+def told(played):
+    if not played.asked:
+        return f"not asked {played.name}"
+    if played.wrong is None:
+        return f"ok {played.name}"
+    return f"FAILED {played.name}: " + "\n    ".join(played.wrong)
 
 
 def main(words):
     cases = CASES
     if words[:1] == ["--case"]:
-        cases = [case for case in CASES if case.__name__ == words[1]]
+        cases = [case for case in CASES if case.name == words[1]]
         words = words[2:]
     if not words or not cases:
         sys.exit("usage: tests/conformance/run [--case NAME] CLIENT_COMMAND")
-    failed = 0
-    for case in cases:
-        wrong = play(words, case)
-        failed += wrong is not None
-        print(f"{'ok' if wrong is None else 'FAILED'} {case.__name__.replace('_', ' ')}" + (f": {wrong}" if wrong else ""), flush=True)
-    print(f"{len(cases) - failed} passed, {failed} failed")
+    passed = failed = 0
+    for played in play_all(words, cases):
+        print(told(played), flush=True)
+        passed += played.asked and played.wrong is None
+        failed += played.wrong is not None
+    print(f"{passed} passed, {failed} failed")
     sys.exit(failed > 0)
 
 

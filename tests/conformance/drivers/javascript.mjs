@@ -30,7 +30,7 @@ const ends = (key, word, asked) =>
     ({ name, fault, at, rev, message }) => {
       if (name === "Refused") tell({ ends: key, refused: fault, at, rev });
       else if (name === "Unknown" || name === "Closed") tell({ ends: key, [name.toLowerCase()]: true });
-      else throw new Error(message);
+      else tell({ ends: key, invalid: message });
     },
   );
 
@@ -45,12 +45,13 @@ const does = {
   edit: ({ key, patch, ...options }) => ends(key, "done", board.edit(patch, options)),
   watch: ({ key, view }) => ends(key, "shown", board.watch(view)),
   look: () => {
-    const { view, confirmed: slots, rev, epoch } = board;
-    tell({ held: { view, slots, rev, epoch } });
+    const { view, confirmed: slots, rev, epoch, slots: shown } = board;
+    tell({ held: { view, slots, rev, epoch, shown } });
   },
   end: () => board.close(),
 };
 
+tell({ traits: ["optimistic", "rounding"] });
 for await (const line of createInterface({ input: process.stdin })) {
   const words = JSON.parse(line);
   does[words.do](words);

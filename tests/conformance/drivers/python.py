@@ -3,7 +3,7 @@
 import asyncio, json, os, sys
 from contextlib import asynccontextmanager
 
-sys.path.insert(0, f"{os.path.dirname(os.path.abspath(__file__))}/../../../clients/python")
+sys.path.insert(0, os.environ.get("PYTHON_CLIENT", f"{os.path.dirname(os.path.abspath(__file__))}/../../../clients/python"))
 import relay_client
 
 SETTLED = 50
@@ -64,7 +64,12 @@ class Driver:
         link.heard.put_nowait(None)
 
     async def edit(self, key, patch, **more):
-        asyncio.ensure_future(self.ends(key, "done", self.board.edit(patch, **more)))
+        try:
+            done = self.board.edit(patch, **more)
+        except (TypeError, ValueError) as error:
+            tell(ends=key, invalid=str(error))
+        else:
+            asyncio.ensure_future(self.ends(key, "done", done))
 
     async def watch(self, key, view):
         asyncio.ensure_future(self.ends(key, "shown", self.board.watch(view)))
@@ -81,7 +86,7 @@ class Driver:
 
     async def look(self):
         board = self.board
-        tell(held={"view": board.view, "slots": board.confirmed, "rev": board.rev, "epoch": board.epoch})
+        tell(held={"view": board.view, "slots": board.confirmed, "rev": board.rev, "epoch": board.epoch, "shown": board.slots})
 
     async def end(self):
         await self.board.close()
@@ -89,6 +94,7 @@ class Driver:
 
 async def main():
     driver = Driver()
+    tell(traits=["optimistic"])
     while line := await asyncio.to_thread(sys.stdin.readline):
         words = json.loads(line)
         await getattr(driver, words.pop("do"))(**words)

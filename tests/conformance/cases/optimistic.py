@@ -1,0 +1,98 @@
+"""Edits that show at once: what a client shows is the slots held, with such edits laid over them until the slots show them."""
+from .common import BOARD, CARDS, back, begun, case, push
+
+SHOWN = ["milk", "tea"]
+
+
+def optimistic(play, *patch):
+    return play.edit(*patch, optimistic=True)
+
+
+@case("An edit shows at once. Its `done` leaves it laid over the slots until they have its revision; it never shows twice.", needs="optimistic")
+def an_edit_shows_until_the_slots_have_its_revision(driver):
+    play = begun(driver)
+    key = optimistic(play, push("bread"))
+    play.shows([[[*SHOWN, "bread"]]])
+    play.holds(CARDS, [[SHOWN]], 1)
+    play.asked("edit")
+    play.draw(1)
+    play.ended(key, done=2)
+    play.holds(CARDS, [[SHOWN]], 1)
+    play.shows([[[*SHOWN, "bread"]]])
+    play.draw(1)
+    play.holds_present(CARDS)
+    play.shows([[[*SHOWN, "bread"]]])
+
+
+@case("In an edit that is laid over the slots, `-` is the place behind the last element as it is then.", needs="optimistic")
+def an_edit_at_the_end_is_laid_over(driver):
+    play = begun(driver, ["/cards", {"size": "/cards"}])
+    optimistic(play, push("a"), push("b"))
+    optimistic(play, push("c"), {"op": "move", "from": "/cards/0", "path": "/cards/-"})
+    optimistic(play, {"op": "copy", "from": "/cards/0", "path": "/cards/-"})
+    play.shows([[["tea", "a", "b", "c", "milk", "tea"]], [6]])
+    play.talk()
+    play.holds_present(["/cards", {"size": "/cards"}])
+    play.shows([[["tea", "a", "b", "c", "milk", "tea"]], [6]])
+
+
+@case("Another client's edit comes below those that wait: they are laid over the new slots.", needs="optimistic")
+def an_edit_is_laid_over_newer_slots(driver):
+    play = begun(driver)
+    optimistic(play, push("bread"))
+    play.relay.edit(push("salt"))
+    play.draw(1)
+    play.shows([[[*SHOWN, "salt", "bread"]]])
+    play.talk()
+    play.shows([[[*SHOWN, "salt", "bread"]]])
+
+
+@case("A refused edit is taken off, and those behind it stay.", needs="optimistic")
+def a_refused_edit_is_taken_off(driver):
+    play = begun(driver)
+    optimistic(play, {"op": "remove", "path": "/cards/0"}, {"op": "test", "path": "/n", "value": 2})
+    optimistic(play, push("bread"))
+    play.shows([[["tea", "bread"]]])
+    play.asked("edit", "edit")
+    play.draw(1)
+    play.shows([[[*SHOWN, "bread"]]])
+
+
+@case("An edit whose answer was lost is taken off. If it was done, it comes as any other edit.", needs="optimistic")
+def an_unknown_edit_is_taken_off(driver):
+    play = begun(driver)
+    optimistic(play, push("bread"))
+    play.asked("edit")
+    play.cut()
+    play.shows([[SHOWN]])
+    back(play)
+    play.talk()
+    play.shows([[[*SHOWN, "bread"]]])
+
+
+@case("A done edit whose patch was lost with its connection stays laid over until the slots have its revision.", needs="optimistic")
+def a_done_edit_stays_over_a_lost_connection(driver):
+    play = begun(driver)
+    optimistic(play, push("bread"))
+    play.asked("edit")
+    play.draw(1)
+    play.cut()
+    play.shows([[[*SHOWN, "bread"]]])
+    back(play)
+    play.talk()
+    play.holds_present(CARDS)
+    play.shows([[[*SHOWN, "bread"]]])
+
+
+@case("An edit that was done in another epoch is gone with its document: slots of the new epoch take it off.", needs="optimistic")
+def a_done_edit_ends_with_its_run(driver):
+    play = begun(driver)
+    optimistic(play, push("bread"))
+    play.asked("edit")
+    play.draw(1)
+    play.cut()
+    play.relay.restart(BOARD, epoch=8, rev=1)
+    back(play)
+    play.talk()
+    play.holds_present(CARDS)
+    play.shows([[SHOWN]])
