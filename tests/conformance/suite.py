@@ -60,7 +60,7 @@ def play_all(command, cases=CASES, abreast=ABREAST):
         yield from players.map(lambda case: play(command, traits, case), cases)
 
 
-def told(played):
+def line_of(played):
     if not played.asked:
         return f"not asked {played.name}"
     if played.wrong is None:
@@ -77,7 +77,7 @@ def main(words):
         sys.exit("usage: tests/conformance/run [--case NAME] CLIENT_COMMAND")
     passed = failed = 0
     for played in play_all(words, cases):
-        print(told(played), flush=True)
+        print(line_of(played), flush=True)
         passed += played.asked and played.wrong is None
         failed += played.wrong is not None
     print(f"{passed} passed, {failed} failed")

@@ -24,6 +24,11 @@ class Case:
     act: Callable[[Driver], None]
     """Plays a relay to a client, and fails if the client holds or says what it may not."""
 
+    @property
+    def subject(self):
+        """The module that it stands in."""
+        return self.act.__module__
+
     def concerns(self, traits):
         return (self.needs is None or self.needs in traits) and self.unless not in traits
 
