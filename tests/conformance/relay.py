@@ -22,7 +22,6 @@ class Relay:
     def close(self):
         """The session ends with its connection."""
         self.view, self.replies, self.patches, self.due = None, [], [], False
-        self.requests = 0
 
     def open(self):
         self.close()
@@ -52,7 +51,6 @@ class Relay:
             raise Failed(f"a request whose id is no count: {short(text)}")
         if len(self.replies) >= ON_THE_WAY:
             raise Failed(f"a request while {ON_THE_WAY} are without a reply: {short(text)}")
-        self.requests += 1
         answers = {"edit": self._edit, "watch": self._watch, "resume": self._resume, "unwatch": self._unwatch}
         answers.get(request.get("do"), self._nothing)(number, request)
         return request
@@ -78,8 +76,8 @@ class Relay:
         epoch, rev, view = request["epoch"], request["rev"], request["view"]
         if not is_count(epoch) or not is_count(rev):
             raise Failed(f"a resume whose epoch or rev is no count: {request}")
-        if self.requests > 1:
-            raise Failed("a resume that is not the first request of its connection")
+        if self.view is not None:
+            raise Failed("a resume on a connection that watches already")
         if epoch == self.epoch and rev > self.rev:
             return self._refuse(number, "future")
         self.view, self.patches = view, []
