@@ -35,12 +35,14 @@ def an_edit_without_a_change_is_done(driver):
         play.edit({"op": "move", "from": "/cards/0", "path": "/cards/0"}),
         play.edit({"op": "test", "path": "/cards/0", "value": "milk"}),
         play.edit(),
-        play.edit(push("bread")),
     ]
-    play.asked("edit", "edit", "edit", "edit")
+    play.asked("edit", "edit", "edit")
     play.draw()
     for rev, key in enumerate(keys, 2):
         play.ended(key, done=rev)
+    play.holds(CARDS, [[["milk", "tea"]]], 1)
+    play.relay.edit(push("bread"))
+    play.draw()
     play.holds_present(CARDS)
 
 
