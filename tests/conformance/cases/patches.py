@@ -47,6 +47,20 @@ def all_operations_of_a_patch(driver):
         play.holds(["/cards", "/n"], slots, rev)
 
 
+@case("In a list `-` is the place behind the last element, and in an object a member's name.")
+def a_patch_may_add_at_the_end(driver):
+    play = begun(driver, document={"cards": [[], {}]})
+    patch = [
+        {"op": "add", "path": "/0/0/-", "value": "a"},
+        {"op": "add", "path": "/0/0/0/-", "value": 1},
+        {"op": "copy", "from": "/0/0/0", "path": "/0/0/-"},
+        {"op": "add", "path": "/0/0/1/-", "value": 2},
+        {"op": "move", "from": "/0/0/0", "path": "/0/0/-"},
+    ]
+    play.say({"kind": "patch", "patch": patch, "rev": 2})
+    play.holds(CARDS, [[[{"-": 2}, "a", [1], [1]]]], 2)
+
+
 @case("A `copy` adds another value: within the same patch too, what is done to one of the two leaves the other.")
 def a_copy_is_another_value(driver):
     play = begun(driver, document={"cards": [{"x": {"y": []}}]})
