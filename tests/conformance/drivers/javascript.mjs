@@ -7,6 +7,10 @@ const root = new URL("../../../", import.meta.url);
 const { JAVASCRIPT: file } = process.env;
 const { connect } = await import(file ? pathToFileURL(file) : new URL("clients/javascript/relay.mjs", root));
 
+// No time is played, so none may pass: neither before another connection, nor until the client asks whether the relay is there.
+const HOUR = 3_600_000;
+const times = { firstWait: 1, longestWait: 1, quiet: HOUR, patience: HOUR };
+
 const tell = (line) => process.stdout.write(JSON.stringify(line) + "\n");
 let socket = null;
 let board = null;
@@ -36,7 +40,7 @@ const ends = (key, word, asked) =>
 
 const does = {
   connect: ({ url, view }) => {
-    board = connect(url, { view, WebSocket: FakeSocket, firstWait: 1, longestWait: 1 });
+    board = connect(url, { view, WebSocket: FakeSocket, ...times });
   },
   accept: () => socket.onopen?.({}),
   fail: () => socket.onerror?.({}),

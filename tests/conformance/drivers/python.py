@@ -6,6 +6,9 @@ from contextlib import asynccontextmanager
 sys.path.insert(0, os.environ.get("PYTHON_CLIENT", f"{os.path.dirname(os.path.abspath(__file__))}/../../../clients/python"))
 import relay_client
 
+HOUR = 3600
+TIMES = {"first_wait": 0.001, "longest_wait": 0.001, "quiet": HOUR, "patience": HOUR}
+"""No time is played, so none may pass: neither before another connection, nor until the client asks whether the relay is there."""
 SETTLED = 50
 """Rounds of the event loop after which everything has followed that follows without time."""
 
@@ -47,8 +50,7 @@ class Driver:
                 self.link = None
 
     async def connect(self, url, view):
-        waits = {"first_wait": 0.001, "longest_wait": 0.001}
-        self.board = relay_client.connect(url, view=view, open_link=self.open_link, **waits)
+        self.board = relay_client.connect(url, view=view, open_link=self.open_link, **TIMES)
 
     async def accept(self):
         self.handshake.set_result(None)
