@@ -5,9 +5,9 @@ from relay import Relay
 from .common import BOARD, CARDS, back, begun, case, push
 
 
-def made_offline(play, cards):
+def made_offline(play, cards, **more):
     """Edits that are made while there is no connection: those that the client takes, by their keys. The others end at once, refused."""
-    keys = {play.edit(push(card)): card for card in cards}
+    keys = {play.edit(push(card), **more): card for card in cards}
     ends = {key: play.end_of(key) for key in keys}
     for key, end in ends.items():
         if end is not None and "refused" not in end:
@@ -70,26 +70,25 @@ def edits_that_wait_behind_others_are_sent_on_the_next_connection(driver):
 def an_edit_with_a_base_waits_for_its_run(driver):
     play = begun(driver)
     play.cut()
-    key = play.edit(push("bread"), base=1)
+    taken = made_offline(play, "a", base=1)
     back(play)
     play.talk()
-    if "refused" not in (play.end_of(key) or {}):
-        play.ended(key, done=2)
-        play.holds_present(CARDS)
+    play.holds_present(CARDS)
+    were_done(play, taken)
 
 
 @case("An edit with a base that was not sent yet is not sent to another epoch. It ends as `stale`: it was not done, and will not be.")
 def an_unsent_edit_with_a_base_is_not_sent_to_another_run(driver):
     play = begun(driver)
     play.cut()
-    key = play.edit(push("bread"), base=1)
+    taken = made_offline(play, "a", base=1)
     play.relay.restart(BOARD, epoch=8, rev=1)
     requests = back(play)
     play.talk()
     if any(request.get("do") == "edit" for request in requests) or play.relay.rev != 1:
         raise Failed("an edit is sent to a document that it was not made for")
-    if play.end_of(key) is None or "refused" not in play.end_of(key):
-        raise Failed(f"it was not sent, and ends with {play.end_of(key)}")
+    for key in taken:
+        play.ended(key, refused="stale")
 
 
 @case("A base is of the epoch of the slots: while those of the run before are held, an edit with a base is not sent to this one.")
