@@ -81,7 +81,7 @@ async def run_program(snippet, relay, room):
 
 
 TYPED = [
-    (None, ["0 saved: no board yet", "1 saved: "]),
+    (None, ["1 saved: "]),
     ("milk", ["1 saving: milk", "2 saved: milk"]),
     ("bread", ["2 saving: milk, bread", "3 saved: milk, bread"]),
     ("undo", ["3 saving: milk", "4 saved: milk"]),
