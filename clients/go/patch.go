@@ -3,6 +3,7 @@ package relay
 import (
 	"encoding/json"
 	"fmt"
+	"io"
 	"strconv"
 	"strings"
 )
@@ -200,9 +201,15 @@ func tokens(pointer string) []string {
 	return path
 }
 
-// read keeps numbers as they are written: as floating point large ones would be rounded.
+// read keeps numbers as they are written: as floating point large ones would be rounded. It fails if the text is not one value alone.
 func read(text string, into interface{}) error {
 	reader := json.NewDecoder(strings.NewReader(text))
 	reader.UseNumber()
-	return reader.Decode(into)
+	if err := reader.Decode(into); err != nil {
+		return err
+	}
+	if _, err := reader.Token(); err != io.EOF {
+		return fmt.Errorf("relay: more than one value: %v", err)
+	}
+	return nil
 }

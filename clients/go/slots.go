@@ -23,6 +23,7 @@ func (c *Client) take(text string) (bool, error) {
 			return false, errAstray
 		}
 		c.epoch = &told.Epoch
+		return false, nil
 	case "snapshot":
 		if c.taken == nil || len(told.View) != len(c.taken.view) {
 			return false, errAstray
@@ -43,7 +44,7 @@ func (c *Client) take(text string) (bool, error) {
 	case "done", "refused", "watching", "resumed":
 		return false, c.answer(told)
 	}
-	return false, nil // a kind of message that there may be one day
+	return false, errAstray // none comes that was not asked for by something new
 }
 
 // Replies come in the order of the requests. The id says so, if the relay could read it.

@@ -469,8 +469,15 @@
 
       /** @param {any} message A snapshot or a patch. */
       told(message) {
-        if (message.kind === "snapshot") this.#take(message.rev, message.view, null);
-        else this.#follow(message);
+        if (message.kind === "patch") this.#follow(message);
+        else if (Array.isArray(message.view) && message.view.length === this.#taken?.view.length) this.#take(message.rev, message.view, null);
+        else this.astray();
+      }
+
+      /** What is held may be wrong: the slots are asked for anew, by a connection that has nothing to resume. */
+      astray() {
+        this.#held = { ...this.#held, number: -1 };
+        this.#link.renew();
       }
 
       /** @param {Error | null} cause */
@@ -515,21 +522,19 @@
       #follow({ rev, patch }) {
         let slots = null;
         try {
-          if (rev > (this.#held.rev ?? Infinity)) slots = applied(this.#held.slots, patch);
+          if (rev > (this.#held.rev ?? Infinity) && this.#taken?.number === this.#held.number) slots = applied(this.#held.slots, patch);
         } catch {
           // What is held is not what the patch was made for.
         }
-        if (slots !== null) return this.#take(rev, slots, patch);
-        // Should never be: the slots are asked for anew, by a connection that has nothing to resume.
-        this.#held = { ...this.#held, number: -1 };
-        this.#link.renew();
+        if (slots !== null) this.#take(rev, slots, patch);
+        else this.astray();
       }
 
       /** @param {number} rev @param {readonly Slot[]} slots @param {Operation[] | null} patch */
       #take(rev, slots, patch) {
         const before = this.#held;
         const epoch = this.#link.welcome?.epoch ?? null;
-        const seen = patch === null ? { ...(this.#taken ?? this.#wanted), epoch } : before;
+        const seen = patch === null ? { .../** @type {Wanted} */ (this.#taken), epoch } : before;
         this.#held = { ...seen, slots, rev };
         const { number } = this.#held;
         const told = this.#waiters.filter((waiter) => waiter.number <= number);
@@ -1187,12 +1192,17 @@
     // How often patience is doubled at most, since connections were given up.
     const DOUBLINGS = 3;
 
+    // What answers a request. The welcome does not.
+    const REPLIES = ["done", "refused", "watching", "resumed", "unwatched"];
+
     /**
-     * A request: what is sent, and what becomes of it. Only an edit has the last four; others end with their connection.
+     * A request: what is sent, the id with which it was, and what becomes of it. Only an edit has the last four; others end with their
+     * connection.
      *
      * @typedef {{ epoch: number, rev: number }} Welcome
      * @typedef {{
      *   request: object,
+     *   id?: number,
      *   answered: (reply: any) => void,
      *   goesTo?: (welcome: Welcome) => boolean,
      *   lost?: () => boolean,
@@ -1202,6 +1212,7 @@
      * @typedef {{
      *   entered: (welcome: Welcome) => void,
      *   told: (message: any) => void,
+     *   astray: () => void,
      *   lost: (cause: Error | null) => void,
      *   connecting: () => void,
      *   waiting: (asked: Asked[]) => void,
@@ -1255,7 +1266,7 @@
           if (this.#socket === socket) act(event);
         };
         socket.onopen = here(() => (this.#opened = true));
-        socket.onmessage = here(({ data }) => this.#hear(JSON.parse(data)));
+        socket.onmessage = here(({ data }) => this.#hear(data));
         socket.onclose = here(() => this.#lose(null));
         // Where a connection cannot be had, Node's sockets say so and no more.
         socket.onerror = here((event) => this.#abandon(event));
@@ -1370,6 +1381,7 @@
           if (asked.dropped) this.#on.waiting(this.#unsent);
           if (asked.goesTo?.(this.#welcome) === false) continue;
           this.#ids += 1;
+          asked.id = this.#ids;
           this.#sent.push(asked);
           if (this.#sent.length === 1 && !this.#isDue) this.#beginPatience();
           this.#socket.send(JSON.stringify({ id: this.#ids, ...asked.request }));
@@ -1377,12 +1389,15 @@
         if (this.#welcome === null) this.#on.waiting(this.#unsent);
       }
 
-      /** @param {any} message */
-      #hear(message) {
+      /** @param {string} text */
+      #hear(text) {
+        const message = messageOf(text);
         try {
-          if (message.kind === "welcome") this.#enter(message);
+          if (message.kind === "welcome" && this.#welcome === null) this.#enter(message);
+          else if (this.#welcome === null) this.#on.astray();
           else if (message.kind === "snapshot" || message.kind === "patch") this.#tell(message);
-          else this.#answer(message);
+          else if (REPLIES.includes(message.kind) && this.#isOfOldest(message)) this.#answer(message);
+          else this.#on.astray();
         } finally {
           // Also where an application's function throws.
           if (this.#socket !== null) {
@@ -1410,6 +1425,13 @@
         this.#on.told(message);
       }
 
+      // Replies come in the order of their requests; the id says so, if the relay could read it.
+      /** @param {any} reply */
+      #isOfOldest({ id }) {
+        const [oldest] = this.#sent;
+        return oldest !== undefined && (id === null || id === oldest.id);
+      }
+
       /** @param {any} reply */
       #answer(reply) {
         const asked = this.#sent.shift();
@@ -1417,6 +1439,19 @@
         if (reply.how === "nothing") this.#givenUp = 0;
         this.#goOn();
         asked?.answered(reply);
+      }
+    }
+
+    /**
+     * What a text says. One that is no message is of no kind.
+     * @param {string} text
+     * @returns {any}
+     */
+    function messageOf(text) {
+      try {
+        return JSON.parse(text) ?? {};
+      } catch {
+        return {};
       }
     }
 
@@ -2030,6 +2065,7 @@
             if (first !== null) this.#link.askFirst(first);
           },
           told: (message) => this.#follower.told(message),
+          astray: () => this.#follower.astray(),
           lost: (cause) => this.#enter("waiting", cause),
           connecting: () => this.#enter("connecting", null),
           waiting: (asked) => this.#queue.keep(asked),

@@ -78,6 +78,13 @@ class Play:
         if [request.get("do") for request in requests][:1] != ["watch"]:
             raise Failed(f"it says {requests}, and does not watch anew")
 
+    def drops(self):
+        """Something is wrong, on the relay's side or on the client's: the client drops the connection, and watches on the next one."""
+        self.driver.look()
+        if not self.driver.left:
+            raise Failed("it goes on with a connection on which something is wrong")
+        self.asks_anew()
+
     # What the relay says.
 
     def draw(self, count=None):

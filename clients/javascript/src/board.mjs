@@ -68,6 +68,7 @@ export class Board {
         if (first !== null) this.#link.askFirst(first);
       },
       told: (message) => this.#follower.told(message),
+      astray: () => this.#follower.astray(),
       lost: (cause) => this.#enter("waiting", cause),
       connecting: () => this.#enter("connecting", null),
       waiting: (asked) => this.#queue.keep(asked),

@@ -67,8 +67,15 @@ export class Follower {
 
   /** @param {any} message A snapshot or a patch. */
   told(message) {
-    if (message.kind === "snapshot") this.#take(message.rev, message.view, null);
-    else this.#follow(message);
+    if (message.kind === "patch") this.#follow(message);
+    else if (Array.isArray(message.view) && message.view.length === this.#taken?.view.length) this.#take(message.rev, message.view, null);
+    else this.astray();
+  }
+
+  /** What is held may be wrong: the slots are asked for anew, by a connection that has nothing to resume. */
+  astray() {
+    this.#held = { ...this.#held, number: -1 };
+    this.#link.renew();
   }
 
   /** @param {Error | null} cause */
@@ -113,21 +120,19 @@ export class Follower {
   #follow({ rev, patch }) {
     let slots = null;
     try {
-      if (rev > (this.#held.rev ?? Infinity)) slots = applied(this.#held.slots, patch);
+      if (rev > (this.#held.rev ?? Infinity) && this.#taken?.number === this.#held.number) slots = applied(this.#held.slots, patch);
     } catch {
       // What is held is not what the patch was made for.
     }
-    if (slots !== null) return this.#take(rev, slots, patch);
-    // Should never be: the slots are asked for anew, by a connection that has nothing to resume.
-    this.#held = { ...this.#held, number: -1 };
-    this.#link.renew();
+    if (slots !== null) this.#take(rev, slots, patch);
+    else this.astray();
   }
 
   /** @param {number} rev @param {readonly Slot[]} slots @param {Operation[] | null} patch */
   #take(rev, slots, patch) {
     const before = this.#held;
     const epoch = this.#link.welcome?.epoch ?? null;
-    const seen = patch === null ? { ...(this.#taken ?? this.#wanted), epoch } : before;
+    const seen = patch === null ? { .../** @type {Wanted} */ (this.#taken), epoch } : before;
     this.#held = { ...seen, slots, rev };
     const { number } = this.#held;
     const told = this.#waiters.filter((waiter) => waiter.number <= number);

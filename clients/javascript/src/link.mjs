@@ -11,12 +11,17 @@ const SNAPSHOT = 6;
 // How often patience is doubled at most, since connections were given up.
 const DOUBLINGS = 3;
 
+// What answers a request. The welcome does not.
+const REPLIES = ["done", "refused", "watching", "resumed", "unwatched"];
+
 /**
- * A request: what is sent, and what becomes of it. Only an edit has the last four; others end with their connection.
+ * A request: what is sent, the id with which it was, and what becomes of it. Only an edit has the last four; others end with their
+ * connection.
  *
  * @typedef {{ epoch: number, rev: number }} Welcome
  * @typedef {{
  *   request: object,
+ *   id?: number,
  *   answered: (reply: any) => void,
  *   goesTo?: (welcome: Welcome) => boolean,
  *   lost?: () => boolean,
@@ -26,6 +31,7 @@ const DOUBLINGS = 3;
  * @typedef {{
  *   entered: (welcome: Welcome) => void,
  *   told: (message: any) => void,
+ *   astray: () => void,
  *   lost: (cause: Error | null) => void,
  *   connecting: () => void,
  *   waiting: (asked: Asked[]) => void,
@@ -79,7 +85,7 @@ export class Link {
       if (this.#socket === socket) act(event);
     };
     socket.onopen = here(() => (this.#opened = true));
-    socket.onmessage = here(({ data }) => this.#hear(JSON.parse(data)));
+    socket.onmessage = here(({ data }) => this.#hear(data));
     socket.onclose = here(() => this.#lose(null));
     // Where a connection cannot be had, Node's sockets say so and no more.
     socket.onerror = here((event) => this.#abandon(event));
@@ -194,6 +200,7 @@ export class Link {
       if (asked.dropped) this.#on.waiting(this.#unsent);
       if (asked.goesTo?.(this.#welcome) === false) continue;
       this.#ids += 1;
+      asked.id = this.#ids;
       this.#sent.push(asked);
       if (this.#sent.length === 1 && !this.#isDue) this.#beginPatience();
       this.#socket.send(JSON.stringify({ id: this.#ids, ...asked.request }));
@@ -201,12 +208,15 @@ export class Link {
     if (this.#welcome === null) this.#on.waiting(this.#unsent);
   }
 
-  /** @param {any} message */
-  #hear(message) {
+  /** @param {string} text */
+  #hear(text) {
+    const message = messageOf(text);
     try {
-      if (message.kind === "welcome") this.#enter(message);
+      if (message.kind === "welcome" && this.#welcome === null) this.#enter(message);
+      else if (this.#welcome === null) this.#on.astray();
       else if (message.kind === "snapshot" || message.kind === "patch") this.#tell(message);
-      else this.#answer(message);
+      else if (REPLIES.includes(message.kind) && this.#isOfOldest(message)) this.#answer(message);
+      else this.#on.astray();
     } finally {
       // Also where an application's function throws.
       if (this.#socket !== null) {
@@ -234,6 +244,13 @@ export class Link {
     this.#on.told(message);
   }
 
+  // Replies come in the order of their requests; the id says so, if the relay could read it.
+  /** @param {any} reply */
+  #isOfOldest({ id }) {
+    const [oldest] = this.#sent;
+    return oldest !== undefined && (id === null || id === oldest.id);
+  }
+
   /** @param {any} reply */
   #answer(reply) {
     const asked = this.#sent.shift();
@@ -241,5 +258,18 @@ export class Link {
     if (reply.how === "nothing") this.#givenUp = 0;
     this.#goOn();
     asked?.answered(reply);
+  }
+}
+
+/**
+ * What a text says. One that is no message is of no kind.
+ * @param {string} text
+ * @returns {any}
+ */
+function messageOf(text) {
+  try {
+    return JSON.parse(text) ?? {};
+  } catch {
+    return {};
   }
 }

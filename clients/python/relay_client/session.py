@@ -23,6 +23,7 @@ ON_THE_WAY = 31
 """With one request more on the way 32 replies could wait, and the relay would read nothing from this client until it drew one."""
 
 REPLIES = ("done", "refused", "watching", "resumed", "unwatched")
+"""What answers a request. The welcome does not."""
 
 
 class _Astray(Exception):
@@ -334,6 +335,8 @@ class Session:
                 self._follow(message["rev"], message["patch"])
             elif kind in REPLIES:
                 self._answer(message)
+            else:
+                raise _Astray()  # none comes that was not asked for by something new
         except (KeyError, TypeError, ValueError) as error:
             raise _Astray() from error
         self._to_send.set()
