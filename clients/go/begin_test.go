@@ -4,6 +4,7 @@ import (
 	"encoding/json"
 	"errors"
 	"reflect"
+	"strings"
 	"testing"
 	"time"
 )
@@ -60,7 +61,10 @@ func (p *played) says(t *testing.T, count int) []string {
 
 func beginningWith(t *testing.T, options Options) (*Client, chan *played) {
 	dialled := make(chan *played)
-	options.Begin, options.Wait = map[string]interface{}{"cards": []string{}}, time.Millisecond
+	if options.Begin == nil {
+		options.Begin = map[string]interface{}{"cards": []string{}}
+	}
+	options.Wait = time.Millisecond
 	client, err := ConnectBy(func() (Socket, error) { return <-dialled, nil }, []interface{}{"/cards"}, options)
 	if err != nil {
 		t.Fatal(err)
@@ -113,6 +117,31 @@ func TestAnotherRefusalOfTheBeginningEndsTheClient(t *testing.T) {
 	late, _ := client.Edit(push, nil)
 	if end := <-late; end.Kind != "closed" {
 		t.Error(end)
+	}
+}
+
+func TestABeginningWhoseTextWouldEndTheConnectionEndsTheClient(t *testing.T) {
+	ended := make(chan Answer, 1)
+	options := Options{Begin: strings.Repeat("x", longest), OnEnd: func(answer Answer) { ended <- answer }}
+	client, dialled := beginningWith(t, options)
+	answer, err := client.Edit(push, nil)
+	if err != nil {
+		t.Fatal(err)
+	}
+	link := enter(dialled, `{"kind":"welcome","epoch":7,"rev":0}`)
+	select {
+	case why := <-ended:
+		if why.Fault != "too-long" || why.At != nil {
+			t.Error(why)
+		}
+	case text := <-link.said:
+		t.Fatalf("it sends %d bytes", len(text))
+	}
+	if end := <-answer; end.Kind != "closed" {
+		t.Error(end)
+	}
+	if len(link.said) > 0 {
+		t.Error("it says something")
 	}
 }
 

@@ -13,6 +13,9 @@ import (
 // With one request more on the way 32 replies could wait, and the relay would read nothing from this client until it drew one.
 const onTheWay = 31
 
+// Bytes of a text. A longer one ends its connection without an answer, each time that it is sent.
+const longest = 1056768
+
 var (
 	errAstray = errors.New("relay: a message that does not follow from those before it")
 	errEnded  = errors.New("relay: the client has ended")
@@ -119,7 +122,8 @@ func (c *Client) Look() Held {
 }
 
 // Edit asks for an edit; with a base it is done only if the room is at that revision of the run of the slots. It is sent once, as soon as
-// there is a connection. It fails if JSON cannot say the patch.
+// there is a connection. One whose text would end the connection is not sent, and is refused as too-long. It fails if JSON cannot say the
+// patch.
 func (c *Client) Edit(patch interface{}, base *int64) (<-chan Answer, error) {
 	text, err := json.Marshal(patch)
 	if err != nil {
@@ -224,6 +228,9 @@ func (c *Client) hear(text string) error {
 		c.shows = nil // the next connection asks for the slots anew
 	} else {
 		c.proceed()
+		if c.ended != nil {
+			err = errEnded
+		}
 	}
 	held, ended := c.held, c.ended
 	c.mutex.Unlock()
@@ -241,7 +248,7 @@ func (c *Client) proceed() {
 	if c.closed {
 		c.drop()
 	}
-	for c.epoch != nil && len(c.sent) < onTheWay {
+	for c.epoch != nil && !c.closed && len(c.sent) < onTheWay {
 		if c.begin != nil && !c.begun {
 			c.send(c.beginRoom())
 			continue
@@ -274,9 +281,13 @@ func (c *Client) drop() {
 }
 
 func (c *Client) send(one request) {
-	c.ids++
-	one.id, one.members["id"] = c.ids, c.ids
+	one.id, one.members["id"] = c.ids+1, c.ids+1
 	text, _ := json.Marshal(one.members) // of what was read as JSON
+	if len(text) > longest {
+		one.answered(&message{Kind: "refused", Fault: "too-long"}) // as the relay refuses a text that it still reads
+		return
+	}
+	c.ids++
 	c.sent = append(c.sent, one)
 	c.socket.Write(string(text))
 }

@@ -84,7 +84,7 @@ export interface Options<V extends readonly Shown[] = readonly Shown[], Slots = 
   view: readonly [...V];
   /**
    * The document that the room is to begin with. Each connection writes it first, before any edit that waits, if the document is `null`:
-   * in a new room, and after a restart of the relay. It is no edit for `undo`. If the relay refuses it, as `too-heavy`, the board is closed.
+   * in a new room, and after a restart of the relay. It is no edit for `undo`. If it is refused, as `too-heavy`, the board is closed.
    */
   begin?: Writable;
   /** Told after each change of the slots, and of how many edits wait. */
@@ -274,8 +274,9 @@ export function overlaid(view: readonly Shown[], slots: readonly Slot[], patch: 
 export class Refused extends Error {
   constructor(reply: { fault: string; at?: number | null; rev?: number | null }, resent?: boolean);
   /**
-   * The word of the fault (docs/PROTOCOL.md, "Messages"). The client itself refuses with `away` what may not wait for the connection, and with
-   * `changed` an undo of what somebody changed since.
+   * The word of the fault (docs/PROTOCOL.md, "Messages"). The client itself refuses with `too-long` a text of more than 1,056,768 bytes, by
+   * which the connection would end; with `away` what may not wait for the connection; and with `changed` an undo of what somebody changed
+   * since.
    */
   readonly fault: string;
   /** The place of the operation or pointer that is at fault, counted from 0; null where no single one is. */

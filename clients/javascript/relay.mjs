@@ -1125,6 +1125,24 @@ const inverseModule = (() => {
   return { fits, inverse };
 })();
 
+const lengthModule = (() => {
+  // How long a text is that is sent, as the relay counts it.
+
+  // Bytes of UTF-8. A longer text ends its connection without an answer, each time that it is sent.
+  const LONGEST = 1_056_768;
+
+  // A unit of a text takes three bytes at most: a character of four has two units.
+  const BYTES = 3;
+
+  /** @param {string} text */
+  function endsConnection(text) {
+    // Most texts are so short that their bytes need not be counted.
+    return text.length * BYTES > LONGEST && new TextEncoder().encode(text).length > LONGEST;
+  }
+
+  return { endsConnection };
+})();
+
 const handshakeModule = (() => {
   // Why a handshake failed. A WebSocket does not say it, so the same address is asked by HTTP.
   const { HandshakeFailed } = errorsModule;
@@ -1180,6 +1198,7 @@ const handshakeModule = (() => {
 const linkModule = (() => {
   // A connection to a room that comes back when it is lost, and the requests that go over it, in order.
   const { HandshakeFailed } = errorsModule;
+  const { endsConnection } = lengthModule;
   const { failure } = handshakeModule;
 
   // With one more on the way 32 replies could wait, and the relay would read nothing from this client until it drew one.
@@ -1190,6 +1209,9 @@ const linkModule = (() => {
 
   // How often patience is doubled at most, since connections were given up.
   const DOUBLINGS = 3;
+
+  // As the relay refuses a text that it still reads.
+  const TOO_LONG = { kind: "refused", fault: "too-long", at: null };
 
   // What answers a request. The welcome does not.
   const REPLIES = ["done", "refused", "watching", "resumed", "unwatched"];
@@ -1369,7 +1391,7 @@ const linkModule = (() => {
 
     #listen() {
       clearTimeout(this.#timer);
-      if (this.#isDue) return;
+      if (this.#socket === null || this.#isDue) return;
       this.#timer = setTimeout(() => this.ask({ request: {}, answered: () => {} }), this.#options.quiet);
     }
 
@@ -1379,13 +1401,20 @@ const linkModule = (() => {
         // What is kept elsewhere ends there before it is sent, so that it is never sent twice.
         if (asked.dropped) this.#on.waiting(this.#unsent);
         if (asked.goesTo?.(this.#welcome) === false) continue;
-        this.#ids += 1;
-        asked.id = this.#ids;
-        this.#sent.push(asked);
-        if (this.#sent.length === 1 && !this.#isDue) this.#beginPatience();
-        this.#socket.send(JSON.stringify({ id: this.#ids, ...asked.request }));
+        const text = JSON.stringify({ id: this.#ids + 1, ...asked.request });
+        if (endsConnection(text)) asked.answered(TOO_LONG);
+        else this.#sendText(text, asked);
       }
       if (this.#welcome === null) this.#on.waiting(this.#unsent);
+    }
+
+    /** @param {string} text @param {Asked} asked */
+    #sendText(text, asked) {
+      this.#ids += 1;
+      asked.id = this.#ids;
+      this.#sent.push(asked);
+      if (this.#sent.length === 1 && !this.#isDue) this.#beginPatience();
+      this.#socket.send(text);
     }
 
     /** @param {string} text */

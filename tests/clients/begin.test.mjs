@@ -78,6 +78,14 @@ test("it counts among the requests that are on their way", async (t) => {
   assert.equal(said.length, 31);
 });
 
+test("one whose text would end the connection is not sent, and closes the board", async () => {
+  const states = [];
+  const onState = (state, cause) => states.push([state, cause?.fault]);
+  const board = connect(newRoom(), { view: [], begin: "x".repeat(1_056_768), onState });
+  await assert.rejects(board.ready, (error) => error instanceof Refused && error.fault === "too-long" && error.at === null);
+  assert.deepEqual(states, [["closed", "too-long"]]);
+});
+
 test("another refusal of it closes the board", async () => {
   const url = newRoom();
   const states = [];

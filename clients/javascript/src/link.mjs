@@ -1,5 +1,6 @@
 // A connection to a room that comes back when it is lost, and the requests that go over it, in order.
 import { HandshakeFailed } from "./errors.mjs";
+import { endsConnection } from "./length.mjs";
 import { failure } from "./handshake.mjs";
 
 // With one more on the way 32 replies could wait, and the relay would read nothing from this client until it drew one.
@@ -10,6 +11,9 @@ const SNAPSHOT = 6;
 
 // How often patience is doubled at most, since connections were given up.
 const DOUBLINGS = 3;
+
+// As the relay refuses a text that it still reads.
+const TOO_LONG = { kind: "refused", fault: "too-long", at: null };
 
 // What answers a request. The welcome does not.
 const REPLIES = ["done", "refused", "watching", "resumed", "unwatched"];
@@ -189,7 +193,7 @@ export class Link {
 
   #listen() {
     clearTimeout(this.#timer);
-    if (this.#isDue) return;
+    if (this.#socket === null || this.#isDue) return;
     this.#timer = setTimeout(() => this.ask({ request: {}, answered: () => {} }), this.#options.quiet);
   }
 
@@ -199,13 +203,20 @@ export class Link {
       // What is kept elsewhere ends there before it is sent, so that it is never sent twice.
       if (asked.dropped) this.#on.waiting(this.#unsent);
       if (asked.goesTo?.(this.#welcome) === false) continue;
-      this.#ids += 1;
-      asked.id = this.#ids;
-      this.#sent.push(asked);
-      if (this.#sent.length === 1 && !this.#isDue) this.#beginPatience();
-      this.#socket.send(JSON.stringify({ id: this.#ids, ...asked.request }));
+      const text = JSON.stringify({ id: this.#ids + 1, ...asked.request });
+      if (endsConnection(text)) asked.answered(TOO_LONG);
+      else this.#sendText(text, asked);
     }
     if (this.#welcome === null) this.#on.waiting(this.#unsent);
+  }
+
+  /** @param {string} text @param {Asked} asked */
+  #sendText(text, asked) {
+    this.#ids += 1;
+    asked.id = this.#ids;
+    this.#sent.push(asked);
+    if (this.#sent.length === 1 && !this.#isDue) this.#beginPatience();
+    this.#socket.send(text);
   }
 
   /** @param {string} text */

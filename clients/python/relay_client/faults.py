@@ -6,7 +6,8 @@ from typing import Any, Dict, Literal, Optional
 
 class Refused(Exception):
     """The relay refused a request, and nothing changed by it; but see `resent`. Or the board did, before it was sent: as `stale` an edit
-    with a base of another run, as `away` an edit that is not guarded while the connection is lost, as `changed` an undo."""
+    with a base of another run, as `too-long` a text of more than 1,056,768 bytes, by which the connection would end, as `away` an edit that
+    is not guarded while the connection is lost, as `changed` an undo."""
 
     def __init__(self, fault: str, at: Optional[int], rev: Optional[int] = None, resent: bool = False):
         place = "" if at is None else f" at {at}"

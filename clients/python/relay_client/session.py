@@ -13,6 +13,7 @@ from dataclasses import dataclass, replace
 from typing import Any, Awaitable, Deque, List, Literal, Optional, Protocol
 
 from .faults import Closed, HandshakeFailed, Refused
+from .length import ends_connection
 from .link import Link, LinkLost, OpenLink
 from .patch import DoesNotFit, applied
 from .patience import Patience
@@ -21,6 +22,9 @@ from .values import Json, Patch, Slots, State, View
 
 ON_THE_WAY = 31
 """With one request more on the way 32 replies could wait, and the relay would read nothing from this client until it drew one."""
+
+TOO_LONG: Message = {"kind": "refused", "fault": "too-long", "at": None}
+"""As the relay refuses a text that it still reads."""
 
 REPLIES = ("done", "refused", "watching", "resumed", "unwatched")
 """What answers a request. The welcome does not."""
@@ -255,18 +259,31 @@ class Session:
             await self._to_send.wait()
             self._to_send.clear()
             while self._welcome is not None and len(self._sent) < ON_THE_WAY and self._unsent:
-                asked = self._unsent.popleft()
-                if isinstance(asked, Edit) and not asked.goes_to(self._welcome):
-                    continue
-                self._ids += 1
-                asked.id, asked.sent_at = self._ids, self._loop.time()
-                self._sent.append(asked)
-                if len(self._sent) == 1 and not self._due:
-                    self._listen()
+                text = self._next_text(self._welcome)
+                if self.is_closed:
+                    link.abort()
+                    return
                 try:
-                    await link.send(json.dumps({"id": asked.id, **asked.request}, ensure_ascii=False, separators=(",", ":")))
+                    if text is not None:
+                        await link.send(text)
                 except LinkLost:
                     return
+
+    def _next_text(self, welcome: Message) -> Optional[str]:
+        """Takes the request that has waited longest. None if it is not sent, and has ended."""
+        asked = self._unsent.popleft()
+        if isinstance(asked, Edit) and not asked.goes_to(welcome):
+            return None
+        text = json.dumps({"id": self._ids + 1, **asked.request}, ensure_ascii=False, separators=(",", ":"))
+        if ends_connection(text):
+            asked.answered(TOO_LONG)
+            return None
+        self._ids += 1
+        asked.id, asked.sent_at = self._ids, self._loop.time()
+        self._sent.append(asked)
+        if len(self._sent) == 1 and not self._due:
+            self._listen()
+        return text
 
     def _beginning(self) -> Asked:
         """Gives the room its document, if it has none yet."""
