@@ -4,6 +4,7 @@ import (
 	"encoding/json"
 	"fmt"
 	"io"
+	"regexp"
 	"strconv"
 	"strings"
 )
@@ -36,11 +37,18 @@ func applied(slots []interface{}, patch []operation) ([]interface{}, error) {
 }
 
 func step(value interface{}, one operation) (interface{}, error) {
-	path, from := tokens(one.Path), tokens(one.From)
+	path, err := tokens(one.Path)
+	if err != nil {
+		return nil, err
+	}
 	switch one.Op {
 	case "add", "replace", "remove":
 		return changed(value, path, one.Op, one.Value)
 	case "move", "copy":
+		from, err := tokens(one.From)
+		if err != nil {
+			return nil, err
+		}
 		part, err := at(value, from)
 		if err != nil {
 			return nil, err
@@ -96,11 +104,11 @@ func (own *ownObject) change(name, op string, part interface{}) {
 }
 
 func (own *ownList) change(token, op string, part interface{}) error {
-	place, err := strconv.Atoi(token)
+	place, isIndex := index(token)
 	if op == "add" && token == "-" {
-		place, err = len(own.items), nil
+		place, isIndex = len(own.items), true
 	}
-	if err != nil || place < 0 || place > len(own.items) {
+	if !isIndex || place > len(own.items) {
 		return fmt.Errorf("relay: no place in a list: %q", token)
 	}
 	switch op {
@@ -174,11 +182,17 @@ func child(value interface{}, token string) (interface{}, error) {
 			return part, nil
 		}
 	case []interface{}:
-		if place, err := strconv.Atoi(token); err == nil && place >= 0 && place < len(holder) {
+		if place, isIndex := index(token); isIndex && place < len(holder) {
 			return holder[place], nil
 		}
 	}
 	return nil, fmt.Errorf("relay: nothing at %q", token)
+}
+
+// index is the place in a list that a token names, if it names one that a list here can have: `0`, or digits of which the first is not `0`.
+func index(token string) (int, bool) {
+	place, err := strconv.Atoi(token)
+	return place, err == nil && strconv.Itoa(place) == token && place >= 0
 }
 
 func at(value interface{}, path []string) (interface{}, error) {
@@ -191,14 +205,20 @@ func at(value interface{}, path []string) (interface{}, error) {
 	return value, nil
 }
 
-var escapes = strings.NewReplacer("~1", "/", "~0", "~")
+var (
+	pointers = regexp.MustCompile(`^(/([^~/]|~[01])*)*$`)
+	escapes  = strings.NewReplacer("~1", "/", "~0", "~")
+)
 
-func tokens(pointer string) []string {
+func tokens(pointer string) ([]string, error) {
+	if !pointers.MatchString(pointer) {
+		return nil, fmt.Errorf("relay: no pointer: %q", pointer)
+	}
 	path := strings.Split(pointer, "/")[1:]
 	for i, token := range path {
 		path[i] = escapes.Replace(token)
 	}
-	return path
+	return path, nil
 }
 
 // read keeps numbers as they are written: as floating point large ones would be rounded. It fails if the text is not one value alone.

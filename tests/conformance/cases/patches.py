@@ -134,13 +134,20 @@ def a_patch_that_does_not_fit_is_not_applied(driver):
     play.holds_present(CARDS)
 
 
-@case("Each way in which an operation does not fit is seen: nothing there, a place past the end, no container, no index.")
+@case("Each way in which an operation does not fit is seen: nothing there, a place past the end, no container, no index, no pointer.")
 def each_misfit_is_seen(driver):
     play = begun(driver)
     for operation in [
         replace("/0/0/2", "x"),
         {"op": "add", "path": "/0/0/3", "value": "x"},
         {"op": "add", "path": "/0/0/x", "value": "x"},
+        {"op": "add", "path": "/0/0/01", "value": "x"},
+        replace("/0/0/00", "x"),
+        {"op": "remove", "path": "/0/0/+1"},
+        {"op": "copy", "from": "/0/0/-0", "path": "/0/0/0"},
+        {"op": "add", "path": "/0/0/18446744073709551616", "value": "x"},
+        replace("x/0/0/1", "x"),
+        {"op": "move", "from": "0/0/0", "path": "/0/0/1"},
         {"op": "add", "path": "/0/0/0/a", "value": "x"},
         {"op": "move", "from": "/0/0/2", "path": "/0/0/0"},
         {"op": "copy", "from": "/1", "path": "/0/0/0"},

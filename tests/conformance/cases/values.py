@@ -33,6 +33,16 @@ def escapes_are_decoded_in_their_order(driver):
     play.holds(view, [[{"~1": 10, "/": 20, "~0": 30, "~": 40}], [10]], 3)
 
 
+@case("With another `~` than that of `~0` and `~1` a text is no pointer, so no operation fits by it.")
+def another_escape_is_no_pointer(driver):
+    play = begun(driver, [""], {"~2": 1, "~": 2})
+    for operation in [replace("/0/0/~2", 3), {"op": "add", "path": "/0/0/~", "value": 3}, {"op": "copy", "from": "/0/0/~2", "path": "/0/0/a"}]:
+        play.say({"kind": "patch", "patch": [operation], "rev": play.relay.rev + 1})
+        play.holds_present([""])
+        play.asks_anew()
+        play.talk()
+
+
 @case("A member may have any name, also one that means something to the client's language. What nobody wrote is not there.")
 def names_mean_nothing(driver):
     names = ["__proto__", "constructor", "length", "0", "-", "toString", "hasOwnProperty", "__class__"]
