@@ -98,7 +98,10 @@ export interface Options<V extends readonly Shown[] = readonly Shown[], Slots = 
    * others are `Refused` at once, as `away`. `all` if nothing is said.
    */
   queue?: "guarded" | "all";
-  /** Where edits that were not sent yet are kept, so that the next page with the same key sends them. Nowhere, if nothing is said. */
+  /**
+   * Where edits that were not sent yet are kept, so that the next page with the same key sends them. Nowhere, if nothing is said. If
+   * something else stands there, nothing is sent.
+   */
   storage?: Store;
   /** The key in `storage`, of one page at a time. The URL, if nothing is said. */
   storageKey?: string;

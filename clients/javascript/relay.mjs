@@ -1278,7 +1278,15 @@ const linkModule = (() => {
 
     connect() {
       if (this.#closed) return;
-      this.#on.connecting();
+      try {
+        this.#on.connecting();
+      } finally {
+        // Also where an application's function throws; but it may have closed the board.
+        if (!this.#closed) this.#open();
+      }
+    }
+
+    #open() {
       const socket = new this.#options.WebSocket(this.#url);
       this.#socket = socket;
       this.#opened = false;
@@ -1342,7 +1350,8 @@ const linkModule = (() => {
       this.#detach();
       if (handshaken) return this.#wait(null);
       if (event instanceof HandshakeFailed) return this.#wait(event);
-      failure(this.#url, event).then((cause) => this.#wait(cause));
+      // Not within the promise, so that what an application's function throws is reported as it is elsewhere.
+      failure(this.#url, event).then((cause) => queueMicrotask(() => this.#wait(cause)));
     }
 
     /** @param {Error | null} cause */
@@ -1358,8 +1367,11 @@ const linkModule = (() => {
     /** @param {any} event of the socket, or the cause */
     #abandon(event) {
       const socket = this.#socket;
-      this.#lose(event);
-      socket?.close();
+      try {
+        this.#lose(event);
+      } finally {
+        socket?.close();
+      }
     }
 
     // Whether the other end is there. What has waited longest for an answer, or for the welcome, says it; each answer shows that it is. Where
@@ -1989,12 +2001,21 @@ const queueModule = (() => {
     }
 
     /**
-     * What an earlier page left, in its order.
+     * What an earlier page left, in its order. What no page leaves, as another program may, is nothing.
      * @returns {Kept[]}
      */
     left() {
-      const text = this.#storage?.getItem(this.#key) ?? null;
-      return text === null ? [] : JSON.parse(text);
+      const left = parsed(this.#storage?.getItem(this.#key) ?? null);
+      return Array.isArray(left) ? left.filter((kept) => Array.isArray(kept?.patch)) : [];
+    }
+  }
+
+  /** @param {string | null} text @returns {unknown} null where it is no JSON */
+  function parsed(text) {
+    try {
+      return text === null ? null : JSON.parse(text);
+    } catch {
+      return null;
     }
   }
 
@@ -2304,8 +2325,7 @@ const boardModule = (() => {
       this.#overlay.settle(before, held);
       this.#becomeQuiet();
       this.#shown = this.#overlay.shown(held);
-      this.#enter("open", null);
-      this.#tell(patch);
+      this.#open(() => this.#tell(patch));
     }
 
     // After a loss nothing was missed.
@@ -2313,8 +2333,16 @@ const boardModule = (() => {
       const { pending } = this;
       this.#overlay.settleAll(this.#follower.held);
       this.#becomeQuiet();
-      this.#enter("open", null);
-      if (this.pending !== pending) this.#tell(null);
+      this.#open(() => this.pending !== pending && this.#tell(null));
+    }
+
+    /** @param {() => void} tell also where `onState` throws */
+    #open(tell) {
+      try {
+        this.#enter("open", null);
+      } finally {
+        tell();
+      }
     }
 
     /** @param {Operation[] | null} patch */

@@ -237,6 +237,15 @@ test("what a page left in its storage the next one sends", async (t) => {
   assert.equal(kept.size, 0);
 });
 
+test("a storage in which something else stands is empty", async (t) => {
+  const url = await begunRoom();
+  for (const text of ["", "{", "7", "null", '{"patch":[]}', '[null,5,"x",[],{},{"patch":7}]']) {
+    const storage = { getItem: () => text, setItem() {}, removeItem() {} };
+    const [board] = await boardsOf(t, url, { view: ["/title"], storage });
+    assert.deepEqual([board.pending, board.slots, board.rev], [0, [["Shopping"]], 1]);
+  }
+});
+
 test("views of one room share connections of 16 slots", async (t) => {
   const url = await begunRoom();
   const [other] = await boardsOf(t, url, ["/cards"]);

@@ -279,8 +279,7 @@ export class Board {
     this.#overlay.settle(before, held);
     this.#becomeQuiet();
     this.#shown = this.#overlay.shown(held);
-    this.#enter("open", null);
-    this.#tell(patch);
+    this.#open(() => this.#tell(patch));
   }
 
   // After a loss nothing was missed.
@@ -288,8 +287,16 @@ export class Board {
     const { pending } = this;
     this.#overlay.settleAll(this.#follower.held);
     this.#becomeQuiet();
-    this.#enter("open", null);
-    if (this.pending !== pending) this.#tell(null);
+    this.#open(() => this.pending !== pending && this.#tell(null));
+  }
+
+  /** @param {() => void} tell also where `onState` throws */
+  #open(tell) {
+    try {
+      this.#enter("open", null);
+    } finally {
+      tell();
+    }
   }
 
   /** @param {Operation[] | null} patch */

@@ -80,7 +80,15 @@ export class Link {
 
   connect() {
     if (this.#closed) return;
-    this.#on.connecting();
+    try {
+      this.#on.connecting();
+    } finally {
+      // Also where an application's function throws; but it may have closed the board.
+      if (!this.#closed) this.#open();
+    }
+  }
+
+  #open() {
     const socket = new this.#options.WebSocket(this.#url);
     this.#socket = socket;
     this.#opened = false;
@@ -144,7 +152,8 @@ export class Link {
     this.#detach();
     if (handshaken) return this.#wait(null);
     if (event instanceof HandshakeFailed) return this.#wait(event);
-    failure(this.#url, event).then((cause) => this.#wait(cause));
+    // Not within the promise, so that what an application's function throws is reported as it is elsewhere.
+    failure(this.#url, event).then((cause) => queueMicrotask(() => this.#wait(cause)));
   }
 
   /** @param {Error | null} cause */
@@ -160,8 +169,11 @@ export class Link {
   /** @param {any} event of the socket, or the cause */
   #abandon(event) {
     const socket = this.#socket;
-    this.#lose(event);
-    socket?.close();
+    try {
+      this.#lose(event);
+    } finally {
+      socket?.close();
+    }
   }
 
   // Whether the other end is there. What has waited longest for an answer, or for the welcome, says it; each answer shows that it is. Where

@@ -39,11 +39,20 @@ export class Queue {
   }
 
   /**
-   * What an earlier page left, in its order.
+   * What an earlier page left, in its order. What no page leaves, as another program may, is nothing.
    * @returns {Kept[]}
    */
   left() {
-    const text = this.#storage?.getItem(this.#key) ?? null;
-    return text === null ? [] : JSON.parse(text);
+    const left = parsed(this.#storage?.getItem(this.#key) ?? null);
+    return Array.isArray(left) ? left.filter((kept) => Array.isArray(kept?.patch)) : [];
+  }
+}
+
+/** @param {string | null} text @returns {unknown} null where it is no JSON */
+function parsed(text) {
+  try {
+    return text === null ? null : JSON.parse(text);
+  } catch {
+    return null;
   }
 }

@@ -1,0 +1,39 @@
+// What an application's functions throw is reported as an exception of its own, and the client goes on.
+import assert from "node:assert/strict";
+import { spawn } from "node:child_process";
+import { test } from "node:test";
+import { connect } from "../../clients/javascript/relay.mjs";
+import { restartable, until } from "./rooms.mjs";
+
+const THROWS = `
+  import { connect } from "./clients/javascript/relay.mjs";
+  process.on("uncaughtException", ({ message }, origin) => console.log(origin, message));
+  const onState = (state, cause) => { throw new Error([state, cause?.reason].join(" ")); };
+  const onChange = ({ slots }) => console.log("slots", JSON.stringify(slots));
+  connect(process.argv[1], { view: ["/n"], onState, onChange, firstWait: 10, longestWait: 10 });
+  process.stdin.on("end", () => process.exit(0)).resume();
+`;
+
+test("an exception of `onState` is no rejection, and keeps no connection from being made", async (t) => {
+  const relay = await restartable(t);
+  const board = connect(relay.url, { view: ["/n"], firstWait: 10, begin: { n: 1 } });
+  t.after(() => board.close());
+  await board.ready;
+  await relay.stop();
+  const words = [...process.execArgv.filter((word) => word.includes("websocket")), "--no-warnings", "--input-type=module", "-e", THROWS];
+  const child = spawn(process.execPath, [...words, relay.url], { stdio: ["pipe", "pipe", "inherit"] });
+  t.after(() => child.kill());
+  let told = "";
+  child.stdout.on("data", (text) => (told += text));
+  const ended = new Promise((resolve) => child.once("exit", resolve));
+  await until(() => told.split("waiting unreachable").length > 3);
+  await relay.start();
+  await until(() => told.includes("slots [[1]]"));
+  await relay.stop();
+  const lost = "uncaughtException waiting \n";
+  await until(() => told.includes(lost));
+  child.stdin.end();
+  assert.equal(await ended, 0);
+  assert.ok(!told.includes("unhandledRejection"), told);
+  assert.ok(told.includes("uncaughtException open"), told);
+});
