@@ -1,9 +1,9 @@
-// What an application's functions throw is reported as an exception of its own, and the client goes on.
+// What an application's functions do to the client that calls them. What they throw is reported as an uncaught exception, and it goes on.
 import assert from "node:assert/strict";
 import { spawn } from "node:child_process";
 import { test } from "node:test";
 import { connect } from "../../clients/javascript/relay.mjs";
-import { restartable, until } from "./rooms.mjs";
+import { pause, restartable, until } from "./rooms.mjs";
 
 const THROWS = `
   import { connect } from "./clients/javascript/relay.mjs";
@@ -36,4 +36,20 @@ test("an exception of `onState` is no rejection, and keeps no connection from be
   assert.equal(await ended, 0);
   assert.ok(!told.includes("unhandledRejection"), told);
   assert.ok(told.includes("uncaughtException open"), told);
+});
+
+test("a board that `onState` closes makes no further connection", async () => {
+  let made = 0;
+  const sockets = class {
+    constructor() {
+      made += 1;
+      setTimeout(() => this.onerror({}));
+    }
+    close() {}
+  };
+  const onState = (state) => state === "connecting" && board.close();
+  const board = connect("ws://127.0.0.1:1/rooms/a", { view: [], WebSocket: sockets, firstWait: 1, longestWait: 1, onState });
+  await until(() => board.state === "closed");
+  await pause(50);
+  assert.equal(made, 1);
 });
