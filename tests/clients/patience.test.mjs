@@ -16,11 +16,13 @@ async function throttled(t, url, rate) {
     const end = () => [near, far].forEach((socket) => socket.destroy());
     for (const socket of [near, far]) sockets.add(socket.on("error", () => {}).on("close", end));
     near.pipe(far);
+    let due = performance.now(); // when the line is free again: a busy machine catches up
     far.on("data", (bytes) => {
       near.write(bytes);
       proxy.bytes += bytes.length;
+      due += (bytes.length / rate) * 1000;
       far.pause();
-      setTimeout(() => far.resume(), (bytes.length / rate) * 1000);
+      setTimeout(() => far.resume(), due - performance.now());
     });
   });
   server.listen(0, "127.0.0.1");
@@ -71,9 +73,9 @@ test("patience counts from the oldest request without an answer", async (t) => {
 
 test("a snapshot that takes longer than quiet and patience arrives", async (t) => {
   const text = "x".repeat(100_000);
-  const proxy = await throttled(t, await begunRoom({ text, n: 0 }), 1_000_000);
-  const view = [...Array(10).fill("/text"), "/n"]; // 1 MB, which take a second
-  const board = connect(proxy.url, { view, quiet: 100, patience: 500, firstWait: 10, onState: proxy.told });
+  const proxy = await throttled(t, await begunRoom({ text, n: 0 }), 660_000);
+  const view = [...Array(10).fill("/text"), "/n"]; // 1 MB, which take 1.5 s, where patience has 6 s
+  const board = connect(proxy.url, { view, quiet: 100, patience: 1000, firstWait: 10, onState: proxy.told });
   t.after(() => board.close());
   // An edit meanwhile is answered behind it.
   await until(() => proxy.bytes > 100_000);
