@@ -83,10 +83,10 @@ test("a part is counted by many without a loss", async (t) => {
 });
 
 test("a part that went is told, and not written elsewhere", async (t) => {
-  const [board, other] = await boardsOf(t, await begunRoom(PLAN), ["/cards"], [""]);
-  await other.edit([{ op: "remove", path: "/cards/1" }]);
-  const gone = (error) => error instanceof Refused && ["missing", "past-end"].includes(error.fault);
-  await assert.rejects(board.at("/cards/1").set("rye"), gone);
+  const [board] = await boardsOf(t, await begunRoom(PLAN), ["/cards"]);
+  const removed = board.edit([{ op: "remove", path: "/cards/1" }]); // not shown before it is done
+  const gone = (error) => error instanceof Refused && error.fault === "missing";
+  await Promise.all([removed, assert.rejects(board.at("/cards/1").set("rye"), gone)]);
 });
 
 test("the same pointer is the same place", async (t) => {
