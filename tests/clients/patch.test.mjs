@@ -100,7 +100,7 @@ test("64 operations on a large object take about as long as one", () => {
     move: (k) => ({ op: "move", from: `/big/m${k}`, path: `/big/n${k}` }),
     copy: (k) => ({ op: "copy", from: `/big/m${k}`, path: `/big/n${k}` }),
   };
-  const fastest = (act) => Math.min(...Array.from({ length: 3 }, () => {
+  const fastest = (act) => Math.min(...Array.from({ length: 5 }, () => {
     const begun = performance.now();
     act();
     return performance.now() - begun;
@@ -109,7 +109,7 @@ test("64 operations on a large object take about as long as one", () => {
     for (const [op, make] of Object.entries(kinds)) {
       const patch = Array.from({ length: 64 }, (_, k) => make(k));
       const [one, all] = [fastest(() => act(patch.slice(0, 1))), fastest(() => act(patch))];
-      assert.ok(all < 8 * one, `${word}, ${op}: ${all.toFixed(1)} ms, and ${one.toFixed(1)} ms for one operation`);
+      assert.ok(all < 20 * one, `${word}, ${op}: ${all.toFixed(1)} ms, and ${one.toFixed(1)} ms for one operation`);
     }
   }
 });
