@@ -1,6 +1,6 @@
--- Insertions and removals in a queue of documents, and in a map's entries.
-use Rattle.std.proofs.Common.{◌≡◌, ℕ, ◌<◌, ◌≤◌, List, length, get_or, Bool, true, false, Option, Some, None, Ok, Err, IsOk, ok_or, String, Global, BTreeMap, string_bytes, refl, sym, ap, ◌∙◌, nat_le, nat_cmp, arith, slice_get}
-use Rattle.std.specs.declared.collections.VecDeque.{VecDeque}
+-- Insertions and removals in a list of documents, and in members.
+use Rattle.std.proofs.Common.{◌≡◌, ℕ, ◌<◌, ◌≤◌, List, length, get_or, Bool, true, false, Option, Some, None, Ok, Err, IsOk, ok_or, String, Global, string_bytes, refl, sym, ap, ◌∙◌, nat_le, nat_cmp, arith, slice_get}
+use Rattle.std.specs.declared.vec.Vec.{Vec}
 use Rattle.std.specs.List.{insert, remove}
 use Rattle.std.specs.Map.{lookup, remove_entry}
 use Rattle.std.specs.BTreeMap.{is_at}
@@ -8,12 +8,13 @@ use Rattle.std.specs.Cmp.Lexicographic.{slice_cmp}
 use Rattle.std.proofs.lemmas.Bool.Decides.{nat_tests}
 use Rattle.std.proofs.lemmas.Option.{slice_get_read}
 use Rattle.relay_tree.specs.Document.{Document, list, object, items_of}
+use Rattle.relay_tree.specs.Entries.{Rows}
 use Rattle.relay_tree.specs.Part.{item_at, member_at}
 use Rattle.relay_tree.specs.Seen.{members_of, document_of}
 use Rattle.relay_tree.specs.declared.tree.Node.{Node}
 use Rattle.relay_tree.specs.declared.tree.Node.TheVariants as node
 use Rattle.relay_tree.proofs.Elements.{items_length-items_of, slice_get-items_of, insert_item-items_of, drop_item-items_of, item_at-past}
-use Rattle.relay_tree.proofs.Members.{Entry, members_of-lookup, dropped_member}
+use Rattle.relay_tree.proofs.Named.{Entry, members_of-lookup, dropped_member}
 use Rattle.relay_pointer.specs.Index.{Token, index_of}
 use Rattle.relay_patch.specs.Walk.{is_dash, element, step}
 use Rattle.relay_patch.specs.declared.fault.Cause.TheVariants.{Missing, NotIndex, PastEnd}
@@ -91,7 +92,7 @@ pub member_drops : (es : List Entry) (k : List ℕ) (v : Document) → member_at
 member_drops es k v there = rw (dropped_member es k v there) refl
 
 -- a node that is neither a list nor an object has no parts
-pub no_parts : (n : Node) (t : Token) → ((x : VecDeque Document Global) → n ≡ node.List x → ⊥) → ((x : BTreeMap (String Global) Document) → n ≡ node.Members x → ⊥) → IsOk (step (document_of n) t) → ⊥
+pub no_parts : (n : Node) (t : Token) → ((x : Vec Document Global) → n ≡ node.List x → ⊥) → ((x : Rows (String Global) Document) → n ≡ node.Members x → ⊥) → IsOk (step (document_of n) t) → ⊥
 no_parts (node.List v) t l m h = l v refl
 no_parts (node.Members x) t l m h = m x refl
 no_parts _ t l m h = cc

@@ -12,7 +12,7 @@ use Rattle.relay_apply.specs.Steps.{InsertTarget, landing_in, landing}
 use Rattle.relay_patch.proofs.Parts.{step-with_other}
 use Rattle.relay_patch.proofs.Inside.{was_inside, step-was_inside}
 use Rattle.relay_pointer.proofs.Puts.{put_element-length}
-use Rattle.relay_tree.proofs.Members.{set_member-names}
+use Rattle.relay_tree.proofs.Named.{set_member-names}
 
 -- Replacing a part keeps the length and the names of its container.
 landing_in-with_child : (d : Document) (g u : Token) (e : Document) → landing_in (with_child d g e) u ≡ landing_in d u

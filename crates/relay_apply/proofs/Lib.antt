@@ -14,3 +14,4 @@ pub mod Puts
 pub mod Undone
 pub mod Regained
 pub mod Slides
+mod Carries

@@ -1,6 +1,6 @@
 -- The place on which an operation acts, found at the end of a walk.
 use Rattle.std.proofs.Common.{◌≡◌, ◌-◌, ◌≤◌, List, [], ◌∷◌, ◌++◌, length, take, get_or, Bool, true, false, Option, Some, None, is_some, Bor, Ok, Err, String, Global, string_bytes, refl, option_copied}
-use Rattle.std.specs.declared.collections.VecDeque.{VecDeque}
+use Rattle.std.specs.declared.vec.Vec.{Vec}
 use Rattle.relay_tree.specs.Document.{Document, list, object, Items, Members}
 use Rattle.relay_tree.specs.Seen.{document_of}
 use Rattle.relay_tree.specs.declared.tree.Node.{Node}
@@ -46,11 +46,11 @@ item_there ts d c ds h there is =
     let l = tokens_last ts h in
     rw (l.1, place_of-end d (path_of (take (length ts - 1) ts)) l.0, at_reached (path_of (take (length ts - 1) ts)) d c there, is) refl
 
-other_place : (n : Node) (before : Path) (t : Token) → ((x : VecDeque Document Global) → n ≡ node.List x → ⊥) → false ≡ (place_within (Some (document_of n)) before t).item
+other_place : (n : Node) (before : Path) (t : Token) → ((x : Vec Document Global) → n ≡ node.List x → ⊥) → false ≡ (place_within (Some (document_of n)) before t).item
 other_place (node.List v) before t l = absurd (l v refl)
 other_place _ before t l = refl
 
-pub no_item_there : (ts : List (String Global)) (d c : Document) (n : Node) → 1 ≤ length ts → walk d (path_of (take (length ts - 1) ts)) ≡ Ok c → c ≡ document_of n → ((x : VecDeque Document Global) → n ≡ node.List x → ⊥) → false ≡ (place_of d (path_of ts)).item
+pub no_item_there : (ts : List (String Global)) (d c : Document) (n : Node) → 1 ≤ length ts → walk d (path_of (take (length ts - 1) ts)) ≡ Ok c → c ≡ document_of n → ((x : Vec Document Global) → n ≡ node.List x → ⊥) → false ≡ (place_of d (path_of ts)).item
 no_item_there ts d c n h there is l =
     let e = tokens_last ts h in
     rw (e.1, place_of-end d (path_of (take (length ts - 1) ts)) e.0, at_reached (path_of (take (length ts - 1) ts)) d c there, is) (other_place n (path_of (take (length ts - 1) ts)) e.0 l)

@@ -1,11 +1,10 @@
 -- A change whose record is kept does not alter the document that taking back restores.
-use Rattle.std.proofs.Common.{◌≡◌, ℕ, List, [], ◌∷◌, ◌++◌, Bool, true, false, Option, Some, None, Result, Ok, Err, ok_or, is_ok, IsOk, refl, sym, ap, subst, ◌∙◌, if◌then◌else◌, IsNone, IfSome, option_to_list}
-use Rattle.std.specs.List.{list_any}
+use Rattle.std.proofs.Common.{◌≡◌, ℕ, List, [], ◌∷◌, ◌++◌, Bool, true, false, Option, Some, None, Result, Ok, Err, ok_or, is_ok, IsOk, refl, sym, ap, subst, ◌∙◌, if◌then◌else◌, IsNone, IfSome, option_map, option_to_list}
 use Rattle.std.specs.Result.{result_ok}
 use Rattle.relay_tree.specs.Document.{Document, list, object, Items}
 use Rattle.relay_tree.specs.Part.{insert_item, member_at, add_member}
 use Rattle.relay_tree.proofs.Elements.{drop_item-insert}
-use Rattle.relay_tree.proofs.Members.{drop_member-add}
+use Rattle.relay_tree.proofs.Named.{drop_member-add}
 use Rattle.relay_pointer.specs.Index.{Token, index_of}
 use Rattle.relay_pointer.specs.Path.{Path, with_child, at, put}
 use Rattle.relay_pointer.proofs.Puts.{put-back, put-missing, with_child-twice}
@@ -19,16 +18,17 @@ use Rattle.relay_patch.specs.Patch.{Act, replaced, insert_child, insert_element,
 use Rattle.relay_patch.specs.Change.{Makes, in_list, in_object, inserted, inserted_at}
 use Rattle.relay_patch.specs.declared.change.Change.{Change}
 use Rattle.relay_patch.specs.Measure.{displaced, gone}
-use Rattle.relay_apply.specs.Undo.{target, brought, replaces_document, or_same, undone, taken_back}
+use Rattle.relay_apply.specs.declared.seat.Seat.{Seat}
+use Rattle.relay_apply.specs.Undo.{target, brought, reseated, lifted, moved_back, undone, taken_back}
 use Rattle.relay_apply.specs.declared.undo.Undo.{Undo}
-use Rattle.relay_apply.specs.declared.undo.Undo.TheVariants as undo
 use Rattle.relay_patch.specs.declared.change.Change.TheVariants as change
 use Rattle.relay_patch.proofs.Refusals.{then_ok, ok_or_some}
 use Rattle.relay_patch.proofs.Parts.{at_index, place_in_at_index}
 use Rattle.relay_patch.proofs.Inside.{was_inside, step-was_inside}
-use Rattle.relay_patch.proofs.Walks.{child_reached}
+use Rattle.relay_patch.proofs.Walks.{child_reached, at_reached}
 use Rattle.relay_patch.proofs.Made.{at_last}
 use Rattle.relay_patch.proofs.Exchanges.{replaced-is}
+use Rattle.relay_patch.proofs.Fits.{inserted_stands}
 use Rattle.relay_apply.proofs.Puts.{sets}
 use Rattle.relay_apply.specs.Steps.{standing}
 use Rattle.relay_apply.proofs.Landed.{standing_passes, standing_refuses}
@@ -85,10 +85,14 @@ exchange_back path v d d' w there h =
     let r = replaced-is path v d d' h in
     rw r.2 (put-back d path w v there)
 
+-- a value that was inserted and replaced none, dropped again
+copy_dropped : (item : Bool) (path : Path) (v d d' : Document) → (if item then None else at d path) ≡ None → inserted_at item path v d ≡ Ok d' → at_path drop_child path d' ≡ Ok d
+copy_dropped true path v d d' none h = list_back v path d d' h
+copy_dropped false [] v d d' none h = cc
+copy_dropped false (t ∷ path) v d d' none h = object_back v (t ∷ path) d d' none h
+
 copy_back : (item : Bool) (path : Path) (v d d' : Document) → (if item then None else at d path) ≡ None → inserted_at item path v d ≡ Ok d' → undone (brought path None) d' ≡ d
-copy_back true path v d d' none h = rw (list_back v path d d' h) refl
-copy_back false [] v d d' none h = cc
-copy_back false (t ∷ path) v d d' none h = rw (object_back v (t ∷ path) d d' none h) refl
+copy_back item path v d d' none h = rw (copy_dropped item path v d d' none h) refl
 
 displaced_there : (item : Bool) (path : Path) (d w : Document) → (if item then None else at d path) ≡ Some w → at d path ≡ Some w
 displaced_there true path d w h = cc
@@ -124,19 +128,6 @@ taken_back-more d (x ∷ kept) k = ap (undone x) (taken_back-more d kept k)
 pub kept_back : (d d' : Document) (old new : List Undo) (k : Undo) → undone k d' ≡ d → new ≡ old ++ k ∷ [] → taken_back d' new ≡ taken_back d old
 kept_back d d' old new k back more = rw more (taken_back-more d' old k ∙ ap (λ e. taken_back e old) back)
 
--- a record of a document at the root takes back to it, whatever the document is now
-pub document_back : (d e : Document) (old new : List Undo) (path : Path) (part : Document) → path ≡ [] → part ≡ e → new ≡ old ++ undo.Part path part ∷ [] → taken_back d new ≡ taken_back e old
-document_back d e old new path part root is more = kept_back e d old new (undo.Part path part) (rw root is) more
-
--- where a record replaces the whole document, what the document is now does not matter
-pub whole_back : (kept : List Undo) (d e : Document) → list_any replaces_document kept ≡ true → taken_back d kept ≡ taken_back e kept
-whole_back [] d e h = cc
-whole_back (undo.Part [] part ∷ kept) d e h = refl
-whole_back (undo.Part (t ∷ path) part ∷ kept) d e h = ap (undone (undo.Part (t ∷ path) part)) (whole_back kept d e h)
-whole_back (undo.Inserted path ∷ kept) d e h = ap (undone (undo.Inserted path)) (whole_back kept d e h)
-whole_back (undo.Element path i v capacity ∷ kept) d e h = ap (undone (undo.Element path i v capacity)) (whole_back kept d e h)
-whole_back (undo.Slid path i j ∷ kept) d e h = ap (undone (undo.Slid path i j)) (whole_back kept d e h)
-
 -- the last record is taken back first
 pub one_back : (d n w : Document) (all kept : List Undo) (o : Option Undo) (k : Undo) → o ≡ Some k → all ≡ kept ++ option_to_list o → n ≡ undone k d → taken_back d all ≡ w → taken_back n kept ≡ w
 one_back d n w all kept o k is split new back =
@@ -154,6 +145,37 @@ pub stands_drops : (r : Result Bool Cause) (path : Path) (d : Document) → r �
 stands_drops (Ok b) path d is h = standing_passes path d b (sym is)
 stands_drops (Err e) path d is h = cc
 
-pub stands_not : (r : Result Bool Cause) (path : Path) (d : Document) → r ≡ standing d path → is_ok r ≡ false → d ≡ or_same (at_path drop_child path d) d
+pub stands_not : (r : Result Bool Cause) (path : Path) (d : Document) → r ≡ standing d path → is_ok r ≡ false → (e : Cause) × (at_path drop_child path d ≡ Err e)
 stands_not (Ok b) path d is h = cc
-stands_not (Err e) path d is h = rw (standing_refuses path d e (sym is)) refl
+stands_not (Err e) path d is h = (e, standing_refuses path d e (sym is))
+
+-- A value that was lifted from its path.
+
+-- what is dropped at a path, as the value there and the rest
+pub lifts : (path : Path) (d e v : Document) → walk d path ≡ Ok v → at_path drop_child path d ≡ Ok e → Some (v, e) ≡ lifted None path d
+lifts path d e v there went = rw (went, at_reached path d v there) refl
+
+pub lifts_not : (path : Path) (d : Document) (e : Cause) → at_path drop_child path d ≡ Err e → None ≡ lifted None path d
+lifts_not path d e fails = rw fails refl
+
+-- an exchange lifts the value that was there
+pub lifts_exchanged : (d n part : Document) (path : Path) (o : Option Document) → o ≡ at d path → IfSome o (λ _. n ≡ put d path part) → option_map (λ v. (v, n)) o ≡ lifted (Some part) path d
+lifts_exchanged d n part path None is new = rw (← is) refl
+lifts_exchanged d n part path (Some w) is new = rw (← is, new) refl
+
+-- the value that moved to a place, lifted again
+pub lifted_again : (place : Place) (v d d' : Document) → inserted place v d ≡ Ok d' → lifted (displaced place d) place.path d' ≡ Some (v, d)
+lifted_again place v d d' h = go (displaced place d) refl
+  where
+    there : at d' place.path ≡ Some v
+    there = at_reached place.path d' v (inserted_stands place.item place.path v d d' h)
+
+    go : (o : Option Document) → displaced place d ≡ o → lifted o place.path d' ≡ Some (v, d)
+    go (Some w) e =
+        let back = exchange_back place.path v d d' w (displaced_there place.item place.path d w e) (sets place v d d' w e h) in
+        rw there (ap (λ x. Some (v, x)) back)
+    go None e = rw (copy_dropped place.item place.path v d d' e h, there) refl
+
+-- what a move kept takes it back
+pub moved_again : (seat : Seat) (place : Place) (v d d' : Document) → inserted place v d ≡ Ok d' → moved_back seat (lifted (displaced place d) place.path d') d' ≡ reseated seat v d
+moved_again seat place v d d' h = ap (λ o. moved_back seat o d') (lifted_again place v d d' h)

@@ -1,13 +1,16 @@
--- How changes are taken back: a replaced part is put back, an inserted one is dropped, an element that was removed from a list is inserted
--- again, and one that slid within its list slides back.
-use Rattle.std.specs.Prelude.{ℕ, List, [], ◌∷◌, Option, Some, None, option_and_then, Result, Ok, Err, nat_lt, if◌then◌else◌, Bool, true, false}
-use Rattle.std.specs.VecDeque.{deque_capacity}
-use Rattle.relay_tree.specs.Document.{Document, list, Items}
-use Rattle.relay_tree.specs.Part.{items_length, item_at, insert_item, drop_item}
+-- How changes are taken back: a replaced part is put back, an inserted one is dropped, a value that was removed is put into its place again,
+-- also one that was moved elsewhere, and an element that slid within its list slides back.
+use Rattle.std.specs.Prelude.{ℕ, List, [], ◌∷◌, Option, Some, None, option_map, option_and_then, Result, Ok, Err, nat_lt, if◌then◌else◌, vec_capacity, string_bytes}
+use Rattle.std.specs.Result.{result_ok}
+use Rattle.relay_tree.specs.Document.{Document, list, object, Items}
+use Rattle.relay_tree.specs.Part.{items_length, item_at, insert_item, drop_item, members_length, add_member}
+use Rattle.relay_pointer.specs.Index.{Token}
 use Rattle.relay_pointer.specs.Path.{Path, at, put}
 use Rattle.relay_patch.specs.declared.fault.Cause.{Cause}
 use Rattle.relay_patch.specs.Patch.{at_path, drop_child}
 use Rattle.relay_patch.specs.declared.change.Change.{Change}
+use Rattle.relay_apply.specs.declared.seat.Seat.{Seat}
+use Rattle.relay_apply.specs.declared.seat.Seat.TheVariants as seat
 use Rattle.relay_apply.specs.declared.undo.Undo.{Undo}
 use Rattle.relay_apply.specs.declared.undo.Undo.TheVariants as undo
 use Rattle.relay_patch.specs.declared.change.Change.TheVariants as change
@@ -27,11 +30,6 @@ abbrev pub brought : Path → Option Document → Undo
 brought path (Some part) = undo.Part path part
 brought path None = undo.Inserted path
 
--- whether the record replaces the whole document, so that the document after the change does not matter
-abbrev pub replaces_document : Undo → Bool
-replaces_document (undo.Part [] part) = true
-replaces_document k = false
-
 abbrev pub or_same : Result Document Cause → Document → Document
 or_same (Ok e) d = e
 or_same (Err cause) d = d
@@ -49,6 +47,11 @@ abbrev pub refilled : ℕ → ℕ → Document → Document → Document
 refilled capacity i e (list ds) = list (refilled_items capacity i e ds)
 refilled capacity i e d = d
 
+-- the object with v under a name that it lacks, if `capacity` has space for one more; otherwise unchanged
+abbrev pub rejoined : ℕ → Token → Document → Document → Document
+rejoined capacity name v (object ms) = object (if nat_lt (members_length ms) capacity then add_member ms name v else ms)
+rejoined capacity name v d = d
+
 -- the elements with the one at index i removed and inserted at index j of the others; unchanged if either index is past the end
 abbrev pub slid_items : ℕ → ℕ → Items → Items
 slid_items i j ds = or_items (option_and_then (λ e. option_and_then (λ es. insert_item es j e) (drop_item ds i)) (item_at ds i)) ds
@@ -62,11 +65,27 @@ abbrev pub with_part : (Document → Document) → Path → Option Document → 
 with_part change path (Some c) d = put d path (change c)
 with_part change path None d = d
 
+-- the document with a value at an empty place
+abbrev pub reseated : Seat → Document → Document → Document
+reseated (seat.Item path i e spare) v d = with_part (refilled (vec_capacity spare) i v) path (at d path) d
+reseated (seat.Member path name spare) v d = with_part (rejoined spare.capacity (string_bytes name) v) path (at d path) d
+
+-- the value at a path, and the document with the part there that it replaced, or without it if it replaced none
+abbrev pub lifted : Option Document → Path → Document → Option (Document × Document)
+lifted (Some part) path d = option_map (λ v. (v, put d path part)) (at d path)
+lifted None path d = option_and_then (λ e. option_map (λ v. (v, e)) (at d path)) (result_ok (at_path drop_child path d))
+
+-- the document with the value that was lifted at the empty place
+abbrev pub moved_back : Seat → Option (Document × Document) → Document → Document
+moved_back place (Some p) d = reseated place p.0 p.1
+moved_back place None d = d
+
 -- the document before the change of which this is the record
 abbrev pub undone : Undo → Document → Document
 undone (undo.Part path part) d = put d path part
 undone (undo.Inserted path) d = or_same (at_path drop_child path d) d
-undone (undo.Element path i e capacity) d = with_part (refilled (deque_capacity capacity) i e) path (at d path) d
+undone (undo.Removed gone) d = reseated gone.seat gone.value d
+undone (undo.Moved place path part) d = moved_back place (lifted part path d) d
 undone (undo.Slid path i j) d = with_part (slid i j) path (at d path) d
 
 -- the document before the changes of which these are the records: the last one is taken back first

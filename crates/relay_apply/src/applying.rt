@@ -13,7 +13,7 @@ ghost use Rattle.relay_patch.specs.Weight.{changes_weight};
 ghost use Rattle.relay_patch.specs.declared.fault.Cause.TheVariants.{NoMemory};
 
 use crate::steps::{Done, perform};
-use crate::undo::{Kept, take_back};
+use crate::undo::{Undo, take_back};
 use relay_patch::{ApplyFault, Bounds, Change, Op, Patch};
 use relay_tree::Tree;
 use std::alloc::Global;
@@ -26,15 +26,13 @@ use std::alloc::Global;
 /// A `test`, and a `move` to its own place, change nothing. If the depth is bounded and the old document is within the
 /// bounds, no path of a change has more tokens than that bound and no value is deeper.
 ///
-/// The tree is changed in place. An operation costs its paths, what it removes, and two copies of its value: one in the
-/// change, and one in the tree, unless it moves within one list. An insertion into a list, or a removal, moves pointers
-/// to the elements on its shorter side. A far move within one list does both; a near one exchanges neighbours. If a
-/// later operation is refused, the earlier ones are taken back. One case costs more: if a member is moved, or if it is
-/// removed and either another operation follows or the old document is outside the bounds, the object is copied without
-/// it. If the weight is bounded and the document within its bounds, the objects that a patch copies weigh no more than
-/// the document; for the next, the whole document is copied once, and then no more. The document is measured once, as
-/// far as there are bounds, and again after the first change if it was outside them. After that, only what an operation
-/// changed is measured.
+/// The tree is changed in place. An operation costs its paths, what it removes, and two copies of its
+/// value: one in the change, and one in the tree; a move copies its value for the change alone. An
+/// insertion into a container, or a removal, moves the block of its parts behind that place. A near
+/// move within one list exchanges neighbours. If a later operation is refused, the earlier ones are
+/// taken back: for a removal, memory for that is taken before it, and hardly ever used. The document
+/// is measured once, as far as there are bounds, and again after the first change if it was outside
+/// them. After that, only what an operation changed is measured.
 pub fn apply(
     alloc: Global,
     tree: &mut Tree,
@@ -65,7 +63,7 @@ pub struct Applied {
 }
 
 /// Applies a patch as [`apply`] does, to a tree that is within the bounds and has the weight `known`. The document is not
-/// measured, so an edit costs only what it touches, and the copies that [`apply`] makes of an object that a member leaves.
+/// measured, so an edit costs only what it touches.
 pub fn apply_within(
     alloc: Global,
     tree: &mut Tree,
@@ -118,11 +116,11 @@ fn run(
     ensures memory { IfErr result (λ fault. fault.cause ≡ NoMemory → Reaches tree.old ops.now bounds fault.at) }
     ensures unchanged { IfErr result (λ _. tree.new ≡ tree.old) }
 {
-    let mut kept = Kept::new(alloc);
+    let mut kept = Vec::new(alloc);
     match run_keeping(alloc, tree, &mut kept, known, ops, bounds) {
         Ok(done) => Ok(done),
         Err(fault) => {
-            take_back(tree, kept.undos);
+            take_back(tree, kept);
             Err(fault)
         }
     }
@@ -133,7 +131,7 @@ fn run(
 fn run_keeping(
     alloc: Global,
     tree: &mut Tree,
-    kept: &mut Kept,
+    kept: &mut Vec<Undo>,
     known: Option<u64>,
     ops: &[Op],
     bounds: Bounds,
@@ -146,7 +144,7 @@ fn run_keeping(
     ensures paid { IfOk result (λ done. paid (changes_weight done.changes.items) bounds.changes ≡ Some done.left) }
     ensures refused { IfErr result (λ fault. fault.cause ≢ NoMemory → after tree.old ops.now bounds ≡ Err fault) }
     ensures memory { IfErr result (λ fault. fault.cause ≡ NoMemory → Reaches tree.old ops.now bounds fault.at) }
-    ensures back { OnErr result (taken_back tree.new kept.new.undos.items ≡ taken_back tree.old kept.old.undos.items) }
+    ensures back { OnErr result (taken_back tree.new kept.new.items ≡ taken_back tree.old kept.old.items) }
 {
     let mut done = Done {
         changes: Vec::new(alloc),

@@ -1,53 +1,46 @@
 //! Changes that are made so that they can be taken back. Each step allocates all its memory, including space for its [`Undo`], before
-//! it changes the tree. A move that is not within one list is two steps; if the second runs out of memory, the first is kept.
-ghost use Rattle.std.specs.Prelude.{◌≡◌, ◌<◌, ◌^◌, ℕ, true, Ok, Some, OnOk, OnErr, IfOk, IsOk};
-ghost use Rattle.relay_tree.specs.Document.{Document, list, Items};
-ghost use Rattle.relay_tree.specs.Part.{items_length};
-ghost use Rattle.relay_pointer.specs.Index.{index_of};
+//! it changes the tree. A move that is not within one list is two steps; if the second runs out of memory, the value goes back.
+ghost use Rattle.std.specs.Prelude.{◌≡◌, ◌<◌, true, Ok, Some, OnOk, OnErr, IfOk, IfErr, IsOk, vec_len, vec_capacity};
+ghost use Rattle.relay_tree.specs.Document.{Document};
 ghost use Rattle.relay_pointer.specs.Path.{path_of};
-ghost use Rattle.relay_patch.specs.Walk.{then_do, walk};
 ghost use Rattle.relay_patch.specs.Patch.{at_path, drop_child};
 ghost use Rattle.relay_patch.specs.Place.{in_one_list};
-ghost use Rattle.relay_patch.specs.Change.{Makes, Moves, in_list, dropped, inserted};
-ghost use Rattle.relay_apply.specs.Undo.{target, taken_back};
+ghost use Rattle.relay_patch.specs.Measure.{displaced};
+ghost use Rattle.relay_patch.specs.Change.{Makes, Moves, in_list, in_object, dropped, inserted};
+ghost use Rattle.relay_apply.specs.Undo.{target, reseated, taken_back};
 
-use crate::container::drop_child;
-use crate::exchange::exchange;
-use crate::making::{make, put, remove_at};
+use crate::making::{make, put};
+use crate::seat::{Vacated, reseat, vacate, vacate_item, vacate_member};
 use crate::sliding::{in_one_list, slide};
-use crate::undo::{Kept, Undo, brought, holds_document};
-use crate::walk::walk;
+use crate::undo::{Undo, brought};
 use relay_patch::{Change, Place};
-use relay_pointer::{Pointer, copy_tokens, index_of};
-use relay_tree::{Element, Node, Tree};
-use std::alloc::{AllocError, Global};
-use std::collections::VecDeque;
+use relay_pointer::Pointer;
+use relay_tree::Tree;
+use std::alloc::{AllocError, AllocFailed, Global};
 
-/// Makes a change and keeps what takes it back. If memory runs out, what is kept takes back the part that was done. The copies of
-/// objects that are kept for members that were removed together weigh at most `most`.
+/// Makes a change and keeps what takes it back. If memory runs out, nothing has changed.
 pub(crate) fn make_keeping(
     alloc: Global,
     tree: &mut Tree,
-    kept: &mut Kept,
+    kept: &mut Vec<Undo>,
     change: &Change,
-    most: u64,
 ) -> Result<(), AllocError>
     requires { (next : Document) × Makes tree.old change.now next }
     ensures made { OnOk result (Makes tree.old change.now tree.new) }
-    ensures back { taken_back tree.new kept.new.undos.items ≡ taken_back tree.old kept.old.undos.items }
+    ensures back { taken_back tree.new kept.new.items ≡ taken_back tree.old kept.old.items }
 {
     match change {
         Change::Set { path, .. } => bring(alloc, tree, kept, path, change),
         Change::AddMember { path, .. } => bring(alloc, tree, kept, path, change),
         Change::AddItem { path, .. } => bring(alloc, tree, kept, path, change),
-        Change::DropMember { path } => take_member(alloc, tree, kept, path.tokens(), most),
+        Change::DropMember { path } => take_member(alloc, tree, kept, path.tokens()),
         Change::DropItem { path } => take_item(alloc, tree, kept, path.tokens()),
         Change::Move { from, to, .. } if in_one_list(from, to) => {
             slide_kept(alloc, tree, kept, from, to)
         }
-        Change::Move { from, to, value } => {
-            take_out(alloc, tree, kept, from, most)?;
-            put_in(alloc, tree, kept, to, value)
+        Change::Move { from, to, .. } => {
+            let vacated = vacate(alloc, tree, from)?;
+            land(alloc, tree, kept, to, vacated)
         }
         Change::Copy { to, .. } => bring(alloc, tree, kept, &to.path, change),
     }
@@ -57,19 +50,19 @@ pub(crate) fn make_keeping(
 fn bring(
     alloc: Global,
     tree: &mut Tree,
-    kept: &mut Kept,
+    kept: &mut Vec<Undo>,
     path: &Pointer,
     change: &Change,
 ) -> Result<(), AllocError>
     requires makes { (next : Document) × Makes tree.old change.now next }
     requires here { target change.now ≡ Some path.now }
     ensures made { OnOk result (Makes tree.old change.now tree.new) }
-    ensures back { taken_back tree.new kept.new.undos.items ≡ taken_back tree.old kept.old.undos.items }
+    ensures back { taken_back tree.new kept.new.items ≡ taken_back tree.old kept.old.items }
 {
     let path = path.copy(alloc)?;
-    kept.undos.reserve(1)?;
+    kept.reserve(1)?;
     let part = make(alloc, tree, change)?;
-    kept.undos.push_reserved(brought(path, part));
+    kept.push_reserved(brought(path, part));
     Ok(())
 }
 
@@ -77,192 +70,107 @@ fn bring(
 fn slide_kept(
     alloc: Global,
     tree: &mut Tree,
-    kept: &mut Kept,
+    kept: &mut Vec<Undo>,
     from: &Place,
     to: &Place,
 ) -> Result<(), AllocError>
     requires list { in_one_list from.now to.now ≡ true }
     requires moves { (v next : Document) × Moves tree.old from.now to.now v next }
     ensures made { OnOk result ((v next : Document) → Moves tree.old from.now to.now v next → tree.new ≡ next) }
-    ensures back { taken_back tree.new kept.new.undos.items ≡ taken_back tree.old kept.old.undos.items }
+    ensures back { taken_back tree.new kept.new.items ≡ taken_back tree.old kept.old.items }
 {
-    kept.undos.reserve(1)?;
+    kept.reserve(1)?;
     let back = slide(alloc, tree, from, to)?;
-    kept.undos.push_reserved(back);
+    kept.push_reserved(back);
     Ok(())
-}
-
-/// Puts a copy of a value at a place and keeps what takes this back.
-pub(crate) fn put_in(
-    alloc: Global,
-    tree: &mut Tree,
-    kept: &mut Kept,
-    place: &Place,
-    value: &Tree,
-) -> Result<(), AllocError>
-    requires { IsOk (inserted place.now value.now tree.old) }
-    ensures made { OnOk result (inserted place.now value.now tree.old ≡ Ok tree.new) }
-    ensures back { taken_back tree.new kept.new.undos.items ≡ taken_back tree.old kept.old.undos.items }
-{
-    let value = value.copy(alloc)?;
-    let path = place.path.copy(alloc)?;
-    kept.undos.reserve(1)?;
-    let part = put(alloc, tree, place, value)?;
-    kept.undos.push_reserved(brought(path, part));
-    Ok(())
-}
-
-/// Removes what is at a place and keeps what takes this back.
-pub(crate) fn take_out(
-    alloc: Global,
-    tree: &mut Tree,
-    kept: &mut Kept,
-    place: &Place,
-    most: u64,
-) -> Result<(), AllocError>
-    requires { IsOk (dropped place.now tree.old) }
-    ensures made { OnOk result (dropped place.now tree.old ≡ Ok tree.new) }
-    ensures back { taken_back tree.new kept.new.undos.items ≡ taken_back tree.old kept.old.undos.items }
-{
-    if place.item {
-        take_item(alloc, tree, kept, place.path.tokens())
-    } else {
-        take_member(alloc, tree, kept, place.path.tokens(), most)
-    }
 }
 
 // Removes an element from its list.
 fn take_item(
     alloc: Global,
     tree: &mut Tree,
-    kept: &mut Kept,
+    kept: &mut Vec<Undo>,
     path: &[String],
 ) -> Result<(), AllocError>
     requires { IsOk (at_path (in_list drop_child) (path_of path.now) tree.old) }
     ensures made { OnOk result (at_path (in_list drop_child) (path_of path.now) tree.old ≡ Ok tree.new) }
-    ensures back { taken_back tree.new kept.new.undos.items ≡ taken_back tree.old kept.old.undos.items }
+    ensures back { taken_back tree.new kept.new.items ≡ taken_back tree.old kept.old.items }
 {
-    let [before @ .., last] = path else {
-        unreachable!()
-    };
-    let list = Pointer::from_tokens(copy_tokens(alloc, before)?);
-    let spare = VecDeque::with_capacity(alloc, length_at(tree, before))?;
-    let place = Element::new(alloc, Tree::from(Node::Null))?;
-    kept.undos.reserve(1)?;
-    let index = position(last.as_str());
-    let element = place.with_tree(remove_at(tree, path));
-    kept.undos.push_reserved(Undo::Element {
-        list,
-        index,
-        element,
-        spare,
-    });
+    kept.reserve(1)?;
+    let vacated = vacate_item(alloc, tree, path)?;
+    kept.push_reserved(Undo::Removed(vacated));
     Ok(())
 }
 
-// The number of elements of the list at the path.
-fn length_at(tree: &Tree, path: &[String]) -> usize
-    ensures { (ds : Items) → walk tree.now (path_of path.now) ≡ Ok (list ds) → result ≡ items_length ds }
-{
-    match walk(tree, path) {
-        Ok(part) => part.node.list_len().unwrap_or(0),
-        Err(_) => 0,
-    }
-}
-
-/// Returns the index that a token spells.
-pub(crate) fn position(token: &str) -> usize
-    ensures { (i : ℕ) → index_of token.now ≡ Some i → i < 2 ^ 64 → result ≡ i }
-{
-    match index_of(token) {
-        Some(index) => index as usize,
-        None => 0,
-    }
-}
-
-// Removes a member from its object. Putting it back into the object would have to allocate, so a copy is made: of the object, or,
-// once the copies of objects would together weigh more than `most`, of the whole document. After that no further copy is needed.
+// Removes a member from its object.
 fn take_member(
     alloc: Global,
     tree: &mut Tree,
-    kept: &mut Kept,
+    kept: &mut Vec<Undo>,
     path: &[String],
-    most: u64,
 ) -> Result<(), AllocError>
-    requires { IsOk (at_path drop_child (path_of path.now) tree.old) }
-    ensures made { OnOk result (at_path drop_child (path_of path.now) tree.old ≡ Ok tree.new) }
-    ensures back { taken_back tree.new kept.new.undos.items ≡ taken_back tree.old kept.old.undos.items }
+    requires { IsOk (at_path (in_object drop_child) (path_of path.now) tree.old) }
+    ensures made { OnOk result (at_path (in_object drop_child) (path_of path.now) tree.old ≡ Ok tree.new) }
+    ensures back { taken_back tree.new kept.new.items ≡ taken_back tree.old kept.old.items }
 {
-    if !holds_document(kept.undos.as_slice()) {
-        let copied = kept.copied.saturating_add(weight_around(tree, path));
-        if copied <= most {
-            kept.copied = copied;
-            return take_from_copy(alloc, tree, kept, path);
-        }
-        keep_document(alloc, tree, kept)?;
-    }
-    drop(remove_at(tree, path));
+    kept.reserve(1)?;
+    let vacated = vacate_member(alloc, tree, path)?;
+    kept.push_reserved(Undo::Removed(vacated));
     Ok(())
 }
 
-// The weight of the container that holds the part at the path.
-fn weight_around(tree: &Tree, path: &[String]) -> u64 {
-    match path {
-        [before @ .., _] => walk(tree, before).map_or(0, Tree::weight),
-        [] => 0,
-    }
-}
-
-// Keeps a copy of the whole document. The records before it take back the rest, whatever happens to the document from now on.
-fn keep_document(alloc: Global, tree: &Tree, kept: &mut Kept) -> Result<(), AllocError>
-    ensures kept { OnOk result ((d : Document) → taken_back d kept.new.undos.items ≡ taken_back tree.now kept.old.undos.items) }
-    ensures err { OnErr result (kept.new.undos.items ≡ kept.old.undos.items) }
-{
-    let document = tree.copy(alloc)?;
-    kept.undos.reserve(1)?;
-    kept.undos.push_reserved(Undo::Part {
-        path: Pointer::root(alloc),
-        part: document,
-    });
-    Ok(())
-}
-
-// Replaces an object by a copy of it without the member, and keeps the object.
-fn take_from_copy(
+/// Puts a value that was removed at another place, without a copy, and keeps what takes the whole move back. If memory runs out, the
+/// value goes back to its old place.
+pub(crate) fn land(
     alloc: Global,
     tree: &mut Tree,
-    kept: &mut Kept,
-    path: &[String],
+    kept: &mut Vec<Undo>,
+    place: &Place,
+    vacated: Vacated,
 ) -> Result<(), AllocError>
-    requires { IsOk (at_path drop_child (path_of path.now) tree.old) }
-    ensures made { OnOk result (at_path drop_child (path_of path.now) tree.old ≡ Ok tree.new) }
-    ensures back { taken_back tree.new kept.new.undos.items ≡ taken_back tree.old kept.old.undos.items }
+    requires { IsOk (inserted place.now vacated.value tree.old) }
+    ensures made { OnOk result (inserted place.now vacated.value tree.old ≡ Ok tree.new) }
+    ensures back { taken_back tree.new kept.new.items ≡ taken_back (reseated vacated.seat vacated.value tree.old) kept.old.items }
 {
-    let [before @ .., last] = path else {
-        unreachable!()
-    };
-    let path = Pointer::from_tokens(copy_tokens(alloc, before)?);
-    let rest = copy_without(alloc, tree, before, last.as_str())?;
-    kept.undos.reserve(1)?;
-    let part = exchange(tree, &path, rest);
-    kept.undos.push_reserved(Undo::Part { path, part });
-    Ok(())
+    let Vacated { seat, value } = vacated;
+    match settle(alloc, tree, kept, place, value) {
+        Ok((to, part)) => {
+            kept.push_reserved(Undo::Moved { seat, to, part });
+            Ok(())
+        }
+        Err(refused) => {
+            reseat(tree, seat, refused.value);
+            Err(AllocError)
+        }
+    }
 }
 
-// A copy of the container at the path, without the part that the token names.
-fn copy_without(
+// Puts a value at a place, with space for its record, and returns the path and the part that it replaced, if any. If memory runs out,
+// the tree is unchanged, and the value comes back.
+fn settle(
     alloc: Global,
-    tree: &Tree,
-    path: &[String],
-    token: &str,
-) -> Result<Tree, AllocError>
-    requires { IsOk (then_do (walk tree.now (path_of path.now)) (drop_child token.now)) }
-    ensures { IfOk result (λ rest. then_do (walk tree.now (path_of path.now)) (drop_child token.now) ≡ Ok rest) }
+    tree: &mut Tree,
+    kept: &mut Vec<Undo>,
+    place: &Place,
+    value: Tree,
+) -> Result<(Pointer, Option<Tree>), AllocFailed<Tree>>
+    requires { IsOk (inserted place.now value tree.old) }
+    ensures made { OnOk result (inserted place.now value tree.old ≡ Ok tree.new) }
+    ensures place { IfOk result (λ it. it.0 ≡ place.now.path) }
+    ensures part { IfOk result (λ it. it.1 ≡ displaced place.now tree.old) }
+    ensures room { OnOk result (vec_len kept.new < vec_capacity kept.new) }
+    ensures kept { kept.new.items ≡ kept.old.items }
+    ensures err { OnErr result (tree.new ≡ tree.old) }
+    ensures given_back { IfErr result (λ back. back.value ≡ value) }
 {
-    let Ok(container) = walk(tree, path) else {
-        unreachable!()
+    let Ok(path) = place.path.copy(alloc) else {
+        return Err(AllocFailed { value });
     };
-    let mut rest = container.copy(alloc)?;
-    drop(drop_child(&mut rest, token));
-    Ok(rest)
+    if kept.reserve(1).is_err() {
+        return Err(AllocFailed { value });
+    }
+    match put(alloc, tree, place, value) {
+        Ok(part) => Ok((path, part)),
+        Err(refused) => Err(refused),
+    }
 }

@@ -15,6 +15,7 @@ mod measuring;
 mod moving;
 mod place;
 mod recording;
+mod seat;
 mod sliding;
 mod steps;
 mod undo;

@@ -1,5 +1,5 @@
 //! Changes made to a tree.
-ghost use Rattle.std.specs.Prelude.{◌≡◌, Ok, None, false, OnOk, OnErr, IfOk, IsOk, is_some};
+ghost use Rattle.std.specs.Prelude.{◌≡◌, Ok, None, false, OnOk, OnErr, IfOk, IfErr, IsOk, is_some};
 ghost use Rattle.relay_tree.specs.Document.{Document};
 ghost use Rattle.relay_pointer.specs.Path.{path_of};
 ghost use Rattle.relay_patch.specs.Walk.{walk};
@@ -13,7 +13,7 @@ use crate::sliding::slide;
 use relay_patch::{Change, Place};
 use relay_pointer::{child_mut, resolve};
 use relay_tree::Tree;
-use std::alloc::{AllocError, Global};
+use std::alloc::{AllocError, AllocFailed, Global};
 
 /// Makes a change that carries nothing, and returns the value that it removed or replaced. If memory runs out, the tree is unchanged.
 pub(crate) fn make(
@@ -42,28 +42,32 @@ pub(crate) fn make(
         }
         Change::Copy { to, value, .. } => {
             let value = value.copy(alloc)?;
-            put(alloc, tree, to, value)
+            Ok(put(alloc, tree, to, value)?)
         }
     }
 }
 
-/// Puts a value at a place and returns the one that it replaced, if any.
+/// Puts a value at a place and returns the one that it replaced, if any. If memory runs out, the tree is unchanged, and the value comes
+/// back.
 pub(crate) fn put(
     alloc: Global,
     tree: &mut Tree,
     place: &Place,
     value: Tree,
-) -> Result<Option<Tree>, AllocError>
+) -> Result<Option<Tree>, AllocFailed<Tree>>
     requires { IsOk (inserted place.now value tree.old) }
     ensures made { OnOk result (added place.now.path value tree.old ≡ Ok tree.new) }
     ensures went { IfOk result (λ went. went ≡ displaced place.now tree.old) }
     ensures err { OnErr result (tree.new ≡ tree.old) }
+    ensures given_back { IfErr result (λ back. back.value ≡ value) }
 {
     if is_taken(tree, place) {
         return Ok(Some(exchange(tree, &place.path, value)));
     }
-    insert_at(alloc, tree, place.path.tokens(), value)?;
-    Ok(None)
+    match insert_at(alloc, tree, place.path.tokens(), value) {
+        Ok(()) => Ok(None),
+        Err(refused) => Err(refused),
+    }
 }
 
 fn is_taken(tree: &Tree, place: &Place) -> bool
@@ -89,10 +93,16 @@ fn insert_copy(
     Ok(None)
 }
 
-fn insert_at(alloc: Global, tree: &mut Tree, path: &[String], value: Tree) -> Result<(), AllocError>
+fn insert_at(
+    alloc: Global,
+    tree: &mut Tree,
+    path: &[String],
+    value: Tree,
+) -> Result<(), AllocFailed<Tree>>
     requires { IsOk (added (path_of path.now) value tree.old) }
     ensures ok { OnOk result (added (path_of path.now) value tree.old ≡ Ok tree.new) }
     ensures err { OnErr result (tree.new ≡ tree.old) }
+    ensures given_back { IfErr result (λ back. back.value ≡ value) }
 {
     let [token, rest @ ..] = path else {
         *tree = value;

@@ -1,7 +1,6 @@
 //! Moves within one list: an element slides from its place to another. No tree is moved or copied, only pointers to elements. Over a few
-//! places the element is exchanged with its neighbours; over more, the elements on the shorter side of each place move.
-ghost use Rattle.std.specs.Prelude.{◌≡◌, ◌<◌, ◌^◌, ℕ, true, Some, length, OnOk, OnErr, IfOk};
-ghost use Rattle.std.specs.VecDeque.{deque_len};
+//! places the element is exchanged with its neighbours; over more, the elements behind each place move as a block.
+ghost use Rattle.std.specs.Prelude.{◌≡◌, ◌<◌, ◌^◌, ℕ, true, Some, length, OnOk, OnErr, IfOk, vec_len};
 ghost use Rattle.relay_tree.specs.Document.{Document, list, Items, items_of};
 ghost use Rattle.relay_tree.specs.Part.{items_length};
 ghost use Rattle.relay_tree.specs.Seen.{document_of};
@@ -11,13 +10,12 @@ ghost use Rattle.relay_patch.specs.Place.{front, last_of, beside, in_one_list};
 ghost use Rattle.relay_patch.specs.Change.{Moves};
 ghost use Rattle.relay_apply.specs.Undo.{slid_items, slid, with_part, undone};
 
-use crate::keeping::position;
+use crate::seat::position;
 use crate::undo::Undo;
 use relay_patch::Place;
 use relay_pointer::{Pointer, copy_tokens, resolve_mut, same_path};
 use relay_tree::{Element, Node, Tree};
 use std::alloc::{AllocError, Global};
-use std::collections::VecDeque;
 
 // The most places over which an element is exchanged with its neighbours.
 const NEAR: usize = 64;
@@ -107,7 +105,7 @@ fn slide_in(node: &mut Node, from: usize, to: usize)
 }
 
 // The removal leaves capacity for the insertion.
-fn slide_item(items: &mut VecDeque<Element>, from: usize, to: usize)
+fn slide_item(items: &mut Vec<Element>, from: usize, to: usize)
     ensures slid { items_of items.new.items ≡ slid_items from to (items_of items.old.items) }
     ensures few { length items.old.items < 2 ^ 64 }
 {
@@ -117,14 +115,14 @@ fn slide_item(items: &mut VecDeque<Element>, from: usize, to: usize)
     if from.abs_diff(to) <= NEAR {
         return slide_near(items, from, to);
     }
-    let element = items.remove(from).unwrap();
+    let element = items.remove(from);
     items.insert(to, element).unwrap();
 }
 
 // Exchanges neighbours, one pair after another. At most one of the two loops runs.
-fn slide_near(items: &mut VecDeque<Element>, from: usize, to: usize)
-    requires from_in_bounds { from < deque_len items.old }
-    requires to_in_bounds { to < deque_len items.old }
+fn slide_near(items: &mut Vec<Element>, from: usize, to: usize)
+    requires from_in_bounds { from < vec_len items.old }
+    requires to_in_bounds { to < vec_len items.old }
     ensures { items_of items.new.items ≡ slid_items from to (items_of items.old.items) }
 {
     for place in from..to {

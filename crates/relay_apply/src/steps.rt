@@ -15,12 +15,13 @@ ghost use Rattle.relay_patch.specs.declared.fault.Cause.TheVariants.{NoMemory};
 ghost use Rattle.relay_patch.specs.declared.op.Op.TheVariants as op;
 
 use crate::insert_target::resolve_insert;
-use crate::keeping::{make_keeping, put_in, take_out};
+use crate::keeping::{land, make_keeping};
 use crate::making::make;
 use crate::measuring::{displaced, gone, measure, weight_after};
 use crate::recording::record;
+use crate::seat::{reseat, vacate};
 use crate::sliding::in_one_list;
-use crate::undo::Kept;
+use crate::undo::Undo;
 use crate::walk::walk;
 use relay_patch::{Bounds, Cause, Change, Op, Place};
 use relay_pointer::Pointer;
@@ -42,7 +43,7 @@ pub(crate) struct Done {
 pub(crate) fn perform(
     alloc: Global,
     tree: &mut Tree,
-    kept: &mut Kept,
+    kept: &mut Vec<Undo>,
     done: Done,
     op: &Op,
     bounds: Bounds,
@@ -57,8 +58,8 @@ pub(crate) fn perform(
     ensures changes { IfOk result (λ next. next.changes.items ≡ done.changes.items ++ changes_of tree.old op.now) }
     ensures refused { IfErr result (λ cause. cause ≢ NoMemory → performed bounds (changes_weight done.changes.items) tree.old op.now ≡ Err cause) }
     ensures memory { IfErr result (λ cause. cause ≡ NoMemory → IsOk (effect tree.old op.now)) }
-    ensures back { OnOk result (0 < following → taken_back tree.new kept.new.undos.items ≡ taken_back tree.old kept.old.undos.items) }
-    ensures refused_back { OnErr result (taken_back tree.new kept.new.undos.items ≡ taken_back tree.old kept.old.undos.items) }
+    ensures back { OnOk result (0 < following → taken_back tree.new kept.new.items ≡ taken_back tree.old kept.old.items) }
+    ensures refused_back { OnErr result (taken_back tree.new kept.new.items ≡ taken_back tree.old kept.old.items) }
 {
     if let Some(cause) = too_heavy(tree, op, done.left) {
         return Err(cause);
@@ -115,7 +116,7 @@ fn heavy_replacement(tree: &Tree, path: &Pointer) -> Cause
 fn advance(
     alloc: Global,
     tree: &mut Tree,
-    kept: &mut Kept,
+    kept: &mut Vec<Undo>,
     done: Done,
     change: Option<Change>,
     bounds: Bounds,
@@ -131,8 +132,8 @@ fn advance(
     ensures document { OnOk result (Leads tree.old (listed change) tree.new) }
     ensures changes { IfOk result (λ next. next.changes.items ≡ done.changes.items ++ listed change) }
     ensures refused { IfErr result (λ cause. cause ≢ NoMemory → (next : Document) × Leads tree.old (listed change) next × (afforded bounds (changes_weight done.changes.items + changes_weight (listed change)) next ≡ Err cause)) }
-    ensures back { OnOk result (0 < following → taken_back tree.new kept.new.undos.items ≡ taken_back tree.old kept.old.undos.items) }
-    ensures refused_back { OnErr result (taken_back tree.new kept.new.undos.items ≡ taken_back tree.old kept.old.undos.items) }
+    ensures back { OnOk result (0 < following → taken_back tree.new kept.new.items ≡ taken_back tree.old kept.old.items) }
+    ensures refused_back { OnErr result (taken_back tree.new kept.new.items ≡ taken_back tree.old kept.old.items) }
 {
     let Done {
         mut changes,
@@ -179,7 +180,7 @@ fn weigh(tree: &Tree, known: Option<u64>, bounds: Bounds) -> Result<u64, Cause>
 fn alter(
     alloc: Global,
     tree: &mut Tree,
-    kept: &mut Kept,
+    kept: &mut Vec<Undo>,
     known: Option<u64>,
     change: &Change,
     bounds: Bounds,
@@ -190,8 +191,8 @@ fn alter(
     ensures known { IfOk result (λ n. Known bounds tree.new (Some n)) }
     ensures made { OnOk result (Makes tree.old change.now tree.new) }
     ensures refused { IfErr result (λ cause. cause ≢ NoMemory → (next : Document) × Makes tree.old change.now next × (within bounds next ≡ Err cause)) }
-    ensures back { OnOk result (0 < following → taken_back tree.new kept.new.undos.items ≡ taken_back tree.old kept.old.undos.items) }
-    ensures refused_back { OnErr result (taken_back tree.new kept.new.undos.items ≡ taken_back tree.old kept.old.undos.items) }
+    ensures back { OnOk result (0 < following → taken_back tree.new kept.new.items ≡ taken_back tree.old kept.old.items) }
+    ensures refused_back { OnErr result (taken_back tree.new kept.new.items ≡ taken_back tree.old kept.old.items) }
 {
     match weigh(tree, known, bounds) {
         Ok(weight) if following == 0 && !carries(change) => {
@@ -209,13 +210,13 @@ fn carries(change: &Change) -> bool
     carried(change).is_some()
 }
 
-// The value that a change carries, with its old and its new place. A move within one list carries nothing: the element slides.
-fn carried(change: &Change) -> Option<(&Place, &Place, &Tree)>
-    ensures what { IfSome result (λ m. change.now ≡ Move m.0.now m.1.now m.2.now) }
+// The old and the new place of the value that a change carries. A move within one list carries nothing: the element slides.
+fn carried(change: &Change) -> Option<(&Place, &Place)>
+    ensures what { IfSome result (λ m. (v : Document) × (change.now ≡ Move m.0.now m.1.now v)) }
     ensures carries { is_some result ≡ carries change.now }
 {
     match change {
-        Change::Move { from, to, value } if !in_one_list(from, to) => Some((from, to, value)),
+        Change::Move { from, to, .. } if !in_one_list(from, to) => Some((from, to)),
         _ => None,
     }
 }
@@ -245,7 +246,7 @@ fn alter_last(
 fn alter_keeping(
     alloc: Global,
     tree: &mut Tree,
-    kept: &mut Kept,
+    kept: &mut Vec<Undo>,
     weight: u64,
     change: &Change,
     bounds: Bounds,
@@ -255,37 +256,30 @@ fn alter_keeping(
     ensures known { IfOk result (λ n. Known bounds tree.new (Some n)) }
     ensures made { OnOk result (Makes tree.old change.now tree.new) }
     ensures refused { IfErr result (λ cause. cause ≢ NoMemory → (next : Document) × Makes tree.old change.now next × (within bounds next ≡ Err cause)) }
-    ensures back { taken_back tree.new kept.new.undos.items ≡ taken_back tree.old kept.old.undos.items }
+    ensures back { taken_back tree.new kept.new.items ≡ taken_back tree.old kept.old.items }
 {
-    let most = copies_bound(weight, bounds);
-    let Some((from, to, value)) = carried(change) else {
+    let Some((from, to)) = carried(change) else {
         let next = weight_after(weight, change, gone(tree, change), bounds)?;
-        make_keeping(alloc, tree, kept, change, most)?;
+        make_keeping(alloc, tree, kept, change)?;
         return Ok(next);
     };
-    take_out(alloc, tree, kept, from, most)?;
+    let vacated = vacate(alloc, tree, from)?;
     let next = match weight_after(weight, change, displaced(tree, to), bounds) {
         Ok(next) => next,
-        Err(cause) => return Err(cause),
+        Err(cause) => {
+            reseat(tree, vacated.seat, vacated.value);
+            return Err(cause);
+        }
     };
-    put_in(alloc, tree, kept, to, value)?;
+    land(alloc, tree, kept, to, vacated)?;
     Ok(next)
-}
-
-// What the copies of objects that are kept may weigh: as much as the document, if its weight is known.
-fn copies_bound(weight: u64, bounds: Bounds) -> u64 {
-    if bounds.weight == u64::MAX {
-        u64::MAX
-    } else {
-        weight
-    }
 }
 
 // Makes a change to a document that is not within the bounds, keeps what takes it back, and measures the result.
 fn alter_unjudged(
     alloc: Global,
     tree: &mut Tree,
-    kept: &mut Kept,
+    kept: &mut Vec<Undo>,
     change: &Change,
     bounds: Bounds,
 ) -> Result<u64, Cause>
@@ -293,8 +287,8 @@ fn alter_unjudged(
     ensures known { IfOk result (λ n. Known bounds tree.new (Some n)) }
     ensures made { OnOk result (Makes tree.old change.now tree.new) }
     ensures refused { IfErr result (λ cause. cause ≢ NoMemory → (next : Document) × Makes tree.old change.now next × (within bounds next ≡ Err cause)) }
-    ensures back { taken_back tree.new kept.new.undos.items ≡ taken_back tree.old kept.old.undos.items }
+    ensures back { taken_back tree.new kept.new.items ≡ taken_back tree.old kept.old.items }
 {
-    make_keeping(alloc, tree, kept, change, u64::MAX)?;
+    make_keeping(alloc, tree, kept, change)?;
     measure(tree, bounds)
 }

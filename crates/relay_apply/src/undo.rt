@@ -1,20 +1,15 @@
 //! Records of changes, by which they are taken back without allocating.
-ghost use Rattle.std.specs.Prelude.{◌≡◌, []};
-ghost use Rattle.std.specs.List.{list_any};
-ghost use Rattle.std.specs.VecDeque.{deque_capacity};
-ghost use Rattle.relay_tree.specs.Document.{items_of};
-ghost use Rattle.relay_tree.specs.Seen.{document_of};
-ghost use Rattle.relay_pointer.specs.Path.{path_of, at, put};
+ghost use Rattle.std.specs.Prelude.{◌≡◌, None, option_map, IfNone};
+ghost use Rattle.relay_pointer.specs.Path.{path_of, put};
 ghost use Rattle.relay_patch.specs.Patch.{at_path, drop_child};
-ghost use Rattle.relay_apply.specs.Undo.{brought, replaces_document, or_same, refilled_items, refilled, with_part, undone, taken_back};
+ghost use Rattle.relay_apply.specs.Undo.{brought, or_same, lifted, moved_back, undone, taken_back};
 
 use crate::insert_target::resolve_existing;
 use crate::making::remove_at;
+use crate::seat::{Seat, Vacated, reseat};
 use crate::sliding::slide_at;
-use relay_pointer::{Pointer, exchange, resolve_mut};
-use relay_tree::{Element, Node, Tree};
-use std::alloc::Global;
-use std::collections::VecDeque;
+use relay_pointer::{Pointer, exchange};
+use relay_tree::Tree;
 
 /// The record that takes a change back.
 #[derive(Drop)]
@@ -28,13 +23,13 @@ pub enum Undo {
     Inserted {
         path: Pointer,
     },
-    /// The element was removed from the index of a list. `spare` has capacity for as many elements as the list had: only a
-    /// queue with spare capacity accepts one more without growing, and the list's own capacity is not visible through a tree.
-    Element {
-        list: Pointer,
-        index: usize,
-        element: Element,
-        spare: VecDeque<Element>,
+    /// A value was removed.
+    Removed(Vacated),
+    /// A value was moved from a place, which is empty now, to a path, where it replaced this part, if any.
+    Moved {
+        seat: Seat,
+        to: Pointer,
+        part: Option<Tree>,
     },
     /// An element slid within its list: it slides back from the index `from` to the index `to`.
     Slid {
@@ -42,42 +37,6 @@ pub enum Undo {
         from: usize,
         to: usize,
     },
-}
-
-/// What takes the changes so far back.
-#[derive(Drop)]
-pub(crate) struct Kept {
-    /// The records of the changes, the newest last.
-    pub(crate) undos: Vec<Undo>,
-    /// What the copies of objects that were made for these records weigh.
-    pub(crate) copied: u64,
-}
-
-impl Kept {
-    pub(crate) fn new(alloc: Global) -> Kept
-        ensures { result.undos.items ≡ [] }
-    {
-        Kept {
-            undos: Vec::new(alloc),
-            copied: 0,
-        }
-    }
-}
-
-/// Returns whether some record replaces the whole document.
-pub(crate) fn holds_document(undos: &[Undo]) -> bool
-    ensures { result ≡ list_any replaces_document undos.now }
-{
-    undos.iter().any(replaces_document)
-}
-
-fn replaces_document(undo: &Undo) -> bool
-    ensures { result ≡ replaces_document undo.now }
-{
-    match undo {
-        Undo::Part { path, .. } => path.tokens().is_empty(),
-        _ => false,
-    }
 }
 
 /// Returns the record of a value that was put at the path, given the part that it replaced, if any.
@@ -106,12 +65,8 @@ fn undo_one(tree: &mut Tree, kept: Undo)
     match kept {
         Undo::Part { path, part } => put_back(tree, &path, part),
         Undo::Inserted { path } => drop_again(tree, path.tokens()),
-        Undo::Element {
-            list,
-            index,
-            element,
-            spare,
-        } => refill_at(tree, &list, index, element, spare),
+        Undo::Removed(Vacated { seat, value }) => reseat(tree, seat, value),
+        Undo::Moved { seat, to, part } => move_back(tree, seat, &to, part),
         Undo::Slid { list, from, to } => slide_at(tree, &list, from, to),
     }
 }
@@ -125,48 +80,37 @@ fn put_back(tree: &mut Tree, path: &Pointer, part: Tree)
 fn drop_again(tree: &mut Tree, path: &[String])
     ensures { tree.new ≡ or_same (at_path drop_child (path_of path.now) tree.old) tree.old }
 {
+    drop(lift_inserted(tree, path));
+}
+
+// Moves the value at the path back to its old place.
+fn move_back(tree: &mut Tree, seat: Seat, path: &Pointer, part: Option<Tree>)
+    ensures { tree.new ≡ moved_back seat (lifted part path.now tree.old) tree.old }
+{
+    if let Some(value) = lift(tree, path, part) {
+        reseat(tree, seat, value);
+    }
+}
+
+// Takes the value away from the path and puts the part there that it replaced, if any.
+fn lift(tree: &mut Tree, path: &Pointer, part: Option<Tree>) -> Option<Tree>
+    ensures lifted { option_map (λ value. (value, tree.new)) result ≡ lifted part path.now tree.old }
+    ensures none { IfNone result (tree.new ≡ tree.old) }
+{
+    match part {
+        Some(part) => exchange(tree, path, part),
+        None => lift_inserted(tree, path.tokens()),
+    }
+}
+
+fn lift_inserted(tree: &mut Tree, path: &[String]) -> Option<Tree>
+    ensures lifted { option_map (λ value. (value, tree.new)) result ≡ lifted None (path_of path.now) tree.old }
+    ensures rest { tree.new ≡ or_same (at_path drop_child (path_of path.now) tree.old) tree.old }
+    ensures none { IfNone result (tree.new ≡ tree.old) }
+{
     if resolve_existing(tree, path).is_ok() {
-        drop(remove_at(tree, path));
+        Some(remove_at(tree, path))
+    } else {
+        None
     }
-}
-
-fn refill_at(
-    tree: &mut Tree,
-    path: &Pointer,
-    index: usize,
-    element: Element,
-    spare: VecDeque<Element>,
-)
-    ensures { tree.new ≡ with_part (refilled (deque_capacity spare) index element) path.now (at tree.old path.now) tree.old }
-{
-    if let Some(node) = resolve_mut(tree, path) {
-        refill(node, index, element, spare);
-    }
-}
-
-fn refill(node: &mut Node, index: usize, element: Element, spare: VecDeque<Element>)
-    ensures { document_of node.new ≡ refilled (deque_capacity spare) index element (document_of node.old) }
-{
-    if let Node::List(items) = node {
-        insert_into_spare(items, index, element, spare);
-    }
-}
-
-// Moves the elements and the new one into `spare`, if its capacity is large enough and the index is not past the end.
-fn insert_into_spare(
-    items: &mut VecDeque<Element>,
-    index: usize,
-    element: Element,
-    spare: VecDeque<Element>,
-)
-    ensures { items_of items.new.items ≡ refilled_items (deque_capacity spare) index element (items_of items.old.items) }
-{
-    if items.len() >= spare.capacity() || index > items.len() {
-        return;
-    }
-    let mut whole = spare;
-    whole.clear();
-    whole.append(items).unwrap();
-    whole.insert(index, element).unwrap();
-    *items = whole;
 }

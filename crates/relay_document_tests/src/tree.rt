@@ -1,10 +1,9 @@
 use crate::pointer;
 use crate::shared::{nothing, part_text, shown, taken_text};
 use crate::stage::{Stage, play_anew};
-use relay_tree::{MAX_COUNT, Node, Tree, begin_text, end_text, insert_member, read};
+use relay_tree::{MAX_COUNT, Members, Node, Tree, begin_text, end_text, insert_member, read};
 use relay_wire::cut;
 use std::alloc::Global;
-use std::collections::BTreeMap;
 
 const ROWS: &str = r#"
 # Counts up to 2 to the 53, less 1. The first document is the tree of a count.
@@ -78,7 +77,7 @@ pub(crate) fn done(alloc: Global, stage: &mut Stage, verb: &str, rest: &str) -> 
         }
         "clear" => clear(alloc, tree),
         "object" => {
-            *tree = Tree::from(Node::Members(BTreeMap::new(alloc)));
+            *tree = Tree::from(Node::Members(Members::new(alloc)));
             nothing(alloc)
         }
         "insert" => insert(alloc, tree, rest),

@@ -10,7 +10,7 @@ use Rattle.relay_patch.proofs.Refusals.{then_ok}
 use Rattle.relay_patch.proofs.Exchanges.{at_end, replaced-put}
 use Rattle.relay_tree.proofs.Outcomes.{is_ok_then, some_ok}
 use Rattle.relay_tree.proofs.Elements.{drop_item-there, drop_item-none}
-use Rattle.relay_tree.proofs.Members.{drop_member-none, drop_member-there}
+use Rattle.relay_tree.proofs.Named.{drop_member-none, drop_member-there}
 
 pub at_ok : (act : Act) (before : Path) (t : Token) (d c c' d' : Document) → walk d before ≡ Ok c → act t c ≡ Ok c' → replaced before c' d ≡ Ok d' → at_path act (before ++ t ∷ []) d ≡ Ok d'
 at_ok act before t d c c' d' there acted put = rw (at_end act before t d, there, acted) put

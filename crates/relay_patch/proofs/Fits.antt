@@ -6,7 +6,7 @@ use Rattle.std.specs.Result.{result_ok}
 use Rattle.std.proofs.lemmas.Bool.Decides.{nat_tests}
 use Rattle.relay_tree.specs.Document.{Document, list, object, Items, depth, weight}
 use Rattle.relay_tree.specs.Part.{insert_item, put_member}
-use Rattle.relay_tree.proofs.Members.{member_at-put_same}
+use Rattle.relay_tree.proofs.Named.{member_at-put_same}
 use Rattle.relay_pointer.specs.Index.{Token, index_of}
 use Rattle.relay_pointer.specs.Path.{Path, at, same_path}
 use Rattle.relay_patch.specs.declared.change.Change.TheVariants as change

@@ -7,7 +7,7 @@ use Rattle.relay_patch.specs.Walk.{dash, element, step}
 use Rattle.relay_patch.specs.Patch.{Act, place_in}
 use Rattle.relay_patch.specs.Change.{at_element}
 use Rattle.relay_tree.proofs.Names.{bytes_same, equal_bytes}
-use Rattle.relay_tree.proofs.Members.{member_at-set_same, member_at-set_other}
+use Rattle.relay_tree.proofs.Named.{member_at-set_same, member_at-set_other}
 use Rattle.relay_tree.proofs.Elements.{item_at-put_same, item_at-put_other}
 use Rattle.relay_pointer.proofs.Indexes.{index_of_injective}
 use Rattle.relay_patch.proofs.Refusals.{ok_or_some}

@@ -3,7 +3,7 @@ use Rattle.std.proofs.Common.{◌≡◌, ℕ, suc, [], ◌∷◌, Option, Some, 
 use Rattle.relay_tree.specs.Document.{Document, list, object, Items, depth, items_depth}
 use Rattle.relay_tree.specs.Part.{item_at, items_length}
 use Rattle.relay_tree.proofs.Elements.{item_at-put_same, put_item-twice, put_item-length}
-use Rattle.relay_tree.proofs.Members.{member_at-set_same, set_member-twice}
+use Rattle.relay_tree.proofs.Named.{member_at-set_same, set_member-twice}
 use Rattle.relay_pointer.specs.Index.{Token, index_of}
 use Rattle.relay_pointer.specs.Path.{Path, child, put_element, with_child, at, put}
 use Rattle.relay_pointer.proofs.Walks.{with_child-same}

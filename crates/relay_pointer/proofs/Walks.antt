@@ -4,7 +4,7 @@ use Rattle.std.proofs.lemmas.Bool.Decides.{nat_tests}
 use Rattle.relay_tree.specs.Document.{Document, list, object, Items}
 use Rattle.relay_tree.specs.Part.{items_length, list_len, item_at, put_item, list_item, object_member, with_item, with_member}
 use Rattle.relay_tree.proofs.Elements.{item_at-past, put_item-past, put_item-same}
-use Rattle.relay_tree.proofs.Members.{set_member-same}
+use Rattle.relay_tree.proofs.Named.{set_member-same}
 use Rattle.relay_pointer.specs.Index.{Token, index_of, number_of}
 use Rattle.relay_pointer.specs.Path.{Path, child, put_element, with_child, at, put}
 

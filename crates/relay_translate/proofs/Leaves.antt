@@ -3,7 +3,7 @@ use Rattle.std.proofs.Common.{◌≡◌, ℕ, ◌<◌, Bool, true, false, Option
 use Rattle.relay_tree.specs.Document.{Document, list, object, Items}
 use Rattle.relay_tree.specs.Part.{item_at, insert_item, drop_item, put_member, drop_member}
 use Rattle.relay_tree.proofs.Elements.{item_at-insert_below, item_at-drop_below}
-use Rattle.relay_tree.proofs.Members.{member_at-put_other, member_at-drop_other}
+use Rattle.relay_tree.proofs.Named.{member_at-put_other, member_at-drop_other}
 use Rattle.relay_pointer.specs.Index.{Token, index_of, number_of}
 use Rattle.relay_pointer.specs.Path.{with_child}
 use Rattle.relay_patch.specs.declared.fault.Cause.TheVariants.{Missing, PastEnd}

@@ -1,7 +1,8 @@
 pub mod Names
+pub mod Finding
 pub mod Outcomes
 pub mod Elements
-pub mod Members
+pub mod Named
 pub mod Weights
 pub mod Sizes
 pub mod Budgets
@@ -9,5 +10,6 @@ pub mod Equal
 pub mod Parts
 pub mod Texts
 pub mod Writing
+pub mod Conversions
 pub mod ReadLemmas
 pub mod Each

@@ -1,12 +1,13 @@
 -- A node's parts compared with those of its document.
-use Rattle.std.proofs.Common.{◌≡◌, ℕ, ◌<◌, ◌≤◌, length, get_or, Bor, MutBor, arith, List, Option, Some, None, BTreeMap, Global, String, OnSome, refl, sym, slice_get, option_copied, is_some, IfSome, nat_lt}
+use Rattle.std.proofs.Common.{◌≡◌, ℕ, ◌<◌, ◌≤◌, length, get_or, Bor, MutBor, arith, List, Option, Some, None, Global, String, OnSome, refl, sym, slice_get, option_copied, is_some, IfSome, nat_lt}
 use Rattle.std.specs.Option.{option_copied_mut}
-use Rattle.std.specs.declared.collections.VecDeque.{VecDeque}
+use Rattle.std.specs.declared.vec.Vec.{Vec}
 use Rattle.std.proofs.lemmas.Option.{slice_get_past, slice_get_read}
 use Rattle.std.proofs.lemmas.Bool.Decides.{nat_tests}
 use Rattle.relay_tree.specs.Document.{Document}
 use Rattle.relay_tree.specs.Part.{list_item, object_member}
 use Rattle.relay_tree.specs.Seen.{document_of}
+use Rattle.relay_tree.specs.Entries.{Rows}
 use Rattle.relay_tree.specs.Rows.{node_items, node_members}
 use Rattle.relay_tree.specs.declared.tree.Node.{Node}
 use Rattle.relay_tree.specs.declared.tree.Node.TheVariants as node
@@ -15,11 +16,11 @@ pub on_some : {A : Type 0} {P : Type 0} (o : Option A) → P → OnSome o P
 on_some None p = tt
 on_some (Some x) p = p
 
-pub is_list : (n : Node) (v : VecDeque Document Global) → Some v ≡ node_items n → n ≡ node.List v
+pub is_list : (n : Node) (v : Vec Document Global) → Some v ≡ node_items n → n ≡ node.List v
 is_list node.Null v h = cc
 is_list _ v h = cc
 
-pub is_object : (n : Node) (m : BTreeMap (String Global) Document) → Some m ≡ node_members n → n ≡ node.Members m
+pub is_object : (n : Node) (m : Rows (String Global) Document) → Some m ≡ node_members n → n ≡ node.Members m
 is_object node.Null m h = cc
 is_object _ m h = cc
 

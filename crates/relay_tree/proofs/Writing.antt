@@ -9,7 +9,7 @@ use Rattle.serde_json.specs.Written.{items_outline, members_outline}
 use Rattle.relay_tree.specs.Document.{Document, list, object, items_of}
 use Rattle.relay_tree.specs.Seen.{members_of}
 use Rattle.relay_tree.specs.Text.{items_data, members_data, tokens_of, ReadsBack}
-use Rattle.relay_tree.proofs.Members.{Entry}
+use Rattle.relay_tree.proofs.Named.{Entry}
 use Rattle.relay_tree.proofs.Texts.{list_back}
 
 pub all_more : {X : Type 0} (P : X → Type 0) (xs : List X) (x : X) → AllByRecursion P xs → P x → AllByRecursion P (xs ++ x ∷ [])

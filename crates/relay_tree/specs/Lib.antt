@@ -5,8 +5,10 @@ pub mod Count
 pub mod Budget
 pub mod Each
 pub mod Code
+pub mod Entries
 pub mod Seen
 pub mod Falls
 pub mod Lending
 pub mod Rows
 pub mod Text
+pub mod Reading

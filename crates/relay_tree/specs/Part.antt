@@ -1,5 +1,6 @@
 -- The parts of a document, one level down: the elements of a list and the members of an object.
-use Rattle.std.specs.Prelude.{ℕ, zero, suc, List, Option, Some, None, option_map, is_some, bytes_eq, if◌then◌else◌}
+use Rattle.std.specs.Prelude.{◌≡◌, ℕ, zero, suc, List, Option, Some, None, option_map, is_some, bytes_eq, if◌then◌else◌, ⊤}
+use Rattle.std.specs.declared.cmp.Ordering.TheVariants.{Less}
 use Rattle.std.specs.Ordering.{nat_cmp, match_ordering}
 use Rattle.std.specs.Cmp.Lexicographic.{slice_cmp}
 use Rattle.relay_tree.specs.Document.{Document, text, list, object, Items, no_items, item, Members, no_members, member}
@@ -65,12 +66,31 @@ abbrev pub drop_member : Members → List ℕ → Option Members
 drop_member no_members name = None
 drop_member (member n d ms) name = if bytes_eq n name then Some ms else option_map (member n d) (drop_member ms name)
 
+abbrev pub members_length : Members → ℕ
+members_length no_members = 0
+members_length (member n d ms) = suc (members_length ms)
+
+-- each name is above this one
+abbrev pub AreAbove : List ℕ → Members → Type 0
+AreAbove name no_members = ⊤
+AreAbove name (member n d ms) = (slice_cmp nat_cmp name n ≡ Less) × AreAbove name ms
+
+-- the names ascend
+abbrev pub IsOrdered : Members → Type 0
+IsOrdered no_members = ⊤
+IsOrdered (member n d ms) = AreAbove n ms × IsOrdered ms
+
 -- Elements and members of a document.
 
 -- the number of elements of a list; `None` if the document is not a list
 abbrev pub list_len : Document → Option ℕ
 list_len (list ds) = Some (items_length ds)
 list_len _ = None
+
+-- the number of members of an object; `None` if the document is not an object
+abbrev pub members_len : Document → Option ℕ
+members_len (object ms) = Some (members_length ms)
+members_len _ = None
 
 -- the element of a list at an index; `None` if there is none or the document is not a list
 abbrev pub list_item : Document → ℕ → Option Document

@@ -4,10 +4,10 @@ ghost use Rattle.relay_tree.specs.Budget.{left_of, paid};
 ghost use Rattle.relay_tree.specs.Document.{weight, items_of, items_weight, members_weight};
 ghost use Rattle.relay_tree.specs.Seen.{members_of};
 
-use crate::element::Element;
+use crate::element::{Element, iter_items};
 use crate::measure::VALUE_WEIGHT;
+use crate::members::Members;
 use crate::tree::{Node, Tree};
-use std::collections::{BTreeMap, VecDeque};
 
 /// The weight that may still be spent.
 #[derive(Clone, Copy, Debug, PartialEq, Eq)]
@@ -58,18 +58,18 @@ fn pay_tree(tree: &Tree, budget: u64) -> Option<u64>
 }
 
 #[cycle(pay)]
-fn pay_items(items: &VecDeque<Element>, budget: u64) -> Option<u64>
+fn pay_items(items: &Vec<Element>, budget: u64) -> Option<u64>
     ensures { result ≡ left_of (items_weight (items_of items.now.items)) budget }
 {
     let mut left = budget;
-    for item in items {
+    for item in iter_items(items) {
         left = pay_tree(item.tree(), left)?;
     }
     Some(left)
 }
 
 #[cycle(pay)]
-fn pay_members(members: &BTreeMap<String, Tree>, budget: u64) -> Option<u64>
+fn pay_members(members: &Members, budget: u64) -> Option<u64>
     ensures { result ≡ left_of (members_weight (members_of members.now.entries)) budget }
 {
     let mut left = budget;

@@ -2,10 +2,10 @@
 ghost use Rattle.std.specs.Prelude.{◌≡◌, IfOk};
 ghost use Rattle.relay_tree.specs.Seen.{members_of};
 
-use crate::element::Element;
+use crate::element::{Element, iter_items};
+use crate::members::Members;
 use crate::tree::{Node, Tree};
 use std::alloc::{AllocError, Global};
-use std::collections::{BTreeMap, VecDeque};
 
 impl Tree {
     /// Returns an equal tree. Costs the tree's weight in time and memory. If memory runs out, nothing stays allocated.
@@ -32,24 +32,21 @@ fn copy_tree(alloc: Global, tree: &Tree) -> Result<Tree, AllocError>
 }
 
 #[cycle(copy)]
-fn copy_items(alloc: Global, items: &VecDeque<Element>) -> Result<VecDeque<Element>, AllocError>
+fn copy_items(alloc: Global, items: &Vec<Element>) -> Result<Vec<Element>, AllocError>
     ensures { IfOk result (λ copies. copies.items ≡ items.now.items) }
 {
-    let mut copies = VecDeque::with_capacity(alloc, items.len())?;
-    for item in items {
-        copies.push_back(Element::new(alloc, copy_tree(alloc, item.tree())?)?)?;
+    let mut copies = Vec::with_capacity(alloc, items.len())?;
+    for item in iter_items(items) {
+        copies.push(Element::new(alloc, copy_tree(alloc, item.tree())?)?)?;
     }
     Ok(copies)
 }
 
 #[cycle(copy)]
-fn copy_members(
-    alloc: Global,
-    members: &BTreeMap<String, Tree>,
-) -> Result<BTreeMap<String, Tree>, AllocError>
+fn copy_members(alloc: Global, members: &Members) -> Result<Members, AllocError>
     ensures { IfOk result (λ copies. members_of copies.entries ≡ members_of members.now.entries) }
 {
-    let mut copies = BTreeMap::new(alloc);
+    let mut copies = Members::with_capacity(alloc, members.len())?;
     for (name, member) in members.iter() {
         let name = name.clone()?;
         drop(copies.insert(name, copy_tree(alloc, member)?)?);

@@ -1,15 +1,16 @@
 //! The element of a list.
-ghost use Rattle.std.specs.Prelude.{◌≡◌, IfOk};
+ghost use Rattle.std.specs.Prelude.{◌≡◌, IfOk, IfErr};
 ghost use Rattle.std.specs.Borrow.{Lends, sem};
 ghost use Rattle.relay_tree.specs.contracts.element.Element as element;
 ghost use Rattle.relay_tree.specs.contracts.tree.Tree as tree;
 
 use crate::tree::Tree;
-use std::alloc::{AllocError, Global};
+use std::alloc::{AllocFailed, Global};
 use std::marker::Model;
+use std::slice;
 
-/// A tree behind a pointer. An insertion into a list, or a removal, moves the elements on its shorter side; that costs one pointer for
-/// each, not a whole tree.
+/// A tree behind a pointer. An insertion into a list, or a removal, moves the elements behind its
+/// place as one block of pointers, not of trees.
 #[cycle(tree)]
 #[derive(Drop)]
 pub struct Element {
@@ -35,9 +36,10 @@ impl Model for Element {
 }
 
 impl Element {
-    /// Moves a tree into an allocation of its own. If memory runs out, the tree is dropped.
-    pub fn new(alloc: Global, tree: Tree) -> Result<Element, AllocError>
-        ensures { IfOk result (λ element. element ≡ tree) }
+    /// Moves a tree into an allocation of its own. If memory runs out, the tree comes back.
+    pub fn new(alloc: Global, tree: Tree) -> Result<Element, AllocFailed<Tree>>
+        ensures ok { IfOk result (λ element. element ≡ tree) }
+        ensures given_back { IfErr result (λ back. back.value ≡ tree) }
     {
         Ok(Element {
             tree: Box::new(alloc, tree)?,
@@ -73,4 +75,11 @@ impl Element {
     {
         Box::into_inner(self.tree)
     }
+}
+
+/// Returns the elements of a list, in order.
+pub fn iter_items(items: &Vec<Element>) -> slice::Iter<'_, Element>
+    ensures { result.rest.now ≡ items.now.items }
+{
+    items.iter()
 }

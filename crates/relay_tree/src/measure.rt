@@ -3,9 +3,9 @@ ghost use Rattle.std.specs.Prelude.{◌≡◌, min, ◌-◌, ◌^◌};
 ghost use Rattle.relay_tree.specs.Document.{depth, weight, items_of, items_depth, members_depth, items_weight, members_weight, saturated};
 ghost use Rattle.relay_tree.specs.Seen.{members_of};
 
-use crate::element::Element;
+use crate::element::{Element, iter_items};
+use crate::members::Members;
 use crate::tree::{Node, Tree};
-use std::collections::{BTreeMap, VecDeque};
 
 /// The weight of each value, before its text and parts are added.
 pub(crate) const VALUE_WEIGHT: u64 = 8;
@@ -38,18 +38,18 @@ fn depth_of(tree: &Tree) -> u64
 }
 
 #[cycle(depth)]
-fn depth_of_items(items: &VecDeque<Element>) -> u64
+fn depth_of_items(items: &Vec<Element>) -> u64
     ensures { result ≡ saturated (items_depth (items_of items.now.items)) }
 {
     let mut deepest = 0;
-    for item in items {
+    for item in iter_items(items) {
         deepest = depth_of(item.tree()).max(deepest);
     }
     deepest
 }
 
 #[cycle(depth)]
-fn depth_of_members(members: &BTreeMap<String, Tree>) -> u64
+fn depth_of_members(members: &Members) -> u64
     ensures { result ≡ saturated (members_depth (members_of members.now.entries)) }
 {
     let mut deepest = 0;
@@ -72,18 +72,18 @@ fn weight_of(tree: &Tree) -> u64
 }
 
 #[cycle(weight)]
-fn weight_of_items(items: &VecDeque<Element>) -> u64
+fn weight_of_items(items: &Vec<Element>) -> u64
     ensures { result ≡ saturated (items_weight (items_of items.now.items)) }
 {
     let mut sum = 0u64;
-    for item in items {
+    for item in iter_items(items) {
         sum = sum.saturating_add(weight_of(item.tree()));
     }
     sum
 }
 
 #[cycle(weight)]
-fn weight_of_members(members: &BTreeMap<String, Tree>) -> u64
+fn weight_of_members(members: &Members) -> u64
     ensures { result ≡ saturated (members_weight (members_of members.now.entries)) }
 {
     let mut sum = 0u64;

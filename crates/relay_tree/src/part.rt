@@ -2,16 +2,17 @@
 ghost use Rattle.std.specs.Prelude.{◌≡◌, ◌<◌, ◌^◌, ℕ, List as list_of, None, false, bytes_eq, IfSome, option_copied};
 ghost use Rattle.std.specs.Option.{option_map, option_copied_mut};
 ghost use Rattle.std.specs.Borrow.{LendsIf, sem};
-ghost use Rattle.relay_tree.specs.Part.{list_len, list_item, object_member, text_in};
+ghost use Rattle.relay_tree.specs.Document.{Members as members_type, object};
+ghost use Rattle.relay_tree.specs.Part.{list_len, members_len, list_item, object_member, text_in, IsOrdered};
 ghost use Rattle.relay_tree.specs.Seen.{document_of};
 ghost use Rattle.relay_tree.specs.Rows.{list_row, map_row, node_items, node_members};
-ghost use Rattle.relay_tree.specs.declared.tree.Node.TheVariants.{List, Members};
+ghost use Rattle.relay_tree.specs.declared.tree.Node.TheVariants as kind;
 ghost use Rattle.relay_tree.specs.contracts.tree.Node as node;
 ghost use Rattle.relay_tree.specs.Lending.{LendsItem, LendsMember};
 
 use crate::element::Element;
+use crate::members::Members;
 use crate::tree::{Node, Tree};
-use std::collections::{BTreeMap, VecDeque};
 
 impl Tree {
     /// Returns the element at `index`, counted from 0, or `None` if the index is past the end or the tree is not a list.
@@ -19,7 +20,13 @@ impl Tree {
         ensures { option_copied result ≡ list_item self.now index }
     {
         match &self.node {
-            Node::List(items) => Some(items.get(index)?.tree()),
+            Node::List(items) => {
+                if index < items.len() {
+                    Some(items[index].tree())
+                } else {
+                    None
+                }
+            }
             _ => None,
         }
     }
@@ -71,6 +78,17 @@ impl Node {
         }
     }
 
+    /// Returns the number of members of an object, or `None` if the node is not an object.
+    pub fn members_len(&self) -> Option<usize>
+        ensures len { result ≡ members_len (document_of self.now) }
+        ensures ordered { (ms : members_type) → document_of self.now ≡ object ms → IsOrdered ms }
+    {
+        match self {
+            Node::Members(members) => Some(members.len()),
+            _ => None,
+        }
+    }
+
     /// Borrows the element at `index` of a list, counted from 0, for writing. Only what is written there changes. Returns `None` if the index
     /// is past the end or the node is not a list.
     pub fn item_mut(&mut self, index: usize) -> Option<&mut Tree>
@@ -78,7 +96,13 @@ impl Node {
         ensures value { option_copied_mut result ≡ list_item (document_of self.old) index }
     {
         match self.items_mut() {
-            Some(items) => Some(items.get_mut(index)?.tree_mut()),
+            Some(items) => {
+                if index < items.len() {
+                    Some(items[index].tree_mut())
+                } else {
+                    None
+                }
+            }
             None => None,
         }
     }
@@ -95,8 +119,8 @@ impl Node {
         }
     }
 
-    fn items_mut(&mut self) -> Option<&mut VecDeque<Element>>
-        ensures* writes_back { sem 𝓛 (LendsIf node.the_row list_row self.entry result List self.old) }
+    fn items_mut(&mut self) -> Option<&mut Vec<Element>>
+        ensures* writes_back { sem 𝓛 (LendsIf node.the_row list_row self.entry result kind.List self.old) }
         ensures value { option_copied_mut result ≡ node_items self.old }
     {
         match self {
@@ -105,8 +129,8 @@ impl Node {
         }
     }
 
-    fn members_mut(&mut self) -> Option<&mut BTreeMap<String, Tree>>
-        ensures* writes_back { sem 𝓛 (LendsIf node.the_row map_row self.entry result Members self.old) }
+    fn members_mut(&mut self) -> Option<&mut Members>
+        ensures* writes_back { sem 𝓛 (LendsIf node.the_row map_row self.entry result kind.Members self.old) }
         ensures value { option_copied_mut result ≡ node_members self.old }
     {
         match self {

@@ -1,17 +1,27 @@
-//! A reader of JSON texts (RFC 8259) that builds trees, through `serde_json`.
+//! A reader of JSON texts (RFC 8259) that builds trees straight from the tokens of `json`, on which
+//! `serde_json` stands too. What a text means is what `serde_json` reads: of two members with one
+//! name the last one stays.
 ghost use Rattle.std.specs.Prelude.{◌≡◌, ◌≢◌, Some, None, IfOk, IfErr, OnErr};
+ghost use Rattle.std.specs.Prelude.{◌<◌, length, OnOk, option_map, Err};
+ghost use Rattle.json.specs.Json.{value, items, members};
+ghost use Rattle.json.specs.Lex.{tokens};
+ghost use Rattle.serde_json.specs.Data as read_as;
+ghost use Rattle.serde_json.specs.Data.{Data, Items, no_members};
 ghost use Rattle.serde_json.specs.Read as json;
-ghost use Rattle.serde_json.specs.View.{view, items_view, members_view};
-ghost use Rattle.relay_tree.specs.Document.{items_of};
+ghost use Rattle.serde_json.specs.Read.{of_json, of_items, of_members, converted};
+ghost use Rattle.relay_tree.specs.Document.{items_of, list, object};
 ghost use Rattle.relay_tree.specs.Seen.{members_of};
 ghost use Rattle.relay_tree.specs.Text.{tree_of_text, IsNumberFault, tree_of, items_tree, members_tree};
+ghost use Rattle.relay_tree.specs.Reading.{AreRead, extended};
 ghost use Rattle.relay_tree.specs.declared.reading.TreeFault.TheVariants.{NotJson, Number, NoMemory};
 
 use crate::element::Element;
+use crate::members::Members;
+use crate::number::whole_number;
 use crate::tree::{Node, Tree};
-use serde_json::{Map, Value};
+use json::{Invalid, Reader, Scratch, Token};
 use std::alloc::{AllocError, Global};
-use std::collections::{BTreeMap, VecDeque};
+use std::collections::BTreeMap;
 use thiserror::Error;
 
 /// Why a text does not read as a tree, in the order of the checks.
@@ -35,95 +45,206 @@ impl From<AllocError> for TreeFault {
     }
 }
 
-/// Reads a text as a tree. The whole text is parsed before its numbers are checked.
+impl From<Invalid> for TreeFault {
+    ghost from_gives = { λ _ fault. fault ≡ NotJson };
+
+    fn from(_: Invalid) -> TreeFault {
+        TreeFault::NotJson
+    }
+}
+
+/// The most containers that nest in a text.
+const MAX_NESTING: usize = 127;
+
+/// Reads a text as a tree. The whole text is parsed before its numbers are judged. Takes memory for
+/// the tree, for the text's unescaped strings, and for the members of the objects that are open.
 pub fn read(alloc: Global, text: &str) -> Result<Tree, TreeFault>
     ensures ok { IfOk result (λ tree. tree_of_text text.now ≡ Some tree) }
     ensures not_json { IfErr result (λ fault. fault ≡ NotJson → json.read text.now ≡ None) }
     ensures number { IfErr result (λ fault. fault ≡ Number → IsNumberFault text.now) }
 {
-    match Value::from_str(alloc, text) {
-        Ok(value) => tree_from(alloc, value),
-        Err(error) if error.is_memory() => Err(TreeFault::NoMemory),
-        Err(_) => Err(TreeFault::NotJson),
+    let mut scratch = Scratch::new(alloc);
+    read_all(alloc, text, &mut scratch)
+}
+
+fn read_all(alloc: Global, text: &str, scratch: &mut Scratch) -> Result<Tree, TreeFault>
+    ensures ok { IfOk result (λ tree. tree_of_text text.now ≡ Some tree) }
+    ensures not_json { IfErr result (λ fault. fault ≡ NotJson → json.read text.now ≡ None) }
+    ensures number { IfErr result (λ fault. fault ≡ Number → IsNumberFault text.now) }
+{
+    let Ok(mut reader) = Reader::new(text, scratch) else {
+        return Err(TreeFault::NoMemory);
+    };
+    let tree = match read_tree(alloc, &mut reader, MAX_NESTING) {
+        Ok(tree) => tree,
+        Err(fault) => return Err(fault),
+    };
+    if reader.next().is_some() {
+        return Err(TreeFault::NotJson);
+    }
+    match tree {
+        Some(tree) => Ok(tree),
+        None => Err(TreeFault::Number),
     }
 }
 
-// Texts and member names move from the value into the tree.
-#[cycle(tree_from)]
-fn tree_from(alloc: Global, value: Value) -> Result<Tree, TreeFault>
-    ensures ok { IfOk result (λ tree. tree_of (view value) ≡ Some tree) }
-    ensures number { IfErr result (λ fault. fault ≡ Number → tree_of (view value) ≡ None) }
-    ensures other { IfErr result (λ fault. fault ≢ NotJson) }
+/// Reads one value, in which at most `depth` containers nest.
+#[cycle(read)]
+fn read_tree(
+    alloc: Global,
+    reader: &mut Reader<'_>,
+    depth: usize,
+) -> Result<Option<Tree>, TreeFault>
+    ensures ok { IfOk result (λ tree. (d : Data) × (converted of_json (value depth reader.old) ≡ Some (d, reader.new)) × (tree_of d ≡ tree)) }
+    ensures shorter { OnOk result (length reader.new < length reader.old) }
+    ensures not_json { result ≡ Err NotJson → converted of_json (value depth reader.old) ≡ None }
+    ensures other { IfErr result (λ fault. fault ≢ Number) }
 {
-    match value {
-        Value::Null => Ok(Tree { node: Node::Null }),
-        Value::Bool(truth) => Ok(Tree {
-            node: Node::Truth(truth),
-        }),
-        Value::Number(number) => match number.as_i64() {
-            Some(whole) => Ok(Tree {
-                node: Node::Whole(whole),
-            }),
-            None => Err(TreeFault::Number),
+    let Some(token) = reader.next() else {
+        return Err(TreeFault::NotJson);
+    };
+    match token {
+        Token::Null => Ok(Some(Tree::from(Node::Null))),
+        Token::Bool(truth) => Ok(Some(Tree::from(Node::Truth(truth)))),
+        Token::Number(text) => match whole_number(text) {
+            Some(Some(whole)) => Ok(Some(Tree::from(Node::Whole(whole)))),
+            Some(None) => Ok(None),
+            None => Err(TreeFault::NotJson),
         },
-        Value::String(text) => Ok(Tree {
-            node: Node::Text(text),
-        }),
-        Value::Array(items) => Ok(Tree {
-            node: Node::List(list_from(alloc, items)?),
-        }),
-        Value::Object(members) => Ok(Tree {
-            node: Node::Members(map_from(alloc, members)?),
-        }),
+        Token::String(text) => match String::from_str(alloc, text) {
+            Ok(text) => Ok(Some(Tree::from(Node::Text(text)))),
+            Err(_) => Err(TreeFault::NoMemory),
+        },
+        Token::BeginArray => {
+            if depth == 0 {
+                return Err(TreeFault::NotJson);
+            }
+            match read_items(alloc, reader, depth - 1) {
+                Ok(items) => Ok(list_tree(items)),
+                Err(fault) => Err(fault),
+            }
+        }
+        Token::BeginObject => {
+            if depth == 0 {
+                return Err(TreeFault::NotJson);
+            }
+            match read_members(alloc, reader, depth - 1) {
+                Ok(members) => Ok(object_tree(members)),
+                Err(fault) => Err(fault),
+            }
+        }
+        Token::EndObject | Token::EndArray | Token::Key(_) | Token::Bad => Err(TreeFault::NotJson),
     }
 }
 
-#[cycle(tree_from)]
-fn list_from(alloc: Global, items: Vec<Value>) -> Result<VecDeque<Element>, TreeFault>
-    ensures ok { IfOk result (λ trees. items_tree (items_view items.items) ≡ Some (items_of trees.items)) }
-    ensures number { IfErr result (λ fault. fault ≡ Number → items_tree (items_view items.items) ≡ None) }
-    ensures other { IfErr result (λ fault. fault ≢ NotJson) }
+fn list_tree(items: Option<Vec<Element>>) -> Option<Tree>
+    ensures { result ≡ option_map (λ v. list (items_of v.items)) items }
 {
-    let mut trees = VecDeque::with_capacity(alloc, items.len())?;
-    for item in items {
-        let tree = match tree_from(alloc, item) {
-            Ok(tree) => tree,
+    match items {
+        Some(items) => Some(Tree::from(Node::List(items))),
+        None => None,
+    }
+}
+
+fn object_tree(members: Option<Members>) -> Option<Tree>
+    ensures { result ≡ option_map (λ m. object (members_of m.entries)) members }
+{
+    match members {
+        Some(members) => Some(Tree::from(Node::Members(members))),
+        None => None,
+    }
+}
+
+/// Reads the rest of a list.
+#[cycle(read)]
+fn read_items(
+    alloc: Global,
+    reader: &mut Reader<'_>,
+    depth: usize,
+) -> Result<Option<Vec<Element>>, TreeFault>
+    ensures ok { IfOk result (λ trees. (ds : Items) × (converted of_items (items (value depth) (length reader.old) reader.old) ≡ Some (ds, reader.new)) × (items_tree ds ≡ option_map (λ v. items_of v.items) trees)) }
+    ensures shorter { OnOk result (length reader.new < length reader.old) }
+    ensures not_json { result ≡ Err NotJson → converted of_items (items (value depth) (length reader.old) reader.old) ≡ None }
+    ensures other { IfErr result (λ fault. fault ≢ Number) }
+{
+    let mut found = Some(Vec::new(alloc));
+    'items: while !reader.take_end_array() {
+        let item = match read_tree(alloc, reader, depth) {
+            Ok(item) => item,
             Err(fault) => return Err(fault),
         };
-        let element = match Element::new(alloc, tree) {
-            Ok(element) => element,
+        found = match with_item(alloc, found, item) {
+            Ok(found) => found,
             Err(_) => return Err(TreeFault::NoMemory),
         };
-        match trees.push_back(element) {
-            Ok(()) => {}
-            Err(refused) => {
-                drop(refused);
-                return Err(TreeFault::NoMemory);
-            }
-        }
     }
-    Ok(trees)
+    Ok(found)
 }
 
-#[cycle(tree_from)]
-fn map_from(alloc: Global, members: Map<String, Value>) -> Result<BTreeMap<String, Tree>, TreeFault>
-    ensures ok { IfOk result (λ trees. members_tree (members_view members.entries) ≡ Some (members_of trees.entries)) }
-    ensures number { IfErr result (λ fault. fault ≡ Number → members_tree (members_view members.entries) ≡ None) }
-    ensures other { IfErr result (λ fault. fault ≢ NotJson) }
+/// Adds an element at the end, if all so far and this one could be read.
+fn with_item(
+    alloc: Global,
+    found: Option<Vec<Element>>,
+    item: Option<Tree>,
+) -> Result<Option<Vec<Element>>, AllocError>
+    ensures { IfOk result (λ all. option_map (λ v. v.items) all ≡ extended (option_map (λ v. v.items) found) item) }
 {
-    let mut trees = BTreeMap::new(alloc);
-    for (name, member) in members {
-        let tree = match tree_from(alloc, member) {
-            Ok(tree) => tree,
+    let Some(mut items) = found else {
+        return Ok(None);
+    };
+    let Some(item) = item else {
+        return Ok(None);
+    };
+    items.push(Element::new(alloc, item)?)?;
+    Ok(Some(items))
+}
+
+/// Reads the rest of an object. Its members are kept in order by a map, so that their number costs
+/// no more than a look-up for each.
+#[cycle(read)]
+fn read_members(
+    alloc: Global,
+    reader: &mut Reader<'_>,
+    depth: usize,
+) -> Result<Option<Members>, TreeFault>
+    ensures ok { IfOk result (λ trees. (ms : read_as.Members) × (converted (λ ms. of_members ms no_members) (members (value depth) (length reader.old) reader.old) ≡ Some (ms, reader.new)) × (members_tree ms ≡ option_map (λ m. members_of m.entries) trees)) }
+    ensures shorter { OnOk result (length reader.new < length reader.old) }
+    ensures not_json { result ≡ Err NotJson → converted (λ ms. of_members ms no_members) (members (value depth) (length reader.old) reader.old) ≡ None }
+    ensures other { IfErr result (λ fault. fault ≢ Number) }
+{
+    let mut found = BTreeMap::new(alloc);
+    'members: while let Some(name) = reader.next_key()? {
+        let Ok(name) = String::from_str(alloc, name) else {
+            return Err(TreeFault::NoMemory);
+        };
+        let value = match read_tree(alloc, reader, depth) {
+            Ok(value) => value,
             Err(fault) => return Err(fault),
         };
-        match trees.insert(name, tree) {
+        match found.insert(name, value) {
             Ok(earlier) => drop(earlier),
-            Err(refused) => {
-                drop(refused);
-                return Err(TreeFault::NoMemory);
-            }
+            Err(_) => return Err(TreeFault::NoMemory),
         }
     }
-    Ok(trees)
+    match gather(alloc, found) {
+        Ok(members) => Ok(members),
+        Err(_) => Err(TreeFault::NoMemory),
+    }
+}
+
+/// Returns the members of an object, if all their values could be read.
+fn gather(
+    alloc: Global,
+    found: BTreeMap<String, Option<Tree>>,
+) -> Result<Option<Members>, AllocError>
+    ensures { IfOk result (λ members. (ms : read_as.Members) → AreRead ms found.entries → members_tree ms ≡ option_map (λ m. members_of m.entries) members) }
+{
+    let mut members = Members::with_capacity(alloc, found.len())?;
+    for (name, value) in found {
+        let Some(value) = value else {
+            return Ok(None);
+        };
+        drop(members.insert(name, value)?);
+    }
+    Ok(Some(members))
 }

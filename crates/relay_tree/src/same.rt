@@ -2,9 +2,9 @@
 ghost use Rattle.std.specs.Prelude.{◌≡◌, ◌↔◌, IsTrue};
 ghost use Rattle.relay_tree.specs.Seen.{members_of};
 
-use crate::element::Element;
+use crate::element::{Element, iter_items};
+use crate::members::Members;
 use crate::tree::{Node, Tree};
-use std::collections::{BTreeMap, VecDeque};
 
 impl Tree {
     /// Returns whether both are the same document: the order in which members were written has no meaning, and texts are
@@ -48,14 +48,14 @@ fn same_tree(tree: &Tree, other: &Tree) -> bool
 
 #[cycle(same)]
 #[tactic(auto, using(crate::proofs::Weights::same_items_of))]
-fn same_items(items: &VecDeque<Element>, others: &VecDeque<Element>) -> bool
+fn same_items(items: &Vec<Element>, others: &Vec<Element>) -> bool
     ensures { IsTrue result ↔ (items.now.items ≡ others.now.items) }
 {
     if items.len() != others.len() {
         return false;
     }
-    let mut rest = others.iter();
-    for item in items {
+    let mut rest = iter_items(others);
+    for item in iter_items(items) {
         let Some(other) = rest.next() else {
             return false;
         };
@@ -68,7 +68,7 @@ fn same_items(items: &VecDeque<Element>, others: &VecDeque<Element>) -> bool
 
 #[cycle(same)]
 #[tactic(auto, using(crate::proofs::Weights::same_items_of))]
-fn same_members(members: &BTreeMap<String, Tree>, others: &BTreeMap<String, Tree>) -> bool
+fn same_members(members: &Members, others: &Members) -> bool
     ensures { IsTrue result ↔ (members_of members.now.entries ≡ members_of others.now.entries) }
 {
     let mut rest = others.iter();

@@ -2,7 +2,7 @@
 ghost use Rattle.std.specs.Prelude.{◌≡◌};
 
 use crate::element::Element;
-use std::collections::{BTreeMap, VecDeque};
+use crate::members::Members;
 use std::marker::Model;
 
 /// A JSON value whose numbers are whole. Contracts see it as a `Document`, and code matches on `&tree.node`.
@@ -22,8 +22,8 @@ pub enum Node {
     Truth(bool),
     Whole(i64),
     Text(String),
-    List(VecDeque<Element>),
-    Members(BTreeMap<String, Tree>),
+    List(Vec<Element>),
+    Members(Members),
 }
 
 impl Model for Tree {

@@ -4,11 +4,11 @@ ghost use Rattle.relay_tree.specs.Document.{list, object, items_of};
 ghost use Rattle.relay_tree.specs.Seen.{members_of};
 ghost use Rattle.relay_tree.specs.Text.{tokens_of, ReadsBack};
 
-use crate::element::Element;
+use crate::element::{Element, iter_items};
+use crate::members::Members;
 use crate::tree::{Node, Tree};
 use json::Writer;
 use std::alloc::AllocError;
-use std::collections::{BTreeMap, VecDeque};
 
 impl Tree {
     /// Appends the tree to what `out` has written: member names in byte order, whole numbers in decimal. Costs the length of
@@ -39,20 +39,20 @@ fn write_tree(tree: &Tree, out: &mut Writer) -> Result<(), AllocError>
 }
 
 #[cycle(write)]
-fn write_list(items: &VecDeque<Element>, out: &mut Writer) -> Result<(), AllocError>
+fn write_list(items: &Vec<Element>, out: &mut Writer) -> Result<(), AllocError>
     ensures tokens { OnOk result (out.new.tokens ≡ out.old.tokens ++ tokens_of (list (items_of items.now.items))) }
     ensures before { out.new.before ≡ out.old.before }
     ensures reads_back { OnOk result (ReadsBack (list (items_of items.now.items))) }
 {
     out.begin_array()?;
-    for item in items {
+    for item in iter_items(items) {
         write_tree(item.tree(), out)?;
     }
     out.end_array()
 }
 
 #[cycle(write)]
-fn write_object(members: &BTreeMap<String, Tree>, out: &mut Writer) -> Result<(), AllocError>
+fn write_object(members: &Members, out: &mut Writer) -> Result<(), AllocError>
     ensures tokens { OnOk result (out.new.tokens ≡ out.old.tokens ++ tokens_of (object (members_of members.now.entries))) }
     ensures before { out.new.before ≡ out.old.before }
     ensures reads_back { OnOk result (ReadsBack (object (members_of members.now.entries))) }

@@ -5,16 +5,15 @@ ghost use Rattle.relay_view.specs.View.{view};
 use crate::view::View;
 use relay_tree::{Element, Node, Tree};
 use std::alloc::{AllocError, Global};
-use std::collections::VecDeque;
 
 impl View {
     /// Returns the list of slots. Copies each value that a slot shows; a size needs no copy.
     pub fn of(&self, alloc: Global, document: &Tree) -> Result<Tree, AllocError>
         ensures { IfOk result (λ seen. seen ≡ view self.now document.now) }
     {
-        let mut slots = VecDeque::with_capacity(alloc, self.slots().len())?;
+        let mut slots = Vec::with_capacity(alloc, self.slots().len())?;
         for slot in self.slots() {
-            slots.push_back(Element::new(alloc, slot.of(alloc, document)?)?)?;
+            slots.push(Element::new(alloc, slot.of(alloc, document)?)?)?;
         }
         Ok(Tree::from(Node::List(slots)))
     }

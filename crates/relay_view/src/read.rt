@@ -9,9 +9,8 @@ use crate::fault::ViewFault;
 use crate::slot::{Slot, SlotKind};
 use crate::view::{MAX_SLOTS, View};
 use relay_pointer::{MAX_TOKENS, Pointer, PointerFault};
-use relay_tree::{Element, Node, Tree};
+use relay_tree::{Element, Node, Tree, iter_items};
 use std::alloc::Global;
-use std::collections::VecDeque;
 
 impl View {
     /// Reads a view from a tree: a list of at most [`MAX_SLOTS`] elements, each a pointer text of at most [`MAX_TOKENS`] tokens, or an
@@ -35,15 +34,15 @@ impl View {
     }
 }
 
-fn slots_of(alloc: Global, items: &VecDeque<Element>) -> Result<Vec<Slot>, ViewFault>
+fn slots_of(alloc: Global, items: &Vec<Element>) -> Result<Vec<Slot>, ViewFault>
     ensures ok { IfOk result (λ slots. each_from slot_at 0 (items_of items.now.items) ≡ Ok slots.items) }
     ensures err { IfErr result (λ fault. fault ≢ NoMemory → each_from slot_at 0 (items_of items.now.items) ≡ Err fault) }
 {
     let Ok(mut slots) = Vec::with_capacity(alloc, items.len()) else {
         return Err(ViewFault::NoMemory);
     };
-    for (k, item) in items.iter().enumerate() {
-        match slot_at(alloc, k as u64, item.tree()) {
+    for item in iter_items(items) {
+        match slot_at(alloc, slots.len() as u64, item.tree()) {
             Ok(slot) => slots.push_reserved(slot),
             Err(fault) => return Err(fault),
         }

@@ -11,7 +11,6 @@ use json::Writer;
 use relay_pointer::{Pointer, resolve};
 use relay_tree::{Budget, Element, Node, Tree};
 use std::alloc::{AllocError, Global};
-use std::collections::VecDeque;
 
 /// The weight of the list around a slot's value.
 const LIST_WEIGHT: u64 = 8;
@@ -38,9 +37,9 @@ impl Slot {
     pub fn of(&self, alloc: Global, document: &Tree) -> Result<Tree, AllocError>
         ensures { IfOk result (λ seen. seen ≡ slot self.now document.now) }
     {
-        let mut slot = VecDeque::new(alloc);
+        let mut slot = Vec::new(alloc);
         if let Some(value) = self.value(alloc, document)? {
-            slot.push_back(Element::new(alloc, value)?)?;
+            slot.push(Element::new(alloc, value)?)?;
         }
         Ok(Tree::from(Node::List(slot)))
     }

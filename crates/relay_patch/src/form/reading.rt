@@ -48,7 +48,7 @@ impl Patch {
         if items.len() as u64 > limits.ops {
             return Err(PatchFault::TooManyOps);
         }
-        match ops_of(alloc, items.into_vec(), limits.tokens) {
+        match ops_of(alloc, items, limits.tokens) {
             Ok(ops) => Ok(Patch::from_ops(ops)),
             Err(fault) => Err(fault),
         }

@@ -11,9 +11,8 @@ ghost use Rattle.relay_patch.specs.Sizes.{OpFits};
 use crate::op::Op;
 use crate::patch::Patch;
 use relay_pointer::Pointer;
-use relay_tree::{Element, Node, Tree, insert_member};
+use relay_tree::{Element, Members, Node, Tree, insert_member};
 use std::alloc::{AllocError, Global};
-use std::collections::{BTreeMap, VecDeque};
 
 impl Patch {
     /// Returns the patch as a tree, which reads back as the patch under any limits that it is within. Costs a copy of its values.
@@ -21,9 +20,9 @@ impl Patch {
         ensures form { IfOk result (λ tree. tree ≡ patch_document self.now) }
         ensures reads_back { IfOk result (λ tree. (ops tokens deepest : ℕ) → length self.now ≤ ops → AllByRecursion (OpFits tokens deepest) self.now → patch_of ops tokens tree ≡ Ok self.now) }
     {
-        let mut items = VecDeque::with_capacity(alloc, self.ops().len())?;
+        let mut items = Vec::with_capacity(alloc, self.ops().len())?;
         for op in self.ops() {
-            items.push_back(Element::new(alloc, op_tree(alloc, op)?)?)?;
+            items.push(Element::new(alloc, op_tree(alloc, op)?)?)?;
         }
         Ok(Tree::from(Node::List(items)))
     }
@@ -32,7 +31,7 @@ impl Patch {
 fn op_tree(alloc: Global, op: &Op) -> Result<Tree, AllocError>
     ensures { IfOk result (λ tree. tree ≡ object (op_members op.now)) }
 {
-    let mut members = BTreeMap::new(alloc);
+    let mut members = Members::new(alloc);
     match op {
         Op::Add { path, value } => {
             put_named(alloc, &mut members, "add", path)?;
@@ -62,7 +61,7 @@ fn op_tree(alloc: Global, op: &Op) -> Result<Tree, AllocError>
 /// Inserts the members that every operation has.
 fn put_named(
     alloc: Global,
-    members: &mut BTreeMap<String, Tree>,
+    members: &mut Members,
     name: &str,
     path: &Pointer,
 ) -> Result<(), AllocError>
@@ -70,7 +69,7 @@ fn put_named(
 {
     let name = Tree::from(Node::Text(String::from_str(alloc, name)?));
     insert_member(alloc, members, "op", name)?;
-    insert_member(alloc, members, "path", pointer_tree(alloc, path)?)
+    Ok(insert_member(alloc, members, "path", pointer_tree(alloc, path)?)?)
 }
 
 fn pointer_tree(alloc: Global, pointer: &Pointer) -> Result<Tree, AllocError>

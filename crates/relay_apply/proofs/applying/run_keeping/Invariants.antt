@@ -16,5 +16,5 @@ invariant-loop-at l =
       paid : paid (changes_weight l.done.changes.items) l.bounds.changes ≡ Some l.done.left;
       known : Known l.bounds l.tree l.done.weight;
       weighed : IsSome l.initial.done.weight → IsSome l.done.weight;
-      back : l.at < length l.ops → taken_back l.tree l.kept.undos.items ≡ taken_back l.initial.tree l.initial.kept.undos.items;
+      back : l.at < length l.ops → taken_back l.tree l.kept.items ≡ taken_back l.initial.tree l.initial.kept.items;
     }

@@ -5,14 +5,14 @@ use Rattle.relay_tree.proofs.Elements.{items_length-items_of}
 use Rattle.relay_apply.proofs.Contained.{inserts}
 use Rattle.relay_apply.proofs.Landed.{list_refuses}
 use Rattle.relay_apply.proofs.container.insert_item.Goals as goal
-use Rattle.relay_tree.proofs.Outcomes.{refused_not_ok}
+use Rattle.relay_tree.proofs.Outcomes.{on_ok, refused_not_ok}
 
 pub returns-clause-ok : goal.returns-clause-ok
 returns-clause-ok c =
     let v = c.args.items.now in
     let ok = v.ok in
     let long : c.len.result ≡ length v.items = c.len.ensures ∙ ok.0 in
-    rw c.in_ok-insert-in-Ok.ensures.items (rw c.in_ok-new-in-Ok.ensures (inserts v.items c.args.token.now c.args.value c.len.result c.in-Ok.index long c.in-Ok.ensures.is))
+    on_ok c.insert_at_index.result c.insert_at_index.ensures.ok (λ h. rw h (inserts v.items c.args.token.now c.args.value c.len.result c.in-Ok.index long c.in-Ok.ensures.is))
 
 pub unreachable-requires : goal.unreachable-requires
 unreachable-requires c =

@@ -1,12 +1,11 @@
-use Rattle.std.proofs.Common.{rules}
-use Rattle.relay_apply.proofs.Undone.{whole_back}
+use Rattle.std.proofs.Common.{◌++◌, [], ◌∷◌, ap, ◌∙◌}
+use Rattle.relay_apply.specs.declared.undo.Undo.{Undo}
+use Rattle.relay_apply.specs.declared.undo.Undo.TheVariants as undo
+use Rattle.relay_apply.proofs.Undone.{kept_back}
 use Rattle.relay_apply.proofs.keeping.take_member.Goals as goal
-use Rattle.relay_apply.proofs.keeping.take_member.Goals.{then-not-holds_document+else-copied-most+in_ok-keep_document, else-not-holds_document}
 
 pub returns-clause-back : goal.returns-clause-back
 returns-clause-back c =
-    let now = c.remove_at.new.tree in
-    elim c.if-not-holds_document.branch [
-      | then-not-holds_document+else-copied-most+in_ok-keep_document w ↦ rw w.kept-is (w.in_ok-keep_document.ensures.kept now)
-      | else-not-holds_document w ↦ search (rules, whole_back)
-    ]
+    let k : Undo = undo.Removed c.in_ok-vacated.vacated in
+    kept_back c.args.tree.now c.vacate_member.new.tree c.args.kept.now.items c.push_reserved.new.self.items k c.in_ok-vacated.ensures.back
+    (c.push_reserved.ensures.items ∙ ap (λ xs. xs ++ k ∷ []) c.in_ok-reserve.ensures.items)

@@ -44,9 +44,8 @@ returns-in_ok-slide-in-Move-clause-made c = slid_makes c.args.change.now c.args.
 pub returns-in_ok-slide-in-Move-clause-went : goal.returns-in_ok-slide-in-Move-clause-went
 returns-in_ok-slide-in-Move-clause-went c = slid_gone c.args.change.now c.args.tree.now c.in-Move.from c.in-Move.to c.in-Move.value c.in-Move.is c.requires.stays
 
-pub returns-in_ok-value-in-Copy-clause-made : goal.returns-in_ok-value-in-Copy-clause-made
-returns-in_ok-value-in-Copy-clause-made c =
-    on_ok c.put.result (rw c.in_ok-value-in-Copy.ensures at c.put.ensures.made) (makes_as c.args.change.now _ c.args.tree.now c.put.new.tree c.in-Copy.is c.requires.makes)
+pub returns-in_ok-put-in-Copy-clause-made : goal.returns-in_ok-put-in-Copy-clause-made
+returns-in_ok-put-in-Copy-clause-made c = makes_as c.args.change.now _ c.args.tree.now c.put.new.tree c.in-Copy.is c.requires.makes (rw c.in_ok-value-in-Copy.ensures at c.in_ok-put-in-Copy.ensures.made)
 
 pub returns-in_ok-value-in-Set-clause-went : goal.returns-in_ok-value-in-Set-clause-went
 returns-in_ok-value-in-Set-clause-went c = rw c.in-Set.is (sym (at_reached c.in-Set.path c.args.tree.now c.exchange.result c.exchange.ensures.old))

@@ -1,6 +1,6 @@
 use Rattle.std.proofs.Common.{◌≡◌, ◌<◌, Some, length, get_or, sym, ◌∙◌, arith}
-use Rattle.std.specs.List.{insert, remove}
-use Rattle.std.specs.VecDeque.{deque_len}
+use Rattle.std.specs.List.{insert}
+use Rattle.std.proofs.lemmas.Option.{slice_get-get_or}
 use Rattle.relay_tree.specs.Document.{null, items_of}
 use Rattle.relay_tree.proofs.Elements.{items_length-items_of}
 use Rattle.relay_apply.proofs.Slides.{slides_nowhere, slides}
@@ -20,11 +20,11 @@ returns-clause-slid c =
     let ok = v.ok in
     let from = c.args.from in
     let to = c.args.to in
-    let e = c.unwrap-element.result in
-    let there : from < deque_len v = omega (arith, c.len.ensures, c.if-max-len.false, c.max.ensures) in
+    let e = c.remove-element.result in
+    let there : from < length xs = omega (arith, ok.0, c.len.ensures, c.if-max-len.false, c.max.ensures) in
     let within : to < length xs = omega (arith, ok.0, c.len.ensures, c.if-max-len.false, c.max.ensures) in
-    let taken : Some e ≡ Some (get_or xs from null) = sym c.unwrap-element.ensures ∙ c.remove.ensures.succeeds null there in
-    let is : e ≡ get_or xs from null = cc in
-    let without : c.remove.new.self.items ≡ remove xs from = rw c.unwrap-element.ensures at c.remove.ensures.items in
-    let whole : c.insert.new.self.items ≡ insert c.remove.new.self.items to e = rw c.unwrap.ensures at c.insert.ensures.items in
-    rw (whole, without, is) (slides xs from to (omega (arith, ok.0, there)) within)
+    let taken : Some (get_or xs from e) ≡ Some (get_or xs from null) = sym (slice_get-get_or xs from e there) ∙ slice_get-get_or xs from null there in
+    let found : get_or xs from e ≡ get_or xs from null = cc in
+    let is : e ≡ get_or xs from null = c.remove-element.ensures.value ∙ found in
+    let whole : c.insert.new.self.items ≡ insert c.remove-element.new.self.items to e = rw c.unwrap.ensures at c.insert.ensures.items in
+    rw (whole, c.remove-element.ensures.items, is) (slides xs from to there within)

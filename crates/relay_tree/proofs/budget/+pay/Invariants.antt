@@ -1,5 +1,4 @@
 use Rattle.std.proofs.Common.{◌≡◌, ◌+◌, ◌≤◌}
-use Rattle.std.specs.VecDeque.Iter.{deque_iter_rest}
 use Rattle.relay_tree.specs.Budget.{left_of}
 use Rattle.relay_tree.specs.Document.{weight, items_of, items_weight, members_weight}
 use Rattle.relay_tree.specs.Seen.{members_of}
@@ -16,10 +15,10 @@ decreases-pay_members l = 1 + members_weight (members_of l.members.now.entries)
 
 abbrev pub invariant-pay_items-loop-item : goal.invariant-pay_items-loop-item
 invariant-pay_items-loop-item l =
-    (left_of (items_weight (items_of (deque_iter_rest l.item-iterator))) l.left ≡ left_of (items_weight (items_of l.items.items)) l.budget)
-    × (items_weight (items_of (deque_iter_rest l.item-iterator)) ≤ items_weight (items_of l.items.items))
+    (left_of (items_weight (items_of (l.item-iterator.rest.now))) l.left ≡ left_of (items_weight (items_of l.items.items)) l.budget)
+    × (items_weight (items_of (l.item-iterator.rest.now)) ≤ items_weight (items_of l.items.items))
 
 abbrev pub invariant-pay_members-loop-name : goal.invariant-pay_members-loop-name
 invariant-pay_members-loop-name l =
-    (left_of (members_weight (members_of l.name-iterator)) l.left ≡ left_of (members_weight (members_of l.members.entries)) l.budget)
-    × (members_weight (members_of l.name-iterator) ≤ members_weight (members_of l.members.entries))
+    (left_of (members_weight (members_of l.name-iterator.rest.now)) l.left ≡ left_of (members_weight (members_of l.members.entries)) l.budget)
+    × (members_weight (members_of l.name-iterator.rest.now) ≤ members_weight (members_of l.members.entries))

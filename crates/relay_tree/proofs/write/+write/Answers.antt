@@ -1,12 +1,11 @@
 use Rattle.std.proofs.Common.{◌≡◌, [], ◌∷◌, ◌++◌, string_bytes, sym, ap, ◌∙◌, subst, append_assoc, append-nil, arith, rules}
 use Rattle.std.proofs.lemmas.List.{nil_from_length}
 use Rattle.std.proofs.lemmas.Result.{on_ok_weaker}
-use Rattle.std.specs.VecDeque.Iter.{deque_iter_rest}
 use Rattle.json.specs.Token.{begin_array, begin_object, key}
 use Rattle.relay_tree.specs.Document.{weight, items_of, items_weight, members_weight}
 use Rattle.relay_tree.specs.Seen.{members_of}
 use Rattle.relay_tree.specs.Text.{ReadsBack}
-use Rattle.relay_tree.proofs.Members.{Entry}
+use Rattle.relay_tree.proofs.Named.{Entry}
 use Rattle.relay_tree.proofs.Texts.{whole_back, list_back, object_back}
 use Rattle.relay_tree.proofs.Weights.{item_weighs, member_weighs}
 use Rattle.relay_tree.proofs.Writing.{WritesEach, WritesMembers, writes_more, list_ends, writes_member, object_ends}
@@ -21,7 +20,7 @@ pub write_list-write_tree-requires : goal.write_list-write_tree-requires
 write_list-write_tree-requires t c =
     let done = c.loop-item.invariant.done in
     let x = c.in-Some.item.now in
-    let left = deque_iter_rest c.next.new.self in
+    let left = c.next.new.self.rest.now in
     let all : c.args.items.now.items ≡ done ++ x ∷ left = c.loop-item.invariant.all ∙ ap (λ ds. done ++ ds) c.in-Some.ensures.steps in
     let whole = ap (λ ds. items_weight (items_of ds)) all in
     (omega (arith, item_weighs done x left, whole, ap weight c.tree.ensures), tt)
@@ -30,7 +29,7 @@ pub write_list-loop-item-preserved : goal.write_list-loop-item-preserved
 write_list-loop-item-preserved t c =
     let l = c.loop-item in
     let x = c.in-Some.item.now in
-    let left = deque_iter_rest c.next.new.self in
+    let left = c.next.new.self.rest.now in
     let written = c.in_ok-write_tree.ensures in
     record {
       before = search rules;
@@ -42,7 +41,7 @@ write_list-loop-item-preserved t c =
 pub write_list-returns-clause-tokens : goal.write_list-returns-clause-tokens
 write_list-returns-clause-tokens t c =
     let done = c.loop-item.invariant.done in
-    let all : done ≡ c.args.items.now.items = sym (c.loop-item.invariant.all ∙ ap (λ ds. done ++ ds) (nil_from_length (deque_iter_rest c.loop-item.item-iterator) c.in-None.ensures.steps.0) ∙ append-nil done) in
+    let all : done ≡ c.args.items.now.items = sym (c.loop-item.invariant.all ∙ ap (λ ds. done ++ ds) (nil_from_length (c.loop-item.item-iterator.rest.now) c.in-None.ensures.steps.0) ∙ append-nil done) in
     let start : c.begin_array.new.self.tokens ≡ c.args.out.now.tokens ++ begin_array ∷ [] = search rules in
     let each = subst (λ ds. WritesEach ds c.begin_array.new.self.tokens c.loop-item.out.tokens) all c.loop-item.invariant.each in
     on_ok_weaker c.end_array.result (λ e. list_ends c.args.items.now.items c.args.out.now.tokens start each e) c.end_array.ensures.ok
@@ -50,15 +49,15 @@ write_list-returns-clause-tokens t c =
 pub write_list-returns-clause-reads_back : goal.write_list-returns-clause-reads_back
 write_list-returns-clause-reads_back t c =
     let done = c.loop-item.invariant.done in
-    let all : done ≡ c.args.items.now.items = sym (c.loop-item.invariant.all ∙ ap (λ ds. done ++ ds) (nil_from_length (deque_iter_rest c.loop-item.item-iterator) c.in-None.ensures.steps.0) ∙ append-nil done) in
+    let all : done ≡ c.args.items.now.items = sym (c.loop-item.invariant.all ∙ ap (λ ds. done ++ ds) (nil_from_length (c.loop-item.item-iterator.rest.now) c.in-None.ensures.steps.0) ∙ append-nil done) in
     let each = subst (λ ds. WritesEach ds c.begin_array.new.self.tokens c.loop-item.out.tokens) all c.loop-item.invariant.each in
     on_ok_weaker c.end_array.result (λ e. list_back c.args.items.now.items each.back) c.end_array.ensures.ok
 
 pub write_object-write_tree-requires : goal.write_object-write_tree-requires
 write_object-write_tree-requires t c =
     let done = c.loop-name.invariant.done in
-    let e : Entry = (c.in-Some.name.now, c.in-Some.member.now) in
-    let left = c.next.new.self in
+    let e : Entry = c.in-Some.field-0.now in
+    let left = c.next.new.self.rest.now in
     let all : c.args.members.now.entries ≡ done ++ e ∷ left = c.loop-name.invariant.all ∙ ap (λ es. done ++ es) c.in-Some.ensures.steps in
     let whole = ap (λ es. members_weight (members_of es)) all in
     (omega (arith, member_weighs done e left, whole), tt)
@@ -66,9 +65,9 @@ write_object-write_tree-requires t c =
 pub write_object-loop-name-preserved : goal.write_object-loop-name-preserved
 write_object-loop-name-preserved t c =
     let l = c.loop-name in
-    let e : Entry = (c.in-Some.name.now, c.in-Some.member.now) in
-    let left = c.next.new.self in
-    let named : c.key.new.self.tokens ≡ l.out.tokens ++ key (string_bytes c.in-Some.name.now) ∷ [] = search rules in
+    let e : Entry = c.in-Some.field-0.now in
+    let left = c.next.new.self.rest.now in
+    let named : c.key.new.self.tokens ≡ l.out.tokens ++ key (string_bytes c.in-Some.field-0.now.0) ∷ [] = search rules in
     let written = c.in_ok-write_tree.ensures in
     record {
       before = search rules;
@@ -80,7 +79,7 @@ write_object-loop-name-preserved t c =
 pub write_object-returns-clause-tokens : goal.write_object-returns-clause-tokens
 write_object-returns-clause-tokens t c =
     let done = c.loop-name.invariant.done in
-    let all : done ≡ c.args.members.now.entries = sym (c.loop-name.invariant.all ∙ ap (λ es. done ++ es) c.in-None.ensures.steps.0 ∙ append-nil done) in
+    let all : done ≡ c.args.members.now.entries = sym (c.loop-name.invariant.all ∙ ap (λ es. done ++ es) (nil_from_length c.loop-name.name-iterator.rest.now c.in-None.ensures.steps.0) ∙ append-nil done) in
     let start : c.begin_object.new.self.tokens ≡ c.args.out.now.tokens ++ begin_object ∷ [] = search rules in
     let each = subst (λ es. WritesMembers es c.begin_object.new.self.tokens c.loop-name.out.tokens) all c.loop-name.invariant.each in
     on_ok_weaker c.end_object.result (λ e. object_ends c.args.members.now.entries c.args.out.now.tokens start each e) c.end_object.ensures.ok
@@ -88,6 +87,6 @@ write_object-returns-clause-tokens t c =
 pub write_object-returns-clause-reads_back : goal.write_object-returns-clause-reads_back
 write_object-returns-clause-reads_back t c =
     let done = c.loop-name.invariant.done in
-    let all : done ≡ c.args.members.now.entries = sym (c.loop-name.invariant.all ∙ ap (λ es. done ++ es) c.in-None.ensures.steps.0 ∙ append-nil done) in
+    let all : done ≡ c.args.members.now.entries = sym (c.loop-name.invariant.all ∙ ap (λ es. done ++ es) (nil_from_length c.loop-name.name-iterator.rest.now c.in-None.ensures.steps.0) ∙ append-nil done) in
     let each = subst (λ es. WritesMembers es c.begin_object.new.self.tokens c.loop-name.out.tokens) all c.loop-name.invariant.each in
-    on_ok_weaker c.end_object.result (λ e. object_back c.args.members.now.entries c.iter-name-items.ensures.ordered each.back) c.end_object.ensures.ok
+    on_ok_weaker c.end_object.result (λ e. object_back c.args.members.now.entries c.iter-name-items.ensures.ascending each.back) c.end_object.ensures.ok

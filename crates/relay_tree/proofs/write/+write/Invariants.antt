@@ -1,8 +1,7 @@
 use Rattle.std.proofs.Common.{◌≡◌, ◌+◌, List, ◌++◌}
-use Rattle.std.specs.VecDeque.Iter.{deque_iter_rest}
 use Rattle.relay_tree.specs.Document.{Document, weight, items_of, items_weight, members_weight}
 use Rattle.relay_tree.specs.Seen.{members_of}
-use Rattle.relay_tree.proofs.Members.{Entry}
+use Rattle.relay_tree.proofs.Named.{Entry}
 use Rattle.relay_tree.proofs.Writing.{WritesEach, WritesMembers}
 use Rattle.relay_tree.proofs.write.+write.Given as goal
 
@@ -19,7 +18,7 @@ abbrev pub invariant-write_list-loop-item : goal.invariant-write_list-loop-item
 invariant-write_list-loop-item l = record {
   before : l.out.before ≡ l.initial.out.before;
   done : List Document;
-  all : l.items.items ≡ done ++ deque_iter_rest l.item-iterator;
+  all : l.items.items ≡ done ++ l.item-iterator.rest.now;
   each : WritesEach done l.initial.out.tokens l.out.tokens;
 }
 
@@ -27,6 +26,6 @@ abbrev pub invariant-write_object-loop-name : goal.invariant-write_object-loop-n
 invariant-write_object-loop-name l = record {
   before : l.out.before ≡ l.initial.out.before;
   done : List Entry;
-  all : l.members.entries ≡ done ++ l.name-iterator;
+  all : l.members.entries ≡ done ++ l.name-iterator.rest.now;
   each : WritesMembers done l.initial.out.tokens l.out.tokens;
 }

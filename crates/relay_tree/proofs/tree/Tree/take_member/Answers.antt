@@ -2,7 +2,7 @@ use Rattle.std.proofs.Common.{ap, ◌∙◌, rules}
 use Rattle.relay_tree.specs.Document.{object}
 use Rattle.relay_tree.specs.Part.{object_member}
 use Rattle.relay_tree.specs.Seen.{members_of}
-use Rattle.relay_tree.proofs.Members.{members_of-lookup, removed_other}
+use Rattle.relay_tree.proofs.Named.{members_of-lookup, removed_other}
 use Rattle.relay_tree.proofs.tree.Tree.take_member.Goals as goal
 use Rattle.relay_tree.proofs.tree.Tree.take_member.Goals.{in-Members, in_default}
 
