@@ -15,12 +15,14 @@ ghost use Rattle.relay_hub.specs.Watched.{IsIndexed, NotifiedAmong};
 use crate::cached_update::{UpdateCache, update_for};
 use crate::caller::position_of;
 use crate::config::HubConfig;
+use crate::cost;
 use crate::session::Session;
 use crate::told::Told;
 use crate::update::Update;
 use relay_room::Room;
 use relay_translate::WatchIndex;
 use std::alloc::{AllocError, Global};
+use std::cell::Cell;
 
 /// Notifies the watchers of the newest edit, within the hub's bounds, and writes down whom it told. Then the room drops the oldest changes
 /// that may not be kept. Returns how many outboxes folded because memory ran out.
@@ -72,13 +74,15 @@ fn broadcast(
         → Leads d changes room.now.document → NotifiedFrom d changes room.now (allowance_of cache.old) (allowance_of cache.new) sessions.old sessions.new result }
 {
     let Ok(numbers) = room.touched(alloc, watches) else {
-        *told = Told::everybody(alloc);
+        *told = told.everybody(alloc);
         return notify_all(alloc, room, sessions, cache);
     };
     let short = notify_those(alloc, room, sessions, numbers.as_slice(), cache);
+    told.count(cost::telling(numbers.len() as u64).saturating_add(cache.cost()));
     *told = Told {
         sessions: numbers,
         all: false,
+        cost: Cell::new(told.cost()),
     };
     short
 }

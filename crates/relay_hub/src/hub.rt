@@ -118,6 +118,12 @@ impl Hub {
         &self.counts
     }
 
+    /// What its texts and draws cost since it was made, in microseconds on the machine of docs/PERFORMANCE.md, within a factor of about two:
+    /// counted where the work is done. No clause speaks of it. Allocates nothing.
+    pub fn cost(&self) -> u64 {
+        self.told.cost().saturating_add(self.counts.cost) / 1_000
+    }
+
     /// Opens a session in a room, and returns its number, which is never used again. If there is no room of that name, it is made, with the
     /// document `null` at revision 0; if all places are taken, an untouched room makes place for it. A `Welcome` waits in the session's
     /// outbox. An error leaves the hub unchanged. `NoMemory` comes only if no other error does.
@@ -272,6 +278,12 @@ impl Hub {
     {
         let (_, session) = self.find(session)?;
         Some(session.waiting())
+    }
+
+    /// The place of the session's room ([`Hub::room_at`]), which it keeps while the session is open. `None` if it is not open. No clause
+    /// speaks of it. Allocates nothing.
+    pub fn room_of(&self, session: u64) -> Option<usize> {
+        self.homes.get(&session).copied()
     }
 
     /// At most how much weight the session's room walks over to carry out a text, told before the text is read: for each operation the

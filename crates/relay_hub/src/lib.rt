@@ -10,6 +10,7 @@ mod broadcast;
 mod cached_update;
 mod caller;
 mod config;
+mod cost;
 mod encoded_patch;
 mod entering;
 mod event;

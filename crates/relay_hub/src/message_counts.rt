@@ -30,6 +30,8 @@ pub struct MessageCounts {
     pub refusals: [FaultCount; FAULTS],
     pub patches: u64,
     pub snapshots: SnapshotCounts,
+    /// What the draws cost, in nanoseconds.
+    pub(crate) cost: u64,
 }
 
 /// How many refusals name a fault.
@@ -92,7 +94,13 @@ impl MessageCounts {
                 weight: 0,
                 memory: 0,
             },
+            cost: 0,
         }
+    }
+
+    /// Counts what a draw cost.
+    pub(crate) fn count_cost(&mut self, cost: u64) {
+        self.cost = self.cost.saturating_add(cost);
     }
 
     /// Counts a reply.

@@ -17,6 +17,7 @@ use crate::boxed_reply::ReplySlot;
 use crate::broadcast::broadcast_and_trim;
 use crate::caller::{Caller, position_of, session_at, session_mut};
 use crate::config::HubConfig;
+use crate::cost;
 use crate::event::Heard;
 use crate::fault::HubFault;
 use crate::message_counts::MessageCounts;
@@ -51,7 +52,7 @@ pub fn receive(
     ensures indexed { IsIndexed watches.new sessions.new }
     ensures no_memory { IsErrOf result HubFault.NoMemory → HasSpace sessions.old number }
 {
-    *told = Told::nobody(alloc);
+    *told = told.next(alloc);
     let caller = Caller::find(sessions, number);
     if is_full(sessions, caller) {
         return Ok(Heard::Busy);
@@ -59,6 +60,7 @@ pub fn receive(
     let Ok(slot) = ReplySlot::new(alloc) else {
         return Err(HubFault::NoMemory);
     };
+    told.count(cost::reading(text));
     let served = match Request::read(alloc, text) {
         Ok(request) => perform(
             alloc, made, room, watches, sessions, caller, slot, request, told,
@@ -125,6 +127,7 @@ fn perform(
             rev,
             view,
         } => {
+            told.count(cost::resuming(&view, room.history_weight()));
             let request = ResumeRequest {
                 id,
                 epoch,
@@ -178,8 +181,11 @@ fn edit(
     ensures indexed { IsIndexed watches.now sessions.new }
 {
     let kept = RevisionSlot::new(alloc)?;
+    let (weight, held) = (room.weight(), room.history_weight());
     match room.edit(alloc, kept, request.base, &request.patch) {
         Ok(rev) => {
+            let changed = room.history_weight().saturating_sub(held);
+            told.count(cost::editing(&request.patch, weight, changed));
             let done = Reply::Done {
                 id: request.id,
                 rev,
@@ -188,6 +194,9 @@ fn edit(
             Ok(broadcast_and_trim(alloc, made, room, watches, sessions, told))
         }
         Err(fault) => {
+            if let EditFault::Apply(fault) = fault {
+                told.count(cost::refusing(&request.patch, fault.at, weight));
+            }
             let Some(reply) = edit_refusal(request.id, fault) else {
                 return Err(AllocError);
             };

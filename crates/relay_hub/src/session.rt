@@ -2,10 +2,10 @@
 use crate::boxed_reply::{BoxedReply, ReplySlot};
 use crate::config::HubConfig;
 use crate::encoded_patch::EncodedPatch;
-use crate::load;
 use crate::message_counts::{MessageCounts, SnapshotCause};
 use crate::shared_view::SharedView;
 use crate::update::Update;
+use crate::{cost, load};
 use relay_outbox::{Front, Outbox, OutboxFault};
 use relay_proto::{Reply, shown_text};
 use relay_room::Room;
@@ -229,7 +229,7 @@ impl Session {
         ensures no_memory { OnErr result (0 < waiting self.old) }
     {
         let text = self.front_text(alloc, room)?;
-        self.count_front(counts);
+        self.count_front(text.as_ref(), counts);
         load::drop_front(&mut self.outbox, &mut self.load, self.budget);
         Ok(text)
     }
@@ -253,13 +253,26 @@ impl Session {
         }
     }
 
-    /// Counts the message at the front of the outbox.
-    fn count_front(&self, counts: &mut MessageCounts) {
+    /// Counts the message at the front of the outbox, which has this text, and what it cost.
+    fn count_front(&self, text: Option<&String>, counts: &mut MessageCounts) {
+        let Some(text) = text else {
+            return;
+        };
+        let bytes = text.len() as u64;
         match self.outbox.front() {
             Front::Nothing => {}
-            Front::Reply(reply) => counts.count_reply(reply.get()),
-            Front::Patch(_) => counts.count_patch(),
-            Front::Snapshot => counts.count_snapshot(self.due_for),
+            Front::Reply(reply) => {
+                counts.count_reply(reply.get());
+                counts.count_cost(cost::drawing(bytes));
+            }
+            Front::Patch(_) => {
+                counts.count_patch();
+                counts.count_cost(cost::drawing(bytes));
+            }
+            Front::Snapshot => {
+                counts.count_snapshot(self.due_for);
+                counts.count_cost(cost::showing(bytes));
+            }
         }
     }
 

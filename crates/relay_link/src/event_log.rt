@@ -1,6 +1,7 @@
 //! The events of a turn, in a buffer that is allocated before the turn begins.
-use relay_hub::Event;
+use relay_hub::{Event, OpenFault};
 use std::alloc::{AllocError, Global};
+use std::cell::Cell;
 use std::marker::Model;
 
 /// The maximum number of events of a turn.
@@ -14,6 +15,10 @@ pub(crate) struct EventLog {
     drawn: u64,
     /// How much work the texts may be that were passed to the hub.
     work: u64,
+    /// Why the hub opened no session, if it was asked for one.
+    fault: Cell<Option<OpenFault>>,
+    /// Whether memory was refused for a text that was to be drawn.
+    lacks_memory: bool,
 }
 
 impl Model for EventLog {
@@ -40,6 +45,8 @@ impl EventLog {
             events: Vec::with_capacity(alloc, MAX_EVENTS)?,
             drawn: 0,
             work: 0,
+            fault: Cell::new(None),
+            lacks_memory: false,
         })
     }
 
@@ -77,6 +84,28 @@ impl EventLog {
     /// How much work the texts may be that were passed to the hub.
     pub(crate) fn work(&self) -> u64 {
         self.work
+    }
+
+    /// Notes why the hub opened no session. Allocates nothing.
+    pub(crate) fn note_fault(&self, fault: OpenFault) {
+        self.fault.set(Some(fault));
+    }
+
+    /// Why the hub opened no session, if it was asked for one.
+    pub(crate) fn fault(&self) -> Option<OpenFault> {
+        self.fault.get()
+    }
+
+    /// Notes that memory was refused for a text that was to be drawn. Allocates nothing.
+    pub(crate) fn note_shortage(&mut self)
+        ensures { self.new ≡ self.old }
+    {
+        self.lacks_memory = true;
+    }
+
+    /// Whether memory was refused for a text that was to be drawn.
+    pub(crate) fn lacks_memory(&self) -> bool {
+        self.lacks_memory
     }
 
     pub(crate) fn into_events(self) -> Vec<Event>

@@ -24,6 +24,7 @@ pub(crate) fn open(alloc: Global, hub: &mut Hub, room: String, made: &mut EventL
     let opened = match hub.open(alloc, room.as_str()) {
         Ok(session) => Some(session),
         Err(fault) => {
+            made.note_fault(fault);
             if !is_answer(fault) {
                 return None;
             }

@@ -208,6 +208,9 @@ impl<S: Read + Write + Drop> Link<S> {
         Ok(Turn {
             drawn: made.drawn(),
             work: made.work(),
+            cost: 0,
+            fault: None,
+            lacks_memory: false,
             made: made.into_events(),
             stage: Stage::Gone,
             cause,
@@ -231,6 +234,7 @@ impl<S: Read + Write + Drop> Link<S> {
         ensures hub_unchanged { OnErr result (hub.new ≡ hub.old) }
     {
         let mut made = EventLog::new(alloc)?;
+        let before = hub.cost();
         let state = mem::replace(&mut self.state, State::Gone);
         let draws = draws.min(MAX_DRAWS);
         let next = advance(alloc, state, phase, draws, hub, &mut made);
@@ -238,6 +242,9 @@ impl<S: Read + Write + Drop> Link<S> {
         Ok(Turn {
             drawn: made.drawn(),
             work: made.work(),
+            cost: hub.cost().saturating_sub(before),
+            fault: made.fault(),
+            lacks_memory: made.lacks_memory(),
             made: made.into_events(),
             stage: self.stage(),
             cause: next.cause,

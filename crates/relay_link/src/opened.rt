@@ -273,6 +273,7 @@ fn gather<S: Read + Write + Drop>(
             Ok(Some(text)) => text,
             Ok(None) => return Ok(()),
             Err(_) => {
+                made.note_shortage();
                 socket.get_ref().request_poll();
                 return Ok(());
             }

@@ -5,7 +5,7 @@ ghost use Rattle.relay_link.specs.Adds.{is_receive, is_draw};
 
 use crate::cause::Cause;
 use crate::stage::Stage;
-use relay_hub::Event;
+use relay_hub::{Event, OpenFault};
 
 /// What a turn did, and the stage that it left the link in.
 #[derive(Drop)]
@@ -21,6 +21,12 @@ pub struct Turn {
     /// How much work the text may be that the turn passed to the hub ([`relay_hub::Hub::most_work`]), also if the hub had no memory for it;
     /// 0 if there was none.
     pub work: u64,
+    /// What the hub's work cost, in microseconds ([`relay_hub::Hub::cost`]).
+    pub cost: u64,
+    /// Why the hub opened no session, if the turn asked it for one.
+    pub fault: Option<OpenFault>,
+    /// Whether memory was refused for a text that was to be drawn, which still waits.
+    pub lacks_memory: bool,
 }
 
 impl Turn {

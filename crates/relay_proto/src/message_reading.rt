@@ -12,7 +12,6 @@ use crate::word::Word;
 use relay_patch::{Patch, PatchFault, PatchLimits};
 use relay_tree::{Element, Node, Tree, TreeFault};
 use std::alloc::Global;
-use std::collections::VecDeque;
 use thiserror::Error;
 
 /// The reason why no message was read.
@@ -102,7 +101,7 @@ fn is_view(tree: &Tree) -> bool
     }
 }
 
-fn are_slots(slots: &VecDeque<Element>) -> bool
+fn are_slots(slots: &Vec<Element>) -> bool
     ensures { result ≡ list_all is_slot slots.now.items }
 {
     slots.iter().all(|slot| is_slot(slot.tree()))

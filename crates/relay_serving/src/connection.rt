@@ -1,17 +1,24 @@
-//! A connection of a server: a link, and whether a turn of it would do anything.
+//! A connection of a server: its link and stream, who is on the other side, what it may still cost,
+//! and which turns would do something.
 ghost use Rattle.std.specs.Prelude.{◌≡◌, ◌↔◌, ◌&&◌, ◌||◌, IfOk, IsTrue, is_none, not};
 ghost use Rattle.relay_link.specs.Stage.{stage_of, session_of, is_idle};
 ghost use Rattle.relay_link.specs.declared.stage.Stage.TheVariants.{Closing};
 ghost use Rattle.relay_serving.specs.Advances.{IsNew};
 ghost use Rattle.relay_serving.specs.Connections.{has_room};
 
-use crate::read_share::TextsRead;
+use crate::connection_log::{ConnectionId, Refusal, RoomSession};
 use crate::readiness::StreamReady;
 use crate::ready::{Known, Watched};
-use relay_hub::{Hub, OPERATION_WORK};
+use relay_hub::{Hub, OpenFault};
 use relay_link::{Link, Stage};
+use relay_schedule::Credit;
 use std::alloc::{AllocError, Global};
+use std::cell::Cell;
 use std::io::{Read, Write};
+use std::net::SocketAddr;
+
+/// The most bytes of a room's name.
+const MAX_NAME: usize = 64;
 
 /// The output of a link.
 #[derive(Clone, Copy, Debug, PartialEq, Eq)]
@@ -22,39 +29,25 @@ pub(crate) enum Output {
     Waiting,
 }
 
-/// How much of a round a connection takes.
-#[derive(Clone, Copy, Debug, PartialEq, Eq)]
-pub(crate) enum Weight {
-    /// It sends short texts, of which each is little work: one operation on a largest document at most.
-    Light,
-    /// Likewise, and its last text told many sessions something.
-    Loud,
-    /// Its next text is short and may be much work.
-    Costly,
-    /// It sends long texts.
-    Long,
-}
-
-impl Weight {
-    /// How much work a text may be that the hub is given in a read turn of this weight.
-    pub(crate) fn most_work(self) -> u64 {
-        match self {
-            Weight::Light | Weight::Loud => OPERATION_WORK,
-            Weight::Costly | Weight::Long => u64::MAX,
-        }
-    }
-}
-
 /// The turns that would do something for a connection.
 #[derive(Clone, Copy, Debug, PartialEq, Eq)]
 pub(crate) struct Wants {
-    /// A read turn, and of which weight it would be.
-    pub read: Option<Weight>,
+    /// A read turn.
+    pub read: bool,
     /// A write turn for corked output, and one for that or for messages that wait.
     pub corked: bool,
     pub waiting: bool,
-    /// A read turn, also if nothing happens, so that a link does not wait for ever for the other side's close.
+    /// A read turn, also if nothing happens, so that a link does not wait for ever for the other
+    /// side's close.
     pub closing: bool,
+}
+
+/// What rounds know of a connection. It is kept in a cell: no contract speaks of it.
+#[derive(Clone, Copy)]
+struct Standing {
+    credit: Credit,
+    /// Whether its room counts it among those that wait to be written to.
+    is_counted: bool,
 }
 
 /// A link, and what the server knows about it.
@@ -62,14 +55,24 @@ pub(crate) struct Wants {
 pub(crate) struct Connection<S: Write + Drop> {
     pub link: Link<Watched<S>>,
     pub known: Known,
-    /// Whether something became ready since the last read turn of the link, or that turn left something to read in the stream.
+    /// Whether something became ready since the last read turn of the link, or that turn left
+    /// something to read in the stream.
     pub read_pending: bool,
-    /// Whether its last text told a crowd something.
-    pub told_crowd: bool,
     /// Its position in the order of arrival, from 0.
     pub place: u64,
     /// The round in which it was accepted.
     pub since: u64,
+    standing: Cell<Standing>,
+    /// Its other side.
+    peer: SocketAddr,
+    /// The session that was opened for it, also once that is closed.
+    opened: Option<u64>,
+    /// The room of that session: its name, for which the memory is taken at the beginning, and its
+    /// place in the hub.
+    room: String,
+    room_place: Option<usize>,
+    /// Why the hub opened none.
+    fault: Option<OpenFault>,
 }
 
 impl<S: Read + Write + Drop> Connection<S> {
@@ -78,6 +81,8 @@ impl<S: Read + Write + Drop> Connection<S> {
     pub(crate) fn new(
         alloc: Global,
         stream: S,
+        peer: SocketAddr,
+        credit: Credit,
         place: u64,
         since: u64,
     ) -> Result<Connection<S>, AllocError>
@@ -88,10 +93,92 @@ impl<S: Read + Write + Drop> Connection<S> {
             link: Link::new(alloc, stream)?,
             known,
             read_pending: true,
-            told_crowd: false,
             place,
             since,
+            standing: Cell::new(Standing {
+                credit,
+                is_counted: false,
+            }),
+            peer,
+            opened: None,
+            room: String::with_capacity(alloc, MAX_NAME)?,
+            room_place: None,
+            fault: None,
         })
+    }
+
+    /// Notes the session that the link has now, its room, and the room's place in the hub.
+    pub(crate) fn note_opened(&mut self, room: &str, place: Option<usize>)
+        ensures { self.new.link ≡ self.old.link }
+    {
+        self.opened = self.link.session();
+        self.room.clear();
+        let _ = self.room.push_str(room);
+        self.room_place = place;
+    }
+
+    /// Notes why the hub opened no session.
+    pub(crate) fn note_fault(&mut self, fault: OpenFault)
+        ensures { self.new.link ≡ self.old.link }
+    {
+        self.fault = Some(fault);
+    }
+
+    /// Who it is, for the log.
+    pub(crate) fn id(&self, key: usize) -> ConnectionId {
+        ConnectionId {
+            key,
+            peer: self.peer,
+        }
+    }
+
+    /// The session that was opened for it, and its room, for the log.
+    pub(crate) fn opened(&self) -> Option<RoomSession<'_>> {
+        match self.opened {
+            Some(number) => Some(RoomSession {
+                number,
+                room: self.room.as_str(),
+            }),
+            None => None,
+        }
+    }
+
+    /// The place of the room in which a session was opened for it.
+    pub(crate) fn room_place(&self) -> Option<usize> {
+        self.room_place
+    }
+
+    /// Why its handshake was refused with this status.
+    pub(crate) fn refusal(&self, status: u16) -> Refusal {
+        match self.fault {
+            Some(fault) => Refusal::of(fault),
+            None => Refusal::Status(status),
+        }
+    }
+
+    /// Its credit in this round of credit.
+    pub(crate) fn credit(&self, round: u64) -> Credit {
+        let mut standing = self.standing.get();
+        standing.credit.renew(round);
+        self.standing.set(standing);
+        standing.credit
+    }
+
+    /// Takes what a turn cost from its credit.
+    pub(crate) fn charge(&self, cost: u64) {
+        let mut standing = self.standing.get();
+        standing.credit.charge(cost);
+        self.standing.set(standing);
+    }
+
+    /// Notes whether its room counts it among those that wait to be written to. Returns whether it
+    /// did before.
+    pub(crate) fn count(&self, is_counted: bool) -> bool {
+        let mut standing = self.standing.get();
+        let was_counted = standing.is_counted;
+        standing.is_counted = is_counted;
+        self.standing.set(standing);
+        was_counted
     }
 
     /// Records what became ready.
@@ -102,16 +189,8 @@ impl<S: Read + Write + Drop> Connection<S> {
         self.read_pending = true;
     }
 
-    /// Notes what the last read turn passed to the hub. Nothing changes if that is no text.
-    pub(crate) fn note_texts(&mut self, read: TextsRead)
-        ensures { self.new.link ≡ self.old.link }
-    {
-        if read != TextsRead::NONE {
-            self.told_crowd = read.tell_a_crowd();
-        }
-    }
-
-    /// Gives the link a read turn if it is closing, so that a wait without events counts toward its limit of turns.
+    /// Gives the link a read turn if it is closing, so that a wait without events counts toward its
+    /// limit of turns.
     pub(crate) fn mark_closing(&mut self)
         ensures { self.new.link ≡ self.old.link }
     {
@@ -120,7 +199,8 @@ impl<S: Read + Write + Drop> Connection<S> {
         }
     }
 
-    /// Whether a read turn might do something: something became ready, or the link is not idle, and the hub has space for a reply.
+    /// Whether a read turn might do something: something became ready, or the link is not idle, and
+    /// the hub has space for a reply.
     pub(crate) fn may_read(&self, hub: &Hub) -> bool
         ensures { result ≡ (self.now.read_pending || not (is_idle self.now.link)) && has_room hub.now (session_of self.now.link) }
     {
@@ -133,27 +213,10 @@ impl<S: Read + Write + Drop> Connection<S> {
         }
     }
 
-    /// The weight of its next read turn.
-    pub(crate) fn weight(&self) -> Weight {
-        if self.link.holds_text() {
-            Weight::Costly
-        } else if self.known.is_long() {
-            Weight::Long
-        } else if self.told_crowd {
-            Weight::Loud
-        } else {
-            Weight::Light
-        }
-    }
-
     /// The turns that would do something now.
     pub(crate) fn wants(&self, hub: &Hub) -> Wants {
         Wants {
-            read: if self.may_read(hub) {
-                Some(self.weight())
-            } else {
-                None
-            },
+            read: self.may_read(hub),
             corked: self.has_output(hub, Output::Corked),
             waiting: self.has_output(hub, Output::Waiting),
             closing: self.is_closing(),
@@ -167,7 +230,7 @@ impl<S: Read + Write + Drop> Connection<S> {
                 (Output::Corked, _) => self.link.has_corked_output(),
                 (Output::Waiting, Some(session)) => self.link.has_corked_output()
                     || matches!(hub.waiting(session), Some(1..)),
-                (Output::Waiting, None) => false,
+                (Output::Waiting, None) => self.link.has_corked_output(),
             }
     }
 

@@ -1,4 +1,5 @@
 //! The log of a server's connections.
+use relay_hub::OpenFault;
 use relay_link::Cause;
 use std::fmt;
 use std::fmt::{Display, Formatter};
@@ -61,6 +62,16 @@ pub enum Refusal {
 }
 
 impl Refusal {
+    /// The refusal of a handshake for which the hub opened no session.
+    pub(crate) fn of(fault: OpenFault) -> Refusal {
+        match fault {
+            OpenFault::RoomName => Refusal::Status(503),
+            OpenFault::RoomsFull => Refusal::RoomsFull,
+            OpenFault::SessionsFull | OpenFault::Exhausted => Refusal::SessionsFull,
+            OpenFault::NoMemory => Refusal::NoMemory,
+        }
+    }
+
     /// The status of the reply.
     pub fn status(self) -> u16 {
         match self {

@@ -1,4 +1,5 @@
-//! A stream, together with its readiness as the system last reported it, and with how much of an unfinished text was read.
+//! A stream, together with its readiness as the system last reported it, and with how much was read
+//! of it.
 ghost use Rattle.relay_serving.specs.Ready.{left_of};
 
 use crate::readiness::StreamReady;
@@ -7,9 +8,6 @@ use std::cell::Cell;
 use std::io;
 use std::io::{Error, ErrorKind, Read, Write};
 use std::rc::Rc;
-
-/// A text of so many bytes is long, and so is one of which as much was read before its end.
-const LONG: u64 = 8_192;
 
 /// What is known of a stream, shared by the stream and the rounds that receive its events.
 #[derive(Drop)]
@@ -20,18 +18,14 @@ pub(crate) struct Known {
 #[derive(Clone, Copy, Debug, PartialEq, Eq)]
 struct StreamState {
     ready: StreamReady,
-    /// How many bytes were read since the last whole text.
-    unfinished: u64,
-    /// Whether that, or the last text, is long.
-    is_long: bool,
+    /// How many bytes were read since that was last asked.
+    read: u64,
 }
 
-/// A stream that returns `WouldBlock` without a system call while it is known not to be ready. It is readable until a read returns
-/// `WouldBlock` or fewer bytes than it was asked for, since then nothing is left (epoll(7)), and writable until a write returns
-/// `WouldBlock`. A later event makes it ready again.
-///
-/// It also returns `WouldBlock` where a text becomes long, until the turn ends and the stream counts as long. So the end of a long text
-/// is read in a turn of a long stream alone, and no other turn takes longer than a short text.
+/// A stream that returns `WouldBlock` without a system call while it is known not to be ready. It
+/// is readable until a read returns `WouldBlock` or fewer bytes than it was asked for, since then
+/// nothing is left (epoll(7)), and writable until a write returns `WouldBlock`. A later event makes
+/// it ready again.
 #[derive(Drop)]
 pub(crate) struct Watched<S> {
     stream: S,
@@ -52,11 +46,11 @@ impl Known {
 
     /// Whether a read may give bytes in this turn.
     fn is_readable(&self) -> bool {
-        let state = self.state.get();
-        state.ready.readable && (state.is_long || state.unfinished < LONG)
+        self.state.get().ready.readable
     }
 
-    /// Whether another read turn may read bytes, or the end, without a new event: a turn that has output pending reads nothing.
+    /// Whether another read turn may read bytes, or the end, without a new event: a turn that has
+    /// output pending reads nothing.
     pub(crate) fn may_go_on(&self) -> bool {
         self.is_readable() && self.is_writable()
     }
@@ -65,19 +59,13 @@ impl Known {
         self.state.get().ready.writable
     }
 
-    /// Whether the last text was long, or one is long already of which the end was not read.
-    pub(crate) fn is_long(&self) -> bool {
-        self.state.get().is_long
-    }
-
-    /// Ends a read turn, in which a text of so many bytes was received, or none.
-    pub(crate) fn end_turn(&self, received: Option<u64>) {
+    /// How many bytes were read since this was last asked.
+    pub(crate) fn take_read(&self) -> u64 {
         let mut state = self.state.get();
-        if received.is_some() {
-            state.unfinished = 0;
-        }
-        state.is_long = received.unwrap_or(state.unfinished) >= LONG;
+        let read = state.read;
+        state.read = 0;
         self.state.set(state);
+        read
     }
 
     /// Notes what a read of at most `most` bytes returned.
@@ -86,7 +74,7 @@ impl Known {
         match read {
             Ok(len) => {
                 state.ready.readable = *len == most || state.ready.is_over;
-                state.unfinished = state.unfinished.saturating_add(*len as u64);
+                state.read = state.read.saturating_add(*len as u64);
             }
             Err(error) => state.ready.readable = error.kind() != ErrorKind::WouldBlock,
         }
@@ -118,8 +106,7 @@ impl<S> Watched<S> {
                     writable: true,
                     is_over: false,
                 },
-                unfinished: 0,
-                is_long: false,
+                read: 0,
             }),
         )?;
         let known = Known {

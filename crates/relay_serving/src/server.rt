@@ -13,23 +13,21 @@ mod queueing;
 mod reading;
 mod writing;
 
-use crate::backlog::Backlog;
 use crate::connection::Connection;
 use crate::connection_log::ConnectionLog;
-use crate::peers::Peers;
 use crate::queues::Queues;
-use crate::read_share::ReadShares;
 use crate::readiness::{Readiness, ReadyEvent};
-use crate::session_index::SessionIndex;
-use relay_hub::Hub;
+use indexmap::IndexMap;
+use relay_hub::{Hub, HubConfig};
+use relay_schedule::{RoomShares, ShareLimits};
+use relay_tree::Budget;
 use slab::Slab;
 use std::alloc::Global;
 use std::io::{Read, Write};
 use std::net::{OpenListener, OpenStream};
-pub(crate) use writing::MAX_WAITING;
 
-/// The maximum number of connections that a server holds whose hub allows that number of sessions: a quarter more, and at least 64 more.
-/// The others have no session yet, or none any more.
+/// The maximum number of connections that a server holds whose hub allows that number of sessions:
+/// a quarter more, and at least 64 more. The others have no session yet, or none any more.
 pub fn connection_limit(sessions: u64) -> usize
     ensures { result ≡ connection_limit sessions }
 {
@@ -49,16 +47,14 @@ pub struct Server<S: Write + Drop, R> {
     /// Whether a connection may wait to be accepted; `failed`: whether the last accept failed.
     accept_ready: bool,
     failed: bool,
-    /// How much a round reads.
-    shares: ReadShares,
-    /// What is written before loud connections are read again.
-    backlog: Backlog,
     /// The connections that may have a turn.
     queues: Queues,
-    /// Which connection has which session.
-    sessions: SessionIndex,
-    /// Who is on the other side of each connection.
-    peers: Peers,
+    /// How far each room is read ahead.
+    rooms: RoomShares,
+    /// How many texts were passed to the hub.
+    texts: u64,
+    /// The key of the connection that has a session, by the session's number.
+    sessions: IndexMap<u64, usize>,
     rounds: u64,
     /// The first round in which the log may say again that memory was refused.
     next_shed_entry: u64,
@@ -67,8 +63,8 @@ pub struct Server<S: Write + Drop, R> {
 }
 
 impl<S: Read + Write + OpenStream + Drop, R: Readiness<S>> Server<S, R> {
-    /// A server of a hub, with no connection. A round reads half as many light texts as patches may wait for a session of the hub, 16 at
-    /// most, and half as many bytes as these may weigh, and of costly texts as much again ([`ReadShares::of`]).
+    /// A server of a hub, with no connection. A room is read ahead by half as many texts as patches
+    /// may wait for a session of the hub, and by half as many bytes as these may weigh.
     #[tactic(auto, using(crate::proofs::Owners::none_connected))]
     pub fn new(alloc: Global, hub: Hub, readiness: R) -> Server<S, R>
         ensures empty { connections_of result ≡ 0 }
@@ -85,45 +81,47 @@ impl<S: Read + Write + OpenStream + Drop, R: Readiness<S>> Server<S, R> {
             events: Vec::new(alloc),
             accept_ready: true,
             failed: false,
-            shares: ReadShares::of(config),
-            backlog: Backlog::of(0),
             queues: Queues::new(alloc),
-            sessions: SessionIndex::new(alloc),
-            peers: Peers::new(alloc),
+            rooms: RoomShares::new(alloc, share_limits(config)),
+            texts: 0,
+            sessions: IndexMap::new(alloc),
             rounds: 0,
             next_shed_entry: 0,
             accepted: 0,
         }
     }
 
-    /// The number of connections held. It is at most [`connection_limit`], since a round holds no more.
+    /// The number of connections held. It is at most [`connection_limit`], since a round holds no
+    /// more.
     pub fn connections(&self) -> usize
         ensures { result ≡ connections_of self.now }
     {
         self.connections.len()
     }
 
-    /// Runs one round. If there is no work it waits until something is ready, for at most 100 ms. Then it
+    /// Runs one round. If there is no work it waits until something is ready, for at most 100 ms.
+    /// Then it
     ///
-    /// - accepts up to 8 waiting connections. If [`connection_limit`] are held already, the oldest one without a session is ended. A connection
-    ///   that cannot be accepted or held is dropped;
-    /// - reads: each light connection that may have input gets a read turn; the one that had its turn last comes last. The turn reads
-    ///   one text and draws up to 32 messages, which are corked. A text that may be more work than one operation on a largest document
-    ///   is held, and its connection is costly. This repeats until a pass reads no text, or until the round's share was read;
-    /// - reads likewise from loud connections, whose last text told a crowd something, unless what loud texts came to before waits to be
-    ///   written;
-    /// - writes: each link with waiting messages or corked output, whose stream is writable, gets a write turn, which draws and
-    ///   sends up to 32 more messages: first the links with corked output, then all, each time starting with the one that has waited
-    ///   longest. Once the first pass has drawn 256 KiB, or the second 768 KiB, the others wait for the next one;
-    /// - passes on texts that costly connections hold, each connection's after those that have waited longer, until a share like that of
-    ///   light texts was read, or as much work as sixteen operations on a largest document, and writes again;
-    /// - reads from one long connection, and writes again. A connection is long if its last text had 8 KiB or more, or if as much was
-    ///   read of a text without its end; of the long ones too the one that had its turn last comes last.
+    /// - accepts up to 8 waiting connections. If [`connection_limit`] are held already, the oldest
+    ///   one without a session is ended. A connection that cannot be accepted or held is dropped;
+    /// - reads: each connection that has credit, may have input, and whose room has place gets a
+    ///   read turn; the one that had its turn last comes last. The turn passes at most one text to
+    ///   the hub, and draws its reply, which is corked. This repeats until nobody reads, or the
+    ///   turns have cost 5 ms;
+    /// - writes: each link with corked output, and then each for which something waits, whose
+    ///   stream is writable, gets a write turn, which draws and sends up to 32 messages, each time
+    ///   starting with the one that has waited longest. Once the first pass has drawn 256 KiB, or
+    ///   the second as much, the others wait for the next one;
+    /// - reads likewise from connections that owe, from one at least, until the turns of the round
+    ///   have cost 5 ms, and writes again.
     ///
-    /// So a client whose texts are short and little work waits in turn with others like it, and in each round for at most one share of costly
-    /// texts, and one long text. A turn that is out of memory is left for the next round, and the hub gives memory back
-    /// ([`relay_hub::Hub::shed`]), so that resumes and waiting patches become snapshots. Links that are gone are dropped. If it is unknown
-    /// what is ready, everything counts as ready.
+    /// A turn takes what it cost from the credit of its connection, and each round of credit gives
+    /// the same to all ([`relay_schedule::ReadyQueue`]). A room has place if less was said there
+    /// since its connections were last written to than may wait for a session. So a client that has
+    /// credit waits for one turn of each that has credit too, and for the last turn of those who
+    /// owe. A turn that is out of memory is left for the next round, and the hub gives memory back
+    /// ([`relay_hub::Hub::shed`]), so that resumes and waiting patches become snapshots. Links that
+    /// are gone are dropped. If it is unknown what is ready, everything counts as ready.
     #[tactic(auto, using(crate::proofs::Rules::rounds))]
     pub fn round<L: OpenListener<Stream = S>, J: ConnectionLog>(
         &mut self,
@@ -138,10 +136,9 @@ impl<S: Read + Write + OpenStream + Drop, R: Readiness<S>> Server<S, R> {
         self.rounds = self.rounds.saturating_add(1);
         self.poll();
         self.accept(alloc, listener, log);
-        self.read(alloc, log);
+        let spending = self.read(alloc, log);
         self.write(alloc, log);
-        self.exchange_costly(alloc, log);
-        self.exchange_long(alloc, log);
+        self.exchange_owing(alloc, spending, log);
     }
 
     /// Runs that many rounds, and ends every connection as [`Server::end`] does.
@@ -166,5 +163,18 @@ impl<S: Read + Write + OpenStream + Drop, R: Readiness<S>> Server<S, R> {
     /// An upper bound of the keys, exclusive.
     fn keys(&self) -> usize {
         self.connections.capacity()
+    }
+}
+
+/// How far a room may be read ahead: by half of what may wait for a session, at least one text. So
+/// no watcher that keeps up is folded by the number of its patches. The weight of changes may,
+/// since a short text can make a heavy one.
+fn share_limits(config: HubConfig) -> ShareLimits {
+    ShareLimits {
+        texts: (config.max_waiting_patches / 2).max(1),
+        bytes: match config.waiting_weight {
+            Budget::Unbounded => u64::MAX,
+            Budget::Left(weight) => (weight / 2).max(1),
+        },
     }
 }

@@ -1,6 +1,7 @@
 //! No connection is forgotten: rounds go by queues, and behind each the queues are compared with a walk over all connections.
 use crate::clients::{Clients, wires};
 use crate::memory_server::ReadinessScript;
+use crate::numbers::Numbers;
 use relay_wire::play;
 use std::alloc::{AllocGlobal, Global};
 use std::process::Abort;
@@ -11,23 +12,6 @@ const CLIENTS: u64 = 6;
 const STAYING: u64 = 4;
 
 const STEPS: u64 = 200;
-
-/// Numbers that look random, from a seed (Knuth's linear congruential generator).
-#[derive(Drop)]
-struct Numbers {
-    state: u64,
-}
-
-impl Numbers {
-    /// A number below `limit`, which is not 0.
-    fn below(&mut self, limit: u64) -> u64 {
-        self.state = self
-            .state
-            .wrapping_mul(6_364_136_223_846_793_005)
-            .wrapping_add(1_442_695_040_888_963_407);
-        (self.state >> 33).checked_rem(limit).unwrap_or(0)
-    }
-}
 
 const EDIT: &str = r#"send @ says {"do":"edit","id":2,"patch":[{"op":"add","path":"","value":7}]}"#;
 

@@ -18,6 +18,10 @@ mod loopback;
 #[cfg(test)]
 mod memory_server;
 #[cfg(test)]
+mod numbers;
+#[cfg(test)]
 mod rounds;
 #[cfg(test)]
-mod weights;
+mod schedules;
+#[cfg(test)]
+mod turns;

@@ -6,6 +6,8 @@ use crate::connection::Connection;
 use crate::connection_log::ConnectionLog;
 use crate::eviction_log::EvictionLog;
 use crate::readiness::Readiness;
+use indexmap::IndexMap;
+use relay_schedule::Credit;
 use std::alloc::{AllocError, Global};
 use std::io::{ErrorKind, Read, Write};
 use std::net::{OpenListener, OpenStream, SocketAddr};
@@ -81,7 +83,8 @@ impl<S: Read + Write + OpenStream + Drop, R: Readiness<S>> Server<S, R> {
         self.queue(key);
     }
 
-    /// Holds a new connection. It is dropped if there is no capacity, or if its stream cannot be made non-blocking or watched.
+    /// Holds a new connection. It is dropped if there is no capacity, or if its stream cannot be
+    /// made non-blocking or watched.
     #[tactic(auto, using(crate::proofs::Rules::advances))]
     fn add(&mut self, alloc: Global, stream: S, peer: SocketAddr) -> Result<(), AllocError>
         ensures { KeepsWithin S.remaining self.old self.new }
@@ -95,12 +98,21 @@ impl<S: Read + Write + OpenStream + Drop, R: Readiness<S>> Server<S, R> {
             return Ok(());
         }
         self.queues.admit(key)?;
-        self.sessions.admit(key)?;
-        self.peers.begin(key, peer)?;
+        reserve(&mut self.sessions, self.connections.len())?;
         let place = self.accepted;
         self.accepted = self.accepted.saturating_add(1);
-        let connection = Connection::new(alloc, stream, place, self.rounds)?;
+        let credit = Credit::of_new(self.queues.ready.round());
+        let connection = Connection::new(alloc, stream, peer, credit, place, self.rounds)?;
         self.connections.insert(connection)?;
         Ok(())
+    }
+}
+
+/// Takes the memory for the sessions of so many connections, and of one more.
+fn reserve(sessions: &mut IndexMap<u64, usize>, connections: usize) -> Result<(), AllocError> {
+    let most = connections.saturating_add(1);
+    match sessions.reserve(most.saturating_sub(sessions.len())) {
+        Ok(()) => Ok(()),
+        Err(_) => Err(AllocError),
     }
 }

@@ -5,8 +5,10 @@ ghost use Rattle.relay_serving.specs.Connections.{connections_of, limit_of};
 ghost use Rattle.relay_serving.specs.Rounds.{RoundsOf};
 
 use super::Server;
+use super::queueing::uncount_writer;
 use crate::connection_log::{ConnectionLog, LogEntry};
 use crate::readiness::Readiness;
+use relay_hub::{Event, OpenFault};
 use relay_link::{Cause, Stage, Turn};
 use std::alloc::Global;
 use std::io::{Read, Write};
@@ -16,7 +18,8 @@ use std::net::OpenStream;
 const SHED_ROUNDS: u64 = 1_024;
 
 impl<S: Read + Write + OpenStream + Drop, R: Readiness<S>> Server<S, R> {
-    /// Ends every connection, by rising key. If memory is refused for the end of one, it stays, with its session.
+    /// Ends every connection, by rising key. If memory is refused for the end of one, it stays,
+    /// with its session.
     #[tactic(auto, using(crate::proofs::Rules::rounds))]
     pub fn end<J: ConnectionLog>(&mut self, alloc: Global, log: &mut J)
         ensures rounds { RoundsOf S.remaining self.old self.new }
@@ -44,7 +47,8 @@ impl<S: Read + Write + OpenStream + Drop, R: Readiness<S>> Server<S, R> {
         self.settle(key, before, &turn, log);
     }
 
-    /// Logs what a turn did to a connection, queues those whom its text told something, and drops the connection if its link is gone.
+    /// Logs what a turn did to a connection, queues those whom its text told something, and drops
+    /// the connection if its link is gone.
     #[tactic(auto, using(crate::proofs::Rules::advances))]
     pub(super) fn settle<J: ConnectionLog>(
         &mut self,
@@ -55,25 +59,115 @@ impl<S: Read + Write + OpenStream + Drop, R: Readiness<S>> Server<S, R> {
     )
         ensures { KeepsFewer S.remaining self.old self.new }
     {
-        let Some(connection) = self.connections.get(key) else {
-            return;
-        };
-        let session = connection.link.session();
-        let rounds = self.rounds.saturating_sub(connection.since);
-        let most = self.hub.config().sessions;
-        self.peers.note_handshake(key, turn, session, most, log);
-        self.sessions.note(key, session);
+        self.note_events(key, turn, log);
         if turn.has_received() {
-            self.queue_told();
+            self.queue_told(key, turn);
         }
-        self.peers.note_end(key, before, turn, rounds, log);
-        if turn.cause == Some(Cause::Memory) || self.peers.lacked_memory(key, turn) {
+        self.log_end(key, before, turn, log);
+        if lacked_memory(turn) {
             self.shed(log);
         }
         self.remove_gone(key);
     }
 
-    /// Makes the hub give memory back, because an allocation failed. Logs it once in 1,024 rounds at most.
+    /// Notes the session that a turn opened or closed, or why the hub opened none.
+    #[tactic(auto, using(crate::proofs::Rules::advances))]
+    fn note_events<J: ConnectionLog>(&mut self, key: usize, turn: &Turn, log: &mut J)
+        ensures { KeepsFewer S.remaining self.old self.new }
+    {
+        match (session_event(turn), turn.fault) {
+            (_, Some(fault)) => self.note_fault(key, fault),
+            (Some(Event::Open { room }), None) => {
+                let place = self.place_of(key);
+                self.note_opened(key, room.as_str(), place);
+                self.index_opened(key);
+                self.log_opened(key, log);
+            }
+            (Some(Event::Close { session }), None) => {
+                let _ = self.sessions.swap_remove(session);
+            }
+            (_, None) => {}
+        }
+    }
+
+    #[tactic(auto, using(crate::proofs::Rules::advances))]
+    fn note_fault(&mut self, key: usize, fault: OpenFault)
+        ensures { KeepsFewer S.remaining self.old self.new }
+    {
+        let Some(connection) = self.connections.get_mut(key) else {
+            return;
+        };
+        connection.note_fault(fault);
+    }
+
+    #[tactic(auto, using(crate::proofs::Rules::advances))]
+    fn note_opened(&mut self, key: usize, room: &str, place: Option<usize>)
+        ensures { KeepsFewer S.remaining self.old self.new }
+    {
+        let Some(connection) = self.connections.get_mut(key) else {
+            return;
+        };
+        connection.note_opened(room, place);
+    }
+
+    /// Puts the session of a connection into the map, if it has one, for which there is memory.
+    /// Takes the memory for its room's share.
+    #[tactic(auto, using(crate::proofs::Rules::advances))]
+    fn index_opened(&mut self, key: usize)
+        ensures { KeepsFewer S.remaining self.old self.new }
+    {
+        let Some(connection) = self.connections.get(key) else {
+            return;
+        };
+        if let Some(session) = connection.link.session() {
+            let _ = self.sessions.insert(session, key);
+        }
+        if let Some(place) = connection.room_place() {
+            let _ = self.rooms.admit(place);
+        }
+    }
+
+    /// The place in the hub of the room of a connection's session.
+    fn place_of(&self, key: usize) -> Option<usize> {
+        self.hub.room_of(self.connections.get(key)?.link.session()?)
+    }
+
+    /// Logs the session that was opened for a connection, if there is one.
+    fn log_opened<J: ConnectionLog>(&self, key: usize, log: &mut J) {
+        let Some(connection) = self.connections.get(key) else {
+            return;
+        };
+        if let Some(session) = connection.opened() {
+            log.record(LogEntry::Opened {
+                connection: connection.id(key),
+                session,
+            });
+        }
+    }
+
+    /// Logs the end of a connection, or of its handshake, if a turn made it.
+    fn log_end<J: ConnectionLog>(&self, key: usize, before: Stage, turn: &Turn, log: &mut J) {
+        let Some(connection) = self.connections.get(key) else {
+            return;
+        };
+        match turn.cause {
+            Some(Cause::Refused(status)) => log.record(LogEntry::Refused {
+                connection: connection.id(key),
+                refusal: connection.refusal(status),
+            }),
+            // The end was logged when the closing began.
+            Some(cause) if before != Stage::Closing => log.record(LogEntry::Ended {
+                connection: connection.id(key),
+                session: connection.opened(),
+                cause,
+                rounds: self.rounds.saturating_sub(connection.since),
+            }),
+            _ => {}
+        }
+    }
+
+    /// Makes the hub give memory back, because an allocation failed. Logs it once in 1,024 rounds
+    /// at most.
     #[tactic(auto, using(crate::proofs::Rules::advances))]
     pub(super) fn shed<J: ConnectionLog>(&mut self, log: &mut J)
         ensures { KeepsFewer S.remaining self.old self.new }
@@ -94,7 +188,26 @@ impl<S: Read + Write + OpenStream + Drop, R: Readiness<S>> Server<S, R> {
             return;
         };
         if connection.link.stage() == Stage::Gone {
+            uncount_writer(&mut self.rooms, connection);
             let _ = self.connections.try_remove(key);
         }
     }
+}
+
+/// Whether memory was refused to a turn.
+fn lacked_memory(turn: &Turn) -> bool {
+    turn.lacks_memory
+        || turn.cause == Some(Cause::Memory)
+        || turn.fault == Some(OpenFault::NoMemory)
+}
+
+/// The event of a turn that opened or closed its link's session: the last one, if there are two.
+fn session_event(turn: &Turn) -> Option<&Event> {
+    let mut found = None;
+    for event in turn.made.iter() {
+        if matches!(event, Event::Open { .. } | Event::Close { .. }) {
+            found = Some(event);
+        }
+    }
+    found
 }

@@ -1,18 +1,25 @@
 //! Which connections are queued for a turn.
 //!
-//! After each round every connection that wants a turn is queued for it ([`Server::unqueued`]). What it wants changes by its own turns and
-//! events, after which it is queued again; and by the texts of other sessions, which bring it messages. Of these the hub says whom they told
-//! something ([`relay_hub::Hub::told`]), so no other connection is looked at.
+//! After each round every connection that wants a turn is queued for it ([`Server::unqueued`]).
+//! What it wants changes by its own turns and events, after which it is queued again; and by the
+//! texts of other sessions, which bring it messages. Of these the hub says whom they told something
+//! ([`relay_hub::Hub::told`]), so no other connection is looked at.
+//!
+//! A room counts its connections that are queued to be written to. It may be said more than its
+//! share only once there are none.
 ghost use Rattle.relay_serving.specs.Advances.{KeepsFewer};
 
 use super::Server;
+use crate::connection::Connection;
 use crate::readiness::Readiness;
+use relay_link::Turn;
+use relay_schedule::RoomShares;
 use std::io::{Read, Write};
 use std::net::OpenStream;
 
 impl<S: Read + Write + OpenStream + Drop, R: Readiness<S>> Server<S, R> {
-    /// The first connection that wants a turn for which it is not queued. A round leaves none, so that the next one need not walk over all
-    /// connections as this does: it is for tests.
+    /// The first connection that wants a turn for which it is not queued. A round leaves none, so
+    /// that the next one need not walk over all connections as this does: it is for tests.
     pub fn unqueued(&self) -> Option<usize> {
         for key in 0..self.keys() {
             if let Some(connection) = self.connections.get(key) {
@@ -33,14 +40,23 @@ impl<S: Read + Write + OpenStream + Drop, R: Readiness<S>> Server<S, R> {
             return;
         };
         let wants = connection.wants(&self.hub);
-        self.queues.push(key, wants);
+        let credit = connection.credit(self.queues.ready.round());
+        self.queues.push(key, wants, credit);
+        if wants.corked || wants.waiting {
+            count_writer(&mut self.rooms, connection);
+        }
     }
 
-    /// Queues for a write turn the connections that the last text told something.
+    /// Notes the text that a turn passed to the hub: its room was said more, and the connections
+    /// that it told something are queued for a write turn.
     #[tactic(auto, using(crate::proofs::Rules::advances))]
-    pub(super) fn queue_told(&mut self)
+    pub(super) fn queue_told(&mut self, key: usize, turn: &Turn)
         ensures { KeepsFewer S.remaining self.old self.new }
     {
+        self.texts = self.texts.saturating_add(1);
+        if let Some(room) = self.room_place(key) {
+            self.rooms.add_text(room, turn.received());
+        }
         for place in 0..self.told() {
             if let Some(key) = self.told_at(place) {
                 self.queue_writer(key);
@@ -48,8 +64,13 @@ impl<S: Read + Write + OpenStream + Drop, R: Readiness<S>> Server<S, R> {
         }
     }
 
+    /// The place of a connection's room.
+    fn room_place(&self, key: usize) -> Option<usize> {
+        self.connections.get(key)?.room_place()
+    }
+
     /// How many connections the last text may have told something, besides the one that sent it.
-    pub(super) fn told(&self) -> usize {
+    fn told(&self) -> usize {
         let told = self.hub.told();
         if told.all {
             self.keys()
@@ -64,7 +85,7 @@ impl<S: Read + Write + OpenStream + Drop, R: Readiness<S>> Server<S, R> {
         if told.all {
             return Some(place);
         }
-        self.sessions.key_of(*told.sessions.get(place)?)
+        self.sessions.get(told.sessions.get(place)?).copied()
     }
 
     /// Queues a connection for a write turn, if it is held and can be written. Allocates nothing.
@@ -77,6 +98,35 @@ impl<S: Read + Write + OpenStream + Drop, R: Readiness<S>> Server<S, R> {
         };
         if connection.known.is_writable() {
             self.queues.push_writer(key);
+            count_writer(&mut self.rooms, connection);
         }
+    }
+
+    /// Notes that a connection waits no longer to be written to.
+    #[tactic(auto, using(crate::proofs::Rules::advances))]
+    pub(super) fn uncount(&mut self, key: usize)
+        ensures { KeepsFewer S.remaining self.old self.new }
+    {
+        let Some(connection) = self.connections.get(key) else {
+            return;
+        };
+        uncount_writer(&mut self.rooms, connection);
+    }
+}
+
+/// Notes that a connection waits no longer to be written to.
+pub(super) fn uncount_writer<S: Read + Write + Drop>(
+    rooms: &mut RoomShares,
+    connection: &Connection<S>,
+) {
+    if let (true, Some(place)) = (connection.count(false), connection.room_place()) {
+        rooms.take_writer(place);
+    }
+}
+
+/// Notes that a connection waits to be written to, once.
+fn count_writer<S: Read + Write + Drop>(rooms: &mut RoomShares, connection: &Connection<S>) {
+    if let (false, Some(place)) = (connection.count(true), connection.room_place()) {
+        rooms.add_writer(place);
     }
 }

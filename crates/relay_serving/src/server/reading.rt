@@ -2,201 +2,191 @@
 ghost use Rattle.relay_serving.specs.Advances.{KeepsFewer};
 
 use super::Server;
-use crate::backlog::Backlog;
-use crate::connection::{Output, Weight};
 use crate::connection_log::ConnectionLog;
-use crate::read_share::{ReadShare, TextsRead};
 use crate::readiness::Readiness;
-use relay_link::{MAX_DRAWS, Turn};
+use relay_link::Turn;
+use relay_schedule::Spending;
 use std::alloc::Global;
 use std::io::{Read, Write};
 use std::net::OpenStream;
 
-impl<S: Read + Write + OpenStream + Drop, R: Readiness<S>> Server<S, R> {
-    /// Reads from the light connections. Then reads from the loud ones, if what their last texts came to is written.
-    #[tactic(auto, using(crate::proofs::Rules::advances))]
-    pub(super) fn read<J: ConnectionLog>(&mut self, alloc: Global, log: &mut J)
-        ensures { KeepsFewer S.remaining self.old self.new }
-    {
-        let light = self.read_all(alloc, Weight::Light, self.shares.light, log);
-        if self.backlog.is_written() {
-            let share = self.shares.loud.behind(light);
-            let _ = self.read_all(alloc, Weight::Loud, share, log);
-            self.backlog = Backlog::of(self.queues.writers(Output::Waiting));
-        }
-    }
+/// What the read turns of connections with credit may cost in a round, but for the last one, in
+/// microseconds.
+const ROUND_COST: u64 = 5_000;
 
-    /// Reads from the connections of this weight, in passes, until a pass reads no text or the share is read. Returns what was read.
+/// What a turn costs at least, in microseconds.
+pub(super) const TURN_COST: u64 = 2;
+
+/// How many bytes are read in a microsecond.
+const BYTES_READ: u64 = 100;
+
+/// How many messages a read turn draws: the reply to its text. Whatever else it comes to is drawn
+/// by a write turn.
+const READ_DRAWS: u64 = 1;
+
+impl<S: Read + Write + OpenStream + Drop, R: Readiness<S>> Server<S, R> {
+    /// Reads from the connections with credit, in passes, until a pass reads no text or the round
+    /// has cost what it may. Returns what it cost.
     #[tactic(auto, using(crate::proofs::Rules::advances))]
-    fn read_all<J: ConnectionLog>(
-        &mut self,
-        alloc: Global,
-        weight: Weight,
-        share: ReadShare,
-        log: &mut J,
-    ) -> TextsRead
+    pub(super) fn read<J: ConnectionLog>(&mut self, alloc: Global, log: &mut J) -> Spending
         ensures { KeepsFewer S.remaining self.old self.new }
     {
-        let mut read = TextsRead::NONE;
-        for _ in 0..share.texts() {
-            let before = read;
-            read = self.read_each(alloc, weight, share, read, log);
-            if read == before {
-                return read;
+        let mut spending = Spending::within(ROUND_COST);
+        for _ in 0..ROUND_COST {
+            let before = self.texts;
+            spending = self.read_each(alloc, spending, log);
+            if self.texts == before {
+                return spending;
             }
         }
-        read
+        spending
     }
 
-    /// Reads from the costly connections, until their share is read, and sends what came of it.
-    #[tactic(auto, using(crate::proofs::Rules::advances))]
-    pub(super) fn exchange_costly<J: ConnectionLog>(&mut self, alloc: Global, log: &mut J)
-        ensures { KeepsFewer S.remaining self.old self.new }
-    {
-        let share = self.shares.costly;
-        if self.read_each(alloc, Weight::Costly, share, TextsRead::NONE, log) != TextsRead::NONE {
-            self.write(alloc, log);
-        }
-    }
-
-    /// Reads once from each connection of this weight that is queued, until the share is read. Returns what was read, also before.
+    /// Reads once from each connection with credit whose room has place, until the round has cost
+    /// what it may. Returns what it cost.
     #[tactic(auto, using(crate::proofs::Rules::advances))]
     fn read_each<J: ConnectionLog>(
         &mut self,
         alloc: Global,
-        weight: Weight,
-        share: ReadShare,
-        before: TextsRead,
+        before: Spending,
         log: &mut J,
-    ) -> TextsRead
+    ) -> Spending
         ensures { KeepsFewer S.remaining self.old self.new }
     {
-        let mut read = before;
-        for _ in 0..self.queues.readers(weight) {
-            if !share.allows(read) {
-                return read;
+        let mut spending = before;
+        for _ in 0..self.queues.ready.credited() {
+            if !spending.allows_more() {
+                return spending;
             }
-            read = read.and(self.read_next(alloc, weight, log));
+            let Some(key) = self.queues.ready.pop_credited() else {
+                return spending;
+            };
+            spending.spend(self.read_at(alloc, key, log));
         }
-        read
+        spending
     }
 
-    /// Gives the first connection of this weight's queue a read turn. Returns what the turn passed to the hub.
+    /// Reads from the connections that owe, in order, and sends what came of it.
     #[tactic(auto, using(crate::proofs::Rules::advances))]
-    fn read_next<J: ConnectionLog>(
+    pub(super) fn exchange_owing<J: ConnectionLog>(
         &mut self,
         alloc: Global,
-        weight: Weight,
+        before: Spending,
         log: &mut J,
-    ) -> TextsRead
+    )
         ensures { KeepsFewer S.remaining self.old self.new }
     {
-        let Some(key) = self.queues.pop_reader(weight) else {
-            return TextsRead::NONE;
-        };
-        let read = if self.may_read(key, weight) {
-            self.read_link(alloc, key, weight, log)
-        } else {
-            TextsRead::NONE
-        };
-        self.note_texts(key, read);
-        self.queue(key);
-        read
-    }
-
-    /// Notes of a connection that is held what its last turn passed to the hub.
-    #[tactic(auto, using(crate::proofs::Rules::advances))]
-    fn note_texts(&mut self, key: usize, read: TextsRead)
-        ensures { KeepsFewer S.remaining self.old self.new }
-    {
-        let Some(connection) = self.connections.get_mut(key) else {
-            return;
-        };
-        connection.note_texts(read);
-    }
-
-    /// Gives the first long connection that may be read a read turn, and sends what came of it.
-    #[tactic(auto, using(crate::proofs::Rules::advances))]
-    pub(super) fn exchange_long<J: ConnectionLog>(&mut self, alloc: Global, log: &mut J)
-        ensures { KeepsFewer S.remaining self.old self.new }
-    {
-        if self.read_long(alloc, log) {
+        if self.read_those_owing(alloc, before, log) != before {
             self.write(alloc, log);
         }
     }
 
-    /// Gives the first long connection that may be read a read turn. Returns whether there was one.
+    /// Reads from the connections that owe, in passes, and from those that have credit by then,
+    /// until a pass reads no text or the round has cost what it may. Returns what it cost.
     #[tactic(auto, using(crate::proofs::Rules::advances))]
-    fn read_long<J: ConnectionLog>(&mut self, alloc: Global, log: &mut J) -> bool
+    fn read_those_owing<J: ConnectionLog>(
+        &mut self,
+        alloc: Global,
+        before: Spending,
+        log: &mut J,
+    ) -> Spending
         ensures { KeepsFewer S.remaining self.old self.new }
     {
-        for _ in 0..self.queues.readers(Weight::Long) {
-            let Some(key) = self.queues.pop_reader(Weight::Long) else {
-                return false;
-            };
-            let may_read = self.may_read(key, Weight::Long);
-            if may_read {
-                let _ = self.read_link(alloc, key, Weight::Long, log);
+        let mut spending = before;
+        for _ in 0..ROUND_COST {
+            let texts = self.texts;
+            spending = self.read_each_owing(alloc, spending, log);
+            if spending == before || !spending.allows_more() {
+                return spending;
             }
-            self.queue(key);
-            if may_read {
-                return true;
+            spending = self.read_each(alloc, spending, log);
+            if self.texts == texts {
+                return spending;
             }
         }
-        false
+        spending
     }
 
-    /// Whether a connection is held that may be read, and has this weight.
-    fn may_read(&self, key: usize, weight: Weight) -> bool {
+    /// Reads once from each connection that owes, and whose room has place: from one at least, and
+    /// from others until the round has cost what it may. Returns what it cost.
+    #[tactic(auto, using(crate::proofs::Rules::advances))]
+    fn read_each_owing<J: ConnectionLog>(
+        &mut self,
+        alloc: Global,
+        before: Spending,
+        log: &mut J,
+    ) -> Spending
+        ensures { KeepsFewer S.remaining self.old self.new }
+    {
+        let mut spending = before;
+        for _ in 0..self.queues.ready.owing().max(1) {
+            if spending != before && !spending.allows_more() {
+                return spending;
+            }
+            let Some(key) = self.queues.ready.pop_owing() else {
+                return spending;
+            };
+            spending.spend(self.read_at(alloc, key, log));
+        }
+        spending
+    }
+
+    /// Gives a connection a read turn, if it may be read, and queues it again. Returns what the
+    /// turn cost; 0 if there was none.
+    #[tactic(auto, using(crate::proofs::Rules::advances))]
+    fn read_at<J: ConnectionLog>(&mut self, alloc: Global, key: usize, log: &mut J) -> u64
+        ensures { KeepsFewer S.remaining self.old self.new }
+    {
+        let cost = if self.may_read(key) {
+            self.read_link(alloc, key, log)
+        } else {
+            0
+        };
+        self.queue(key);
+        cost
+    }
+
+    /// Whether a connection is held that may be read, and whose room has place.
+    fn may_read(&self, key: usize) -> bool {
         match self.connections.get(key) {
-            Some(connection) => { connection.may_read(&self.hub) && connection.weight() == weight }
+            Some(connection) => {
+                connection.may_read(&self.hub)
+                    && match connection.room_place() {
+                        Some(place) => self.rooms.has_place(place),
+                        None => true,
+                    }
+            }
             None => false,
         }
     }
 
-    /// Gives a link a read turn of this weight. Returns what the turn passed to the hub.
+    /// Gives a link a read turn. Returns what it cost.
     #[tactic(auto, using(crate::proofs::Rules::advances))]
-    fn read_link<J: ConnectionLog>(
-        &mut self,
-        alloc: Global,
-        key: usize,
-        weight: Weight,
-        log: &mut J,
-    ) -> TextsRead
+    fn read_link<J: ConnectionLog>(&mut self, alloc: Global, key: usize, log: &mut J) -> u64
         ensures { KeepsFewer S.remaining self.old self.new }
     {
         let Some(connection) = self.connections.get_mut(key) else {
-            return TextsRead::NONE;
+            return 0;
         };
         let before = connection.link.stage();
-        let most_work = weight.most_work();
         let Ok(turn) = connection
             .link
-            .read_turn(alloc, &mut self.hub, MAX_DRAWS, most_work)
+            .read_turn(alloc, &mut self.hub, READ_DRAWS, u64::MAX)
         else {
             self.shed(log);
-            return TextsRead::NONE;
+            return TURN_COST;
         };
-        connection.known.end_turn(received(&turn));
+        let cost = cost_of(&turn, connection.known.take_read());
+        connection.charge(cost);
         connection.read_pending = connection.known.may_go_on();
         self.settle(key, before, &turn, log);
-        self.texts_read(&turn)
-    }
-
-    /// What the last turn passed to the hub.
-    fn texts_read(&self, turn: &Turn) -> TextsRead {
-        match received(turn) {
-            Some(bytes) => TextsRead::one(bytes, self.told() as u64, turn.work),
-            None => TextsRead::NONE,
-        }
+        cost
     }
 }
 
-/// How many bytes the text has that a turn passed to the hub, if it passed one.
-fn received(turn: &Turn) -> Option<u64> {
-    if turn.has_received() {
-        Some(turn.received())
-    } else {
-        None
-    }
+/// What a turn cost that read so many bytes.
+fn cost_of(turn: &Turn, read: u64) -> u64 {
+    turn.cost
+        .saturating_add(read / BYTES_READ)
+        .saturating_add(TURN_COST)
 }

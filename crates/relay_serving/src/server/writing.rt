@@ -2,31 +2,23 @@
 ghost use Rattle.relay_serving.specs.Advances.{KeepsFewer};
 
 use super::Server;
+use super::reading::TURN_COST;
 use crate::connection::Output;
 use crate::connection_log::ConnectionLog;
 use crate::readiness::Readiness;
 use relay_link::MAX_DRAWS;
+use relay_schedule::Spending;
 use std::alloc::Global;
 use std::io::{Read, Write};
 use std::net::OpenStream;
 
-/// The most bytes that the pass of writes to links with corked output draws, but for the last link's turn. It is for few: most messages wait
-/// for links that said nothing.
-const MAX_CORKED: u64 = 262_144;
-
-/// The same of the pass to all links. Both passes together draw 1 MiB.
-pub(crate) const MAX_WAITING: u64 = 786_432;
-
-fn most_drawn(output: Output) -> u64 {
-    match output {
-        Output::Corked => MAX_CORKED,
-        Output::Waiting => MAX_WAITING,
-    }
-}
+/// The most bytes that a pass of writes draws, but for the last link's turn. A round has four
+/// passes at most, which draw 1 MiB together.
+const PASS_DRAWN: u64 = 262_144;
 
 impl<S: Read + Write + OpenStream + Drop, R: Readiness<S>> Server<S, R> {
-    /// Writes to the links that have corked output, so that a reply does not wait for the patches of others, and then to those that have
-    /// waiting messages.
+    /// Writes to the links that have corked output, so that a reply does not wait for the patches
+    /// of others, and then to all for which something waits.
     #[tactic(auto, using(crate::proofs::Rules::advances))]
     pub(super) fn write<J: ConnectionLog>(&mut self, alloc: Global, log: &mut J)
         ensures { KeepsFewer S.remaining self.old self.new }
@@ -35,22 +27,23 @@ impl<S: Read + Write + OpenStream + Drop, R: Readiness<S>> Server<S, R> {
         self.write_each(alloc, Output::Waiting, log);
     }
 
-    /// Writes once to each link that is queued for such output, until as much was drawn as a pass draws. The links that were not reached
-    /// come first in the next pass.
+    /// Writes once to each link that is queued for such output, until as much was drawn as a pass
+    /// draws. The links that were not reached come first in the next pass.
     #[tactic(auto, using(crate::proofs::Rules::advances))]
     fn write_each<J: ConnectionLog>(&mut self, alloc: Global, output: Output, log: &mut J)
         ensures { KeepsFewer S.remaining self.old self.new }
     {
-        let mut left = most_drawn(output);
+        let mut drawn = Spending::within(PASS_DRAWN);
         for _ in 0..self.queues.writers(output) {
-            if left == 0 {
+            if !drawn.allows_more() {
                 return;
             }
-            left = left.saturating_sub(self.write_next(alloc, output, log));
+            drawn.spend(self.write_next(alloc, output, log));
         }
     }
 
-    /// Gives the first link that is queued for such output a write turn. Returns how many bytes the texts have that it drew.
+    /// Gives the first link that is queued for such output a write turn. Returns how many bytes the
+    /// texts have that it drew.
     #[tactic(auto, using(crate::proofs::Rules::advances))]
     fn write_next<J: ConnectionLog>(&mut self, alloc: Global, output: Output, log: &mut J) -> u64
         ensures { KeepsFewer S.remaining self.old self.new }
@@ -58,15 +51,13 @@ impl<S: Read + Write + OpenStream + Drop, R: Readiness<S>> Server<S, R> {
         let Some(key) = self.queues.pop_writer(output) else {
             return 0;
         };
+        self.uncount(key);
         let drawn = if self.has_output(key, output) {
             self.write_link(alloc, key, log)
         } else {
             0
         };
         self.queue(key);
-        if output == Output::Waiting {
-            self.backlog = self.backlog.less(drawn);
-        }
         drawn
     }
 
@@ -90,6 +81,7 @@ impl<S: Read + Write + OpenStream + Drop, R: Readiness<S>> Server<S, R> {
         let told = connection.link.write_turn(alloc, &mut self.hub, MAX_DRAWS);
         match told {
             Ok(turn) => {
+                connection.charge(turn.cost.saturating_add(TURN_COST));
                 self.settle(key, before, &turn, log);
                 turn.drawn
             }

@@ -1,0 +1,25 @@
+//! Whose turn it is: a surplus round robin, without sockets.
+//!
+//! Each connection has a [`Credit`], to which each round adds the same. A turn takes what it cost,
+//! which is counted and not known before, so a credit may be overdrawn. Whoever has credit left has
+//! turns first, in order ([`ReadyQueue`]). Those who have none have theirs behind them, in order too:
+//! one of them at least in each round. A room is read no further ahead than may wait for a watcher
+//! that keeps up ([`RoomShares`]), and a round ends once it has cost as much as it may
+//! ([`Spending`]).
+//!
+//! The promise: a credit never exceeds a round's; a queue serves each that waits once before it
+//! serves any twice (`proofs/Serving`); and a round begins no turn once it has cost its bound, so
+//! all its turns but the last cost less together.
+#![tactic(auto)]
+
+mod credit;
+mod key_queue;
+mod ready_queue;
+mod room_share;
+mod spending;
+
+pub use credit::{Credit, ENTRY_DEBT, ROUND_CREDIT};
+pub use key_queue::KeyQueue;
+pub use ready_queue::ReadyQueue;
+pub use room_share::{RoomShare, RoomShares, ShareLimits};
+pub use spending::Spending;

@@ -1,0 +1,35 @@
+//! What the turns of a round have cost.
+ghost use Rattle.std.specs.Prelude.{◌≡◌, ◌≤◌, ◌<◌, ◌+◌, ◌-◌, ◌^◌, min, nat_lt};
+
+/// What a round has spent, and the bound at which it begins no other turn.
+#[derive(Clone, Copy, Debug, PartialEq, Eq)]
+pub struct Spending {
+    pub spent: u64,
+    pub bound: u64,
+}
+
+impl Spending {
+    /// Nothing yet.
+    pub fn within(bound: u64) -> Spending
+        ensures { result ≡ record { spent = 0; bound = bound } }
+    {
+        Spending { spent: 0, bound }
+    }
+
+    /// Whether another turn may begin: the turns so far cost less than the bound together.
+    pub fn allows_more(self) -> bool
+        ensures { result ≡ nat_lt self.spent self.bound }
+    {
+        self.spent < self.bound
+    }
+
+    /// Adds what a turn cost. If the turn could begin, the turns before it cost less than the
+    /// bound.
+    pub fn spend(&mut self, cost: u64)
+        ensures spent { self.new.spent ≡ min (2 ^ 64 - 1) (self.old.spent + cost) }
+        ensures bound { self.new.bound ≡ self.old.bound }
+        ensures bounded { self.old.spent < self.old.bound → self.new.spent < self.old.bound + cost }
+    {
+        self.spent = self.spent.saturating_add(cost);
+    }
+}
