@@ -1,42 +1,26 @@
 package relay
 
-import (
-	"encoding/json"
-	"fmt"
-	"io"
-	"regexp"
-	"strconv"
-	"strings"
-)
+import "fmt"
 
-// An operation of a patch (RFC 6902). The relay tells no `test`.
-type operation struct {
-	Op, Path, From string
-	Value          interface{}
-}
+// What a patch has copied is its own until it is done, and it writes to that and to nothing else:
+// so it copies each container once. An own container stands at one place, within others that are
+// own.
+type ownList struct{ items []any }
+type ownObject struct{ members map[string]any }
 
-// What a patch has copied is its own until it is done, and it writes to that and to nothing else: so it copies each container once. An own
-// container stands at one place, within others that are own.
-type ownList struct{ items []interface{} }
-type ownObject struct{ members map[string]interface{} }
-
-// applied is the slots after a patch. What it leaves alone is shared with the slots before, of which nothing is changed.
-func applied(slots []interface{}, patch []operation) ([]interface{}, error) {
-	var value interface{} = slots
+// applied is the value after a patch of a watcher, which has no `test`. What it leaves alone is
+// shared with the value before, of which nothing is changed.
+func applied(value any, patch Patch) (any, error) {
 	for _, one := range patch {
 		var err error
 		if value, err = step(value, one); err != nil {
 			return nil, err
 		}
 	}
-	slots, isList := finished(value).([]interface{})
-	if !isList {
-		return nil, fmt.Errorf("relay: no slots: %v", value)
-	}
-	return slots, nil
+	return finished(value), nil
 }
 
-func step(value interface{}, one operation) (interface{}, error) {
+func step(value any, one Operation) (any, error) {
 	path, err := tokens(one.Path)
 	if err != nil {
 		return nil, err
@@ -67,8 +51,9 @@ func step(value interface{}, one operation) (interface{}, error) {
 	return nil, fmt.Errorf("relay: no operation: %q", one.Op)
 }
 
-// changed is the value with a part added, replaced or removed at a path. The containers along the path are own.
-func changed(value interface{}, path []string, op string, part interface{}) (interface{}, error) {
+// changed is the value with a part added, replaced or removed at a path. The containers along the
+// path are own.
+func changed(value any, path []string, op string, part any) (any, error) {
 	if len(path) == 0 {
 		return part, nil
 	}
@@ -95,7 +80,7 @@ func changed(value interface{}, path []string, op string, part interface{}) (int
 	return nil, fmt.Errorf("relay: no container of %q", token)
 }
 
-func (own *ownObject) change(name, op string, part interface{}) {
+func (own *ownObject) change(name, op string, part any) {
 	if op == "remove" {
 		delete(own.members, name)
 	} else {
@@ -103,7 +88,7 @@ func (own *ownObject) change(name, op string, part interface{}) {
 	}
 }
 
-func (own *ownList) change(token, op string, part interface{}) error {
+func (own *ownList) change(token, op string, part any) error {
 	place, isIndex := index(token)
 	if op == "add" && token == "-" {
 		place, isIndex = len(own.items), true
@@ -125,22 +110,22 @@ func (own *ownList) change(token, op string, part interface{}) error {
 }
 
 // owned is an own copy of a container, or the container if it is own.
-func owned(value interface{}) interface{} {
+func owned(value any) any {
 	switch holder := value.(type) {
-	case map[string]interface{}:
-		members := make(map[string]interface{}, len(holder)+1)
+	case map[string]any:
+		members := make(map[string]any, len(holder)+1)
 		for name, part := range holder {
 			members[name] = part
 		}
 		return &ownObject{members}
-	case []interface{}:
-		return &ownList{append(make([]interface{}, 0, len(holder)+1), holder...)}
+	case []any:
+		return &ownList{append(make([]any, 0, len(holder)+1), holder...)}
 	}
 	return value
 }
 
 // finished is a value as others may hold it: nothing of it is own any more.
-func finished(value interface{}) interface{} {
+func finished(value any) any {
 	switch own := value.(type) {
 	case *ownObject:
 		for name, part := range own.members {
@@ -156,7 +141,7 @@ func finished(value interface{}) interface{} {
 	return bare(value)
 }
 
-func isOwn(value interface{}) bool {
+func isOwn(value any) bool {
 	switch value.(type) {
 	case *ownList, *ownObject:
 		return true
@@ -165,7 +150,7 @@ func isOwn(value interface{}) bool {
 }
 
 // bare is the list or the object of a container that may be own.
-func bare(value interface{}) interface{} {
+func bare(value any) any {
 	switch own := value.(type) {
 	case *ownObject:
 		return own.members
@@ -175,13 +160,13 @@ func bare(value interface{}) interface{} {
 	return value
 }
 
-func child(value interface{}, token string) (interface{}, error) {
+func child(value any, token string) (any, error) {
 	switch holder := bare(value).(type) {
-	case map[string]interface{}:
+	case map[string]any:
 		if part, isThere := holder[token]; isThere {
 			return part, nil
 		}
-	case []interface{}:
+	case []any:
 		if place, isIndex := index(token); isIndex && place < len(holder) {
 			return holder[place], nil
 		}
@@ -189,13 +174,7 @@ func child(value interface{}, token string) (interface{}, error) {
 	return nil, fmt.Errorf("relay: nothing at %q", token)
 }
 
-// index is the place in a list that a token names, if it names one that a list here can have: `0`, or digits of which the first is not `0`.
-func index(token string) (int, bool) {
-	place, err := strconv.Atoi(token)
-	return place, err == nil && strconv.Itoa(place) == token && place >= 0
-}
-
-func at(value interface{}, path []string) (interface{}, error) {
+func at(value any, path []string) (any, error) {
 	for _, token := range path {
 		var err error
 		if value, err = child(value, token); err != nil {
@@ -203,33 +182,4 @@ func at(value interface{}, path []string) (interface{}, error) {
 		}
 	}
 	return value, nil
-}
-
-var (
-	pointers = regexp.MustCompile(`^(/([^~/]|~[01])*)*$`)
-	escapes  = strings.NewReplacer("~1", "/", "~0", "~")
-)
-
-func tokens(pointer string) ([]string, error) {
-	if !pointers.MatchString(pointer) {
-		return nil, fmt.Errorf("relay: no pointer: %q", pointer)
-	}
-	path := strings.Split(pointer, "/")[1:]
-	for i, token := range path {
-		path[i] = escapes.Replace(token)
-	}
-	return path, nil
-}
-
-// read keeps numbers as they are written: as floating point large ones would be rounded. It fails if the text is not one value alone.
-func read(text string, into interface{}) error {
-	reader := json.NewDecoder(strings.NewReader(text))
-	reader.UseNumber()
-	if err := reader.Decode(into); err != nil {
-		return err
-	}
-	if _, err := reader.Token(); err != io.EOF {
-		return fmt.Errorf("relay: more than one value: %v", err)
-	}
-	return nil
 }

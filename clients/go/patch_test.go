@@ -9,16 +9,16 @@ import (
 	"time"
 )
 
-func slotsOf(t *testing.T, text string) []interface{} {
-	var slots []interface{}
+func valueOf(t *testing.T, text string) any {
+	var slots any
 	if err := read(text, &slots); err != nil {
 		t.Fatal(err)
 	}
 	return slots
 }
 
-func patchOf(t *testing.T, text string) []operation {
-	var patch []operation
+func patchIn(t *testing.T, text string) Patch {
+	var patch Patch
 	if err := read(text, &patch); err != nil {
 		t.Fatal(err)
 	}
@@ -51,12 +51,12 @@ func TestContainersThatStandAtTwoPlaces(t *testing.T) {
 			`[{},[2],0]`,
 		},
 	} {
-		before, wanted := slotsOf(t, row[0]), slotsOf(t, row[2])
-		after, err := applied(before, patchOf(t, row[1]))
+		before, wanted := valueOf(t, row[0]), valueOf(t, row[2])
+		after, err := applied(before, patchIn(t, row[1]))
 		if err != nil || !reflect.DeepEqual(after, wanted) {
 			t.Errorf("%s: %v %v, and not %v", row[1], after, err, wanted)
 		}
-		if !reflect.DeepEqual(before, slotsOf(t, row[0])) {
+		if !reflect.DeepEqual(before, valueOf(t, row[0])) {
 			t.Errorf("%s writes to the slots before: %v", row[1], before)
 		}
 	}
@@ -67,20 +67,20 @@ func TestRandomPatches(t *testing.T) {
 	const document = `[{"a":[1,[2]],"b":{}},[[],{"a":3}]]`
 	for seed := int64(0); seed < 3000; seed++ {
 		chance := rand.New(rand.NewSource(seed))
-		oneByOne, fitting := slotsOf(t, document), []operation{}
+		oneByOne, fitting := valueOf(t, document), Patch{}
 		for i := 0; i < 12; i++ {
 			one := randomOperation(t, chance)
-			if after, err := applied(oneByOne, []operation{one}); err == nil && !(one.Op == "move" && within(one.Path, one.From)) {
+			if after, err := applied(oneByOne, Patch{one}); err == nil && !(one.Op == "move" && within(one.Path, one.From)) {
 				oneByOne, fitting = after, append(fitting, one)
 			}
 		}
-		before, told := slotsOf(t, document), fmt.Sprint(fitting)
+		before, told := valueOf(t, document), fmt.Sprint(fitting)
 		for i := 0; i < 2; i++ {
 			after, err := applied(before, fitting)
 			if err != nil || !reflect.DeepEqual(after, oneByOne) {
 				t.Fatalf("seed %d: %v: %v %v, and not %v", seed, fitting, after, err, oneByOne)
 			}
-			if !reflect.DeepEqual(before, slotsOf(t, document)) || fmt.Sprint(fitting) != told {
+			if !reflect.DeepEqual(before, valueOf(t, document)) || fmt.Sprint(fitting) != told {
 				t.Fatalf("seed %d: %v writes to %v", seed, told, before)
 			}
 		}
@@ -89,7 +89,7 @@ func TestRandomPatches(t *testing.T) {
 
 func within(path, from string) bool { return len(path) > len(from) && path[:len(from)] == from }
 
-func randomOperation(t *testing.T, chance *rand.Rand) operation {
+func randomOperation(t *testing.T, chance *rand.Rand) Operation {
 	path := func() string {
 		path := ""
 		for i := 1 + chance.Intn(3); i > 0; i-- {
@@ -98,20 +98,20 @@ func randomOperation(t *testing.T, chance *rand.Rand) operation {
 		return path
 	}
 	op := []string{"add", "add", "remove", "replace", "move", "copy", "copy"}[chance.Intn(7)]
-	value := slotsOf(t, `[1,[],{},[[1]],{"a":[2]}]`)[chance.Intn(5)]
-	return operation{Op: op, Path: path(), From: path(), Value: value}
+	value := valueOf(t, `[1,[],{},[[1]],{"a":[2]}]`).([]any)[chance.Intn(5)]
+	return Operation{Op: op, Path: path(), From: path(), Value: value}
 }
 
 func TestManyOperationsOnALargeObjectCostFewCopiesOfIt(t *testing.T) {
-	object := map[string]interface{}{}
+	object := map[string]any{}
 	for i := 0; i < 18000; i++ {
 		object["m"+strconv.Itoa(i)] = i
 	}
-	var patch []operation
+	var patch Patch
 	for i := 0; i < 64; i++ {
-		patch = append(patch, operation{Op: "remove", Path: "/0/m" + strconv.Itoa(i)})
+		patch = append(patch, Operation{Op: "remove", Path: "/0/m" + strconv.Itoa(i)})
 	}
-	slots := []interface{}{object}
+	slots := []any{object}
 	one, many := fastest(t, slots, patch[:1]), fastest(t, slots, patch)
 	t.Logf("one removal %v, 64 removals %v", one, many)
 	if many > 24*one {
@@ -119,7 +119,7 @@ func TestManyOperationsOnALargeObjectCostFewCopiesOfIt(t *testing.T) {
 	}
 }
 
-func fastest(t *testing.T, slots []interface{}, patch []operation) time.Duration {
+func fastest(t *testing.T, slots []any, patch Patch) time.Duration {
 	least := time.Hour
 	for i := 0; i < 7; i++ {
 		began := time.Now()

@@ -14,24 +14,31 @@ import (
 // keepalive says how a peer that is gone without a word is found out.
 type keepalive struct {
 	quiet time.Duration // between two pings
-	// A connection on which no byte comes for so long is dead. One on which bytes come is not, as slow as it may be: a pong waits behind
-	// them.
+	// A connection on which no byte comes for so long is dead. One on which bytes come is not, as slow
+	// as it may be: a pong waits behind them.
 	silence time.Duration
 	// But if no pong comes for so long, it is dead in the direction of the pings.
 	unanswered time.Duration
 }
 
-var usual = keepalive{quiet: 20 * time.Second, silence: 40 * time.Second, unanswered: 16 * time.Minute}
+var usual = keepalive{
+	quiet: 20 * time.Second, silence: 40 * time.Second, unanswered: 16 * time.Minute,
+}
 
-var room = regexp.MustCompile(`^wss?://[^/?#]+/rooms/[A-Za-z0-9_-]{1,64}$`)
+var room = regexp.MustCompile(`^wss?://[^/?#]+/([^?#]*/)?rooms/[A-Za-z0-9_-]{1,64}$`)
 
-// Connect enters a room, as ws://127.0.0.1:8080/rooms/board, and comes back to it until the client is closed. It fails if the address is
-// none of a room, or if JSON cannot say the document to begin with.
-func Connect(url string, view []interface{}, options Options) (*Client, error) {
+// Connect enters a room, as ws://127.0.0.1:8080/rooms/board, and comes back to it until the context
+// is done or the board is closed. It fails if the address is none of a room, and as ConnectBy does.
+func Connect(ctx context.Context, url string, view []Shown, options Options) (*Board, error) {
 	if !room.MatchString(url) {
 		return nil, fmt.Errorf("relay: not the address of a room: %q", url)
 	}
-	return ConnectBy(func() (Socket, error) { return open(url, usual) }, view, options)
+	return ConnectBy(ctx, WebSocket(url), view, options)
+}
+
+// WebSocket makes connections to an address, as Connect does.
+func WebSocket(url string) Dial {
+	return func(ctx context.Context) (Socket, error) { return open(ctx, url, usual) }
 }
 
 // line is a connection that fails once it is dead. Its reader sets both times.
@@ -62,11 +69,11 @@ type webSocket struct {
 	once   sync.Once
 }
 
-func open(url string, alive keepalive) (Socket, error) {
+func open(ctx context.Context, url string, alive keepalive) (Socket, error) {
 	var below *line
 	dialer := *websocket.DefaultDialer
-	dialer.NetDialContext = func(context context.Context, network, address string) (net.Conn, error) {
-		conn, err := new(net.Dialer).DialContext(context, network, address)
+	dialer.NetDialContext = func(ctx context.Context, network, address string) (net.Conn, error) {
+		conn, err := new(net.Dialer).DialContext(ctx, network, address)
 		if err != nil {
 			return nil, err
 		}
@@ -74,12 +81,13 @@ func open(url string, alive keepalive) (Socket, error) {
 		below.pong()
 		return below, nil
 	}
-	conn, _, err := dialer.Dial(url, nil)
+	conn, _, err := dialer.DialContext(ctx, url, nil)
 	if err != nil {
 		return nil, err
 	}
 	conn.SetPongHandler(func(string) error { below.pong(); return nil })
-	socket := &webSocket{conn: conn, alive: alive, texts: make(chan string, onTheWay), closed: make(chan struct{})}
+	socket := &webSocket{conn: conn, alive: alive, closed: make(chan struct{})}
+	socket.texts = make(chan string, onTheWay)
 	go socket.write()
 	return socket, nil
 }

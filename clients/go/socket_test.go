@@ -1,6 +1,7 @@
 package relay
 
 import (
+	"context"
 	"net"
 	"net/http"
 	"net/http/httptest"
@@ -54,7 +55,7 @@ func dialSlowly(t *testing.T, alive keepalive, play func(*websocket.Conn)) Socke
 	server.Listener = slowListener{server.Listener}
 	server.Start()
 	t.Cleanup(server.Close)
-	socket, err := open("ws"+strings.TrimPrefix(server.URL, "http"), alive)
+	socket, err := open(context.Background(), "ws"+strings.TrimPrefix(server.URL, "http"), alive)
 	if err != nil {
 		t.Fatal(err)
 	}

@@ -4,6 +4,25 @@ export as namespace relay;
 /** A JSON Pointer (RFC 6901) into the document; `""` is the whole. */
 export type Pointer = string;
 
+type Escaped<T extends string> = T extends `${infer A}~${infer B}`
+  ? `${Escaped<A>}~0${Escaped<B>}`
+  : T extends `${infer A}/${infer B}`
+  ? `${Escaped<A>}~1${Escaped<B>}`
+  : T;
+
+/** The pointer of keys, as a type. */
+export type PointerOf<K extends readonly (string | number)[]> = K extends readonly [
+  infer First extends string | number,
+  ...infer Rest extends readonly (string | number)[]
+]
+  ? `/${Escaped<`${First}`>}${PointerOf<Rest>}`
+  : K extends readonly []
+  ? ""
+  : string;
+
+/** The pointer of keys, names of members and indexes: `pointer("cards", 0)` is `/cards/0`. */
+export function pointer<K extends readonly (string | number)[]>(...keys: K): PointerOf<K>;
+
 /** What the relay tells. */
 export type Json = null | boolean | number | string | readonly Json[] | { readonly [name: string]: Json };
 
@@ -15,6 +34,9 @@ export type Writable = null | boolean | number | string | readonly Writable[] | 
 
 /** What a slot shows: the value to which a pointer leads, or how many elements or members that has. */
 export type Shown = Pointer | { readonly size: Pointer };
+
+/** The pointers whose slots are watched, at most 16. */
+export type View = readonly Shown[];
 
 /** What stands there: `[value]`, or `[]` where the pointer leads to nothing; of a size `[number]`, or `[]` where there is no list and no object. */
 export type Slot<T = Json> = readonly [value?: T];
@@ -89,7 +111,11 @@ export interface Options<V extends readonly Shown[] = readonly Shown[], Slots = 
   begin?: Writable;
   /** Told after each change of the slots, and of how many edits wait. */
   onChange?: (change: Change<Slots>) => void;
-  /** Told of each new state: with `waiting` and a `HandshakeFailed`, where no connection could be had; with `closed` and its cause, if there is one. */
+  /**
+   * Told of each new state: with `waiting` and a `HandshakeFailed`, where no connection could be
+   * had; with `closed` and its cause, if there is one. Where it is not given, a warning of the
+   * console says why there is no connection.
+   */
   onState?: (state: State, cause: Error | null) => void;
   /** Told of each optimistic edit that is taken back. The promise of such an edit need not be looked at then. */
   onTakenBack?: (told: TakenBack) => void;
@@ -105,6 +131,11 @@ export interface Options<V extends readonly Shown[] = readonly Shown[], Slots = 
   storage?: Store;
   /** The key in `storage`, of one page at a time. The URL, if nothing is said. */
   storageKey?: string;
+  /**
+   * A pointer to an object of the document, as `begin` makes it, in which this client keeps a
+   * counter for its edits that are `once`.
+   */
+  once?: Pointer;
   /** The class of the sockets; the global one, if nothing is said. */
   WebSocket?: new (url: string) => unknown;
   /** How long the first try after a loss waits at most, in milliseconds; each further one waits up to twice as long. 200 if nothing is said. */
@@ -129,6 +160,67 @@ export interface EditOptions {
   optimistic?: boolean;
   /** `false` keeps it out of what `undo` takes back. */
   undo?: boolean;
+  /**
+   * Whether it tests and raises a counter of this client, at the pointer that `connect` was given
+   * as `once`. Then it is sent again where its answer was lost, and is never done twice. It gives
+   * its revision, or a later one where the answer was lost. One is on its way at a time: what was
+   * asked for behind it waits. It has 62 operations of its own at most, and no `base`.
+   */
+  once?: boolean;
+}
+
+/** A value that may be changed in place. */
+export type Draft<T> = T extends readonly (infer E)[]
+  ? Draft<E>[]
+  : T extends object
+  ? { -readonly [K in keyof T]: Draft<T[K]> }
+  : T;
+
+export interface ChangeOptions {
+  /**
+   * What has to be as it was seen. `values`: what the function read, and each element that it
+   * addressed, by tests in front; by the revision, where they would be too many or too large.
+   * `base`: the whole document. `none`: nothing. `values` if nothing is said.
+   */
+  guard?: "values" | "base" | "none";
+  /** How often the function is called at most. 20 if nothing is said. */
+  tries?: number;
+  /** Whether it shows at once. It does, if nothing is said. */
+  optimistic?: boolean;
+  /** `false` keeps it out of what `undo` takes back. */
+  undo?: boolean;
+  /** As of an edit; one that is guarded by the revision is done once by that. */
+  once?: boolean;
+}
+
+/** The elements of a list, told apart by a member, wherever they stand. */
+export interface Keyed<E> {
+  /** The element with a key; undefined where there is none. */
+  get(key: Writable): E | undefined;
+  /** Where it stands; -1 where it does not. */
+  indexOf(key: Writable): number;
+  /** Fails with `Refused`, as `missing`, where no element has the key; so do the others. */
+  remove(key: Writable, options?: ChangeOptions): Promise<number>;
+  /** In front of the element with another key; to the end, where that is null. */
+  move(key: Writable, before: Writable | null, options?: ChangeOptions): Promise<number>;
+  /** Puts in a new one, in front of the element with a key; at the end, where that is null. */
+  insert(value: E, before: Writable | null, options?: ChangeOptions): Promise<number>;
+  /** Changes a draft of it. */
+  change(
+    key: Writable,
+    make: (element: Draft<E>) => void,
+    options?: ChangeOptions,
+  ): Promise<number>;
+}
+
+type ElementOf<T> = T extends readonly (infer E)[] ? E : any;
+
+export interface SetOptions extends EditOptions {
+  /**
+   * Whether objects that are missing around the place are made, in the same patch. Then the edit
+   * has a base, and is made anew where others were faster.
+   */
+  parents?: boolean;
 }
 
 /**
@@ -146,12 +238,25 @@ export interface Place<T> {
    * Writes another value, which shows at once: replaces what stands there, or adds a member, or an element at the end, where nothing does.
    * Fails as `edit`, and throws before the first slots.
    */
-  set(value: T, options?: EditOptions): Promise<number>;
+  set(value: T, options?: SetOptions): Promise<number>;
   /**
    * Writes the value that `change` makes of the one that stands there, and does it again until nobody was faster; where it makes
    * `undefined`, nothing. Fails as `edit`; with `stale` after that many `tries`, 20 if nothing is said.
    */
   update(change: (value: T | undefined) => T | undefined, options?: { tries?: number; undo?: boolean }): Promise<number>;
+  /** Adds elements to the end of a list. It is a `change`, as those below are. */
+  push(...values: ElementOf<T>[]): Promise<number>;
+  /**
+   * Puts an element in front of the one that is shown at an index, or at the end, by the index
+   * behind the last. Where that one has moved by then it is put in front of it there; it is `Refused`, as
+   * `changed`, where it is gone. So are those below, which follow their elements by their values.
+   */
+  insert(at: number, value: ElementOf<T>, options?: ChangeOptions): Promise<number>;
+  remove(at: number, options?: ChangeOptions): Promise<number>;
+  /** Moves an element to where another one is shown. */
+  move(from: number, to: number, options?: ChangeOptions): Promise<number>;
+  /** The elements by a member that tells them apart, as an `id`. */
+  byKey(name: string): Keyed<ElementOf<T>>;
 }
 
 export interface Board<D = Json, V extends readonly Shown[] = readonly Shown[]> {
@@ -177,6 +282,12 @@ export interface Board<D = Json, V extends readonly Shown[] = readonly Shown[]> 
   /** Shows another view from now on. Gives its slots, or those of a later view where one was asked for in the meantime. Fails with `Refused`, and the view before stays; and with `Closed`. */
   watch<W extends readonly Shown[]>(view: readonly [...W]): Promise<SlotsOf<D, W>>;
   /**
+   * The slots, once all that was said so far is answered and shown: this client's edits, and all
+   * that was done before the relay heard of this. `rev` is the room's revision then. It costs a
+   * snapshot. It fails with `Closed`, and with no refusal.
+   */
+  sync(): Promise<SlotsOf<D, V>>;
+  /**
    * Edits the document, all of it or nothing. Gives the new revision, which the slots may still be on their way to.
    *
    * Fails with `Refused`, where nothing changed; with `Unknown`, where the connection was lost before the answer; with `Closed`; and with
@@ -187,14 +298,32 @@ export interface Board<D = Json, V extends readonly Shown[] = readonly Shown[]> 
    * not fit what is shown, nothing of it is. Where it is refused, or its answer is lost, it is taken back, and `onTakenBack` is told.
    *
    * With a `base` it is done only where the room is at that revision, and gives the next one. Else it is refused, as `stale`: what was seen
-   * may have changed, or anything else in the document. Then `watch(view)` gives slots of the room's revision; `rev` by itself stays
-   * behind it where an edit touches none of the slots.
+   * may have changed, or anything else in the document. Then `sync()` gives slots of the room's
+   * revision; `rev` by itself stays behind it where an edit touches none of the slots.
    *
-   * Where the answer of an edit with a `base` was lost, it is sent again once the client is back, and is never done twice. It fails with
-   * `Unknown` only where the relay was restarted in between, where the board is closed, and after five lost connections. One that was
-   * not sent yet when the relay was restarted is refused, as `stale`, without being sent.
+   * Where the answer of an edit with a `base` was lost, it is sent again once the client is back,
+   * and is never done twice. It fails with `Unknown` where it is `stale` then, with the room's
+   * revision as `rev`: it was done the first time, or another edit was faster and it never will be.
+   * Also where the relay was restarted in between, where the board is closed, and after five lost
+   * connections. One that was not sent yet when the relay was restarted is refused, as `stale`,
+   * without being sent.
    */
   edit(patch: readonly Operation[], options?: EditOptions): Promise<number>;
+  /**
+   * Changes a draft of what is shown, as any value: by assignments, `delete` and the methods of
+   * lists. The least patch that does it is sent, with moves where a value moved; nothing is, where nothing
+   * was changed. It shows at once.
+   *
+   * Where it is refused since what the function read or addressed is another by then (`guard`), the
+   * function is called again, on what is shown then: so it looks for what it means, and takes no
+   * index from outside. It returns nothing, awaits nothing and keeps nothing of the draft; `push`
+   * and `unshift` give no length. Before the first slots it waits for them. Gives the new revision,
+   * and fails as `edit`; as it was refused last, after so many `tries`.
+   */
+  change(
+    make: (draft: Json extends D ? any : Draft<D>) => void,
+    options?: ChangeOptions,
+  ): Promise<number>;
   /**
    * Takes back the newest edit of this board that was done, and gives the revision of that; null where there is none. It waits until all
    * edits before it are shown. Refused, as `changed`, where somebody changed what the edit did; then the edit before it is the newest. Edits
@@ -221,22 +350,17 @@ export interface Board<D = Json, V extends readonly Shown[] = readonly Shown[]> 
 export function connect<V extends readonly Shown[]>(url: string, options: Options<V, SlotsOf<Json, V>>): Board<Json, V>;
 export function connect<D, V extends readonly Shown[] = readonly Shown[]>(url: string, options: Options<V, SlotsOf<D, V>>): Board<D, V>;
 
-/** What one part of a page shows of a room. */
-export interface View<D = Json, V extends readonly Shown[] = readonly Shown[]> {
-  /** One slot for each pointer; null until they are there. */
-  readonly slots: SlotsOf<D, V> | null;
-  readonly ready: Promise<SlotsOf<D, V>>;
-  /** Tells a listener of each change of these slots. Gives its end. */
-  subscribe(listener: (slots: SlotsOf<D, V>) => void): () => void;
-  /** What stands at a pointer that this view shows. Equal pointers give the same place, as long as it is held or listened to. */
-  at<P extends Shown>(shown: P): Place<ValueOf<D, P>>;
-  edit(patch: readonly Operation[], options?: EditOptions): Promise<number>;
-  close(): void;
-}
+/**
+ * A board of one part of a page, which shares its connection with others. Its edits are those of
+ * the connection: `pending`, `undo` and `redo` are of all boards that share it. A change has no
+ * `patch`. Closed, it leaves the connection to the others.
+ */
+export interface SharedBoard<D = Json, V extends readonly Shown[] = readonly Shown[]>
+  extends Omit<Board<D, V>, "watch"> {}
 
 export interface Room<D = Json> {
   /** Shows pointers, over the connection of the other views where 16 slots are enough for all, and else over another one. */
-  view<V extends readonly Shown[]>(view: readonly [...V]): View<D, V>;
+  view<V extends readonly Shown[]>(view: readonly [...V]): SharedBoard<D, V>;
   /** How many connections the views take. */
   readonly connections: number;
   close(): void;
@@ -265,7 +389,21 @@ export interface Presence<E extends object> {
  * by this client's clock. Where it is refused, as in a room that has no document yet, it is tried again when the document changes. Each
  * renewal is an edit: a revision of the room, told to every watcher of the object, and it makes an edit with an earlier `base` stale.
  */
-export function presence<E extends object>(board: Board<any, any>, path: Pointer, entry: E, options?: { id?: string; every?: number; gone?: number }): Presence<E>;
+export function presence<E extends object>(
+  board: Board<any, any> | SharedBoard<any, any>,
+  path: Pointer,
+  entry: E,
+  options?: { id?: string; every?: number; gone?: number },
+): Presence<E>;
+
+/**
+ * A class of sockets that tells what the client says and hears, message by message, for whoever
+ * looks for a mistake: `connect(url, { view, WebSocket: inspected(console.log) })`.
+ */
+export function inspected(
+  tell: (told: { readonly way: "sent" | "heard"; readonly message: any }) => void,
+  Sockets?: new (url: string) => unknown,
+): new (url: string) => unknown;
 
 /**
  * What the slots of a view show when a patch is laid over them, as far as they tell it: of the others each is as it was, and `known` is
@@ -273,9 +411,9 @@ export function presence<E extends object>(board: Board<any, any>, path: Pointer
  */
 export function overlaid(view: readonly Shown[], slots: readonly Slot[], patch: readonly Operation[]): { slots: Slot[]; known: boolean[] };
 
-/** The relay refused a request, and nothing changed by it; but see `resent`. */
+/** The relay refused a request, and nothing changed by it. */
 export class Refused extends Error {
-  constructor(reply: { fault: string; at?: number | null; rev?: number | null }, resent?: boolean);
+  constructor(reply: { fault: string; at?: number | null; rev?: number | null }, advice?: string);
   /**
    * The word of the fault (docs/PROTOCOL.md, "Messages"). The client itself refuses with `too-long` a text of more than 1,056,768 bytes, by
    * which the connection would end; with `away` what may not wait for the connection; and with `changed` an undo of what somebody changed
@@ -286,15 +424,18 @@ export class Refused extends Error {
   readonly at: number | null;
   /** The revision at which the room is, where the fault is `stale`; else null. */
   readonly rev: number | null;
-  /**
-   * Whether it is an edit that was sent before, on a connection that was lost. Then `stale` says that it was done that time, or that
-   * another edit was faster and it never will be. The document tells which, if the edit left a mark there.
-   */
-  readonly resent: boolean;
 }
 
-/** The connection was lost before the answer: the edit may have been done, may not, and may still be done. */
-export class Unknown extends Error {}
+/** The connection was lost before the answer: the edit may have been done, or not. */
+export class Unknown extends Error {
+  constructor(rev?: number | null);
+  /**
+   * The room's revision, where the edit had a `base` and was sent again: it was done by then, or
+   * never will be. The document tells which, if the edit left a mark there. Null: it may still be
+   * done.
+   */
+  readonly rev: number | null;
+}
 
 /** The board was closed before what was asked for was sent. */
 export class Closed extends Error {}

@@ -4,27 +4,31 @@
   const errorsModule = (() => {
     // What a request can come to besides its answer.
 
-    /** The relay refused a request, and nothing changed by it; but see `resent`. */
+    /** The relay refused a request, and nothing changed by it. */
     class Refused extends Error {
       /**
        * @param {{ fault: string, at?: number | null, rev?: number | null }} reply
-       * @param {boolean} [resent]
+       * @param {string} [advice] what to do
        */
-      constructor({ fault, at = null, rev = null }, resent = false) {
-        super(fault + (at === null ? "" : ` at ${at}`) + (rev === null ? "" : `, the room is at revision ${rev}`));
+      constructor({ fault, at = null, rev = null }, advice = "") {
+        const place = at === null ? "" : ` at ${at}`;
+        const room = rev === null ? "" : `, the room is at revision ${rev}`;
+        super(fault + place + room + (advice && `: ${advice}`));
         this.name = "Refused";
         this.fault = fault;
         this.at = at;
         this.rev = rev;
-        this.resent = resent;
       }
     }
 
-    /** The connection was lost before the answer: the edit may have been done, may not, and may still be done. */
+    /** The answer was lost: the edit may have been done, or not; `rev` is the room's revision since. */
     class Unknown extends Error {
-      constructor() {
-        super("the connection was lost before the answer");
+      /** @param {number | null} [rev] null where it may still be done */
+      constructor(rev = null) {
+        const since = rev === null ? "" : `, and the room is at revision ${rev}`;
+        super(`the connection was lost before the answer${since}`);
         this.name = "Unknown";
+        this.rev = rev;
       }
     }
 
@@ -36,67 +40,116 @@
       }
     }
 
+    /** @type {Record<number, string>} */
+    const ADVICE = {
+      404: "an address ends with /rooms/NAME",
+      503: "it is full (--sessions, --rooms), or about to stop",
+    };
+
     /** No connection could be made. The client goes on trying. */
     class HandshakeFailed extends Error {
       /**
        * @param {"refused" | "unreachable"} reason
+       * @param {string} url
        * @param {number | null} [status]
        */
-      constructor(reason, status = null) {
-        super(reason === "refused" ? `the relay refused the connection${status === null ? "" : `, with ${status}`}` : "the relay cannot be reached");
+      constructor(reason, url, status = null) {
+        super(reason === "refused" ? refusal(url, status) : silence(url));
         this.name = "HandshakeFailed";
         this.reason = reason;
         this.status = status;
       }
     }
 
+    /** @param {string} url @param {number | null} status */
+    function refusal(url, status) {
+      if (status === null) return `${url} refuses the connection`;
+      const advice = ADVICE[status];
+      const what = advice === undefined ? "" : `: ${advice}`;
+      return `${url} refuses the connection, with ${status}${what}`;
+    }
+
+    /** @param {string} url */
+    function silence(url) {
+      return `nothing answers at ${url}: start the relay there, or connect to where it listens`;
+    }
+
     return { Closed, HandshakeFailed, Refused, Unknown };
   })();
 
   const editModule = (() => {
-    // An edit that was asked for, until its answer. One with a base belongs to one run of the relay, and is sent to it again where its answer
-    // was lost: revisions only rise, so of all edits with one base at most one is done.
+    // An edit that was asked for, until its answer. Where its answer was lost, one with a base is sent
+    // to the same run of the relay again: revisions only rise, so of all edits with one base at most
+    // one is done. So is one with a counter, which tests that and raises it (once.mjs).
     const { Closed, Refused, Unknown } = errorsModule;
 
-    // How often an edit with a base is sent at most: one that ends its connection each time has to come to an end.
+    // How often an edit is sent at most: one that ends its connection each time has to come to an end.
     const SENDINGS = 5;
 
     /**
      * @typedef {import("../relay.js").Operation} Operation
+     * @typedef {import("./once.mjs").Counter} Counter
      * @typedef {{ epoch: number, rev: number }} Welcome
-     * @typedef {{ done: (rev: number, epoch: number) => void, failed: (cause: Error) => void }} Outcome
+     * @typedef {{ patch: Operation[], base?: number, epoch: number | null }} Kept
+     * @typedef {Kept & { counter: Counter | null }} Asked
+     * @typedef {{
+     *   done: (rev: number, epoch: number) => void,
+     *   doneBefore: (edit: Edit, epoch: number) => void,
+     *   failed: (cause: Error) => void,
+     *   again: (edit: Edit) => void,
+     * }} Outcome
+     * `doneBefore`: on a connection that was lost, at a revision that the relay did not tell. `again`:
+     * it is to be sent before whatever waits.
      */
 
     class Edit {
-      #epoch; // the run of which the base is a revision; null where the first connection on which it is sent decides
+      #patch;
+      #base;
+      #counter;
+      #epoch; // the run to which it belongs; null where the first connection decides
       #sendings = 0;
-      #sentTo = 0; // the epoch of the connection on which it was sent last
-      #outcome;
+      #hasEnded = false;
+      /** @type {Refused | null} */
+      #refusal = null; // of its patch: from then on what is sent raises the counter alone
+      #on;
 
-      /**
-       * @param {{ patch: Operation[], base?: number, epoch: number | null }} asked
-       * @param {Outcome} outcome
-       */
-      constructor({ patch, base, epoch }, outcome) {
-        this.request = base === undefined ? { do: "edit", patch } : { do: "edit", base, patch };
+      /** @param {Asked} asked @param {Outcome} on */
+      constructor({ patch, base, epoch, counter }, on) {
+        this.#patch = patch;
+        this.#base = base;
         this.#epoch = epoch;
-        this.#outcome = outcome;
+        this.#counter = counter;
+        this.#on = on;
+      }
+
+      /** What is sent. */
+      get request() {
+        const own = this.#refusal === null ? this.#patch : [];
+        const patch = this.#counter === null ? own : [...this.#counter.raise, ...own];
+        return this.#hasBase ? { do: "edit", base: this.#base, patch } : { do: "edit", patch };
       }
 
       /** What is kept of it while it waits, so that another board can send it. */
       get kept() {
-        const { patch, base } = /** @type {{ patch: Operation[], base?: number }} */ (this.request);
-        return { patch, base, epoch: this.#epoch };
+        const once = this.#counter === null ? undefined : true;
+        return { patch: this.#patch, base: this.#base, epoch: this.#epoch, once };
       }
 
       get #hasBase() {
-        return "base" in this.request;
+        return this.#base !== undefined;
       }
 
       /** Whether it does no harm when it is late: it has a base, or tests something first. */
       get isGuarded() {
-        const { patch } = /** @type {{ patch: Operation[] }} */ (this.request);
-        return this.#hasBase || patch[0]?.op === "test";
+        return this.#hasBase || this.#patch[0]?.op === "test";
+      }
+
+      /**
+       * What has to be sent before it: nothing (null), a request, or `WAITS`.
+       * @param {Welcome} welcome
+       */
+      ahead(welcome) {
+        return this.#hasEnded ? null : this.#counter?.ahead(this, welcome) ?? null;
       }
 
       /**
@@ -104,29 +157,82 @@
        * @param {Welcome} welcome
        */
       goesTo({ epoch, rev }) {
-        this.#epoch ??= epoch;
-        this.#sentTo = epoch;
-        const goes = !this.#hasBase || this.#epoch === epoch;
+        if (this.#hasEnded) return false;
+        const wasSent = this.#sendings > 0;
+        this.#epoch = this.#hasBase || wasSent ? this.#epoch ?? epoch : epoch;
+        const goes = this.#epoch === epoch;
         if (goes) this.#sendings += 1;
-        else this.#outcome.failed(this.#sendings > 0 ? new Unknown() : new Refused({ fault: "stale", at: null, rev }));
+        else this.fail(wasSent ? new Unknown() : new Refused({ fault: "stale", rev }));
         return goes;
       }
 
       /** @param {any} reply */
       answered(reply) {
-        if (reply.kind === "done") this.#outcome.done(reply.rev, this.#sentTo);
-        else this.#outcome.failed(new Refused(reply, this.#sendings > 1));
+        if (reply.kind === "done") this.#done(reply.rev);
+        else if (reply.fault === "stale" && this.#isResent) this.fail(new Unknown(reply.rev));
+        else if (this.#counter === null || reply.at === null) this.fail(new Refused(reply));
+        else this.#refused(reply, this.#counter);
+      }
+
+      get #isResent() {
+        return this.#sendings > 1;
+      }
+
+      /** @param {number} rev */
+      #done(rev) {
+        this.#counter?.raised();
+        if (this.#refusal !== null) return this.fail(this.#refusal);
+        this.#hasEnded = true;
+        this.#on.done(rev, Number(this.#epoch));
+      }
+
+      /** @param {{ fault: string, at: number }} reply @param {Counter} counter */
+      #refused({ fault, at }, counter) {
+        if (at === 0) return this.#counterDiffers(fault, counter);
+        this.#refusal = new Refused({ fault, at: at - counter.raise.length });
+        // What was sent before may still be read, and done, as long as the counter stands.
+        if (this.#isResent) this.#on.again(this);
+        else this.fail(this.#refusal);
+      }
+
+      /** @param {string} fault @param {Counter} counter */
+      #counterDiffers(fault, counter) {
+        if (this.#isResent && fault === "test-failed") {
+          counter.raised();
+          this.#on.doneBefore(this, Number(this.#epoch));
+        } else if (this.#isResent) {
+          this.fail(new Unknown());
+        } else {
+          // Somebody took it away, as who puts an earlier document into the room.
+          counter.lost(this);
+          this.#sendings = 0;
+          this.#on.again(this);
+        }
       }
 
       /** Its connection was lost: whether it is to be sent again. Else it has ended. */
       lost() {
-        const again = this.#hasBase && this.#sendings < SENDINGS;
-        if (!again) this.#outcome.failed(new Unknown());
+        const again = (this.#hasBase || this.#counter !== null) && this.#sendings < SENDINGS;
+        if (!again) this.fail(new Unknown());
         return again;
       }
 
       dropped() {
-        this.#outcome.failed(this.#sendings > 0 ? new Unknown() : new Closed());
+        this.fail(this.#sendings > 0 ? new Unknown() : new Closed());
+      }
+
+      /** It was done, and nobody can say when. */
+      lose() {
+        this.fail(new Unknown());
+      }
+
+      /** @param {Error} cause */
+      fail(cause) {
+        if (this.#hasEnded) return;
+        this.#hasEnded = true;
+        if (cause instanceof Unknown) this.#counter?.lost(this);
+        else this.#counter?.kept(this);
+        this.#on.failed(cause);
       }
     }
 
@@ -142,8 +248,24 @@
       return pointer.split("/").slice(1).map((token) => token.replaceAll("~1", "/").replaceAll("~0", "~"));
     }
 
+    /**
+     * The pointer of keys: names of members and indexes in lists.
+     * @param {...(string | number)} keys
+     */
+    function pointer(...keys) {
+      for (const key of keys) {
+        if (!isKey(key)) throw new TypeError(`${String(key)} is no name and no index`);
+      }
+      return spelled(keys);
+    }
+
+    /** @param {unknown} key */
+    function isKey(key) {
+      return typeof key === "string" || (Number.isSafeInteger(key) && Number(key) >= 0);
+    }
+
     /** @param {readonly (string | number)[]} path */
-    function pointer(path) {
+    function spelled(path) {
       return path.map((token) => `/${String(token).replaceAll("~", "~0").replaceAll("/", "~1")}`).join("");
     }
 
@@ -164,12 +286,12 @@
       return start.length <= path.length && start.every((token, k) => token === path[k]);
     }
 
-    return { index, pointer, startsWith, tokens };
+    return { index, pointer, spelled, startsWith, tokens };
   })();
 
   const jsonModule = (() => {
     // Values that the relay takes: JSON whose numbers are whole and exact in JavaScript.
-    const { pointer } = pointerModule;
+    const { spelled } = pointerModule;
 
     /** @typedef {import("../relay.js").Json} Json */
 
@@ -219,7 +341,7 @@
 
     /** @param {readonly (string | number)[]} path @param {string} words */
     function wrong(path, words) {
-      return new TypeError(`${pointer(path) || "the value"} ${words}`);
+      return new TypeError(`${spelled(path) || "the value"} ${words}`);
     }
 
     /**
@@ -439,6 +561,11 @@
 
       get held() {
         return this.#held;
+      }
+
+      /** The view that is wanted, anew: its slots are of the room's revision. */
+      watchAgain() {
+        return this.watch(this.#wanted.view);
       }
 
       /** @param {readonly Shown[]} view */
@@ -957,12 +1084,12 @@
       return [Array.isArray(value) ? value.length : Object.keys(value).length];
     }
 
-    return { Draft, after, afterAll, goesOn, knownBy, pathOf, placeOf, read, slotOf, slotsOf };
+    return { Draft, after, afterAll, child, goesOn, knownBy, pathOf, placeOf, read, slotOf, slotsOf };
   })();
 
   const inverseModule = (() => {
     // What takes a patch back, as far as the slots tell: each operation backwards, behind tests that nobody changed since what it did.
-    const { pointer, startsWith, tokens } = pointerModule;
+    const { spelled, startsWith, tokens } = pointerModule;
     const { Draft, placeOf, read } = knownModule;
 
     /**
@@ -1067,7 +1194,8 @@
 
     /** @param {readonly string[]} path @param {any} value What stands there. @param {any} old What is to stand there. @returns {Operation[]} */
     function exchange(path, value, old) {
-      return [{ op: "test", path: pointer(path), value }, { op: "replace", path: pointer(path), value: old }];
+      const there = spelled(path);
+      return [{ op: "test", path: there, value }, { op: "replace", path: there, value: old }];
     }
 
     /** @param {Draft} draft @param {readonly string[]} path @param {any} value @returns {Operation[]} */
@@ -1075,7 +1203,7 @@
       const place = placeOf(draft.whole, path);
       if (place.list === null || (place.list && place.at === null)) throw new NotKnown();
       if (!place.list && read(draft.whole, path).is !== "absent") return exchange(path, value, valueAt(draft, path));
-      const there = pointer(place.path);
+      const there = spelled(place.path);
       return [{ op: "test", path: there, value }, { op: "remove", path: there }];
     }
 
@@ -1084,7 +1212,7 @@
       const place = placeOf(draft.whole, path);
       if (place.list === null) throw new NotKnown();
       /** @type {Operation} */
-      const add = { op: "add", path: pointer(place.path), value: valueAt(draft, path) };
+      const add = { op: "add", path: spelled(place.path), value: valueAt(draft, path) };
       return place.list ? [...neighbours(draft, place), add] : [add];
     }
 
@@ -1094,9 +1222,12 @@
       if (holder?.is !== "value" || at === null) throw new NotKnown();
       const list = path.slice(0, -1);
       const { length } = holder.value;
-      if (length === 1) return [{ op: "test", path: pointer(list), value: [] }];
+      if (length === 1) return [{ op: "test", path: spelled(list), value: [] }];
       /** @type {(place: number, at: number) => Operation} */
-      const test = (place, at) => ({ op: "test", path: pointer([...list, place]), value: valueAt(draft, [...list, String(at)]) });
+      const test = (place, at) => {
+        const value = valueAt(draft, [...list, String(at)]);
+        return { op: "test", path: spelled([...list, place]), value };
+      };
       return [...(at > 0 ? [test(at - 1, at - 1)] : []), ...(at + 1 < length ? [test(at, at + 1)] : [])];
     }
 
@@ -1117,7 +1248,7 @@
       let back = [];
       draft.do(operation, () => (back = addedBack(draft, path, moved)));
       const [test, last] = back;
-      const place = pointer(origin.path);
+      const place = spelled(origin.path);
       // A move back would be one into itself where it came in front of what it was taken from, and may shift a place that is put back.
       const isMove = !startsWith(from, path) && last.op === "remove";
       return isMove ? [test, { op: "move", from: last.path, path: place }] : [test, last, { op: "add", path: place, value: moved }];
@@ -1160,7 +1291,7 @@
      */
     async function failure(url, event) {
       const told = /\b[45][0-9]{2}\b/.exec(event?.message ?? "");
-      if (told !== null) return new HandshakeFailed("refused", Number(told[0]));
+      if (told !== null) return new HandshakeFailed("refused", url, Number(told[0]));
       const ending = new AbortController();
       const timer = setTimeout(() => ending.abort(), LONGEST);
       try {
@@ -1168,9 +1299,9 @@
         const foreign = globalThis.location !== undefined && globalThis.location.origin !== address.origin;
         const mode = foreign ? "no-cors" : "cors";
         const { status } = await fetch(address, { mode, redirect: "manual", cache: "no-store", signal: ending.signal });
-        return new HandshakeFailed("refused", meant(status));
+        return new HandshakeFailed("refused", url, meant(status));
       } catch {
-        return new HandshakeFailed("unreachable");
+        return new HandshakeFailed("unreachable", url);
       } finally {
         clearTimeout(timer);
       }
@@ -1196,11 +1327,134 @@
     return { checkRoom, failure };
   })();
 
+  const idModule = (() => {
+    // Names that nobody else has, for what a client keeps in a document.
+
+    const PARTS = 4;
+    const RANGE = 2 ** 24;
+
+    function newId() {
+      const part = () => Math.floor(Math.random() * RANGE).toString(36);
+      return Array.from({ length: PARTS }, part).join("");
+    }
+
+    return { newId };
+  })();
+
+  const onceModule = (() => {
+    // A counter of this client's own in the document. Each edit that is `once` tests and raises it, so
+    // one that is sent again is done at most once (docs/PROTOCOL.md, "Edits without an answer").
+    //
+    // One such edit is on its way at a time, and what was asked for behind it waits. The counter has a
+    // name that nobody had before, and is added by a request that is sent once: where the answer of
+    // that was lost, a counter of another name is added. So no late one sets back a counter that has
+    // gone on.
+    const { Refused } = errorsModule;
+    const { newId } = idModule;
+    const { spelled, tokens } = pointerModule;
+
+    /** What is ahead of an edit that has to wait. */
+    const WAITS = Symbol("waits");
+
+    /**
+     * @typedef {import("./edit.mjs").Edit} Edit
+     * @typedef {import("./edit.mjs").Welcome} Welcome
+     * @typedef {import("../relay.js").Operation} Operation
+     */
+
+    class Counter {
+      #parent;
+      #path = ""; // of the counter
+      #value = 0; // what stands there
+      /** @type {number | null} */
+      #epoch = null; // the run in whose document it stands; null where it stands in none
+      /** @type {Welcome | null} */
+      #adding = null; // the connection on which it is being added
+      /** @type {Edit | null} */
+      #edit = null; // which has no answer yet
+
+      /** @param {string} parent a pointer to an object of the document */
+      constructor(parent) {
+        tokens(parent);
+        this.#parent = parent;
+      }
+
+      /**
+       * What has to be sent before an edit: nothing (null), a request, or `WAITS`.
+       * @param {Edit} edit
+       * @param {Welcome} welcome of the connection
+       */
+      ahead(edit, welcome) {
+        if (this.#edit === edit) return null;
+        if (this.#edit !== null || this.#adding === welcome) return WAITS;
+        if (this.#epoch !== welcome.epoch) return this.#add(edit, welcome);
+        this.#edit = edit;
+        return null;
+      }
+
+      /** @param {Edit} edit that waits for it @param {Welcome} welcome */
+      #add(edit, welcome) {
+        this.#adding = welcome;
+        const path = this.#parent + spelled([newId()]);
+        const answered = (/** @type {any} */ reply) => {
+          this.#adding = null;
+          if (reply.kind === "done") this.#stands(path, welcome.epoch);
+          else edit.fail(new Refused({ fault: reply.fault }, this.#advice));
+        };
+        return { request: { do: "edit", patch: [{ op: "add", path, value: 0 }] }, answered };
+      }
+
+      /** @param {string} path @param {number} epoch */
+      #stands(path, epoch) {
+        this.#path = path;
+        this.#value = 0;
+        this.#epoch = epoch;
+      }
+
+      get #advice() {
+        return `\`once\` needs an object at "${this.#parent}", as \`begin\` makes it`;
+      }
+
+      /** @returns {Operation[]} */
+      get raise() {
+        const [path, value] = [this.#path, this.#value];
+        return [{ op: "test", path, value }, { op: "replace", path, value: value + 1 }];
+      }
+
+      /** The edit that was on its way was done. */
+      raised() {
+        this.#value += 1;
+        this.#edit = null;
+      }
+
+      /**
+       * An edit was not done, and the counter stands as it did.
+       * @param {Edit} edit
+       */
+      kept(edit) {
+        if (this.#edit === edit) this.#edit = null;
+      }
+
+      /**
+       * What the counter is after an edit is not known: the next edit has another one.
+       * @param {Edit} edit
+       */
+      lost(edit) {
+        if (this.#edit !== edit) return;
+        this.#edit = null;
+        this.#epoch = null;
+      }
+    }
+
+    return { Counter, WAITS };
+  })();
+
   const linkModule = (() => {
     // A connection to a room that comes back when it is lost, and the requests that go over it, in order.
     const { HandshakeFailed } = errorsModule;
     const { endsConnection } = lengthModule;
     const { failure } = handshakeModule;
+    const { WAITS } = onceModule;
 
     // With one more on the way 32 replies could wait, and the relay would read nothing from this client until it drew one.
     const ON_THE_WAY = 31;
@@ -1218,14 +1472,15 @@
     const REPLIES = ["done", "refused", "watching", "resumed", "unwatched"];
 
     /**
-     * A request: what is sent, the id with which it was, and what becomes of it. Only an edit has the last four; others end with their
-     * connection.
+     * A request: what is sent, the id with which it was, and what becomes of it. Only an edit has the
+     * last five; others end with their connection.
      *
      * @typedef {{ epoch: number, rev: number }} Welcome
      * @typedef {{
      *   request: object,
      *   id?: number,
      *   answered: (reply: any) => void,
+     *   ahead?: (welcome: Welcome) => Asked | typeof WAITS | null,
      *   goesTo?: (welcome: Welcome) => boolean,
      *   lost?: () => boolean,
      *   dropped?: () => void,
@@ -1393,7 +1648,7 @@
 
       #giveUp() {
         if (this.#welcome !== null) this.#givenUp += 1;
-        this.#abandon(this.#opened ? null : new HandshakeFailed("unreachable"));
+        this.#abandon(this.#opened ? null : new HandshakeFailed("unreachable", this.#url));
       }
 
       // Something came that shows that the other end is there.
@@ -1410,6 +1665,9 @@
 
       #send() {
         while (this.#welcome !== null && this.#sent.length < ON_THE_WAY && this.#unsent.length > 0) {
+          const ahead = this.#unsent[0].ahead?.(this.#welcome) ?? null;
+          if (ahead === WAITS) break;
+          if (ahead !== null) this.#unsent.unshift(ahead);
           const asked = /** @type {Asked} */ (this.#unsent.shift());
           // What is kept elsewhere ends there before it is sent, so that it is never sent twice.
           if (asked.dropped) this.#on.waiting(this.#unsent);
@@ -1772,10 +2030,127 @@
     return { Overlay };
   })();
 
+  const elementsModule = (() => {
+    // What is done to the elements of one list: by their places, or by a member that tells them apart.
+    const { Refused } = errorsModule;
+    const { isObject, same } = jsonModule;
+
+    /**
+     * Where an element is by now: the one that stood at a place when it was asked for, as far as its
+     * value tells. The nearest one, if there are several.
+     * @param {() => unknown} list what is shown
+     * @param {number} at
+     */
+    function followed(list, at) {
+      const before = shown(list());
+      const isThere = Number.isSafeInteger(at) && at >= 0 && at < before.length;
+      if (!isThere) throw new RangeError(`no element ${at}`);
+      const wanted = before[at];
+      return () => {
+        const places = shown(list()).flatMap((value, place) => (same(value, wanted) ? [place] : []));
+        const [place] = places.sort((one, other) => Math.abs(one - at) - Math.abs(other - at));
+        if (place !== undefined) return place;
+        throw new Refused({ fault: "changed" }, `element ${at} is gone`);
+      };
+    }
+
+    /** @param {unknown} list @returns {any[]} */
+    function shown(list) {
+      return Array.isArray(list) ? list : [];
+    }
+
+    /** The elements of a list, told apart by a member. */
+    class Keyed {
+      #place;
+      #name;
+      #change;
+
+      /**
+       * @param {{ value: any }} place of the list
+       * @param {string} name of the member
+       * @param {(make: (list: any[]) => void, options: object) => Promise<number>} change
+       */
+      constructor(place, name, change) {
+        this.#place = place;
+        this.#name = name;
+        this.#change = change;
+      }
+
+      /**
+       * Where the element with a key is; -1 where it is not.
+       * @param {any} key
+       */
+      indexOf(key) {
+        const name = this.#name;
+        const has = (/** @type {any} */ element) => isObject(element) && same(element[name], key);
+        return shown(this.#place.value).findIndex(has);
+      }
+
+      /**
+       * The element with a key; undefined where there is none.
+       * @param {any} key
+       */
+      get(key) {
+        return shown(this.#place.value)[this.indexOf(key)];
+      }
+
+      /** @param {any} key @param {any} [options] @returns {Promise<number>} */
+      remove(key, options) {
+        return this.#change((list) => void list.splice(this.#at(key), 1), options);
+      }
+
+      /**
+       * In front of the element with another key; to the end, where that is null.
+       * @param {any} key @param {any} before @param {any} [options] @returns {Promise<number>}
+       */
+      move(key, before, options) {
+        return this.#change((list) => {
+          const [from, to] = [this.#at(key), this.#to(before)];
+          if (from === to) return;
+          const [element] = list.splice(from, 1);
+          if (to === null) list.push(element);
+          else list.splice(to > from ? to - 1 : to, 0, element);
+        }, options);
+      }
+
+      /** @param {any} value @param {any} before @param {any} [options] @returns {Promise<number>} */
+      insert(value, before, options) {
+        return this.#change((list) => {
+          const to = this.#to(before);
+          if (to === null) list.push(value);
+          else list.splice(to, 0, value);
+        }, options);
+      }
+
+      /**
+       * @param {any} key @param {(element: any) => void} make @param {any} [options]
+       * @returns {Promise<number>}
+       */
+      change(key, make, options) {
+        return this.#change((list) => void make(list[this.#at(key)]), options);
+      }
+
+      /** @param {any} key */
+      #at(key) {
+        const at = this.indexOf(key);
+        if (at >= 0) return at;
+        throw new Refused({ fault: "missing" }, `no element has the key ${JSON.stringify(key)}`);
+      }
+
+      /** @param {any} before @returns {number | null} */
+      #to(before) {
+        return before === null || before === undefined ? null : this.#at(before);
+      }
+    }
+
+    return { Keyed, followed, shown };
+  })();
+
   const placeModule = (() => {
     // A value that a view shows, by itself or as a part of another one: who hears of it, and changes of it.
     const { Closed, Refused } = errorsModule;
-    const { startsWith, tokens } = pointerModule;
+    const { Keyed, followed, shown } = elementsModule;
+    const { spelled, startsWith, tokens } = pointerModule;
     const { has } = patchModule;
     const { same } = jsonModule;
 
@@ -1833,11 +2208,44 @@
         });
       }
 
-      /** @param {any} value @param {any} [options] @returns {Promise<number>} */
-      set(value, options = {}) {
+      /**
+       * @param {any} value
+       * @param {import("../relay.js").SetOptions} [asked]
+       * @returns {Promise<number>}
+       */
+      set(value, asked = {}) {
+        const { parents = false, ...options } = asked;
         const { slots } = this.#source;
         if (slots === null) throw new Error("the slots are not there yet");
-        return this.#board.edit([this.#write(this.#slot(slots), value)], { optimistic: true, ...options });
+        const missing = parents ? this.#missing(slots) : 0;
+        if (missing > 0) return this.#setWithParents(value, { optimistic: true, ...options });
+        const patch = [this.#write(this.#slot(slots), value)];
+        return this.#board.edit(patch, { optimistic: true, ...options });
+      }
+
+      // No operation tests that nothing stands in a place: so it is done on what was seen.
+      /** @param {any} value @param {object} options */
+      #setWithParents(value, options) {
+        /** @returns {Operation[]} */
+        const make = () => {
+          const missing = this.#missing(this.#source.confirmed);
+          if (missing === 0) return [this.#write(this.#slot(this.#source.confirmed), value)];
+          const start = this.#path.length - missing;
+          const below = this.#path.slice(start).reduceRight(nested, value);
+          return [{ op: "add", path: spelled(this.#path.slice(0, start)), value: below }];
+        };
+        return this.#compareAndSet(make, TRIES, options);
+      }
+
+      // How many containers around it are not there, as far as the view shows them.
+      /** @param {Slots} slots */
+      #missing(slots) {
+        const cover = this.#cover();
+        if (slots === null || cover === null) return 0;
+        const { rest } = cover;
+        const holder = (/** @type {number} */ k) => rest.slice(0, k).reduce(part, slots[cover.at]);
+        const there = rest.findIndex((_, k) => holder(k).length === 0);
+        return there < 0 ? 0 : rest.length - there;
       }
 
       /**
@@ -1845,14 +2253,71 @@
        * @param {{ tries?: number, undo?: boolean }} options
        * @returns {Promise<number>}
        */
-      async update(change, { tries = TRIES, undo = true } = {}) {
-        await this.#source.ready;
+      update(change, { tries = TRIES, undo = true } = {}) {
         const make = () => {
           const slot = this.#slot(this.#source.confirmed);
           const value = change(slot[0]);
           return value === undefined ? null : [this.#write(slot, value)];
         };
-        return compareAndSet(this.#board, tries, make, (patch, seen) => this.#board.edit(patch, { undo, ...seen }));
+        return this.#compareAndSet(make, tries, { undo });
+      }
+
+      // Of a list, guarded by what stands around the place, and made anew where that has moved.
+
+      /** @param {...any} values @returns {Promise<number>} */
+      push(...values) {
+        return this.#change((list) => void list.push(...values));
+      }
+
+      /** @param {number} at @param {any} value @param {any} [options] @returns {Promise<number>} */
+      insert(at, value, options) {
+        const list = () => this.value;
+        const { length } = shown(list());
+        const place = at === length ? () => null : followed(list, at);
+        return this.#change((list) => {
+          const at = place();
+          if (at === null) list.push(value);
+          else list.splice(at, 0, value);
+        }, options);
+      }
+
+      /** @param {number} at @param {any} [options] @returns {Promise<number>} */
+      remove(at, options) {
+        const place = followed(() => this.value, at);
+        return this.#change((list) => void list.splice(place(), 1), options);
+      }
+
+      /**
+       * So that it stands at another place of the list as it is shown now.
+       * @param {number} from @param {number} to @param {any} [options] @returns {Promise<number>}
+       */
+      move(from, to, options) {
+        const list = () => this.value;
+        const [element, other] = [followed(list, from), followed(list, to)];
+        return this.#change((list) => {
+          const [from, to] = [element(), other()];
+          if (from !== to) list.splice(to, 0, list.splice(from, 1)[0]);
+        }, options);
+      }
+
+      /** @param {string} name */
+      byKey(name) {
+        const keys = new Map([[spelled(this.#path), name]]);
+        return new Keyed(this, name, (make, options) => this.#change(make, { ...options, keys }));
+      }
+
+      /** @param {(list: any[]) => void} make @param {object} [options] @returns {Promise<number>} */
+      #change(make, options = {}) {
+        this.#checkSet();
+        return this.#board.changePlace(this.#path, make, options);
+      }
+
+      /** @param {() => Operation[] | null} make @param {number} tries @param {object} options */
+      #compareAndSet(make, tries, options) {
+        const edit = (/** @type {Operation[]} */ patch, /** @type {object} */ seen) =>
+          this.#board.edit(patch, { ...options, ...seen });
+        const done = this.#source.ready.then(() => compareAndSet(this.#board, tries, make, edit));
+        return this.#board.said(done);
       }
 
       /** @param {Slots} slots @returns {readonly any[]} */
@@ -1874,9 +2339,18 @@
 
       /** @param {readonly any[]} slot @param {any} value @returns {Operation} */
       #write(slot, value) {
-        if (typeof this.#shown !== "string") throw new TypeError("a size is not set: what it counts is");
-        return { op: slot.length === 0 ? "add" : "replace", path: this.#shown, value };
+        this.#checkSet();
+        return { op: slot.length === 0 ? "add" : "replace", path: spelled(this.#path), value };
       }
+
+      #checkSet() {
+        if (typeof this.#shown !== "string") throw new TypeError("a size is not set: what it counts is");
+      }
+    }
+
+    /** @param {any} value @param {string} name */
+    function nested(value, name) {
+      return Object.fromEntries([[name, value]]);
     }
 
     /** @param {readonly any[]} slot @param {string} token @returns {readonly any[]} */
@@ -1891,26 +2365,40 @@
     }
 
     /**
-     * An edit made from what is shown, and made again until nobody was faster.
+     * An edit made from what is shown on its revision, and made again until nobody was faster.
      * @param {any} board
      * @param {number} tries
      * @param {() => Operation[] | null} make null where nothing is to be done
      * @param {(patch: Operation[], seen: { base: number, epoch: number }) => Promise<number>} edit
      * @returns {Promise<number>}
      */
-    async function compareAndSet(board, tries, make, edit) {
+    function compareAndSet(board, tries, make, edit) {
+      return anew(board, tries, ["stale"], async () => {
+        const patch = make();
+        return patch === null ? board.rev : edit(patch, { base: board.rev, epoch: board.epoch });
+      });
+    }
+
+    /**
+     * Tries again as long as it is refused by one of these faults, on what is shown by then.
+     * @param {any} board
+     * @param {number} tries
+     * @param {readonly string[]} faults
+     * @param {() => Promise<number>} attempt
+     */
+    async function anew(board, tries, faults, attempt) {
       for (let tried = 1; ; tried += 1) {
         if (board.state === "closed") throw new Closed();
-        const patch = make();
-        if (patch === null) return board.rev;
         try {
-          return await edit(patch, { base: board.rev, epoch: board.epoch });
+          return await attempt();
         } catch (error) {
-          if (!(error instanceof Refused) || error.fault !== "stale" || error.resent || tried >= tries) throw error;
+          const isOutdated = error instanceof Refused && faults.includes(error.fault);
+          if (!isOutdated || tried >= tries) throw error;
         }
         if (tried > 1) await pause(tried);
-        // An edit elsewhere leaves the slots' revision behind the room's: only slots that come anew are of that one.
-        await board.watch(board.view);
+        // An edit elsewhere leaves the slots' revision behind the room's: only slots that come anew are
+        // of that one.
+        await board.watchAgain();
       }
     }
 
@@ -1920,7 +2408,7 @@
       return new Promise((resolve) => setTimeout(resolve, Math.random() * longest));
     }
 
-    return { Place, compareAndSet, isSame };
+    return { Place, anew, compareAndSet, isSame };
   })();
 
   const placesModule = (() => {
@@ -1965,7 +2453,7 @@
 
     /**
      * @typedef {import("./edit.mjs").Edit} Edit
-     * @typedef {{ patch: any[], base?: number, epoch: number | null }} Kept
+     * @typedef {{ patch: any[], base?: number, epoch: number | null, once?: boolean }} Kept
      */
 
     class Queue {
@@ -1979,7 +2467,7 @@
        * @param {string} [key]
        */
       constructor(mode = "all", storage = null, key = "relay") {
-        if (mode !== "all" && mode !== "guarded") throw new RangeError(`queue is "guarded" or "all", and not ${mode}`);
+        if (mode !== "all" && mode !== "guarded") throw new RangeError(`no queue: ${mode}`);
         this.#mode = mode;
         this.#storage = storage;
         this.#key = key;
@@ -2044,6 +2532,1259 @@
     return { beginning };
   })();
 
+  const nodeModule = (() => {
+    // The parts of a draft: what was seen, each part by where it stood, and what is made of it. A part
+    // keeps what it is when it is moved, so that the patch can be a move. Containers are opened when
+    // they are looked into.
+    const { checked, isObject } = jsonModule;
+    const { child } = knownModule;
+    const { index, spelled } = pointerModule;
+
+    /**
+     * @typedef {import("./known.mjs").Part} Part
+     * @typedef {Node[] | Map<string, Node>} Kids
+     */
+
+    // A value past this is deeper than any document, or in a cycle.
+    const DEEPEST = 128;
+
+    class Node {
+      /** @type {Kids | null} */
+      #kids = null; // what stands in it now
+      /** @type {Kids | null} */
+      #before = null; // what stood in it
+      /** @type {any} */
+      #value; // of one that was not opened
+
+      /**
+       * @param {Part} part
+       * @param {readonly string[] | null} origin where it stood; null for what was put into the draft
+       * @param {Node | null} [element] the innermost element of a list that it is, or is within
+       */
+      constructor(part, origin, element = null) {
+        this.part = part;
+        this.origin = origin;
+        this.element = element;
+        this.#value = part.is === "value" ? part.value : undefined;
+      }
+
+      get isList() {
+        return Array.isArray(this.#kids ?? this.#value);
+      }
+
+      /** Of which some members are known, and others are not. */
+      get isPartial() {
+        return this.part.is === "container";
+      }
+
+      get isContainer() {
+        const isObject = typeof this.#value === "object" && this.#value !== null;
+        return this.#kids !== null || this.isPartial || isObject;
+      }
+
+      /** Whether it was looked into, so that something in it may be another one. */
+      get isOpen() {
+        return this.#kids !== null;
+      }
+
+      /** What stood there. */
+      get seen() {
+        return this.part.is === "value" ? this.part.value : undefined;
+      }
+
+      get kids() {
+        if (this.#kids === null) this.#open();
+        return /** @type {Kids} */ (this.#kids);
+      }
+
+      set kids(kids) {
+        this.#kids = kids;
+      }
+
+      /** What stood in it; nothing, if it was put in. */
+      get before() {
+        return this.#before ?? (this.isList ? [] : new Map());
+      }
+
+      /**
+       * What stood at a name.
+       * @param {string} name
+       */
+      memberBefore(name) {
+        if (this.#kids === null) this.#open();
+        return /** @type {Map<string, Node>} */ (this.#before).get(name);
+      }
+
+      /** @returns {Node[]} */
+      get list() {
+        return /** @type {Node[]} */ (this.kids);
+      }
+
+      /** @returns {Map<string, Node>} */
+      get members() {
+        return /** @type {Map<string, Node>} */ (this.kids);
+      }
+
+      #open() {
+        const { part } = this;
+        const isList = part.is === "value" && Array.isArray(this.#value);
+        const parts = part.is === "container" ? part.children : partsOf(this.#value);
+        const there = [...parts].filter(([, { is }]) => is === "value" || is === "container");
+        const kids = there.map(([token, part]) => this.#kid(part, token, isList));
+        this.#before = isList ? kids : new Map(there.map(([token], k) => [token, kids[k]]));
+        this.#kids = Array.isArray(this.#before) ? [...this.#before] : new Map(this.#before);
+      }
+
+      /** @param {Part} part @param {string} token @param {boolean} isList */
+      #kid(part, token, isList) {
+        const kid = new Node(part, [...(this.origin ?? []), token], this.element);
+        // Of a container that is known in parts it is open whether it is a list.
+        if (isList || (this.isPartial && index(token) !== null)) kid.element = kid;
+        return kid;
+      }
+
+      /**
+       * Of a partial one: fails where the view does not show what stands at a name.
+       * @param {string} name
+       */
+      check(name) {
+        if (!this.isPartial || this.members.has(name) || child(this.part, name).is === "absent") return;
+        throw new RangeError(`${spelled([...(this.origin ?? []), name])} is not in the view`);
+      }
+
+      /**
+       * What it is now, as JSON.
+       * @returns {any}
+       */
+      get value() {
+        if (this.#kids === null) return this.#value;
+        if (Array.isArray(this.#kids)) return this.#kids.map(({ value }) => value);
+        return Object.fromEntries([...this.#kids].map(([name, { value }]) => [name, value]));
+      }
+    }
+
+    /** @param {any} value @returns {[string, Part][]} */
+    function partsOf(value) {
+      return Object.entries(value).map(([token, value]) => [token, { is: "value", value }]);
+    }
+
+    /**
+     * A part of what an application puts in: parts of the draft stay what they are.
+     * @param {any} value
+     * @param {(value: any) => Node | undefined} nodeOf
+     */
+    function put(value, nodeOf) {
+      const isPlain = Array.isArray(value) || (isObject(value) && !("toJSON" in value));
+      return nodeOf(value) ?? new Node({ is: "value", value: isPlain ? value : checked(value) }, null);
+    }
+
+    /**
+     * Takes up what stands in a value that was put in, which its owner may have changed since.
+     * @param {Node} node
+     * @param {(value: any) => Node | undefined} nodeOf
+     * @param {number} [depth]
+     */
+    function takeUp(node, nodeOf, depth = 0) {
+      if (node.origin !== null || !node.isContainer || node.isOpen) return;
+      if (depth > DEEPEST) throw new TypeError("the value is too deep, or contains itself");
+      const kid = (/** @type {any} */ value) => {
+        const kid = put(value, nodeOf);
+        takeUp(kid, nodeOf, depth + 1);
+        return kid;
+      };
+      const { value } = node;
+      if (Array.isArray(value)) node.kids = Array.from(value, kid);
+      else node.kids = new Map(members(value).map(([name, part]) => [name, kid(part)]));
+    }
+
+    /**
+     * @param {object} value
+     * @returns {[string, any][]}
+     */
+    function members(value) {
+      checked(Object.fromEntries(Object.keys(value).map((name) => [name, 0])));
+      return Object.entries(value);
+    }
+
+    return { Node, put, takeUp };
+  })();
+
+  const listModule = (() => {
+    // What is done to a list of a draft. What hangs on the whole list, as its length, has it noted as
+    // seen; what hangs on one element, that one.
+
+    /**
+     * @typedef {import("./node.mjs").Node} Node
+     * @typedef {import("./draft.mjs").Draft} Draft
+     */
+
+    /**
+     * @param {Draft} draft
+     * @param {Node} node
+     * @returns {any}
+     */
+    function methods(draft, node) {
+      const list = () => node.list;
+      const all = () => draft.see(node);
+      const put = (/** @type {any[]} */ values) => values.map((value) => draft.put(value));
+      /** @type {any} */
+      const own = {
+        length: () => (all(), list().length),
+        at(/** @type {number} */ at) {
+          const kid = list()[at < 0 ? own.length() + at : at];
+          return kid === undefined ? void all() : draft.read(kid);
+        },
+        set(/** @type {number} */ at, /** @type {any} */ value) {
+          if (at >= list().length) all();
+          if (at > list().length) throw new RangeError("a list has no holes");
+          replaceAt(draft, node, at, 1, put([value]));
+        },
+        cut(/** @type {number} */ length) {
+          if (length > own.length()) throw new RangeError("a list has no holes");
+          replaceAt(draft, node, length, list().length - length, []);
+        },
+        push(/** @type {any[]} */ ...values) {
+          const made = put(values);
+          draft.change(node);
+          list().push(...made);
+          for (const kid of made) draft.pushed.set(kid, node);
+        },
+        unshift: (/** @type {any[]} */ ...values) => void replaceAt(draft, node, 0, 0, put(values)),
+        pop() {
+          const last = own.length() - 1;
+          return last < 0 ? undefined : replaceAt(draft, node, last, 1, [])[0];
+        },
+        shift: () => (list().length === 0 ? void all() : replaceAt(draft, node, 0, 1, [])[0]),
+        splice(/** @type {any[]} */ ...asked) {
+          const [start, count] = span(asked, list().length, all);
+          return replaceAt(draft, node, start, count, put(asked.slice(2)));
+        },
+        /** Only who comes to the end knows how long it is. */
+        *values() {
+          for (let at = 0; at < list().length; at += 1) yield draft.read(list()[at]);
+          all();
+        },
+        ...orders(draft, node),
+        ...searches(() => own),
+      };
+      return own;
+    }
+
+    /** @param {Draft} draft @param {Node} node */
+    function orders(draft, node) {
+      return {
+        reverse: () => (draft.see(node), reordered(draft, node, (kids) => kids.reverse())),
+        sort(/** @type {(a: any, b: any) => number} */ compare) {
+          draft.see(node);
+          const order = node.list.map((kid) => draft.of(kid)).sort(compare);
+          const left = [...node.list];
+          const taken = (/** @type {any} */ value) => {
+            const at = left.findIndex((kid) => draft.of(kid) === value);
+            return left.splice(at, 1)[0];
+          };
+          return reordered(draft, node, () => order.map(taken));
+        },
+      };
+    }
+
+    // These end where they find something, and hang on nothing behind it.
+    /** @param {() => any} own */
+    function searches(own) {
+      /** @param {(value: any, at: number) => unknown} holds */
+      const first = (holds) => {
+        let at = 0;
+        for (const value of own().values()) {
+          if (holds(value, at)) return [at, value];
+          at += 1;
+        }
+        return [-1, undefined];
+      };
+      return {
+        find: (/** @type {any} */ holds) => first(holds)[1],
+        findIndex: (/** @type {any} */ holds) => first(holds)[0],
+        indexOf: (/** @type {any} */ wanted) => first((value) => value === wanted)[0],
+        includes: (/** @type {any} */ wanted) => first((value) => value === wanted)[0] >= 0,
+      };
+    }
+
+    /**
+     * Where `splice` begins, and how many it takes, as `Array` has it.
+     * @param {any[]} asked
+     * @param {number} length
+     * @param {() => void} all
+     */
+    function span(asked, length, all) {
+      const from = Math.trunc(Number(asked[0] ?? 0)) || 0;
+      const wanted = asked.length === 1 ? Infinity : Math.max(Math.trunc(Number(asked[1])) || 0, 0);
+      if (from < 0 || from + wanted > length) all();
+      const start = from < 0 ? Math.max(length + from, 0) : Math.min(from, length);
+      return [start, asked.length === 0 ? 0 : Math.min(wanted, length - start)];
+    }
+
+    /**
+     * @param {Draft} draft @param {Node} node
+     * @param {number} start @param {number} count @param {Node[]} made
+     * @returns {any[]} what was taken away
+     */
+    function replaceAt(draft, node, start, count, made) {
+      const { list } = node;
+      draft.change(node);
+      const taken = list.slice(start, start + count);
+      for (const kid of taken) draft.address(kid);
+      if (made.length > count) neighbour(draft, node, start, start + count);
+      list.splice(start, count, ...made);
+      for (const kid of made) draft.pushed.delete(kid);
+      return taken.map((kid) => draft.of(kid));
+    }
+
+    // What is put in is put in front of an element or behind one, but at the start.
+    /** @param {Draft} draft @param {Node} node @param {number} start @param {number} end */
+    function neighbour(draft, node, start, end) {
+      const { list } = node;
+      if (start === 0) return;
+      const behind = list.slice(end).find(({ origin }) => origin !== null);
+      draft.address(behind ?? list.slice(0, start).reverse().find(({ origin }) => origin !== null));
+    }
+
+    /** @param {Draft} draft @param {Node} node @param {(kids: Node[]) => Node[]} order */
+    function reordered(draft, node, order) {
+      draft.change(node);
+      node.kids = order([...node.list]);
+      return draft.of(node);
+    }
+
+    return { methods };
+  })();
+
+  const draftModule = (() => {
+    // A draft of what a board shows, which an application changes as any value. What it reads and what
+    // it addresses is noted, so that the patch can be guarded by tests of that.
+    const { Node, put, takeUp } = nodeModule;
+    const { index, spelled } = pointerModule;
+    const { methods } = listModule;
+
+    /** @typedef {import("./known.mjs").Part} Part */
+
+    class Draft {
+      #proxies = new WeakMap(); // by the node
+      #nodes = new WeakMap(); // by the proxy
+      /** @type {Set<Node>} */
+      seen = new Set(); // parts whose values the outcome hangs on
+      /** @type {Set<Node>} */
+      there = new Set(); // containers that were looked for
+      /** @type {Set<Node>} */
+      changed = new Set(); // containers in which something was changed
+      /** @type {Map<Node, Node>} */
+      pushed = new Map(); // parts that were put at the end of a list, however long it is
+      isGuardedByBase = false; // no test says what was read
+      #keys;
+
+      /**
+       * @param {Part} whole what is known of the document
+       * @param {Map<string, string>} [keys] the name of the member that tells the elements of a list
+       * apart, by the list's pointer
+       */
+      constructor(whole, keys = new Map()) {
+        this.root = new Node(whole, []);
+        this.#keys = keys;
+        if (!this.root.isContainer) throw new TypeError("the document is no container");
+      }
+
+      /**
+       * What stands at a path.
+       * @param {readonly string[]} path
+       */
+      at(path) {
+        const value = path.reduce((part, token) => part?.[token], this.of(this.root));
+        if (typeof value === "object" && value !== null) return value;
+        throw new TypeError(`${spelled(path)} is no container`);
+      }
+
+      /**
+       * What the application is given of a node.
+       * @param {Node} node
+       */
+      of(node) {
+        // What the application put in is its own.
+        if (!node.isContainer || node.origin === null) return node.value;
+        const made = this.#proxies.get(node);
+        if (made !== undefined) return made;
+        const proxy = node.isList ? listProxy(this, node) : objectProxy(this, node);
+        this.#proxies.set(node, proxy);
+        this.#nodes.set(proxy, node);
+        return proxy;
+      }
+
+      /** @param {any} value */
+      put(value) {
+        return put(value, this.#nodeOf);
+      }
+
+      /** @param {Node} node */
+      takeUp(node) {
+        takeUp(node, this.#nodeOf);
+      }
+
+      /** @param {any} value @returns {Node | undefined} */
+      #nodeOf = (value) => {
+        return typeof value === "object" && value !== null ? this.#nodes.get(value) : undefined;
+      };
+
+      /**
+       * The value of a part is read.
+       * @param {Node} node
+       */
+      read(node) {
+        if (node.isContainer) this.there.add(node);
+        else this.see(node);
+        return this.of(node);
+      }
+
+      /**
+       * The outcome hangs on all of a part, as on the length of a list.
+       * @param {Node} node
+       */
+      see(node) {
+        if (node.isPartial) this.isGuardedByBase = true;
+        else if (node.origin !== null) this.seen.add(node);
+      }
+
+      /**
+       * An element is addressed by its place in a list: what stands there has to be that one. Its key
+       * says so where there is one.
+       * @param {Node | null | undefined} element
+       */
+      address(element) {
+        if (!element?.origin) return;
+        const key = this.#keys.get(spelled(element.origin.slice(0, -1)));
+        const holds = key !== undefined && element.isContainer && !element.isList;
+        this.see((holds && element.memberBefore(key)) || element);
+      }
+
+      /**
+       * Something in a container is changed.
+       * @param {Node} node
+       */
+      change(node) {
+        if (node.origin === null) return;
+        this.changed.add(node);
+        this.address(node.element);
+      }
+    }
+
+    /** @param {Draft} draft @param {Node} node */
+    function listProxy(draft, node) {
+      const own = methods(draft, node);
+      /** @type {ProxyHandler<any>} */
+      const traps = {
+        ...SHUT,
+        get(_, key, receiver) {
+          if (key === "length") return own.length();
+          if (key === Symbol.iterator) return own.values;
+          const at = typeof key === "string" ? index(key) : null;
+          if (at !== null) return own.at(at);
+          return Object.hasOwn(own, key) ? own[key] : Reflect.get(Array.prototype, key, receiver);
+        },
+        set(_, key, value) {
+          const at = typeof key === "string" ? index(key) : null;
+          if (at !== null) own.set(at, value);
+          else if (key === "length") own.cut(value);
+          else throw new TypeError(`a list has no member ${String(key)}`);
+          return true;
+        },
+        has(_, key) {
+          const at = typeof key === "string" ? index(key) : null;
+          return at === null ? Reflect.has(Array.prototype, key) : at < own.length();
+        },
+        deleteProperty() {
+          throw new TypeError("a list has no holes: `splice` it");
+        },
+        ownKeys: () => [...Array.from({ length: own.length() }, (_, k) => String(k)), "length"],
+        getOwnPropertyDescriptor(target, key) {
+          const length = Reflect.getOwnPropertyDescriptor(target, "length");
+          if (key === "length") return { ...length, value: own.length() };
+          const at = typeof key === "string" ? index(key) : null;
+          return at === null || at >= own.length() ? undefined : member(own.at(at));
+        },
+      };
+      return new Proxy([], traps);
+    }
+
+    /** @param {Draft} draft @param {Node} node */
+    function objectProxy(draft, node) {
+      const get = (/** @type {string} */ name) => {
+        node.check(name);
+        const kid = node.members.get(name);
+        if (kid !== undefined) return draft.read(kid);
+        if (!(/** @type {Map<string, Node>} */ (node.before).has(name))) draft.see(node);
+        return undefined;
+      };
+      const has = (/** @type {string} */ name) => {
+        get(name);
+        return node.members.has(name);
+      };
+      /** @type {ProxyHandler<any>} */
+      const traps = {
+        ...SHUT,
+        get(_, key, receiver) {
+          if (typeof key === "symbol") return Reflect.get(Object.prototype, key, receiver);
+          if (node.members.has(key) || !(key in Object.prototype)) return get(key);
+          return Reflect.get(Object.prototype, key, receiver);
+        },
+        set(_, key, value) {
+          setMember(draft, node, String(key), value);
+          return true;
+        },
+        has: (_, key) => (typeof key === "symbol" ? key in Object.prototype : has(key)),
+        deleteProperty(_, key) {
+          dropMember(draft, node, String(key));
+          return true;
+        },
+        ownKeys() {
+          if (node.isPartial) throw new RangeError("the view does not show all members");
+          draft.see(node);
+          return [...node.members.keys()];
+        },
+        getOwnPropertyDescriptor(_, key) {
+          return typeof key === "string" && has(key) ? member(get(key)) : undefined;
+        },
+      };
+      return new Proxy({}, traps);
+    }
+
+    /** @param {Draft} draft @param {Node} node @param {string} name @param {any} value */
+    function setMember(draft, node, name, value) {
+      node.check(name);
+      const before = node.members.get(name);
+      checkPlace(node, name, before !== undefined);
+      const made = draft.put(value);
+      draft.change(node);
+      if (before?.element === before) draft.address(before);
+      node.members.set(name, made);
+    }
+
+    /** @param {Draft} draft @param {Node} node @param {string} name */
+    function dropMember(draft, node, name) {
+      node.check(name);
+      checkPlace(node, name, false);
+      // That nothing stood there: no operation says it, also where something was put there since.
+      if (!(/** @type {Map<string, Node>} */ (node.before).has(name))) draft.see(node);
+      if (!node.members.has(name)) return;
+      draft.change(node);
+      node.members.delete(name);
+    }
+
+    // Where it may be a list, another place would stand for another element then.
+    /** @param {Node} node @param {string} name @param {boolean} isReplaced */
+    function checkPlace(node, name, isReplaced) {
+      if (!node.isPartial || isReplaced || (index(name) === null && name !== "-")) return;
+      throw new RangeError("the view does not show the whole list");
+    }
+
+    /** @param {any} value */
+    function member(value) {
+      return { value, writable: true, enumerable: true, configurable: true };
+    }
+
+    /** @returns {never} */
+    function shut() {
+      throw new TypeError("a draft is changed by assignments and `delete`");
+    }
+
+    const SHUT = { defineProperty: shut, setPrototypeOf: shut, preventExtensions: shut };
+
+    return { Draft };
+  })();
+
+  const risingModule = (() => {
+    // The longest rising subsequence: which elements of a list stay where they are, when the others
+    // move.
+
+    /** @param {readonly number[]} places @returns {number[]} */
+    function longestRising(places) {
+      /** @type {number[]} */
+      const ends = []; // by the length: where the lowest end of a rising sequence of it is
+      /** @type {number[]} */
+      const before = [];
+      places.forEach((place, k) => {
+        const length = firstNotBelow(ends, places, place);
+        before[k] = length > 0 ? ends[length - 1] : -1;
+        ends[length] = k;
+      });
+      const rising = [];
+      for (let k = ends.at(-1) ?? -1; k >= 0; k = before[k]) rising.push(places[k]);
+      return rising.reverse();
+    }
+
+    /** @param {readonly number[]} ends @param {readonly number[]} places @param {number} place */
+    function firstNotBelow(ends, places, place) {
+      let [low, high] = [0, ends.length];
+      while (low < high) {
+        const middle = (low + high) >> 1;
+        if (places[ends[middle]] < place) low = middle + 1;
+        else high = middle;
+      }
+      return low;
+    }
+
+    return { longestRising };
+  })();
+
+  const matchedModule = (() => {
+    // Which elements of a list are those of another one: the same parts, and values that are equal.
+
+    /** @typedef {import("./node.mjs").Node} Node */
+
+    /**
+     * @param {readonly Node[]} list what stands there
+     * @param {readonly Node[]} goal what is to stand there
+     * @param {(kid: Node) => boolean} isFree whether an element may stand for an equal value
+     * @returns {Map<Node, Node>} by the goal
+     */
+    function matched(list, goal, isFree) {
+      /** @type {Map<Node, Node>} */
+      const by = new Map();
+      const left = new Set(list);
+      const match = (/** @type {Node} */ kid, /** @type {Node} */ there) => {
+        by.set(kid, there);
+        left.delete(there);
+      };
+      const isEqual = (/** @type {Node} */ kid, /** @type {Node} */ there) =>
+        kid.origin === null && left.has(there) && isFree(there) && text(kid) === text(there);
+      const isMatch = (/** @type {Node} */ kid, /** @type {Node} */ there) =>
+        kid === there || isEqual(kid, there);
+      for (const kid of goal) if (left.has(kid)) match(kid, kid);
+      for (const ends of [fromStart(list, goal), fromEnd(list, goal)]) {
+        for (const [there, kid] of ends) {
+          if (!isMatch(kid, there)) break;
+          match(kid, there);
+        }
+      }
+      const equal = queues([...left].filter((there) => isFree(there)));
+      for (const kid of goal) {
+        const there = by.has(kid) || kid.origin !== null ? undefined : equal.get(text(kid))?.shift();
+        if (there !== undefined) match(kid, there);
+      }
+      return by;
+    }
+
+    // What was looked into may have lost something by then, so it stands for no value.
+    /** @param {Node} kid */
+    function text(kid) {
+      return kid.origin !== null && kid.isOpen ? null : JSON.stringify(kid.value);
+    }
+
+    /** @param {readonly Node[]} kids */
+    function queues(kids) {
+      /** @type {Map<string | null, Node[]>} */
+      const queues = new Map();
+      for (const kid of kids.filter((kid) => text(kid) !== null)) {
+        const key = text(kid);
+        queues.set(key, [...(queues.get(key) ?? []), kid]);
+      }
+      return queues;
+    }
+
+    /** @param {readonly Node[]} list @param {readonly Node[]} goal @returns {[Node, Node][]} */
+    function fromStart(list, goal) {
+      const length = Math.min(list.length, goal.length);
+      return Array.from({ length }, (_, k) => [list[k], goal[k]]);
+    }
+
+    /** @param {readonly Node[]} list @param {readonly Node[]} goal @returns {[Node, Node][]} */
+    function fromEnd(list, goal) {
+      return fromStart([...list].reverse(), [...goal].reverse());
+    }
+
+    return { matched };
+  })();
+
+  const settledModule = (() => {
+    // In which container each part of what was seen stands in a draft. A part that an application put
+    // into several places stands in one of them, if it can where it stood, and is a value in the
+    // others.
+    const { Node } = nodeModule;
+    const { same } = jsonModule;
+
+    /**
+     * @typedef {import("./draft.mjs").Draft} Draft
+     * @typedef {import("./node.mjs").Kids} Kids
+     */
+
+    /** @param {Draft} draft @returns {Map<Node, Node>} */
+    function settled(draft) {
+      const containers = live(draft);
+      /** @type {Map<Node, Node>} */
+      const places = new Map();
+      for (const node of containers) {
+        const kids = new Set(node.kids.values());
+        for (const kid of node.before.values()) if (kids.has(kid)) places.set(kid, node);
+      }
+      for (const node of containers) {
+        /** @type {Set<Node>} */
+        const here = new Set();
+        node.kids = each(node.kids, (kid) => {
+          if (kid.origin === null) return toldBy(draft, kid);
+          if (!places.has(kid)) places.set(kid, node);
+          if (places.get(kid) !== node || here.has(kid)) return copied(draft, kid);
+          here.add(kid);
+          return kid;
+        });
+      }
+      return places;
+    }
+
+    /**
+     * The containers of what was seen that are in the draft, and were looked into.
+     * @param {Draft} draft
+     */
+    function live(draft) {
+      /** @type {Set<Node>} */
+      const found = new Set();
+      /** @type {[Node, string, Node][]} */
+      const exchanged = [];
+      const find = (/** @type {Node} */ node) => {
+        if (found.has(node) || node.origin === null || !node.isOpen) return;
+        found.add(node);
+        for (const kid of node.kids.values()) draft.takeUp(kid);
+        for (const [name, kid] of node.kids.entries()) {
+          if (kid.origin !== null) find(kid);
+          else if (!node.isList && kid.isOpen) exchanged.push([node, String(name), kid]);
+        }
+      };
+      find(draft.root);
+      for (const [node, name, kid] of exchanged) {
+        const before = /** @type {Map<string, Node>} */ (node.before).get(name);
+        if (before === undefined || found.has(before) || !isLike(before, kid)) continue;
+        // A list that was made of one that stood there is that one, with other elements.
+        draft.see(before);
+        before.kids = kid.kids;
+        node.members.set(name, before);
+        find(before);
+      }
+      return found;
+    }
+
+    /**
+     * Whether at least half of it is the same.
+     * @param {Node} before
+     * @param {Node} kid
+     */
+    function isLike(before, kid) {
+      if (before.isPartial || !before.isContainer || before.isList !== kid.isList) return false;
+      const [old, made] = [before.kids, kid.kids];
+      const size = (/** @type {Kids} */ kids) => (Array.isArray(kids) ? kids.length : kids.size);
+      const parts = new Set(old.values());
+      const isScalar = (/** @type {Node} */ part) => !part.isContainer;
+      const values = new Set([...old.values()].filter(isScalar).map((part) => part.value));
+      const isKept = (/** @type {Node} */ part) =>
+        parts.has(part) || (isScalar(part) && values.has(part.value));
+      const kept = [...made.values()].filter(isKept);
+      return kept.length * 2 >= Math.max(size(old), size(made));
+    }
+
+    /** @param {Kids} kids @param {(kid: Node) => Node} make @returns {Kids} */
+    function each(kids, make) {
+      if (Array.isArray(kids)) return kids.map(make);
+      return new Map([...kids].map(([name, kid]) => [name, make(kid)]));
+    }
+
+    /** @param {Draft} draft @param {Node} kid */
+    function copied(draft, kid) {
+      draft.see(kid);
+      return new Node({ is: "value", value: kid.value }, null);
+    }
+
+    // What stands in a value that was put in is told with it.
+    /** @param {Draft} draft @param {Node} kid @returns {Node} */
+    function toldBy(draft, kid) {
+      if (!kid.isOpen) return kid;
+      for (const part of kid.kids.values()) {
+        if (part.origin !== null) draft.see(part);
+        else toldBy(draft, part);
+      }
+      return kid;
+    }
+
+    return { settled };
+  })();
+
+  const differenceModule = (() => {
+    // The patch that makes a draft of what was seen. The parts are led one by one to where they stand
+    // in the draft, from the root down, over a picture of where each stands by then: so a part that
+    // went elsewhere is moved, and each path is right when its operation is done.
+    const { Node } = nodeModule;
+    const { longestRising } = risingModule;
+    const { matched } = matchedModule;
+    const { same } = jsonModule;
+    const { settled } = settledModule;
+    const { spelled } = pointerModule;
+
+    /**
+     * @typedef {import("./draft.mjs").Draft} Draft
+     * @typedef {import("./node.mjs").Kids} Kids
+     * @typedef {import("../relay.js").Operation} Operation
+     */
+
+    /**
+     * @param {Draft} draft It is not to be changed any more.
+     * @returns {{ operations: Operation[], changed: Set<Node> }} and the containers that they change
+     */
+    function difference(draft) {
+      const difference = new Difference(draft);
+      difference.lead(draft.root);
+      return difference;
+    }
+
+    class Difference {
+      /** @type {Operation[]} */
+      operations = [];
+      /** @type {Set<Node>} */
+      changed = new Set();
+      /** @type {Map<Node, Kids>} */
+      #kids = new Map(); // what stands in a container by now
+      /** @type {Map<Node, Node>} */
+      #holders = new Map(); // in which container a part stands by now
+      /** @type {Set<Node>} */
+      #appended = new Set(); // parts at the end of a list, of which only the whole list tells the index
+      #places; // in which container each part stands in the draft
+      #draft;
+
+      /** @param {Draft} draft */
+      constructor(draft) {
+        this.#draft = draft;
+        this.#places = settled(draft);
+        this.#picture(draft.root);
+      }
+
+      /** @param {Node} node */
+      #picture(node) {
+        if (!node.isOpen || node.origin === null) return;
+        const { before } = node;
+        this.#kids.set(node, Array.isArray(before) ? [...before] : new Map(before));
+        for (const kid of before.values()) {
+          this.#holders.set(kid, node);
+          this.#picture(kid);
+        }
+      }
+
+      /**
+       * Leads what stands in a container to what stands in it in the draft.
+       * @param {Node} node
+       */
+      lead(node) {
+        if (!node.isOpen) return;
+        if (node.isList) this.#leadList(node);
+        else this.#leadMembers(node);
+        for (const kid of node.kids.values()) {
+          if (kid.origin !== null && this.#places.get(kid) === node) this.lead(kid);
+        }
+      }
+
+      /** @param {Node} node */
+      #leadMembers(node) {
+        const members = /** @type {Map<string, Node>} */ (this.#kids.get(node));
+        for (const [name, kid] of [...members]) {
+          if (node.members.has(name) || this.#places.has(kid)) continue;
+          this.#emit(node, { op: "remove", path: this.#pathTo(node, name) });
+          this.#take(kid);
+        }
+        for (const [name, kid] of node.members) {
+          if (members.get(name) !== kid) this.#putMember(node, members, name, kid);
+        }
+      }
+
+      /**
+       * @param {Node} node @param {Map<string, Node>} members
+       * @param {string} name @param {Node} kid
+       */
+      #putMember(node, members, name, kid) {
+        const from = this.#path(kid);
+        const before = members.get(name);
+        if (from !== null) {
+          this.#take(kid);
+          this.#emit(node, { op: "move", from: spelled(from), path: this.#pathTo(node, name) });
+        } else if (before !== undefined && !before.isOpen && same(before.value, kid.value)) {
+          // What is set to what it is makes no change, so it has to be that.
+          this.#draft.see(before);
+        } else {
+          const op = before === undefined ? "add" : "replace";
+          this.#emit(node, { op, path: this.#pathTo(node, name), value: this.#valueOf(kid) });
+        }
+        if (before !== undefined) this.#holders.delete(before);
+        members.set(name, kid);
+        this.#holders.set(kid, node);
+      }
+
+      /** @param {Node} node */
+      #leadList(node) {
+        const list = /** @type {Node[]} */ (this.#kids.get(node));
+        const end = this.#endOf(node);
+        const { stays, by, isKept } = this.#matched(node, list, node.list.slice(0, end));
+        const last = node.list.slice(end).map((kid) => this.#equalTo(node, list, kid, isKept));
+        let at = 0;
+        for (const kid of node.list.slice(0, end)) {
+          while (at < list.length && this.#leaves(list[at], node)) at += 1;
+          const there = by.get(kid);
+          if (there !== undefined && stays.has(there)) at = this.#comeTo(node, list, at, there, isKept);
+          else at = this.#putElement(node, list, at, there ?? kid, isKept);
+        }
+        this.#dropRest(node, list, at);
+        for (const kid of last) this.#pushElement(node, list, kid);
+      }
+
+      // What was pushed comes to the end of the list, also where others have made that longer by then.
+      /** @param {Node} node */
+      #endOf(node) {
+        const { pushed, seen } = this.#draft;
+        if (seen.has(node)) return node.list.length;
+        let end = node.list.length;
+        while (end > 0 && pushed.get(node.list[end - 1]) === node) end -= 1;
+        return end;
+      }
+
+      /**
+       * A value that is taken away at one place and pushed is moved.
+       * @param {Node} node @param {Node[]} list @param {Node} kid
+       * @param {(kid: Node) => boolean} isKept
+       */
+      #equalTo(node, list, kid, isKept) {
+        if (kid.origin !== null) return kid;
+        const isEqual = (/** @type {Node} */ other) => !other.isOpen && same(other.value, kid.value);
+        const equal = list.find((other) => !isKept(other) && isEqual(other));
+        if (equal !== undefined) this.#places.set(equal, node);
+        return equal ?? kid;
+      }
+
+      /** @param {Node} node @param {Node[]} list @param {readonly Node[]} goal */
+      #matched(node, list, goal) {
+        const by = matched(list, goal, (kid) => !this.#places.has(kid));
+        // Which element stands for an equal value hangs on the whole list.
+        if ([...by].some(([kid, there]) => kid !== there)) this.#draft.see(node);
+        const places = goal.map((kid) => list.indexOf(/** @type {Node} */ (by.get(kid))));
+        const rising = longestRising(places.filter((place) => place >= 0));
+        const kept = new Set(by.values());
+        const isKept = (/** @type {Node} */ kid) => kept.has(kid) || this.#places.has(kid);
+        return { by, stays: new Set(rising.map((place) => list[place])), isKept };
+      }
+
+      /**
+       * Whether a part goes to another container.
+       * @param {Node} kid
+       * @param {Node} node
+       */
+      #leaves(kid, node) {
+        return this.#places.has(kid) && this.#places.get(kid) !== node;
+      }
+
+      /**
+       * Takes away what stands in front of an element that stays, and gives the place behind it.
+       * @param {Node} node @param {Node[]} list @param {number} at @param {Node} there
+       * @param {(kid: Node) => boolean} isKept
+       */
+      #comeTo(node, list, at, there, isKept) {
+        for (let place = at; list[place] !== there; ) {
+          if (isKept(list[place])) place += 1;
+          else this.#removeAt(node, list, place);
+        }
+        return list.indexOf(there) + 1;
+      }
+
+      /**
+       * Gives the place behind it.
+       * @param {Node} node @param {Node[]} list @param {number} at @param {Node} kid
+       * @param {(kid: Node) => boolean} isKept
+       */
+      #putElement(node, list, at, kid, isKept) {
+        const from = this.#path(kid);
+        const before = list[at];
+        if (from !== null) {
+          const was = list.indexOf(kid);
+          const place = was >= 0 && was < at ? at - 1 : at;
+          this.#take(kid);
+          const path = this.#pathTo(node, String(place));
+          this.#emit(node, { op: "move", from: spelled(from), path });
+          return this.#insert(node, list, place, kid);
+        }
+        const value = this.#valueOf(kid);
+        if (before === undefined || isKept(before)) {
+          this.#emit(node, { op: "add", path: this.#pathTo(node, String(at)), value });
+          return this.#insert(node, list, at, kid);
+        }
+        this.#emit(node, { op: "replace", path: this.#pathTo(node, String(at)), value });
+        this.#holders.delete(before);
+        list[at] = kid;
+        this.#holders.set(kid, node);
+        return at + 1;
+      }
+
+      /** @param {Node} node @param {Node[]} list @param {Node} kid */
+      #pushElement(node, list, kid) {
+        const from = this.#path(kid);
+        if (from !== null) this.#take(kid);
+        const path = this.#pathTo(node, "-");
+        if (from !== null) this.#emit(node, { op: "move", from: spelled(from), path });
+        else this.#emit(node, { op: "add", path, value: this.#valueOf(kid) });
+        this.#insert(node, list, list.length, kid);
+        this.#appended.add(kid);
+      }
+
+      /** @param {Node} node @param {Node[]} list @param {number} at @param {Node} kid */
+      #insert(node, list, at, kid) {
+        list.splice(at, 0, kid);
+        this.#holders.set(kid, node);
+        return at + 1;
+      }
+
+      /** @param {Node} node @param {Node[]} list @param {number} at */
+      #dropRest(node, list, at) {
+        for (let place = list.length - 1; place >= at; place -= 1) {
+          if (!this.#places.has(list[place])) this.#removeAt(node, list, place);
+        }
+      }
+
+      /** @param {Node} node @param {Node[]} list @param {number} at */
+      #removeAt(node, list, at) {
+        this.#emit(node, { op: "remove", path: this.#pathTo(node, String(at)) });
+        this.#holders.delete(list[at]);
+        list.splice(at, 1);
+      }
+
+      // Of a part of what was seen that is written as a value all of it is told.
+      /** @param {Node} kid */
+      #valueOf(kid) {
+        if (kid.origin !== null) this.#draft.see(kid);
+        return kid.value;
+      }
+
+      /** @param {Node} kid */
+      #take(kid) {
+        const holder = /** @type {Node} */ (this.#holders.get(kid));
+        const kids = /** @type {Kids} */ (this.#kids.get(holder));
+        if (Array.isArray(kids)) kids.splice(kids.indexOf(kid), 1);
+        else kids.delete(nameOf(kids, kid));
+        this.#holders.delete(kid);
+      }
+
+      /**
+       * Where a part stands by now; null where it does not.
+       * @param {Node} kid
+       * @returns {string[] | null}
+       */
+      #path(kid) {
+        if (kid === this.#draft.root) return [];
+        const holder = this.#holders.get(kid);
+        /** @type {string[] | null} */
+        const path = holder === undefined ? null : this.#path(holder);
+        if (holder === undefined || path === null) return null;
+        const kids = /** @type {Kids} */ (this.#kids.get(holder));
+        if (this.#appended.has(kid)) this.#draft.see(holder);
+        return [...path, Array.isArray(kids) ? String(kids.indexOf(kid)) : nameOf(kids, kid)];
+      }
+
+      /** @param {Node} node @param {string} token */
+      #pathTo(node, token) {
+        return spelled([.../** @type {string[]} */ (this.#path(node)), token]);
+      }
+
+      /** @param {Node} node @param {Operation} operation */
+      #emit(node, operation) {
+        this.operations.push(operation);
+        this.changed.add(node);
+      }
+    }
+
+    /** @param {Map<string, Node>} kids @param {Node} kid */
+    function nameOf(kids, kid) {
+      for (const [name, other] of kids) if (other === kid) return name;
+      return "";
+    }
+
+    /**
+     * A coarser patch: each value that the view shows is written anew where something in it is another
+     * one.
+     * @param {Node} node
+     * @param {readonly string[]} [path]
+     * @returns {Operation[]}
+     */
+    function coarse(node, path = []) {
+      if (!node.isOpen) return [];
+      if (!node.isPartial) {
+        const { value } = node;
+        return same(value, node.seen) ? [] : [{ op: "replace", path: spelled(path), value }];
+      }
+      const before = /** @type {Map<string, Node>} */ (node.before);
+      return [...new Set([...before.keys(), ...node.members.keys()])].flatMap((name) => {
+        const [was, is] = [before.get(name), node.members.get(name)];
+        const place = spelled([...path, name]);
+        if (is === undefined) return /** @type {Operation[]} */ ([{ op: "remove", path: place }]);
+        if (is === was) return coarse(is, [...path, name]);
+        const op = was === undefined ? "add" : "replace";
+        return /** @type {Operation[]} */ ([{ op, path: place, value: is.value }]);
+      });
+    }
+
+    return { coarse, difference };
+  })();
+
+  const guardModule = (() => {
+    // The patch of a draft with its guard: tests of what was read and addressed, or the revision.
+    const { coarse, difference } = differenceModule;
+    const { spelled, startsWith } = pointerModule;
+
+    /**
+     * @typedef {import("./draft.mjs").Draft} Draft
+     * @typedef {import("./node.mjs").Node} Node
+     * @typedef {import("../relay.js").Operation} Operation
+     * @typedef {"values" | "base" | "none"} Guard
+     */
+
+    // An edit has no more operations.
+    const OPERATIONS = 64;
+
+    // Where tests would take more characters, the revision is tested in their place.
+    const TESTS = 16_384;
+
+    /**
+     * @param {Draft} draft
+     * @param {Guard} guard
+     * @returns {{ patch: Operation[], isByBase: boolean } | null} null where nothing is changed
+     */
+    function guarded(draft, guard) {
+      const { operations, changed } = difference(draft);
+      if (operations.length === 0) return null;
+      const tests = guard === "values" && !draft.isGuardedByBase ? testsOf(draft, changed) : [];
+      const patch = [...tests, ...operations];
+      const isLight = patch.length <= OPERATIONS && JSON.stringify(tests).length <= TESTS;
+      const isByBase = guard === "base" || (guard === "values" && (draft.isGuardedByBase || !isLight));
+      if (!isByBase && isLight) return { patch, isByBase };
+      return { patch: operations.length <= OPERATIONS ? operations : coarse(draft.root), isByBase };
+    }
+
+    /** @param {Draft} draft @param {Set<Node>} changed @returns {Operation[]} */
+    function testsOf(draft, changed) {
+      const seen = new Set(draft.seen);
+      const known = [...seen, ...changed].map((node) => node.origin ?? []);
+      for (const node of draft.there) {
+        const { origin } = node;
+        if (origin === null || node.isPartial) continue;
+        // What is tested or done within it says that it is there.
+        if (!known.some((path) => startsWith(path, origin))) seen.add(node);
+      }
+      const paths = new Set([...seen].map((node) => spelled(node.origin ?? [])));
+      const isWithin = (/** @type {readonly string[]} */ origin) =>
+        origin.some((_, length) => paths.has(spelled(origin.slice(0, length))));
+      const outer = [...seen].filter(({ origin }) => !isWithin(origin ?? []));
+      const pathOf = (/** @type {Node} */ node) => spelled(node.origin ?? []);
+      return outer.map((node) => ({ op: "test", path: pathOf(node), value: node.seen }));
+    }
+
+    return { guarded };
+  })();
+
+  const changeModule = (() => {
+    // Changes of a document by a function that is given a draft of it. Where the patch is refused since
+    // the document is another one by then, the function is called again, on what is shown then.
+    const { Draft } = draftModule;
+    const { guarded } = guardModule;
+    const { knownBy } = knownModule;
+    const { anew } = placeModule;
+
+    /**
+     * @typedef {import("./guard.mjs").Guard} Guard
+     * @typedef {import("../relay.js").Operation} Operation
+     * @typedef {import("../relay.js").ChangeOptions} ChangeOptions
+     * @typedef {(draft: Draft) => void} Make
+     * @typedef {{ patch: Operation[], isByBase: boolean }} Made
+     */
+
+    // How often the function is called, if nothing is said.
+    const TRIES = 20;
+
+    // What a patch is refused as that was made of another document.
+    const OUTDATED = [
+      "stale",
+      "test-failed",
+      "missing",
+      "not-index",
+      "past-end",
+      "no-container",
+      "into-itself",
+    ];
+
+    /**
+     * Gives the new revision; that of the slots where nothing is changed.
+     * @param {any} board
+     * @param {Make} make
+     * @param {ChangeOptions & { keys?: Map<string, string> }} options
+     * @returns {Promise<number>}
+     */
+    async function change(board, make, { guard = "values", tries = TRIES, keys, ...options }) {
+      checkGuard(guard);
+      const own = { optimistic: true, ...options, silent: true };
+      if (board.slots === null) await board.ready;
+      /** @type {Made | null} */
+      let made = null;
+      try {
+        return await anew(board, tries, OUTDATED, async () => {
+          made = drafted(board, make, guard, keys);
+          // A base is of what the relay showed, without the edits that wait.
+          while (made?.isByBase && board.slots !== board.confirmed) {
+            await board.quiet();
+            made = drafted(board, make, guard, keys);
+          }
+          if (made === null) return board.rev;
+          return board.edit(made.patch, made.isByBase ? { ...own, ...based(board) } : own);
+        });
+      } catch (error) {
+        const sent = /** @type {Made | null} */ (made);
+        if (own.optimistic && sent !== null) board.takenBack(sent.patch, error);
+        throw error;
+      }
+    }
+
+    /** @param {any} board */
+    function based({ rev, epoch }) {
+      return { base: rev, epoch, once: false };
+    }
+
+    /**
+     * @param {any} board @param {Make} make
+     * @param {Guard} guard @param {Map<string, string>} [keys]
+     */
+    function drafted({ view, slots }, make, guard, keys) {
+      const draft = new Draft(knownBy(view, slots), keys);
+      make(draft);
+      return guarded(draft, guard);
+    }
+
+    /** @param {unknown} guard */
+    function checkGuard(guard) {
+      if (guard === "values" || guard === "base" || guard === "none") return;
+      throw new RangeError(`no guard: ${guard}`);
+    }
+
+    return { change };
+  })();
+
+  const warningModule = (() => {
+    // What an application is told that does not listen to states: why there is no connection.
+    const { HandshakeFailed } = errorsModule;
+
+    /** Warns once of each time in which no connection can be had. */
+    function warning() {
+      let warned = false;
+      return (/** @type {string} */ state, /** @type {Error | null} */ cause) => {
+        if (state === "open") warned = false;
+        if (warned || !(cause instanceof HandshakeFailed)) return;
+        warned = true;
+        console.warn(`relay: ${cause.message}; it is tried again`);
+      };
+    }
+
+    return { warning };
+  })();
+
   const boardModule = (() => {
     // A room, as an application has it: the slots of a view, and edits.
     const { Closed, Refused } = errorsModule;
@@ -2056,10 +3797,13 @@
     const { Overlay } = overlayModule;
     const { Place, compareAndSet } = placeModule;
     const { Places } = placesModule;
+    const { Counter } = onceModule;
     const { Queue } = queueModule;
     const { beginning } = beginModule;
+    const { change } = changeModule;
     const { checked } = jsonModule;
     const { knownBy } = knownModule;
+    const { warning } = warningModule;
 
     /**
      * @typedef {import("../relay.js").Shown} Shown
@@ -2067,6 +3811,7 @@
      * @typedef {import("../relay.js").Operation} Operation
      * @typedef {import("./follower.mjs").Held} Held
      * @typedef {import("./history.mjs").Role} Role
+     * @typedef {import("./overlay.mjs").Unconfirmed} Unconfirmed
      */
 
     // How often an undo that has to be sure of an empty place tries.
@@ -2102,10 +3847,16 @@
       #stepping = Promise.resolve(); // the undo or redo that was asked for last
       /** @type {(() => void)[]} */
       #quietWaiters = []; // told when no edit of this client waits to be shown
+      /** @type {Set<Promise<unknown>>} */
+      #said = new Set(); // what was asked for, and has not ended
+      /** @type {Counter | null} */
+      #counter;
 
       /** @param {string} url @param {any} options */
-      constructor(url, { view, begin = null, ...options }) {
-        this.#options = { WebSocket: globalThis.WebSocket, onState: () => {}, onTakenBack: null, ...DEFAULTS, ...options };
+      constructor(url, { view, begin = null, once = null, ...options }) {
+        const own = { WebSocket: globalThis.WebSocket, onState: warning(), onTakenBack: null };
+        this.#options = { ...own, ...DEFAULTS, ...options };
+        this.#counter = once === null ? null : new Counter(once);
         if (options.onChange) this.#changes.add(options.onChange);
         const first = begin === null ? null : beginning(begin, (cause) => this.#end(cause));
         this.#queue = new Queue(options.queue, options.storage, options.storageKey ?? url);
@@ -2196,13 +3947,66 @@
         return this.#follower.watch(view).then(() => this.slots);
       }
 
+      /** The slots, once all that was said so far is answered and shown. */
+      async sync() {
+        await Promise.allSettled(this.#said);
+        return this.watchAgain();
+      }
+
+      /** For what this client keeps going by itself: the slots, of the room's revision. */
+      watchAgain() {
+        return this.#follower.watchAgain().then(() => this.slots);
+      }
+
+      /**
+       * For what asks more than once: `sync` waits for it.
+       * @template T
+       * @param {Promise<T>} asked
+       */
+      said(asked) {
+        const ended = () => void this.#said.delete(asked);
+        this.#said.add(asked);
+        asked.then(ended, ended);
+        return asked;
+      }
+
       /**
        * @param {readonly Operation[]} patch
        * @param {import("../relay.js").EditOptions} [options]
        * @returns {Promise<number>}
        */
       edit(patch, options = {}) {
-        return this.#edit(patch, options, options.undo === false ? null : "edit");
+        return this.said(this.#edit(patch, options, options.undo === false ? null : "edit"));
+      }
+
+      /**
+       * @param {(draft: any) => void} make
+       * @param {import("../relay.js").ChangeOptions} [options]
+       * @returns {Promise<number>}
+       */
+      change(make, options = {}) {
+        return this.changePlace([], make, options);
+      }
+
+      /**
+       * A change of what stands at a path.
+       * @param {readonly string[]} path
+       * @param {(draft: any) => void} make
+       * @param {any} options
+       */
+      changePlace(path, make, options) {
+        /** @param {import("./draft.mjs").Draft} draft */
+        const drafted = (draft) => made(make(draft.at(path)));
+        return this.said(change(this, drafted, options));
+      }
+
+      /**
+       * An edit that the client made anew in vain.
+       * @param {Operation[]} patch
+       * @param {unknown} cause
+       */
+      takenBack(patch, cause) {
+        this.#options.onTakenBack?.({ patch, cause });
       }
 
       undo() {
@@ -2219,24 +4023,21 @@
 
       // Edits.
 
-      /** @param {readonly Operation[]} patch @param {any} options @param {Role | null} role @returns {Promise<number>} */
-      #edit(patch, { base, epoch = this.epoch, optimistic = false, silent = false }, role) {
-        const left = (/** @type {import("./inverse.mjs").Inverse | null} */ inverse) => inverse && role && this.#history.record(role, inverse);
+      /**
+       * @param {readonly Operation[]} patch @param {any} options @param {Role | null} role
+       * @returns {Promise<number>}
+       */
+      #edit(patch, options, role) {
+        const { base, epoch = this.epoch, optimistic = false, silent = false, once = false } = options;
+        /** @type {Unconfirmed["left"]} */
+        const left = (inverse) => void (inverse && role && this.#history.record(role, inverse));
         const done = new Promise((resolve, reject) => {
           const own = checked(patch);
-          /** @type {import("./overlay.mjs").Unconfirmed} */
+          /** @type {Unconfirmed} */
           const unconfirmed = { patch: own, optimistic, silent, rev: null, epoch: null, left };
-          const edit = new Edit({ patch: own, base: revision(base), epoch }, {
-            done: (rev, run) => {
-              Object.assign(unconfirmed, { rev, epoch: run });
-              resolve(rev);
-              this.#settled();
-            },
-            failed: (cause) => {
-              reject(cause);
-              this.#failed(unconfirmed, cause);
-            },
-          });
+          const counter = once ? this.#counterOf(base) : null;
+          const asked = { patch: own, base: revision(base), epoch, counter };
+          const edit = new Edit(asked, this.#outcome(unconfirmed, resolve, reject));
           if (this.#state === "closed") throw new Closed();
           if (this.#isAway && !this.#queue.takes(edit)) throw new Refused({ fault: "away" });
           this.#overlay.add(unconfirmed);
@@ -2246,6 +4047,41 @@
         // Whoever hears of what is taken back need not look at the promise as well.
         if (optimistic && this.#options.onTakenBack) done.catch(() => {});
         return done;
+      }
+
+      /**
+       * What an edit comes to.
+       * @param {Unconfirmed} unconfirmed
+       * @param {(rev: number) => void} resolve @param {(cause: Error) => void} reject
+       * @returns {import("./edit.mjs").Outcome}
+       */
+      #outcome(unconfirmed, resolve, reject) {
+        const done = (/** @type {number} */ rev, /** @type {number} */ epoch) => {
+          Object.assign(unconfirmed, { rev, epoch });
+          resolve(rev);
+          this.#settled();
+        };
+        return {
+          done,
+          // The slots that come now are of its revision, or of a later one, and what takes it back is
+          // not known.
+          doneBefore: (edit, epoch) => {
+            unconfirmed.left = () => {};
+            this.watchAgain().then(() => done(Number(this.rev), epoch), () => edit.lose());
+          },
+          failed: (cause) => {
+            reject(cause);
+            this.#failed(unconfirmed, cause);
+          },
+          again: (edit) => this.#link.askFirst(edit),
+        };
+      }
+
+      /** @param {unknown} base */
+      #counterOf(base) {
+        if (this.#counter === null) throw new TypeError('say where a counter is, as `once: "/once"`');
+        if (revision(base) !== undefined) throw new TypeError("an edit with a base is `once`");
+        return this.#counter;
       }
 
       get #isAway() {
@@ -2277,12 +4113,12 @@
       /** @param {"undo" | "redo"} role @returns {Promise<number | null>} */
       #step(role) {
         const step = this.#stepping.then(async () => {
-          await this.#quiet();
+          await this.quiet();
           const inverse = this.#history.take(role);
           return inverse === null ? null : this.#takeBack(inverse, role);
         });
-        this.#stepping = step.catch(() => {}).then(() => this.#quiet());
-        return step;
+        this.#stepping = step.catch(() => {}).then(() => this.quiet());
+        return this.said(step);
       }
 
       /** @param {import("./inverse.mjs").Inverse} inverse @param {Role} role @returns {Promise<number>} */
@@ -2291,7 +4127,7 @@
           return await (putsBack ? this.#putBack(patch, role) : this.#edit(patch, { optimistic: true }, role));
         } catch (error) {
           if (!(error instanceof Refused) || error.fault === "away") throw error;
-          throw new Refused({ fault: "changed", at: error.at, rev: error.rev }, error.resent);
+          throw new Refused({ fault: "changed", at: error.at, rev: error.rev });
         }
       }
 
@@ -2305,8 +4141,11 @@
         return compareAndSet(this, TRIES, make, (own, seen) => this.#edit(own, { optimistic: true, ...seen }, role));
       }
 
-      /** @returns {Promise<void>} */
-      #quiet() {
+      /**
+       * Once no edit of this client waits to be shown.
+       * @returns {Promise<void>}
+       */
+      quiet() {
         if (this.#overlay.isEmpty) return Promise.resolve();
         return new Promise((resolve) => this.#quietWaiters.push(resolve));
       }
@@ -2375,6 +4214,12 @@
       }
     }
 
+    // A function that goes on later would change a draft of which the patch was made.
+    /** @param {any} given by the function of a change */
+    function made(given) {
+      if (typeof given?.then === "function") throw new TypeError("a change awaits nothing");
+    }
+
     /**
      * None where there are no slots yet.
      * @param {unknown} base
@@ -2396,6 +4241,7 @@
     const { pathOf } = knownModule;
 
     /** @typedef {import("../relay.js").Shown} Shown */
+    /** @typedef {import("../relay.js").State} State */
 
     // The relay takes no more slots in a view.
     const SLOTS = 16;
@@ -2422,7 +4268,7 @@
         if (pointers.length > SLOTS) throw new RangeError(`a view has at most ${SLOTS} slots`);
         pointers.forEach(pathOf);
         const shared = this.#boards.find((board) => board.hasPlaceFor(pointers)) ?? this.#another(pointers);
-        return new View(shared, [...pointers]);
+        return new SharedBoard(shared, [...pointers]);
       }
 
       close() {
@@ -2446,7 +4292,7 @@
       #wanted;
       /** @type {Promise<unknown>} */
       #shown; // of what is wanted
-      /** @type {Map<View, readonly Shown[]>} */
+      /** @type {Map<SharedBoard, readonly Shown[]>} */
       #views = new Map();
 
       /** @param {Board} board @param {readonly Shown[]} view */
@@ -2461,7 +4307,7 @@
         return this.#with(pointers).length <= SLOTS;
       }
 
-      /** @param {View} view @param {readonly Shown[]} pointers @returns {Promise<unknown>} of the slots */
+      /** @param {SharedBoard} view @param {readonly Shown[]} pointers @returns {Promise<unknown>} */
       join(view, pointers) {
         const wanted = this.#with(pointers);
         this.#views.set(view, pointers);
@@ -2472,7 +4318,7 @@
         return this.#shown;
       }
 
-      /** @param {View} view */
+      /** @param {SharedBoard} view */
       leave(view) {
         this.#views.delete(view);
       }
@@ -2491,8 +4337,9 @@
       return all.filter((shown, k) => all.findIndex((other) => isSame(other, shown)) === k);
     }
 
-    // What one part of a page shows.
-    class View {
+    // What one part of a page shows. Its edits, and what of them waits or is undone, are those of its
+    // connection.
+    class SharedBoard {
       #shared;
       #pointers;
       /** @type {{ slots: unknown, own: any }} */
@@ -2528,6 +4375,30 @@
         return this.#own(this.#shared.board.confirmed);
       }
 
+      get rev() {
+        return this.#shared.board.rev;
+      }
+
+      get epoch() {
+        return this.#shared.board.epoch;
+      }
+
+      get state() {
+        return this.#shared.board.state;
+      }
+
+      get pending() {
+        return this.#shared.board.pending;
+      }
+
+      get undoable() {
+        return this.#shared.board.undoable;
+      }
+
+      get redoable() {
+        return this.#shared.board.redoable;
+      }
+
       // Of the board's slots those of this view; null until the board shows all of them.
       /** @param {any} slots @returns {any} */
       #own(slots) {
@@ -2543,15 +4414,20 @@
         return before !== null && own.every((slot, k) => slot === before[k]) ? before : own;
       }
 
-      /** @param {(slots: any) => void} listener Told of each change of these slots. Gives its end. */
+      /** @param {(change: any) => void} listener Told of each change of these slots. Gives its end. */
       subscribe(listener) {
-        let last = this.slots;
-        return this.#shared.board.subscribe(() => {
-          const { slots } = this;
-          if (slots === null || slots === last) return;
-          last = slots;
-          listener(slots);
+        let last = { slots: this.slots, pending: this.pending };
+        return this.#shared.board.subscribe(({ rev, pending }) => {
+          const { slots, confirmed } = this;
+          if (slots === null || (slots === last.slots && pending === last.pending)) return;
+          last = { slots, pending };
+          listener({ slots, confirmed, rev, pending, patch: null });
         });
+      }
+
+      /** @param {(state: State) => void} listener Told of each new state. Gives its end. */
+      states(listener) {
+        return this.#shared.board.states(listener);
       }
 
       /** @param {Shown} shown */
@@ -2564,6 +4440,24 @@
         return this.#shared.board.edit(patch, options);
       }
 
+      /** @param {(draft: any) => void} make @param {any} [options] */
+      change(make, options) {
+        return this.#shared.board.change(make, options);
+      }
+
+      undo() {
+        return this.#shared.board.undo();
+      }
+
+      redo() {
+        return this.#shared.board.redo();
+      }
+
+      async sync() {
+        await this.#shared.board.sync();
+        return this.slots;
+      }
+
       close() {
         this.#shared.leave(this);
       }
@@ -2572,12 +4466,43 @@
     return { Room };
   })();
 
+  const inspectedModule = (() => {
+    // What a client says and hears, for whoever looks for a mistake: a class of sockets to connect
+    // with.
+
+    /**
+     * @param {(told: { way: "sent" | "heard", message: any }) => void} tell of each text, in order
+     * @param {any} [Sockets]
+     */
+    function inspected(tell, Sockets = globalThis.WebSocket) {
+      return class extends Sockets {
+        /** @param {string} url */
+        constructor(url) {
+          super(url);
+          // Before the client's own, so that what it says of a message is told behind it.
+          this.addEventListener("message", (/** @type {any} */ { data }) => {
+            tell({ way: "heard", message: JSON.parse(data) });
+          });
+        }
+
+        /** @param {string} text */
+        send(text) {
+          tell({ way: "sent", message: JSON.parse(text) });
+          super.send(text);
+        }
+      };
+    }
+
+    return { inspected };
+  })();
+
   const presenceModule = (() => {
     // Who is here: an entry of this client in an object of the document, renewed while it is here, and taken away where it was not renewed.
     // The relay has no such thing by itself, so each renewal is an edit: a revision, told to every watcher of the object.
     const { Closed, Refused, Unknown } = errorsModule;
+    const { newId } = idModule;
     const { checked, isObject } = jsonModule;
-    const { pointer, tokens } = pointerModule;
+    const { spelled, tokens } = pointerModule;
 
     /** @typedef {{ beat: number } & Record<string, unknown>} Entry */
     /** @typedef {{ resolve: () => void, reject: (cause: unknown) => void }} Waiter */
@@ -2668,7 +4593,7 @@
       }
 
       get #own() {
-        return this.#path + pointer([this.#id]);
+        return this.#path + spelled([this.#id]);
       }
 
       /** @returns {Promise<void>} */
@@ -2753,7 +4678,7 @@
       // Others do it too: whoever is first does it, and an entry that was renewed in between stays.
       /** @param {string} id */
       #remove(id) {
-        const path = this.#path + pointer([id]);
+        const path = this.#path + spelled([id]);
         const patch = [{ op: "test", path, value: this.people[id] }, { op: "remove", path }];
         this.#board.edit(patch, { undo: false }).catch(() => {});
       }
@@ -2763,10 +4688,6 @@
     function entries(value) {
       if (!isObject(value)) return {};
       return Object.fromEntries(Object.entries(value).filter(([, entry]) => isObject(entry)));
-    }
-
-    function newId() {
-      return Array.from({ length: 4 }, () => Math.floor(Math.random() * 2 ** 24).toString(36)).join("");
     }
 
     /**
@@ -2789,6 +4710,8 @@
     const { afterAll, knownBy, slotOf, slotsOf } = knownModule;
 
     const { Closed, HandshakeFailed, Refused, Unknown } = errorsModule;
+    const { inspected } = inspectedModule;
+    const { pointer } = pointerModule;
     const { presence } = presenceModule;
 
     /** @typedef {import("../relay.js").Shown} Shown */
@@ -2818,13 +4741,17 @@
       return { slots: slotsOf(whole, view, slots), known: view.map((shown) => slotOf(whole, shown) !== null) };
     }
 
+    const NO_SOCKETS =
+      "no WebSocket: take Node 22, start Node with --experimental-websocket, " +
+      "or hand in that of the package `ws` as an option";
+
     /** @param {any} options */
     function checkSockets(options) {
       const sockets = options.WebSocket ?? globalThis.WebSocket;
-      if (typeof sockets !== "function") throw new TypeError("no WebSocket here: hand in a class of sockets");
+      if (typeof sockets !== "function") throw new TypeError(NO_SOCKETS);
     }
 
-    return { Closed, HandshakeFailed, Refused, Unknown, connect, overlaid, presence, room };
+    return { Closed, HandshakeFailed, Refused, Unknown, connect, inspected, overlaid, pointer, presence, room };
   })();
 
   globalThis.relay = relayModule;

@@ -1,11 +1,12 @@
 #!/usr/bin/env python3
 """Compares the clients with the relay, and with each other: tests/agreement/run [CASES] [SEED]
 
-A client translates its own edit to the slots of its view, to show it before the relay does. Here it is told random views, their slots,
-and patches that the relay then does, and each slot is compared: it shows what the relay shows, or stays as it was. It may stay only if
-the relay tells something of it that the slots cannot tell: another element that moved there, a value from outside the slots, a size.
-The clients in Python and JavaScript translate alike. Those, and the one in Go, follow what the relay tells a watcher of the patches.
-"""
+A client translates its own edit to the slots of its view, to show it before the relay does. Here it
+is told random views, their slots, and patches that the relay then does, and each slot is compared:
+it shows what the relay shows, or stays as it was. It may stay only if the relay tells something of
+it that the slots cannot tell: another element that moved there, a value from outside the slots, a
+size. The clients in Python and JavaScript translate alike. Those, and the one in Go, follow what
+the relay tells a watcher of the patches."""
 import collections, json, os, random, sys, time
 from cases import PATCHES, group
 from clients import DRIVERS, TRANSLATORS, Failed, Follower
@@ -31,7 +32,10 @@ def main(cases=2000, seed=1):
             followed[name] += follow(name, groups)
     print(f"{played} cases, {accepted} of them accepted, in {time.monotonic() - begun:.0f} seconds")
     for name, count in counts.items():
-        print(f"{name} agrees: " + ", ".join(f"{number} {what}" for what, number in sorted(count.items())))
+        print(
+            f"{name} agrees: "
+            + ", ".join(f"{number} {what}" for what, number in sorted(count.items()))
+        )
         if count["left"] > count["exact"] or not count["exact"]:
             sys.exit(f"{name} leaves more slots than it translates")
     for name, patches in followed.items():
@@ -41,7 +45,9 @@ def main(cases=2000, seed=1):
 
 
 def compare(batch, counts):
-    translations = {name: translates([case.asked for case in batch]) for name, translates in TRANSLATORS.items()}
+    translations = {
+        name: translates([case.asked for case in batch]) for name, translates in TRANSLATORS.items()
+    }
     for name, all_of_it in translations.items():
         if len(all_of_it) != len(batch):
             sys.exit(f"{name}: {len(all_of_it)} translations of {len(batch)} cases")

@@ -1,4 +1,5 @@
-"""Random documents, views and patches: small, with few names, so that pointers often meet. Most patches can be applied."""
+"""Random documents, views and patches: small, with few names, so that pointers often meet. Most
+patches can be applied."""
 import os, sys
 
 ROOT = os.path.dirname(os.path.dirname(os.path.dirname(os.path.abspath(__file__))))
@@ -82,7 +83,8 @@ def patched(chance, document):
                 after = step(present, one)
                 break
             except DoesNotFit:
-                after = None  # another one most of the time, so that patches with several operations are accepted
+                # Another one mostly, so that patches with several operations are accepted.
+                after = None
         operations.append(one)
         if after is None:
             return operations, document
@@ -91,12 +93,18 @@ def patched(chance, document):
 
 
 def operation(chance, document):
-    op = chance.choice(["add", "add", "add", "remove", "remove", "replace", "move", "move", "copy", "test"])
+    op = chance.choice(
+        ["add", "add", "add", "remove", "remove", "replace", "move", "move", "copy", "test"]
+    )
     path = spelled(walk(chance, document, 0.15))
     if op == "remove":
         return {"op": op, "path": path}
     if op == "test":
-        return {"op": op, "path": path, "value": at(document, path) if chance.random() < 0.9 else value(chance, 1)}
+        return {
+            "op": op,
+            "path": path,
+            "value": at(document, path) if chance.random() < 0.9 else value(chance, 1),
+        }
     if op in ("move", "copy"):
         return {"op": op, "from": spelled(walk(chance, document, 0.15)), "path": path}
     return {"op": op, "path": path, "value": value(chance, 2)}

@@ -1,8 +1,9 @@
 """What the clients make of the cases.
 
-The clients in Python and JavaScript translate a patch to the slots of a view: `refused`, or `slots`, in which a slot is None if they do
-not know what it shows; `touches`, whether it surely touches a slot; and `undone`, the slots that the inverse makes of those that the patch
-led to, None if there is no inverse, `refused` if it does not fit.
+The clients in Python and JavaScript translate a patch to the slots of a view: `refused`, or
+`slots`, in which a slot is None if they do not know what it shows; `touches`, whether it surely
+touches a slot; and `undone`, the slots that the inverse makes of those that the patch led to, None
+if there is no inverse, `refused` if it does not fit.
 
 All clients follow what a watcher is told, over the lines of docs/CONFORMANCE.md.
 """
@@ -26,7 +27,11 @@ def python_translation(view, slots, patch, led):
     before = known_by(view, slots)
     try:
         shown = python_shows(before, view, patch)
-        return {"slots": shown, "touches": touches(before, patch, view), "undone": python_undone(before, view, patch, led)}
+        return {
+            "slots": shown,
+            "touches": touches(before, patch, view),
+            "undone": python_undone(before, view, patch, led),
+        }
     except DoesNotFit:
         return REFUSED
 
@@ -47,7 +52,9 @@ def javascript_translates(asked):
     """tests/agreement/translates.mjs: a line for each."""
     lines = "\n".join(json.dumps(one) for one in asked)
     words = ["node", f"{ROOT}/tests/agreement/translates.mjs"]
-    ran = subprocess.run(words, input=lines, capture_output=True, text=True, check=True, timeout=600)
+    ran = subprocess.run(
+        words, input=lines, capture_output=True, text=True, check=True, timeout=600
+    )
     return [json.loads(line) for line in ran.stdout.splitlines()]
 
 
@@ -61,7 +68,8 @@ DRIVERS = {
 
 
 class Follower:
-    """A client that hears what the relay tells the watcher of each group, and has to hold what the watcher holds."""
+    """A client that hears what the relay tells the watcher of each group, and has to hold what the
+    watcher holds."""
 
     def __init__(self, name):
         self.name, self.driver, self.watches = name, Driver(DRIVERS[name]), 1
@@ -73,7 +81,9 @@ class Follower:
         self.hear({"kind": "snapshot", "rev": 0, "view": []})
 
     def hear(self, message):
-        self.driver.tell(do="hear", text=message if isinstance(message, str) else json.dumps(message))
+        self.driver.tell(
+            do="hear", text=message if isinstance(message, str) else json.dumps(message)
+        )
 
     def watching(self):
         """Its last request asks for a view, and is answered."""

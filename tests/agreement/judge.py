@@ -9,7 +9,8 @@ class Wrong(Exception):
 
 
 def judge(case, translation):
-    """What each slot came to: `exact`, `untouched` or `left`. `Wrong` if it shows what is not so, or less than the client knows."""
+    """What each slot came to: `exact`, `untouched` or `left`. `Wrong` if it shows what is not so,
+    or less than the client knows."""
     if translation == REFUSED:
         if case.accepted:
             raise Wrong("it was accepted")
@@ -41,13 +42,15 @@ def judge_undone(case, undone):
 
 
 def slot(case, place, shown):
-    """Of one slot: `shown` is None if the client does not know what it shows, and leaves it as it was."""
+    """Of one slot: `shown` is None if the client does not know what it shows, and leaves it as it
+    was."""
     if shown is not None:
         if text(shown) != text(case.after[place]):
             raise Wrong(f"{case.view[place]} shows {shown}, and is {case.after[place]}")
         return "exact" if operations_on(place, case.told) else "untouched"
     if knows(case.view, place, case.patch, case.told):
-        raise Wrong(f"{case.view[place]} stays {case.before[place]}, and is {case.after[place]}: the client knows that")
+        stays = f"{case.view[place]} stays {case.before[place]}"
+        raise Wrong(f"{stays}, and is {case.after[place]}: the client knows that")
     return "left"
 
 
@@ -60,12 +63,19 @@ def text(value):
 
 
 def tells_all(case):
-    """Whether the slots tell that a patch is refused: they show the document, or the value within which its one operation is."""
+    """Whether the slots tell that a patch is refused: they show the document, or the value within
+    which its one operation is."""
     if "" in case.view:
         return True
-    shown = [pointer for pointer, slot in zip(case.view, case.before) if isinstance(pointer, str) and slot]
+    shown = [
+        pointer
+        for pointer, slot in zip(case.view, case.before)
+        if isinstance(pointer, str) and slot
+    ]
     pointers = [case.patch[0][place] for place in ("path", "from") if place in case.patch[0]]
-    return len(case.patch) == 1 and any(all(begins(pointer, value) for pointer in pointers) for value in shown)
+    return len(case.patch) == 1 and any(
+        all(begins(pointer, value) for pointer in pointers) for value in shown
+    )
 
 
 def knows(view, place, patch, told):
@@ -77,7 +87,13 @@ def knows(view, place, patch, told):
         return shown["size"] in view and knows(view, view.index(shown["size"]), patch, told)
     if len(patch) == 1 and patch[0]["op"] in ("add", "replace") and begins(shown, patch[0]["path"]):
         return not patch[0]["path"].endswith("/-")  # the value is the patch's own
-    if any(may_shift(one[place], shown) for one in patch if one["op"] != "replace" for place in ("path", "from") if place in one):
+    if any(
+        may_shift(one[place], shown)
+        for one in patch
+        if one["op"] != "replace"
+        for place in ("path", "from")
+        if place in one
+    ):
         return False
     from_outside = any(not begins(one["from"], shown) for one in patch if "from" in one)
     inside = all(operation["path"].count("/") > 1 for operation in operations_on(place, told))
@@ -85,7 +101,8 @@ def knows(view, place, patch, told):
 
 
 def may_shift(pointer, shown):
-    """Whether the slot is gone from its place if the pointer's last token is a position in a list: the slots may not tell."""
+    """Whether the slot is gone from its place if the pointer's last token is a position in a list:
+    the slots may not tell."""
     holder, _, token = pointer.rpartition("/")
     return (token.isdigit() or token == "-") and shown.startswith(holder + "/")
 

@@ -3,7 +3,8 @@ import json, subprocess
 
 
 class Group:
-    """Cases that come one after another in one room, with one view: what the watcher is told first, and the cases."""
+    """Cases that come one after another in one room, with one view: what the watcher is told first,
+    and the cases."""
 
     def __init__(self, group, answers):
         _, self.view, patches = group
@@ -12,13 +13,17 @@ class Group:
         self.cases, held = [], self.begun
         for patch in patches:
             _, verdict, told, after = [next(answers) for _ in range(4)]
-            self.cases.append(Case(self.view, held, patch, json.loads(rest(verdict, 1)), rest(told, 1), Held(after)))
+            self.cases.append(
+                Case(
+                    self.view, held, patch, json.loads(rest(verdict, 1)), rest(told, 1), Held(after)
+                )
+            )
             held = self.cases[-1].held
 
 
 class Case:
-    """A patch, and what the relay does with it: whether it is accepted, and of a watcher what it was shown before, is told, and holds
-    then."""
+    """A patch, and what the relay does with it: whether it is accepted, and of a watcher what it
+    was shown before, is told, and holds then."""
 
     def __init__(self, view, before, patch, verdict, text, held):
         self.view, self.patch, self.held = view, patch, held
@@ -47,11 +52,21 @@ def relay_plays(program, groups):
     """An editor and a watcher in one room."""
     lines = ["e open r", "e draw", "w open r", "w draw"]
     for document, view, patches in groups:
-        lines += [f"e say {request('edit', patch=[{'op': 'add', 'path': '', 'value': document}])}", "e draw"]
+        lines += [
+            f"e say {request('edit', patch=[{'op': 'add', 'path': '', 'value': document}])}",
+            "e draw",
+        ]
         lines += [f"w say {request('watch', view=view)}", "w draw", "w draw", "w held"]
         for patch in patches:
             lines += [f"e say {request('edit', patch=patch)}", "e draw", "w draw", "w held"]
-    ran = subprocess.run([program, "script"], input="\n".join(lines), capture_output=True, text=True, check=True, timeout=900)
+    ran = subprocess.run(
+        [program, "script"],
+        input="\n".join(lines),
+        capture_output=True,
+        text=True,
+        check=True,
+        timeout=900,
+    )
     answers = iter(ran.stdout.splitlines()[4:])
     return [Group(group, answers) for group in groups]
 

@@ -1,5 +1,5 @@
-// What the JavaScript client makes of patches: reads a line `[view, slots, patch, after]` for each, and writes a line with what
-// tests/agreement/clients.py says.
+// What the JavaScript client makes of patches: reads a line `[view, slots, patch, after]` for each,
+// and writes a line with what tests/agreement/clients.py says.
 import { createInterface } from "node:readline";
 import { after, knownBy, slotOf } from "../../clients/javascript/src/known.mjs";
 import { inverse } from "../../clients/javascript/src/inverse.mjs";
@@ -8,7 +8,11 @@ import { Misfit } from "../../clients/javascript/src/patch.mjs";
 
 function translation(view, slots, patch, led) {
   const before = knownBy(view, slots);
-  return orRefused(() => ({ slots: shown(before, view, patch), touches: touches(before, patch, view), undone: undone(view, before, patch, led) }));
+  return orRefused(() => ({
+    slots: shown(before, view, patch),
+    touches: touches(before, patch, view),
+    undone: undone(view, before, patch, led),
+  }));
 }
 
 function undone(view, before, patch, led) {
@@ -31,5 +35,7 @@ function orRefused(make) {
 }
 
 const lines = [];
-for await (const line of createInterface({ input: process.stdin })) lines.push(JSON.stringify(translation(...JSON.parse(line))));
+for await (const line of createInterface({ input: process.stdin })) {
+  lines.push(JSON.stringify(translation(...JSON.parse(line))));
+}
 process.stdout.write(lines.join("\n"));

@@ -4,21 +4,25 @@
     tests/clients/run [SEEDS] [FIRST]
 
 At each quiet moment every client's slots are those that a fresh watcher is shown, no edit that was answered is lost or done twice, and
-no slots that were handed out have changed. Edits with a base are done on that revision of that run alone, and are sent again where the
-answer was lost; a count that all clients raise by them, each from what it sees, is the number of the edits that raised it.
+no slots that were handed out have changed. Edits with a base are done on that revision of that run
+alone, and are sent again where the answer was lost, as those that are `once`; a count that all
+clients raise by a base, each from what it sees, is the number of the edits that raised it; and so
+is one that they raise by drafts.
 """
 import asyncio, itertools, os, random, sys, time
 from browser import Browser
-from players import ROOT, InBrowser, InNode, InPython
+from players import ROOT, InBrowser, InGo, InJava, InNode, InPython
 from server import Proxy, Relay
 
 ROOM = "play"
-BEGUN = {"log": [], "count": 0, "n": 0, "lists": {"a": [1, 2, 3], "b": [], "c": [{"k": [0]}]}}
+BEGUN = {"log": [], "count": 0, "changed": 0, "n": 0, "once": {}, "lists": {"a": [1, 2, 3], "b": [], "c": [{"k": [0]}]}}
 VIEWS = [[""], ["/log"], ["/lists/a", "/lists/b"], ["/lists/a/0", "/n"], ["/lists", "/none"], ["/lists/a/1", "/lists/c/0/k", "/lists/a"]]
 CHECKS = 6
 """How many quiet moments a seed has."""
 COUNTS = "c"
 """With what the tag of an edit begins that raises the count."""
+CHANGES = "d"
+"""With what the tag of a change begins, which raises the other one."""
 
 
 class Wrong(Exception):
@@ -32,7 +36,7 @@ class Play:
         self.run = 0  # which run of the relay this is
         self.edits = {}  # by its tag: the run that it began in, the one that it was answered in, and the answer
         self.counted = 0  # the revision of the newest count
-        self.counts = {"done": 0, "Refused": 0, "Unknown": 0, "resent and stale": 0, "cuts": 0, "restarts": 0}
+        self.counts = {"done": 0, "Refused": 0, "Unknown": 0, "of these by a revision": 0, "cuts": 0, "restarts": 0}
 
     async def play(self):
         self.proxy = Proxy(late=lambda: self.chance.choice([0, 0, 0.003, 0.02]))
@@ -41,6 +45,10 @@ class Play:
         views = [self.chance.choice(VIEWS) for _ in range(4)]
         self.players = [InPython(url, view) for view in views[:2]]
         self.players += [await InNode.begin(self.node, url, views[2])]
+        if go := os.environ.get("GO_PLAYER"):
+            self.players += [await InGo.begin(go, url, view) for view in views[:2]]
+        if java := os.environ.get("JAVA_PLAYER"):
+            self.players += [await InJava.begin(java, url, view) for view in views[2:]]
         if self.browser:
             self.players += [await InBrowser.begin(self.browser, url, views[3])]
         try:
@@ -95,19 +103,28 @@ class Play:
                 await self.restart()
             elif what < 0.25:
                 await asyncio.sleep(self.chance.random() * 0.03)
+            elif what < 0.35:
+                editing.append(asyncio.ensure_future(self.change(self.chance.choice(self.players))))
             elif what < 0.5:
                 editing.append(asyncio.ensure_future(self.count(self.chance.choice(self.players))))
             else:
                 editing.append(asyncio.ensure_future(self.edit(self.chance.choice(self.players))))
         await asyncio.wait_for(asyncio.gather(*editing), 60)
 
+    def is_again(self, answer, began):
+        """Whether an edit is sent to this run again where its answer was lost."""
+        return answer.get("of") == self.epoch() or (answer.get("once") and began == self.run)
+
     async def edit(self, player):
-        more, based = self.operations(), self.chance.random() < 0.4
-        await self.log("e", lambda logged: player.edit([logged, *more], based))
+        more, how = self.operations(), self.chance.choice(["based", "based", "once", "", ""])
+        await self.log("e", lambda logged: player.edit([logged, *more], how))
 
     async def count(self, player):
         answer = await self.log(COUNTS, player.count)
         self.counted = answer.get("rev", self.counted)
+
+    async def change(self, player):
+        await self.log(CHANGES, lambda logged: player.change(logged["value"]))
 
     async def log(self, kind, edit):
         """Has an edit done with an operation that leaves its tag in the log, and keeps and gives what it came to."""
@@ -115,10 +132,10 @@ class Play:
         answer = await edit({"op": "add", "path": "/log/-", "value": tag})
         self.edits[tag] = (began, self.run, answer)
         self.counts[answer.get("fails", "done")] += 1
-        self.counts["resent and stale"] += may_be_done(answer)
+        self.counts["of these by a revision"] += answer.get("known") is not None
         if "rev" in answer and "base" in answer and answer["rev"] != answer["base"] + 1:
             raise Wrong(f"{tag} was done on another revision than its base: {answer}")
-        if answer.get("fails") == "Unknown" and answer.get("of") == self.epoch():
+        if answer.get("fails") == "Unknown" and answer.get("known") is None and self.is_again(answer, began):
             raise Wrong(f"{tag} was not sent again: {answer}")
         return answer
 
@@ -145,11 +162,13 @@ class Play:
             if time.monotonic() > until:
                 raise Wrong(wrong)
             await asyncio.sleep(0.02)
-        rev, [[log], [count]] = await self.relay.shows(ROOM, ["/log", "/count"])
+        view = ["/log", "/count", "/changed"]
+        rev, [[log], [count], [changed]] = await self.relay.shows(ROOM, view)
         self.compare_log(log)
-        counts = [tag for tag in log if tag.startswith(COUNTS)]
-        if count != len(counts):
-            raise Wrong(f"the count is {count}, and was raised by {counts}")
+        for number, kind in ((count, COUNTS), (changed, CHANGES)):
+            counts = [tag for tag in log if tag.startswith(kind)]
+            if number != len(counts):
+                raise Wrong(f"the count is {number}, and was raised by {counts}")
 
     async def first_difference(self):
         for player in self.players:
@@ -169,22 +188,19 @@ class Play:
             times = log.count(tag)
             if times > 1:
                 raise Wrong(f"{tag} was done {times} times: {answer}")
-            if answer.get("fails") == "Refused" and not may_be_done(answer) and times > 0:
+            if answer.get("fails") == "Refused" and times > 0:
                 raise Wrong(f"{tag} was refused, and done: {answer}")
             if answer.get("of", self.epoch()) != self.epoch() and times > 0:
                 raise Wrong(f"{tag} was done in another run than that of its base: {answer}")
             if "rev" in answer and began == answered == self.run:
-                order[answer["rev"]] = tag
                 if times == 0:
                     raise Wrong(f"{tag} is lost: {answer}")
+                # One that is `once` may tell a later revision than its own.
+                if not answer.get("once"):
+                    order[answer["rev"]] = tag
         answered = [order[rev] for rev in sorted(order)]
         if answered != [tag for tag in log if tag in set(answered)]:
             raise Wrong("edits were not done in the order of their revisions")
-
-
-def may_be_done(answer):
-    """Whether an edit is refused that was sent before, on a connection that was lost: it was done that time, or never will be."""
-    return answer.get("fault") == "stale" and answer["resent"]
 
 
 async def play(seeds, first, browser):

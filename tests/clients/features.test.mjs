@@ -257,14 +257,15 @@ test("views of one room share connections of 16 slots", async (t) => {
   assert.deepEqual(await both.ready, [["Shopping"], [["milk", "bread"]]]);
   assert.deepEqual(await cards.ready, [[["milk", "bread"]]]);
   const titles = [];
-  both.subscribe(([title]) => titles.push(title[0]));
+  both.subscribe(({ slots: [title] }) => titles.push(title[0]));
   const told = [];
-  cards.subscribe((slots) => told.push(slots));
+  cards.subscribe(({ slots, pending }) => told.push([slots[0][0].length, pending]));
   await both.at("/title").set("Party");
   await other.edit([{ op: "add", path: "/cards/-", value: "eggs" }]);
   await until(() => both.slots[1][0].length === 3);
   assert.equal(titles[0], "Party");
-  assert.equal(told.length, 1);
+  // An edit of another view is one of the same connection, which waits.
+  assert.deepEqual(told, [[2, 1], [2, 0], [3, 0]]);
   const many = shared.view(Array.from({ length: 15 }, (_, k) => `/more/${k}`));
   assert.equal((await many.ready).length, 15);
   assert.deepEqual(counts, [1, 2]);

@@ -4,19 +4,23 @@
 globalThis.play = ({ connect }, url, view) => {
   const handed = []; // slots that were handed out, and what they were then
   const onChange = ({ slots }) => (handed.push([slots, JSON.stringify(slots)]), handed.splice(0, handed.length - 20));
-  const waits = { firstWait: 10, longestWait: 100 };
-  const board = connect(url, { view, onChange, ...waits });
+  const waits = { firstWait: 10, longestWait: 100, onState: () => {} };
+  const board = connect(url, { view, once: "/once", onChange, ...waits });
   const counter = connect(url, { view: ["/count"], ...waits });
+  const changer = connect(url, { view: ["/changed", "/log"], ...waits });
 
-  // What an edit comes to; on the revision of the board's slots, if it is to have a base.
-  async function answer(board, patch, based) {
+  // What an edit comes to: on the revision of the board's slots if it is `based`, or `once`.
+  async function answer(board, patch, how) {
     await board.ready;
     const { rev: base, epoch: of } = board;
-    const seen = based ? { base, of } : {};
-    const edited = based ? board.edit(patch, { base }) : board.edit(patch);
-    return edited.then(
+    const ways = { based: [{ base }, { base, of }], once: [{ once: true }, { once: true }] };
+    const [options, seen] = ways[how] ?? [{}, {}];
+    return board.edit(patch, options).then(
       (rev) => ({ ...seen, rev }),
-      ({ name, fault, resent, message }) => ({ ...seen, fails: name, fault: fault ?? message, resent }),
+      ({ name, fault, rev, message }) => {
+        const known = name === "Unknown" ? rev : null;
+        return { ...seen, fails: name, fault: fault ?? message, known };
+      },
     );
   }
 
@@ -73,16 +77,27 @@ globalThis.play = ({ connect }, url, view) => {
       const { slots, confirmed, pending, state } = showing.connect();
       return { lines: lines.splice(0), edits: asked, last: { slots, confirmed, pending, state } };
     },
-    edit: ({ patch, based }) => answer(board, patch, based),
+    edit: ({ patch, how }) => answer(board, patch, how),
     // Reads the count and writes the next one, until nobody was faster.
     count: async ({ logged }) => {
       await counter.ready;
       for (;;) {
         const patch = [{ op: "replace", path: "/count", value: counter.slots[0][0] + 1 }, logged];
-        const answered = await answer(counter, patch, true);
-        if (answered.fault !== "stale" || answered.resent) return answered;
+        const answered = await answer(counter, patch, "based");
+        if (answered.fault !== "stale") return answered;
         await counter.watch(["/count"]);
       }
+    },
+    // Raises a number and leaves a tag, by a draft.
+    change: async ({ tag }) => {
+      const make = (draft) => {
+        draft.log.push(tag);
+        draft.changed += 1;
+      };
+      return changer.change(make, { tries: 1000 }).then(
+        (rev) => ({ rev }),
+        ({ name, fault, message }) => ({ fails: name, fault: fault ?? message }),
+      );
     },
     watch: async ({ view }) => ({ slots: await board.watch(view) }),
     look: async () => {

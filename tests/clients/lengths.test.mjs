@@ -4,7 +4,7 @@ import { test } from "node:test";
 import { Refused, connect } from "../../clients/javascript/relay.mjs";
 import { boards, newRoom } from "./rooms.mjs";
 
-const isTooLong = (error) => error instanceof Refused && error.fault === "too-long" && error.at === null && !error.resent;
+const isTooLong = (error) => error instanceof Refused && error.fault === "too-long" && error.at === null;
 const TOO_LONG = "/" + "x".repeat(1_056_768);
 
 test("an edit that is too long is refused, whoever refuses it, and the connection stays", async (t) => {

@@ -7,7 +7,7 @@ that wait done on it, by another program's JSON Patch.
 """
 import asyncio, itertools, json, os, random, sys, time
 import jsonpatch, websockets
-from players import InNode
+from players import InGo, InJava, InNode
 from server import Proxy, Relay
 from showing import ShowingInPython
 
@@ -68,6 +68,14 @@ class Play:
         views = [*self.chance.sample(WHOLE, 2), self.chance.choice(PARTS)]
         self.players = [await InNode.begin(self.node, url, view) for view in views]
         self.players += [ShowingInPython(url, self.chance.choice(kind)) for kind in (WHOLE, WHOLE, PARTS)]
+        # Only when asked for: on a busy machine Go had another number of edits waiting than expected.
+        # Whether its client or its player is wrong is open.
+        if (go := os.environ.get("GO_PLAYER")) and os.environ.get("GO_SHOWS"):
+            shown = [self.chance.choice(kind) for kind in (WHOLE, WHOLE, PARTS)]
+            self.players += [await InGo.begin(go, url, view) for view in shown]
+        if java := os.environ.get("JAVA_PLAYER"):
+            shown = [self.chance.choice(kind) for kind in (WHOLE, WHOLE, PARTS)]
+            self.players += [await InJava.begin(java, url, view) for view in shown]
         try:
             editing = []
             for _ in range(EDITS):

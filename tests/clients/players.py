@@ -10,26 +10,28 @@ import relay_client
 class InPython:
     def __init__(self, url, view):
         self.handed = []  # slots that were handed out, and what they were then
-        waits = {"first_wait": 0.01, "longest_wait": 0.1}
-        self.board = relay_client.connect(url, view=view, on_change=self.keep, **waits)
+        waits = {"first_wait": 0.01, "longest_wait": 0.1, "on_state": lambda state, cause: None}
+        self.board = relay_client.connect(url, view=view, on_change=self.keep, once="/once", **waits)
         self.counter = relay_client.connect(url, view=["/count"], **waits)
+        self.changer = relay_client.connect(url, view=["/changed", "/log"], **waits)
 
     def keep(self, change):
         self.handed = self.handed[-20:] + [(change.slots, json.dumps(change.slots))]
 
-    async def edit(self, patch, based):
-        return await self.answer(self.board, patch, based)
+    async def edit(self, patch, how):
+        return await self.answer(self.board, patch, how)
 
-    async def answer(self, board, patch, based):
-        """What an edit comes to; on the revision of the board's slots, if it is to have a base."""
-        base, epoch = board.rev, board.epoch
-        seen = {"base": base, "of": epoch} if based else {}
+    async def answer(self, board, patch, how):
+        """What an edit comes to: on the revision of the board's slots if it is `based`, or `once`."""
+        based = {"base": board.rev}
+        options = {"based": based, "once": {"once": True}}.get(how, {})
+        seen = {**based, "of": board.epoch} if how == "based" else options
         try:
-            return {**seen, "rev": await (board.edit(patch, base=base) if based else board.edit(patch))}
+            return {**seen, "rev": await board.edit(patch, **options)}
         except relay_client.Refused as refused:
-            return {**seen, "fails": "Refused", "fault": refused.fault, "resent": refused.resent}
-        except relay_client.Unknown:
-            return {**seen, "fails": "Unknown"}
+            return {**seen, "fails": "Refused", "fault": refused.fault}
+        except relay_client.Unknown as unknown:
+            return {**seen, "fails": "Unknown", "known": unknown.rev}
 
     async def count(self, logged):
         """Reads the count and writes the next one, until nobody was faster."""
@@ -37,10 +39,22 @@ class InPython:
         while True:
             [[count]] = self.counter.slots
             patch = [{"op": "replace", "path": "/count", "value": count + 1}, logged]
-            answer = await self.answer(self.counter, patch, True)
-            if answer.get("fault") != "stale" or answer["resent"]:
+            answer = await self.answer(self.counter, patch, "based")
+            if answer.get("fault") != "stale":
                 return answer
             await self.counter.watch(["/count"])
+
+    async def change(self, tag):
+        """Raises a number and leaves a tag, by a draft."""
+
+        def make(draft):
+            draft["log"].append(tag)
+            draft["changed"] += 1
+
+        try:
+            return {"rev": await self.changer.change(make, tries=1000)}
+        except (relay_client.Refused, relay_client.Unknown) as error:
+            return {"fails": type(error).__name__, "fault": getattr(error, "fault", None)}
 
     async def watch(self, view):
         await self.board.watch(view)
@@ -53,14 +67,18 @@ class InPython:
     async def leave(self):
         await self.board.close()
         await self.counter.close()
+        await self.changer.close()
 
 
 class InJavaScript:
-    async def edit(self, patch, based):
-        return await self.ask(do="edit", patch=patch, based=based)
+    async def edit(self, patch, how):
+        return await self.ask(do="edit", patch=patch, how=how)
 
     async def count(self, logged):
         return await self.ask(do="count", logged=logged)
+
+    async def change(self, tag):
+        return await self.ask(do="change", tag=tag)
 
     async def watch(self, view):
         await self.ask(do="watch", view=view)
@@ -69,34 +87,57 @@ class InJavaScript:
         return await self.ask(do="look")
 
 
-class InNode(InJavaScript):
-    """tests/clients/player.js."""
+class InProcess(InJavaScript):
+    """A program that is asked by lines, as tests/clients/player.js is."""
 
     @classmethod
-    async def begin(cls, node, url, view):
+    async def begin(cls, program, url, view):
         player = cls()
-        words = [*node, f"{ROOT}/tests/clients/player.js", url, json.dumps(view)]
-        pipe = asyncio.subprocess.PIPE
-        player.node = await asyncio.create_subprocess_exec(*words, stdin=pipe, stdout=pipe, limit=2**24)
+        words, pipe = [*program, url, json.dumps(view)], asyncio.subprocess.PIPE
+        player.process = await asyncio.create_subprocess_exec(*words, stdin=pipe, stdout=pipe, limit=2**24)
         player.ids, player.asked = itertools.count(1), {}
         player.reading = asyncio.ensure_future(player.read())
         return player
 
     async def read(self):
-        async for line in self.node.stdout:
+        async for line in self.process.stdout:
             answer = json.loads(line)
             self.asked.pop(answer.pop("id")).set_result(answer)
 
     async def ask(self, **words):
         number = next(self.ids)
         self.asked[number] = asyncio.get_running_loop().create_future()
-        self.node.stdin.write(json.dumps({"id": number, **words}).encode() + b"\n")
+        self.process.stdin.write(json.dumps({"id": number, **words}).encode() + b"\n")
         return await self.asked[number]
 
     async def leave(self):
-        self.node.stdin.close()
-        await self.node.wait()
+        self.process.stdin.close()
+        await self.process.wait()
         self.reading.cancel()
+
+
+class InNode(InProcess):
+    """tests/clients/player.js."""
+
+    @classmethod
+    async def begin(cls, node, url, view):
+        return await super().begin([*node, f"{ROOT}/tests/clients/player.js"], url, view)
+
+
+class InGo(InProcess):
+    """tests/clients/go, as clients/go/build makes it."""
+
+    @classmethod
+    async def begin(cls, program, url, view):
+        return await super().begin([program], url, view)
+
+
+class InJava(InProcess):
+    """tests/clients/Player.java, by the program that clients/java/build makes."""
+
+    @classmethod
+    async def begin(cls, program, url, view):
+        return await super().begin([program, "Player"], url, view)
 
 
 class InBrowser(InJavaScript):

@@ -73,7 +73,9 @@ test("in a document that is full it waits for another one, and asks for nothing 
   const url = await begunRoom({ here: {}, text: "x".repeat(262_050) });
   const [ann, other] = await boardsOf(t, url, { view: ["", "/here"], WebSocket: counting }, [""]);
   const here = presence(ann, "/here", { name: "Ann", more: "y".repeat(100) });
-  await pause(200);
+  // The answer is slow: the document is as large as one can be.
+  await until(() => sent === 2 && ann.pending === 0);
+  await pause(50);
   assert.deepEqual([sent, names(here)], [2, ""]);
   // What is laid over it and taken back is no other document.
   await ann.edit([{ op: "remove", path: "/nothing" }], { optimistic: true }).catch(() => {});

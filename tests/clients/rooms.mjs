@@ -40,7 +40,10 @@ export async function boards(t, ...views) {
 
 /** Boards of a room, once they have their slots; they are closed when the test ends. */
 export async function boardsOf(t, url, ...views) {
-  const all = views.map((options) => connect(url, { firstWait: 10, ...(Array.isArray(options) ? { view: options } : options) }));
+  const all = views.map((options) => {
+    const own = Array.isArray(options) ? { view: options } : options;
+    return connect(url, { firstWait: 10, onState: () => {}, ...own });
+  });
   t.after(() => all.forEach((board) => board.close()));
   await Promise.all(all.map(({ ready }) => ready));
   return all;

@@ -2,14 +2,14 @@
 import json
 from contextlib import asynccontextmanager
 from players import relay_client
-from relay_client.link import websocket
+from relay_client.transport import websocket
 
 
 class ShowingInPython:
     def __init__(self, url, view):
         self.lines = []  # how the slots were over time, which edits had been asked for, and which of those had been taken back
         self.asked, self.run = [], None
-        waits = {"first_wait": 0.01, "longest_wait": 0.1}
+        waits = {"first_wait": 0.01, "longest_wait": 0.1, "on_state": lambda state, cause: None}
         told = {"on_change": lambda change: self.line(), "on_taken_back": self.taken_back}
         self.board = relay_client.connect(url, view=view, open_link=self.noting, **told, **waits)
 

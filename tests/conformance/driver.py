@@ -5,12 +5,17 @@ URL = "ws://127.0.0.1:1/rooms/board"
 """A room's address at which nothing listens: the client's connections are played over the driver's lines."""
 PATIENCE = 60
 """Seconds for an answer of the driver, or for another connection."""
-SHORT = 200
+SHORT = 400
 """Characters of a value in the words of a failure."""
 
 
 class Failed(Exception):
-    """The client did something that it may not, or did not do what it has to."""
+    """The client did something that it may not, or did not do what it has to. If it holds something
+    wrong, `should` is what it should hold."""
+
+    def __init__(self, words, should=None):
+        super().__init__(words)
+        self.should = should
 
 
 class Driver:
@@ -49,6 +54,11 @@ class Driver:
         """The relay's text arrives."""
         self.heard = text
         self.tell(do="hear", text=text)
+
+    def hear_late(self, text):
+        """The relay's text arrives on the connection that the client lost or left last."""
+        self.heard = f"{text} (late, on a connection that is gone)"
+        self.tell(do="late", text=text)
 
     def look(self):
         """What the client holds, when it has done all that follows from what it was told."""

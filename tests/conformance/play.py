@@ -1,6 +1,6 @@
 """What a case of the suite says: a client under test, a relay, and what is between them."""
 import json
-from driver import Failed, short
+from driver import Failed
 from relay import shows, text
 
 
@@ -33,10 +33,12 @@ class Play:
 
     # What the client says.
 
-    def heard(self):
-        """The relay reads what the client has said, and answers. Gives the requests."""
+    def heard(self, count=None):
+        """The relay reads what the client has said, or so many texts of it, and answers. Gives the
+        requests."""
         self.driver.look()
-        said, self.driver.said = self.driver.said, []
+        count = len(self.driver.said) if count is None else count
+        said, self.driver.said = self.driver.said[:count], self.driver.said[count:]
         requests = []
         for text in said:
             requests.append(self.relay.hear(text))
@@ -102,7 +104,14 @@ class Play:
 
     def say(self, message):
         """In the relay's words: compact, with members in order."""
-        self.driver.hear(json.dumps({**message, **self.more}, ensure_ascii=False, separators=(",", ":"), sort_keys=True))
+        self.driver.look()
+        if self.driver.left:
+            raise Failed("it has left a connection on which nothing is wrong")
+        self.driver.hear(words_of({**message, **self.more}))
+
+    def say_late(self, message):
+        """What was on its way on a connection that is gone."""
+        self.driver.hear_late(words_of(message))
 
     def talk(self, rounds=20):
         """Both say what they have to say, until nobody says more. Connections that the client leaves are opened anew."""
@@ -141,9 +150,9 @@ class Play:
 
     def look_for(self, wanted):
         held = self.held()
-        for member, value in wanted.items():
-            if text(held.get(member)) != text(value):
-                raise Failed(f"it holds the {member} {short(held.get(member))}, and not {short(value)}")
+        wrong = [name for name, value in wanted.items() if text(held.get(name)) != text(value)]
+        if wrong:
+            raise Failed(f"its {' and '.join(wrong)} should be another", should=wanted)
 
     def holds_nothing(self):
         if self.held()["slots"] is not None:
@@ -166,3 +175,7 @@ class Play:
         end = self.end_of(key)
         if end is not None:
             raise Failed(f"request {key} ends with {end}, and has no answer yet")
+
+
+def words_of(message):
+    return json.dumps(message, ensure_ascii=False, separators=(",", ":"), sort_keys=True)

@@ -1,6 +1,6 @@
 #!/usr/bin/env python3
 """Plays a relay to a client: tests/conformance/run CLIENT_COMMAND, or with `--case NAME` in front one case alone."""
-import os, sys
+import os, sys, textwrap
 from concurrent.futures import ThreadPoolExecutor
 from dataclasses import dataclass
 from typing import List, Optional
@@ -44,13 +44,17 @@ def play(command, traits, case):
         return Played(case.name, wrong=None if status == 0 else [f"the driver ends with {status}"])
     except Failed as failed:
         driver.quit()
-        return Played(case.name, wrong=[str(failed), *circumstances(case, driver)])
+        return Played(case.name, wrong=[str(failed), *circumstances(case, driver, failed)])
 
 
-def circumstances(case, driver):
+def circumstances(case, driver, failed):
     """What a reader of a failure needs to know."""
-    heard, held = short(driver.heard or "nothing"), short(driver.held or "nothing")
-    return [f"wanted: {case.wants}", f"heard last: {heard}", f"held when looked at last: {held}"]
+    lines = textwrap.wrap(f"wanted:      {case.wants}", 96, subsequent_indent=" " * 13)
+    lines.append(f"came last:   {short(driver.heard or 'nothing')}")
+    lines.append(f"is held:     {short(driver.held or 'nothing')}")
+    if failed.should is not None:
+        lines.append(f"should hold: {short(failed.should)}")
+    return lines
 
 
 def play_all(command, cases=CASES, abreast=ABREAST):

@@ -14,7 +14,7 @@ const COMPONENT = /^function ([A-Z]\w*)/m;
 const [folder, ...documents] = process.argv.slice(2);
 const needs = createRequire(join(folder, "package.json"));
 // The same module as the snippets import, so that what a board fails with is an instance of their classes.
-const { connect } = await import(pathToFileURL(join(folder, "node_modules/@bolsteregret/relay/relay.mjs")));
+const { connect } = await import(pathToFileURL(join(folder, "node_modules/@bolsteregret/relay/src/relay.mjs")));
 const relay = spawn(process.env.RELAY, ["serve", "--port", "0", "--epoch", "1000"], { stdio: ["ignore", "pipe", "ignore"] });
 process.on("exit", () => relay.kill());
 const { value: listening } = await createInterface({ input: relay.stdout })[Symbol.asyncIterator]().next();

@@ -1,5 +1,5 @@
 // How an application in TypeScript uses the client: it compiles in strict mode, and what is marked does not.
-import { Refused, connect, presence, room, type Board, type Json } from "@bolsteregret/relay";
+import { Refused, connect, inspected, pointer, presence, room, type Board, type Json } from "@bolsteregret/relay";
 
 interface Card {
   text: string;
@@ -42,6 +42,29 @@ use<number | undefined>(whole.slots?.[1][0]);
 // @ts-expect-error: the view has three slots.
 use<unknown>(whole.slots?.[3]);
 
+// Pointers of keys, drafts, and elements by a key.
+use<string | undefined>(plan.at(pointer("cards", 0, "text")).value);
+use<boolean | undefined>(plan.at(pointer("a/b", "m~n")).value);
+// @ts-expect-error: there is no such member.
+use<string | undefined>(plan.at(pointer("cards", 0, "txt")).value);
+const changed: Promise<number> = plan.change((draft) => {
+  draft.cards.push(card);
+  draft.cards[0].done = draft.count > 1;
+  delete draft.cards[0].done;
+  // @ts-expect-error: a number is no title.
+  draft.title = 5;
+}, { guard: "base", tries: 3 });
+use<Promise<number>>(changed);
+const keyed = plan.at("/cards").byKey("text");
+use<Card | undefined>(keyed.get("milk"));
+use<Promise<number>>(keyed.change("milk", (element) => void (element.done = true)));
+use<Promise<number>>(plan.at("/cards").insert(0, card));
+// @ts-expect-error: a text is no card.
+plan.at("/cards").push("milk");
+use<Promise<number>>(plain.change((draft) => draft.anything.at.all.push(1)));
+
+connect(url, { view: [], WebSocket: inspected(({ way, message }) => use<string>(way + message.kind)) });
+
 // An interface is written as it is.
 use<Promise<number>>(whole.edit([{ op: "add", path: "/cards/-", value: card }], { base: whole.rev, optimistic: true }));
 // @ts-expect-error: JSON has no functions among its scalars.
@@ -55,6 +78,9 @@ connect<Plan>(url, { view, begin: empty });
 
 const shared = room<Plan>(url, { begin: { cards: [], title: null } });
 use<boolean | undefined>(shared.view(["/cards"]).at("/cards/0/done").value);
+use<number>(shared.view(["/cards"]).pending);
+use<Promise<number | null>>(shared.view(["/cards"]).undo());
+use<Promise<readonly [readonly [value?: Card[]]]>>(shared.view(["/cards"]).sync());
 use<string | undefined>(shared.view(["/title"]).slots?.[0][0]);
 use<string | undefined>(presence(whole, "/here", { name: "Ann" }).people["1"]?.name);
 whole.edit([]).catch((error) => error instanceof Refused && use<string>(error.fault));

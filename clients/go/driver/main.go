@@ -3,30 +3,35 @@ package main
 
 import (
 	"bufio"
+	"context"
 	"encoding/json"
 	"errors"
 	"fmt"
 	"io"
 	"os"
+	"sync"
 	"time"
 
-	"relay"
+	relay "relay/client"
 )
 
 type line struct {
 	Do, URL, Text string
 	Key           int
-	View          []interface{}
-	Patch         json.RawMessage
+	View          []relay.Shown
+	Patch         relay.Patch
 	Base          *int64
+	Optimistic    bool
 }
 
 type driver struct {
-	client  *relay.Client
+	board   *relay.Board
+	first   []relay.Shown // the first view
 	link    *link
 	opens   chan *link    // the next handshake; nil if it fails
 	rests   chan struct{} // the client waits: for a message or for a handshake
-	pending map[int]<-chan relay.Answer
+	pending map[int]func() map[string]any
+	lock    sync.Mutex // of what is written
 	out     *json.Encoder
 }
 
@@ -69,20 +74,18 @@ func (d *driver) dial(url string) (relay.Socket, error) {
 	return nil, errors.New("no connection")
 }
 
-func (d *driver) tell(word string, value interface{}) {
-	d.out.Encode(map[string]interface{}{word: value})
+func (d *driver) tell(word string, value any) { d.write(map[string]any{word: value}) }
+
+func (d *driver) write(line map[string]any) {
+	d.lock.Lock()
+	defer d.lock.Unlock()
+	d.out.Encode(line)
 }
 
 func (d *driver) do(words line) error {
 	switch words.Do {
 	case "connect":
-		dial := func() (relay.Socket, error) { return d.dial(words.URL) }
-		client, err := relay.ConnectBy(dial, words.View, relay.Options{Wait: time.Millisecond})
-		if err != nil {
-			return err
-		}
-		d.client = client
-		<-d.rests
+		return d.connect(words)
 	case "accept":
 		d.link = &link{driver: d, texts: make(chan string)}
 		d.opens <- d.link
@@ -97,49 +100,118 @@ func (d *driver) do(words line) error {
 		d.link.end()
 		<-d.rests
 	case "edit":
-		answer, err := d.client.Edit(words.Patch, words.Base)
-		if err != nil {
-			return err
-		}
-		d.pending[words.Key] = answer
+		d.edit(words)
 	case "watch":
-		d.pending[words.Key] = d.client.Watch(words.View)
+		d.watch(words)
 	case "look":
 		d.tellEnds()
-		d.tell("held", d.client.Look())
+		d.look()
 	case "end":
-		d.client.Close()
+		d.board.Close()
 	default:
 		return fmt.Errorf("no such line: %q", words.Do)
 	}
 	return nil
 }
 
+func (d *driver) connect(words line) error {
+	dial := func(context.Context) (relay.Socket, error) { return d.dial(words.URL) }
+	soon := relay.Options{FirstWait: 2 * time.Millisecond, LongestWait: 2 * time.Millisecond}
+	board, err := relay.ConnectBy(context.Background(), dial, words.View, soon)
+	if err != nil {
+		return err
+	}
+	d.board, d.first = board, words.View
+	<-d.rests
+	return nil
+}
+
+func (d *driver) edit(words line) {
+	var options []relay.EditOption
+	if words.Base != nil {
+		options = append(options, relay.On(relay.Revision{Rev: *words.Base}))
+	}
+	if words.Optimistic {
+		options = append(options, relay.Optimistic)
+	}
+	answer, err := d.board.Send(words.Patch, options...)
+	if err != nil {
+		d.write(map[string]any{"ends": words.Key, "invalid": err.Error()})
+		return
+	}
+	d.pending[words.Key] = func() map[string]any { return answered(answer) }
+}
+
+// answered is the end of an edit; nil if it has none yet.
+func answered(answer *relay.Answer) map[string]any {
+	select {
+	case <-answer.Done():
+	default:
+		return nil
+	}
+	made, err := answer.Wait(context.Background())
+	if err != nil {
+		return failed(err)
+	}
+	return map[string]any{"done": made.Rev}
+}
+
+func (d *driver) watch(words line) {
+	asked := d.board.Ask(words.View)
+	d.pending[words.Key] = func() map[string]any { return shown(asked) }
+}
+
+// shown is the end of a watch; nil if it has none yet.
+func shown(asked *relay.Asked) map[string]any {
+	select {
+	case <-asked.Done():
+	default:
+		return nil
+	}
+	change, err := asked.Wait(context.Background())
+	if err != nil {
+		return failed(err)
+	}
+	return map[string]any{"shown": change.Confirmed}
+}
+
+func failed(err error) map[string]any {
+	var refused *relay.Refused
+	var unknown *relay.Unknown
+	switch {
+	case errors.As(err, &refused):
+		return map[string]any{"refused": refused.Fault, "at": refused.At, "rev": refused.Rev}
+	case errors.As(err, &unknown):
+		return map[string]any{"unknown": true}
+	}
+	return map[string]any{"closed": true}
+}
+
+func (d *driver) look() {
+	held := map[string]any{"view": d.first, "slots": nil, "rev": nil, "epoch": nil, "shown": nil}
+	if change, isThere := d.board.Shown(); isThere {
+		held = map[string]any{
+			"view": change.View, "slots": change.Confirmed, "shown": change.Slots,
+			"rev": change.Rev, "epoch": change.Epoch,
+		}
+	}
+	d.tell("held", held)
+}
+
 func (d *driver) tellEnds() {
 	for key, pending := range d.pending {
-		select {
-		case answer := <-pending:
+		if end := pending(); end != nil {
 			delete(d.pending, key)
-			d.out.Encode(ending(key, answer))
-		default:
+			end["ends"] = key
+			d.write(end)
 		}
 	}
 }
 
-func ending(key int, answer relay.Answer) map[string]interface{} {
-	switch answer.Kind {
-	case "done":
-		return map[string]interface{}{"ends": key, "done": answer.Rev}
-	case "shown":
-		return map[string]interface{}{"ends": key, "shown": answer.Slots}
-	case "refused":
-		return map[string]interface{}{"ends": key, "refused": answer.Fault, "at": answer.At, "rev": answer.Rev}
-	}
-	return map[string]interface{}{"ends": key, answer.Kind: true}
-}
-
 func main() {
-	d := &driver{opens: make(chan *link), rests: make(chan struct{}), pending: map[int]<-chan relay.Answer{}, out: json.NewEncoder(os.Stdout)}
+	d := &driver{opens: make(chan *link), rests: make(chan struct{}), out: json.NewEncoder(os.Stdout)}
+	d.pending = map[int]func() map[string]any{}
+	d.tell("traits", []string{"optimistic"})
 	lines := bufio.NewReader(os.Stdin)
 	for {
 		text, err := lines.ReadString('\n')

@@ -9,10 +9,13 @@ import { Listeners } from "./listeners.mjs";
 import { Overlay } from "./overlay.mjs";
 import { Place, compareAndSet } from "./place.mjs";
 import { Places } from "./places.mjs";
+import { Counter } from "./once.mjs";
 import { Queue } from "./queue.mjs";
 import { beginning } from "./begin.mjs";
+import { change } from "./change.mjs";
 import { checked } from "./json.mjs";
 import { knownBy } from "./known.mjs";
+import { warning } from "./warning.mjs";
 
 /**
  * @typedef {import("../relay.js").Shown} Shown
@@ -20,6 +23,7 @@ import { knownBy } from "./known.mjs";
  * @typedef {import("../relay.js").Operation} Operation
  * @typedef {import("./follower.mjs").Held} Held
  * @typedef {import("./history.mjs").Role} Role
+ * @typedef {import("./overlay.mjs").Unconfirmed} Unconfirmed
  */
 
 // How often an undo that has to be sure of an empty place tries.
@@ -55,10 +59,16 @@ export class Board {
   #stepping = Promise.resolve(); // the undo or redo that was asked for last
   /** @type {(() => void)[]} */
   #quietWaiters = []; // told when no edit of this client waits to be shown
+  /** @type {Set<Promise<unknown>>} */
+  #said = new Set(); // what was asked for, and has not ended
+  /** @type {Counter | null} */
+  #counter;
 
   /** @param {string} url @param {any} options */
-  constructor(url, { view, begin = null, ...options }) {
-    this.#options = { WebSocket: globalThis.WebSocket, onState: () => {}, onTakenBack: null, ...DEFAULTS, ...options };
+  constructor(url, { view, begin = null, once = null, ...options }) {
+    const own = { WebSocket: globalThis.WebSocket, onState: warning(), onTakenBack: null };
+    this.#options = { ...own, ...DEFAULTS, ...options };
+    this.#counter = once === null ? null : new Counter(once);
     if (options.onChange) this.#changes.add(options.onChange);
     const first = begin === null ? null : beginning(begin, (cause) => this.#end(cause));
     this.#queue = new Queue(options.queue, options.storage, options.storageKey ?? url);
@@ -149,13 +159,66 @@ export class Board {
     return this.#follower.watch(view).then(() => this.slots);
   }
 
+  /** The slots, once all that was said so far is answered and shown. */
+  async sync() {
+    await Promise.allSettled(this.#said);
+    return this.watchAgain();
+  }
+
+  /** For what this client keeps going by itself: the slots, of the room's revision. */
+  watchAgain() {
+    return this.#follower.watchAgain().then(() => this.slots);
+  }
+
+  /**
+   * For what asks more than once: `sync` waits for it.
+   * @template T
+   * @param {Promise<T>} asked
+   */
+  said(asked) {
+    const ended = () => void this.#said.delete(asked);
+    this.#said.add(asked);
+    asked.then(ended, ended);
+    return asked;
+  }
+
   /**
    * @param {readonly Operation[]} patch
    * @param {import("../relay.js").EditOptions} [options]
    * @returns {Promise<number>}
    */
   edit(patch, options = {}) {
-    return this.#edit(patch, options, options.undo === false ? null : "edit");
+    return this.said(this.#edit(patch, options, options.undo === false ? null : "edit"));
+  }
+
+  /**
+   * @param {(draft: any) => void} make
+   * @param {import("../relay.js").ChangeOptions} [options]
+   * @returns {Promise<number>}
+   */
+  change(make, options = {}) {
+    return this.changePlace([], make, options);
+  }
+
+  /**
+   * A change of what stands at a path.
+   * @param {readonly string[]} path
+   * @param {(draft: any) => void} make
+   * @param {any} options
+   */
+  changePlace(path, make, options) {
+    /** @param {import("./draft.mjs").Draft} draft */
+    const drafted = (draft) => made(make(draft.at(path)));
+    return this.said(change(this, drafted, options));
+  }
+
+  /**
+   * An edit that the client made anew in vain.
+   * @param {Operation[]} patch
+   * @param {unknown} cause
+   */
+  takenBack(patch, cause) {
+    this.#options.onTakenBack?.({ patch, cause });
   }
 
   undo() {
@@ -172,24 +235,21 @@ export class Board {
 
   // Edits.
 
-  /** @param {readonly Operation[]} patch @param {any} options @param {Role | null} role @returns {Promise<number>} */
-  #edit(patch, { base, epoch = this.epoch, optimistic = false, silent = false }, role) {
-    const left = (/** @type {import("./inverse.mjs").Inverse | null} */ inverse) => inverse && role && this.#history.record(role, inverse);
+  /**
+   * @param {readonly Operation[]} patch @param {any} options @param {Role | null} role
+   * @returns {Promise<number>}
+   */
+  #edit(patch, options, role) {
+    const { base, epoch = this.epoch, optimistic = false, silent = false, once = false } = options;
+    /** @type {Unconfirmed["left"]} */
+    const left = (inverse) => void (inverse && role && this.#history.record(role, inverse));
     const done = new Promise((resolve, reject) => {
       const own = checked(patch);
-      /** @type {import("./overlay.mjs").Unconfirmed} */
+      /** @type {Unconfirmed} */
       const unconfirmed = { patch: own, optimistic, silent, rev: null, epoch: null, left };
-      const edit = new Edit({ patch: own, base: revision(base), epoch }, {
-        done: (rev, run) => {
-          Object.assign(unconfirmed, { rev, epoch: run });
-          resolve(rev);
-          this.#settled();
-        },
-        failed: (cause) => {
-          reject(cause);
-          this.#failed(unconfirmed, cause);
-        },
-      });
+      const counter = once ? this.#counterOf(base) : null;
+      const asked = { patch: own, base: revision(base), epoch, counter };
+      const edit = new Edit(asked, this.#outcome(unconfirmed, resolve, reject));
       if (this.#state === "closed") throw new Closed();
       if (this.#isAway && !this.#queue.takes(edit)) throw new Refused({ fault: "away" });
       this.#overlay.add(unconfirmed);
@@ -199,6 +259,41 @@ export class Board {
     // Whoever hears of what is taken back need not look at the promise as well.
     if (optimistic && this.#options.onTakenBack) done.catch(() => {});
     return done;
+  }
+
+  /**
+   * What an edit comes to.
+   * @param {Unconfirmed} unconfirmed
+   * @param {(rev: number) => void} resolve @param {(cause: Error) => void} reject
+   * @returns {import("./edit.mjs").Outcome}
+   */
+  #outcome(unconfirmed, resolve, reject) {
+    const done = (/** @type {number} */ rev, /** @type {number} */ epoch) => {
+      Object.assign(unconfirmed, { rev, epoch });
+      resolve(rev);
+      this.#settled();
+    };
+    return {
+      done,
+      // The slots that come now are of its revision, or of a later one, and what takes it back is
+      // not known.
+      doneBefore: (edit, epoch) => {
+        unconfirmed.left = () => {};
+        this.watchAgain().then(() => done(Number(this.rev), epoch), () => edit.lose());
+      },
+      failed: (cause) => {
+        reject(cause);
+        this.#failed(unconfirmed, cause);
+      },
+      again: (edit) => this.#link.askFirst(edit),
+    };
+  }
+
+  /** @param {unknown} base */
+  #counterOf(base) {
+    if (this.#counter === null) throw new TypeError('say where a counter is, as `once: "/once"`');
+    if (revision(base) !== undefined) throw new TypeError("an edit with a base is `once`");
+    return this.#counter;
   }
 
   get #isAway() {
@@ -230,12 +325,12 @@ export class Board {
   /** @param {"undo" | "redo"} role @returns {Promise<number | null>} */
   #step(role) {
     const step = this.#stepping.then(async () => {
-      await this.#quiet();
+      await this.quiet();
       const inverse = this.#history.take(role);
       return inverse === null ? null : this.#takeBack(inverse, role);
     });
-    this.#stepping = step.catch(() => {}).then(() => this.#quiet());
-    return step;
+    this.#stepping = step.catch(() => {}).then(() => this.quiet());
+    return this.said(step);
   }
 
   /** @param {import("./inverse.mjs").Inverse} inverse @param {Role} role @returns {Promise<number>} */
@@ -244,7 +339,7 @@ export class Board {
       return await (putsBack ? this.#putBack(patch, role) : this.#edit(patch, { optimistic: true }, role));
     } catch (error) {
       if (!(error instanceof Refused) || error.fault === "away") throw error;
-      throw new Refused({ fault: "changed", at: error.at, rev: error.rev }, error.resent);
+      throw new Refused({ fault: "changed", at: error.at, rev: error.rev });
     }
   }
 
@@ -258,8 +353,11 @@ export class Board {
     return compareAndSet(this, TRIES, make, (own, seen) => this.#edit(own, { optimistic: true, ...seen }, role));
   }
 
-  /** @returns {Promise<void>} */
-  #quiet() {
+  /**
+   * Once no edit of this client waits to be shown.
+   * @returns {Promise<void>}
+   */
+  quiet() {
     if (this.#overlay.isEmpty) return Promise.resolve();
     return new Promise((resolve) => this.#quietWaiters.push(resolve));
   }
@@ -326,6 +424,12 @@ export class Board {
       this.#states.tell(state);
     }
   }
+}
+
+// A function that goes on later would change a draft of which the patch was made.
+/** @param {any} given by the function of a change */
+function made(given) {
+  if (typeof given?.then === "function") throw new TypeError("a change awaits nothing");
 }
 
 /**

@@ -1,46 +1,75 @@
-// An edit that was asked for, until its answer. One with a base belongs to one run of the relay, and is sent to it again where its answer
-// was lost: revisions only rise, so of all edits with one base at most one is done.
+// An edit that was asked for, until its answer. Where its answer was lost, one with a base is sent
+// to the same run of the relay again: revisions only rise, so of all edits with one base at most
+// one is done. So is one with a counter, which tests that and raises it (once.mjs).
 import { Closed, Refused, Unknown } from "./errors.mjs";
 
-// How often an edit with a base is sent at most: one that ends its connection each time has to come to an end.
+// How often an edit is sent at most: one that ends its connection each time has to come to an end.
 const SENDINGS = 5;
 
 /**
  * @typedef {import("../relay.js").Operation} Operation
+ * @typedef {import("./once.mjs").Counter} Counter
  * @typedef {{ epoch: number, rev: number }} Welcome
- * @typedef {{ done: (rev: number, epoch: number) => void, failed: (cause: Error) => void }} Outcome
+ * @typedef {{ patch: Operation[], base?: number, epoch: number | null }} Kept
+ * @typedef {Kept & { counter: Counter | null }} Asked
+ * @typedef {{
+ *   done: (rev: number, epoch: number) => void,
+ *   doneBefore: (edit: Edit, epoch: number) => void,
+ *   failed: (cause: Error) => void,
+ *   again: (edit: Edit) => void,
+ * }} Outcome
+ * `doneBefore`: on a connection that was lost, at a revision that the relay did not tell. `again`:
+ * it is to be sent before whatever waits.
  */
 
 export class Edit {
-  #epoch; // the run of which the base is a revision; null where the first connection on which it is sent decides
+  #patch;
+  #base;
+  #counter;
+  #epoch; // the run to which it belongs; null where the first connection decides
   #sendings = 0;
-  #sentTo = 0; // the epoch of the connection on which it was sent last
-  #outcome;
+  #hasEnded = false;
+  /** @type {Refused | null} */
+  #refusal = null; // of its patch: from then on what is sent raises the counter alone
+  #on;
 
-  /**
-   * @param {{ patch: Operation[], base?: number, epoch: number | null }} asked
-   * @param {Outcome} outcome
-   */
-  constructor({ patch, base, epoch }, outcome) {
-    this.request = base === undefined ? { do: "edit", patch } : { do: "edit", base, patch };
+  /** @param {Asked} asked @param {Outcome} on */
+  constructor({ patch, base, epoch, counter }, on) {
+    this.#patch = patch;
+    this.#base = base;
     this.#epoch = epoch;
-    this.#outcome = outcome;
+    this.#counter = counter;
+    this.#on = on;
+  }
+
+  /** What is sent. */
+  get request() {
+    const own = this.#refusal === null ? this.#patch : [];
+    const patch = this.#counter === null ? own : [...this.#counter.raise, ...own];
+    return this.#hasBase ? { do: "edit", base: this.#base, patch } : { do: "edit", patch };
   }
 
   /** What is kept of it while it waits, so that another board can send it. */
   get kept() {
-    const { patch, base } = /** @type {{ patch: Operation[], base?: number }} */ (this.request);
-    return { patch, base, epoch: this.#epoch };
+    const once = this.#counter === null ? undefined : true;
+    return { patch: this.#patch, base: this.#base, epoch: this.#epoch, once };
   }
 
   get #hasBase() {
-    return "base" in this.request;
+    return this.#base !== undefined;
   }
 
   /** Whether it does no harm when it is late: it has a base, or tests something first. */
   get isGuarded() {
-    const { patch } = /** @type {{ patch: Operation[] }} */ (this.request);
-    return this.#hasBase || patch[0]?.op === "test";
+    return this.#hasBase || this.#patch[0]?.op === "test";
+  }
+
+  /**
+   * What has to be sent before it: nothing (null), a request, or `WAITS`.
+   * @param {Welcome} welcome
+   */
+  ahead(welcome) {
+    return this.#hasEnded ? null : this.#counter?.ahead(this, welcome) ?? null;
   }
 
   /**
@@ -48,28 +77,81 @@ export class Edit {
    * @param {Welcome} welcome
    */
   goesTo({ epoch, rev }) {
-    this.#epoch ??= epoch;
-    this.#sentTo = epoch;
-    const goes = !this.#hasBase || this.#epoch === epoch;
+    if (this.#hasEnded) return false;
+    const wasSent = this.#sendings > 0;
+    this.#epoch = this.#hasBase || wasSent ? this.#epoch ?? epoch : epoch;
+    const goes = this.#epoch === epoch;
     if (goes) this.#sendings += 1;
-    else this.#outcome.failed(this.#sendings > 0 ? new Unknown() : new Refused({ fault: "stale", at: null, rev }));
+    else this.fail(wasSent ? new Unknown() : new Refused({ fault: "stale", rev }));
     return goes;
   }
 
   /** @param {any} reply */
   answered(reply) {
-    if (reply.kind === "done") this.#outcome.done(reply.rev, this.#sentTo);
-    else this.#outcome.failed(new Refused(reply, this.#sendings > 1));
+    if (reply.kind === "done") this.#done(reply.rev);
+    else if (reply.fault === "stale" && this.#isResent) this.fail(new Unknown(reply.rev));
+    else if (this.#counter === null || reply.at === null) this.fail(new Refused(reply));
+    else this.#refused(reply, this.#counter);
+  }
+
+  get #isResent() {
+    return this.#sendings > 1;
+  }
+
+  /** @param {number} rev */
+  #done(rev) {
+    this.#counter?.raised();
+    if (this.#refusal !== null) return this.fail(this.#refusal);
+    this.#hasEnded = true;
+    this.#on.done(rev, Number(this.#epoch));
+  }
+
+  /** @param {{ fault: string, at: number }} reply @param {Counter} counter */
+  #refused({ fault, at }, counter) {
+    if (at === 0) return this.#counterDiffers(fault, counter);
+    this.#refusal = new Refused({ fault, at: at - counter.raise.length });
+    // What was sent before may still be read, and done, as long as the counter stands.
+    if (this.#isResent) this.#on.again(this);
+    else this.fail(this.#refusal);
+  }
+
+  /** @param {string} fault @param {Counter} counter */
+  #counterDiffers(fault, counter) {
+    if (this.#isResent && fault === "test-failed") {
+      counter.raised();
+      this.#on.doneBefore(this, Number(this.#epoch));
+    } else if (this.#isResent) {
+      this.fail(new Unknown());
+    } else {
+      // Somebody took it away, as who puts an earlier document into the room.
+      counter.lost(this);
+      this.#sendings = 0;
+      this.#on.again(this);
+    }
   }
 
   /** Its connection was lost: whether it is to be sent again. Else it has ended. */
   lost() {
-    const again = this.#hasBase && this.#sendings < SENDINGS;
-    if (!again) this.#outcome.failed(new Unknown());
+    const again = (this.#hasBase || this.#counter !== null) && this.#sendings < SENDINGS;
+    if (!again) this.fail(new Unknown());
     return again;
   }
 
   dropped() {
-    this.#outcome.failed(this.#sendings > 0 ? new Unknown() : new Closed());
+    this.fail(this.#sendings > 0 ? new Unknown() : new Closed());
+  }
+
+  /** It was done, and nobody can say when. */
+  lose() {
+    this.fail(new Unknown());
+  }
+
+  /** @param {Error} cause */
+  fail(cause) {
+    if (this.#hasEnded) return;
+    this.#hasEnded = true;
+    if (cause instanceof Unknown) this.#counter?.lost(this);
+    else this.#counter?.kept(this);
+    this.#on.failed(cause);
   }
 }

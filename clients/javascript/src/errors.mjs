@@ -1,26 +1,30 @@
 // What a request can come to besides its answer.
 
-/** The relay refused a request, and nothing changed by it; but see `resent`. */
+/** The relay refused a request, and nothing changed by it. */
 export class Refused extends Error {
   /**
    * @param {{ fault: string, at?: number | null, rev?: number | null }} reply
-   * @param {boolean} [resent]
+   * @param {string} [advice] what to do
    */
-  constructor({ fault, at = null, rev = null }, resent = false) {
-    super(fault + (at === null ? "" : ` at ${at}`) + (rev === null ? "" : `, the room is at revision ${rev}`));
+  constructor({ fault, at = null, rev = null }, advice = "") {
+    const place = at === null ? "" : ` at ${at}`;
+    const room = rev === null ? "" : `, the room is at revision ${rev}`;
+    super(fault + place + room + (advice && `: ${advice}`));
     this.name = "Refused";
     this.fault = fault;
     this.at = at;
     this.rev = rev;
-    this.resent = resent;
   }
 }
 
-/** The connection was lost before the answer: the edit may have been done, may not, and may still be done. */
+/** The answer was lost: the edit may have been done, or not; `rev` is the room's revision since. */
 export class Unknown extends Error {
-  constructor() {
-    super("the connection was lost before the answer");
+  /** @param {number | null} [rev] null where it may still be done */
+  constructor(rev = null) {
+    const since = rev === null ? "" : `, and the room is at revision ${rev}`;
+    super(`the connection was lost before the answer${since}`);
     this.name = "Unknown";
+    this.rev = rev;
   }
 }
 
@@ -32,16 +36,36 @@ export class Closed extends Error {
   }
 }
 
+/** @type {Record<number, string>} */
+const ADVICE = {
+  404: "an address ends with /rooms/NAME",
+  503: "it is full (--sessions, --rooms), or about to stop",
+};
+
 /** No connection could be made. The client goes on trying. */
 export class HandshakeFailed extends Error {
   /**
    * @param {"refused" | "unreachable"} reason
+   * @param {string} url
    * @param {number | null} [status]
    */
-  constructor(reason, status = null) {
-    super(reason === "refused" ? `the relay refused the connection${status === null ? "" : `, with ${status}`}` : "the relay cannot be reached");
+  constructor(reason, url, status = null) {
+    super(reason === "refused" ? refusal(url, status) : silence(url));
     this.name = "HandshakeFailed";
     this.reason = reason;
     this.status = status;
   }
+}
+
+/** @param {string} url @param {number | null} status */
+function refusal(url, status) {
+  if (status === null) return `${url} refuses the connection`;
+  const advice = ADVICE[status];
+  const what = advice === undefined ? "" : `: ${advice}`;
+  return `${url} refuses the connection, with ${status}${what}`;
+}
+
+/** @param {string} url */
+function silence(url) {
+  return `nothing answers at ${url}: start the relay there, or connect to where it listens`;
 }

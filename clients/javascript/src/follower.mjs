@@ -39,6 +39,11 @@ export class Follower {
     return this.#held;
   }
 
+  /** The view that is wanted, anew: its slots are of the room's revision. */
+  watchAgain() {
+    return this.watch(this.#wanted.view);
+  }
+
   /** @param {readonly Shown[]} view */
   watch(view) {
     this.#wanted = { number: this.#wanted.number + 1, view: checked(view) };

@@ -13,7 +13,7 @@ const LONGEST = 2000;
  */
 export async function failure(url, event) {
   const told = /\b[45][0-9]{2}\b/.exec(event?.message ?? "");
-  if (told !== null) return new HandshakeFailed("refused", Number(told[0]));
+  if (told !== null) return new HandshakeFailed("refused", url, Number(told[0]));
   const ending = new AbortController();
   const timer = setTimeout(() => ending.abort(), LONGEST);
   try {
@@ -21,9 +21,9 @@ export async function failure(url, event) {
     const foreign = globalThis.location !== undefined && globalThis.location.origin !== address.origin;
     const mode = foreign ? "no-cors" : "cors";
     const { status } = await fetch(address, { mode, redirect: "manual", cache: "no-store", signal: ending.signal });
-    return new HandshakeFailed("refused", meant(status));
+    return new HandshakeFailed("refused", url, meant(status));
   } catch {
-    return new HandshakeFailed("unreachable");
+    return new HandshakeFailed("unreachable", url);
   } finally {
     clearTimeout(timer);
   }

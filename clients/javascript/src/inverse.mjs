@@ -1,5 +1,5 @@
 // What takes a patch back, as far as the slots tell: each operation backwards, behind tests that nobody changed since what it did.
-import { pointer, startsWith, tokens } from "./pointer.mjs";
+import { spelled, startsWith, tokens } from "./pointer.mjs";
 import { Draft, placeOf, read } from "./known.mjs";
 
 /**
@@ -104,7 +104,8 @@ function valueAt(draft, path) {
 
 /** @param {readonly string[]} path @param {any} value What stands there. @param {any} old What is to stand there. @returns {Operation[]} */
 function exchange(path, value, old) {
-  return [{ op: "test", path: pointer(path), value }, { op: "replace", path: pointer(path), value: old }];
+  const there = spelled(path);
+  return [{ op: "test", path: there, value }, { op: "replace", path: there, value: old }];
 }
 
 /** @param {Draft} draft @param {readonly string[]} path @param {any} value @returns {Operation[]} */
@@ -112,7 +113,7 @@ function addedBack(draft, path, value) {
   const place = placeOf(draft.whole, path);
   if (place.list === null || (place.list && place.at === null)) throw new NotKnown();
   if (!place.list && read(draft.whole, path).is !== "absent") return exchange(path, value, valueAt(draft, path));
-  const there = pointer(place.path);
+  const there = spelled(place.path);
   return [{ op: "test", path: there, value }, { op: "remove", path: there }];
 }
 
@@ -121,7 +122,7 @@ function removedBack(draft, path) {
   const place = placeOf(draft.whole, path);
   if (place.list === null) throw new NotKnown();
   /** @type {Operation} */
-  const add = { op: "add", path: pointer(place.path), value: valueAt(draft, path) };
+  const add = { op: "add", path: spelled(place.path), value: valueAt(draft, path) };
   return place.list ? [...neighbours(draft, place), add] : [add];
 }
 
@@ -131,9 +132,12 @@ function neighbours(draft, { path, holder, at }) {
   if (holder?.is !== "value" || at === null) throw new NotKnown();
   const list = path.slice(0, -1);
   const { length } = holder.value;
-  if (length === 1) return [{ op: "test", path: pointer(list), value: [] }];
+  if (length === 1) return [{ op: "test", path: spelled(list), value: [] }];
   /** @type {(place: number, at: number) => Operation} */
-  const test = (place, at) => ({ op: "test", path: pointer([...list, place]), value: valueAt(draft, [...list, String(at)]) });
+  const test = (place, at) => {
+    const value = valueAt(draft, [...list, String(at)]);
+    return { op: "test", path: spelled([...list, place]), value };
+  };
   return [...(at > 0 ? [test(at - 1, at - 1)] : []), ...(at + 1 < length ? [test(at, at + 1)] : [])];
 }
 
@@ -154,7 +158,7 @@ function movedBack(draft, operation) {
   let back = [];
   draft.do(operation, () => (back = addedBack(draft, path, moved)));
   const [test, last] = back;
-  const place = pointer(origin.path);
+  const place = spelled(origin.path);
   // A move back would be one into itself where it came in front of what it was taken from, and may shift a place that is put back.
   const isMove = !startsWith(from, path) && last.op === "remove";
   return isMove ? [test, { op: "move", from: last.path, path: place }] : [test, last, { op: "add", path: place, value: moved }];

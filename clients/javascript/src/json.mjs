@@ -1,5 +1,5 @@
 // Values that the relay takes: JSON whose numbers are whole and exact in JavaScript.
-import { pointer } from "./pointer.mjs";
+import { spelled } from "./pointer.mjs";
 
 /** @typedef {import("../relay.js").Json} Json */
 
@@ -49,7 +49,7 @@ function wellFormed(text, path) {
 
 /** @param {readonly (string | number)[]} path @param {string} words */
 function wrong(path, words) {
-  return new TypeError(`${pointer(path) || "the value"} ${words}`);
+  return new TypeError(`${spelled(path) || "the value"} ${words}`);
 }
 
 /**

@@ -55,7 +55,7 @@ function container(part) {
 }
 
 /** @param {Part} part @param {string} token @returns {Part} */
-function child(part, token) {
+export function child(part, token) {
   if (part.is === "value") return has(part.value, token) ? known(part.value[token]) : ABSENT;
   if (part.is === "container") return part.children.get(token) ?? UNKNOWN;
   return part;

@@ -2,6 +2,7 @@
 import { HandshakeFailed } from "./errors.mjs";
 import { endsConnection } from "./length.mjs";
 import { failure } from "./handshake.mjs";
+import { WAITS } from "./once.mjs";
 
 // With one more on the way 32 replies could wait, and the relay would read nothing from this client until it drew one.
 const ON_THE_WAY = 31;
@@ -19,14 +20,15 @@ const TOO_LONG = { kind: "refused", fault: "too-long", at: null };
 const REPLIES = ["done", "refused", "watching", "resumed", "unwatched"];
 
 /**
- * A request: what is sent, the id with which it was, and what becomes of it. Only an edit has the last four; others end with their
- * connection.
+ * A request: what is sent, the id with which it was, and what becomes of it. Only an edit has the
+ * last five; others end with their connection.
  *
  * @typedef {{ epoch: number, rev: number }} Welcome
  * @typedef {{
  *   request: object,
  *   id?: number,
  *   answered: (reply: any) => void,
+ *   ahead?: (welcome: Welcome) => Asked | typeof WAITS | null,
  *   goesTo?: (welcome: Welcome) => boolean,
  *   lost?: () => boolean,
  *   dropped?: () => void,
@@ -194,7 +196,7 @@ export class Link {
 
   #giveUp() {
     if (this.#welcome !== null) this.#givenUp += 1;
-    this.#abandon(this.#opened ? null : new HandshakeFailed("unreachable"));
+    this.#abandon(this.#opened ? null : new HandshakeFailed("unreachable", this.#url));
   }
 
   // Something came that shows that the other end is there.
@@ -211,6 +213,9 @@ export class Link {
 
   #send() {
     while (this.#welcome !== null && this.#sent.length < ON_THE_WAY && this.#unsent.length > 0) {
+      const ahead = this.#unsent[0].ahead?.(this.#welcome) ?? null;
+      if (ahead === WAITS) break;
+      if (ahead !== null) this.#unsent.unshift(ahead);
       const asked = /** @type {Asked} */ (this.#unsent.shift());
       // What is kept elsewhere ends there before it is sent, so that it is never sent twice.
       if (asked.dropped) this.#on.waiting(this.#unsent);

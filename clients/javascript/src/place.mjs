@@ -1,6 +1,7 @@
 // A value that a view shows, by itself or as a part of another one: who hears of it, and changes of it.
 import { Closed, Refused } from "./errors.mjs";
-import { startsWith, tokens } from "./pointer.mjs";
+import { Keyed, followed, shown } from "./elements.mjs";
+import { spelled, startsWith, tokens } from "./pointer.mjs";
 import { has } from "./patch.mjs";
 import { same } from "./json.mjs";
 
@@ -58,11 +59,44 @@ export class Place {
     });
   }
 
-  /** @param {any} value @param {any} [options] @returns {Promise<number>} */
-  set(value, options = {}) {
+  /**
+   * @param {any} value
+   * @param {import("../relay.js").SetOptions} [asked]
+   * @returns {Promise<number>}
+   */
+  set(value, asked = {}) {
+    const { parents = false, ...options } = asked;
     const { slots } = this.#source;
     if (slots === null) throw new Error("the slots are not there yet");
-    return this.#board.edit([this.#write(this.#slot(slots), value)], { optimistic: true, ...options });
+    const missing = parents ? this.#missing(slots) : 0;
+    if (missing > 0) return this.#setWithParents(value, { optimistic: true, ...options });
+    const patch = [this.#write(this.#slot(slots), value)];
+    return this.#board.edit(patch, { optimistic: true, ...options });
+  }
+
+  // No operation tests that nothing stands in a place: so it is done on what was seen.
+  /** @param {any} value @param {object} options */
+  #setWithParents(value, options) {
+    /** @returns {Operation[]} */
+    const make = () => {
+      const missing = this.#missing(this.#source.confirmed);
+      if (missing === 0) return [this.#write(this.#slot(this.#source.confirmed), value)];
+      const start = this.#path.length - missing;
+      const below = this.#path.slice(start).reduceRight(nested, value);
+      return [{ op: "add", path: spelled(this.#path.slice(0, start)), value: below }];
+    };
+    return this.#compareAndSet(make, TRIES, options);
+  }
+
+  // How many containers around it are not there, as far as the view shows them.
+  /** @param {Slots} slots */
+  #missing(slots) {
+    const cover = this.#cover();
+    if (slots === null || cover === null) return 0;
+    const { rest } = cover;
+    const holder = (/** @type {number} */ k) => rest.slice(0, k).reduce(part, slots[cover.at]);
+    const there = rest.findIndex((_, k) => holder(k).length === 0);
+    return there < 0 ? 0 : rest.length - there;
   }
 
   /**
@@ -70,14 +104,71 @@ export class Place {
    * @param {{ tries?: number, undo?: boolean }} options
    * @returns {Promise<number>}
    */
-  async update(change, { tries = TRIES, undo = true } = {}) {
-    await this.#source.ready;
+  update(change, { tries = TRIES, undo = true } = {}) {
     const make = () => {
       const slot = this.#slot(this.#source.confirmed);
       const value = change(slot[0]);
       return value === undefined ? null : [this.#write(slot, value)];
     };
-    return compareAndSet(this.#board, tries, make, (patch, seen) => this.#board.edit(patch, { undo, ...seen }));
+    return this.#compareAndSet(make, tries, { undo });
+  }
+
+  // Of a list, guarded by what stands around the place, and made anew where that has moved.
+
+  /** @param {...any} values @returns {Promise<number>} */
+  push(...values) {
+    return this.#change((list) => void list.push(...values));
+  }
+
+  /** @param {number} at @param {any} value @param {any} [options] @returns {Promise<number>} */
+  insert(at, value, options) {
+    const list = () => this.value;
+    const { length } = shown(list());
+    const place = at === length ? () => null : followed(list, at);
+    return this.#change((list) => {
+      const at = place();
+      if (at === null) list.push(value);
+      else list.splice(at, 0, value);
+    }, options);
+  }
+
+  /** @param {number} at @param {any} [options] @returns {Promise<number>} */
+  remove(at, options) {
+    const place = followed(() => this.value, at);
+    return this.#change((list) => void list.splice(place(), 1), options);
+  }
+
+  /**
+   * So that it stands at another place of the list as it is shown now.
+   * @param {number} from @param {number} to @param {any} [options] @returns {Promise<number>}
+   */
+  move(from, to, options) {
+    const list = () => this.value;
+    const [element, other] = [followed(list, from), followed(list, to)];
+    return this.#change((list) => {
+      const [from, to] = [element(), other()];
+      if (from !== to) list.splice(to, 0, list.splice(from, 1)[0]);
+    }, options);
+  }
+
+  /** @param {string} name */
+  byKey(name) {
+    const keys = new Map([[spelled(this.#path), name]]);
+    return new Keyed(this, name, (make, options) => this.#change(make, { ...options, keys }));
+  }
+
+  /** @param {(list: any[]) => void} make @param {object} [options] @returns {Promise<number>} */
+  #change(make, options = {}) {
+    this.#checkSet();
+    return this.#board.changePlace(this.#path, make, options);
+  }
+
+  /** @param {() => Operation[] | null} make @param {number} tries @param {object} options */
+  #compareAndSet(make, tries, options) {
+    const edit = (/** @type {Operation[]} */ patch, /** @type {object} */ seen) =>
+      this.#board.edit(patch, { ...options, ...seen });
+    const done = this.#source.ready.then(() => compareAndSet(this.#board, tries, make, edit));
+    return this.#board.said(done);
   }
 
   /** @param {Slots} slots @returns {readonly any[]} */
@@ -99,9 +190,18 @@ export class Place {
 
   /** @param {readonly any[]} slot @param {any} value @returns {Operation} */
   #write(slot, value) {
-    if (typeof this.#shown !== "string") throw new TypeError("a size is not set: what it counts is");
-    return { op: slot.length === 0 ? "add" : "replace", path: this.#shown, value };
+    this.#checkSet();
+    return { op: slot.length === 0 ? "add" : "replace", path: spelled(this.#path), value };
   }
+
+  #checkSet() {
+    if (typeof this.#shown !== "string") throw new TypeError("a size is not set: what it counts is");
+  }
+}
+
+/** @param {any} value @param {string} name */
+function nested(value, name) {
+  return Object.fromEntries([[name, value]]);
 }
 
 /** @param {readonly any[]} slot @param {string} token @returns {readonly any[]} */
@@ -116,26 +216,40 @@ export function isSame(one, other) {
 }
 
 /**
- * An edit made from what is shown, and made again until nobody was faster.
+ * An edit made from what is shown on its revision, and made again until nobody was faster.
  * @param {any} board
  * @param {number} tries
  * @param {() => Operation[] | null} make null where nothing is to be done
  * @param {(patch: Operation[], seen: { base: number, epoch: number }) => Promise<number>} edit
  * @returns {Promise<number>}
  */
-export async function compareAndSet(board, tries, make, edit) {
+export function compareAndSet(board, tries, make, edit) {
+  return anew(board, tries, ["stale"], async () => {
+    const patch = make();
+    return patch === null ? board.rev : edit(patch, { base: board.rev, epoch: board.epoch });
+  });
+}
+
+/**
+ * Tries again as long as it is refused by one of these faults, on what is shown by then.
+ * @param {any} board
+ * @param {number} tries
+ * @param {readonly string[]} faults
+ * @param {() => Promise<number>} attempt
+ */
+export async function anew(board, tries, faults, attempt) {
   for (let tried = 1; ; tried += 1) {
     if (board.state === "closed") throw new Closed();
-    const patch = make();
-    if (patch === null) return board.rev;
     try {
-      return await edit(patch, { base: board.rev, epoch: board.epoch });
+      return await attempt();
     } catch (error) {
-      if (!(error instanceof Refused) || error.fault !== "stale" || error.resent || tried >= tries) throw error;
+      const isOutdated = error instanceof Refused && faults.includes(error.fault);
+      if (!isOutdated || tried >= tries) throw error;
     }
     if (tried > 1) await pause(tried);
-    // An edit elsewhere leaves the slots' revision behind the room's: only slots that come anew are of that one.
-    await board.watch(board.view);
+    // An edit elsewhere leaves the slots' revision behind the room's: only slots that come anew are
+    // of that one.
+    await board.watchAgain();
   }
 }
 

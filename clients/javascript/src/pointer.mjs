@@ -6,8 +6,24 @@ export function tokens(pointer) {
   return pointer.split("/").slice(1).map((token) => token.replaceAll("~1", "/").replaceAll("~0", "~"));
 }
 
+/**
+ * The pointer of keys: names of members and indexes in lists.
+ * @param {...(string | number)} keys
+ */
+export function pointer(...keys) {
+  for (const key of keys) {
+    if (!isKey(key)) throw new TypeError(`${String(key)} is no name and no index`);
+  }
+  return spelled(keys);
+}
+
+/** @param {unknown} key */
+function isKey(key) {
+  return typeof key === "string" || (Number.isSafeInteger(key) && Number(key) >= 0);
+}
+
 /** @param {readonly (string | number)[]} path */
-export function pointer(path) {
+export function spelled(path) {
   return path.map((token) => `/${String(token).replaceAll("~", "~0").replaceAll("/", "~1")}`).join("");
 }
 

@@ -1,8 +1,9 @@
 // Who is here: an entry of this client in an object of the document, renewed while it is here, and taken away where it was not renewed.
 // The relay has no such thing by itself, so each renewal is an edit: a revision, told to every watcher of the object.
 import { Closed, Refused, Unknown } from "./errors.mjs";
+import { newId } from "./id.mjs";
 import { checked, isObject } from "./json.mjs";
-import { pointer, tokens } from "./pointer.mjs";
+import { spelled, tokens } from "./pointer.mjs";
 
 /** @typedef {{ beat: number } & Record<string, unknown>} Entry */
 /** @typedef {{ resolve: () => void, reject: (cause: unknown) => void }} Waiter */
@@ -93,7 +94,7 @@ export class Presence {
   }
 
   get #own() {
-    return this.#path + pointer([this.#id]);
+    return this.#path + spelled([this.#id]);
   }
 
   /** @returns {Promise<void>} */
@@ -178,7 +179,7 @@ export class Presence {
   // Others do it too: whoever is first does it, and an entry that was renewed in between stays.
   /** @param {string} id */
   #remove(id) {
-    const path = this.#path + pointer([id]);
+    const path = this.#path + spelled([id]);
     const patch = [{ op: "test", path, value: this.people[id] }, { op: "remove", path }];
     this.#board.edit(patch, { undo: false }).catch(() => {});
   }
@@ -188,10 +189,6 @@ export class Presence {
 function entries(value) {
   if (!isObject(value)) return {};
   return Object.fromEntries(Object.entries(value).filter(([, entry]) => isObject(entry)));
-}
-
-function newId() {
-  return Array.from({ length: 4 }, () => Math.floor(Math.random() * 2 ** 24).toString(36)).join("");
 }
 
 /**

@@ -2,7 +2,7 @@
 
 /**
  * @typedef {import("./edit.mjs").Edit} Edit
- * @typedef {{ patch: any[], base?: number, epoch: number | null }} Kept
+ * @typedef {{ patch: any[], base?: number, epoch: number | null, once?: boolean }} Kept
  */
 
 export class Queue {
@@ -16,7 +16,7 @@ export class Queue {
    * @param {string} [key]
    */
   constructor(mode = "all", storage = null, key = "relay") {
-    if (mode !== "all" && mode !== "guarded") throw new RangeError(`queue is "guarded" or "all", and not ${mode}`);
+    if (mode !== "all" && mode !== "guarded") throw new RangeError(`no queue: ${mode}`);
     this.#mode = mode;
     this.#storage = storage;
     this.#key = key;

@@ -5,6 +5,8 @@ import { checkRoom } from "./handshake.mjs";
 import { afterAll, knownBy, slotOf, slotsOf } from "./known.mjs";
 
 export { Closed, HandshakeFailed, Refused, Unknown } from "./errors.mjs";
+export { inspected } from "./inspected.mjs";
+export { pointer } from "./pointer.mjs";
 export { presence } from "./presence.mjs";
 
 /** @typedef {import("../relay.js").Shown} Shown */
@@ -34,8 +36,12 @@ export function overlaid(view, slots, patch) {
   return { slots: slotsOf(whole, view, slots), known: view.map((shown) => slotOf(whole, shown) !== null) };
 }
 
+const NO_SOCKETS =
+  "no WebSocket: take Node 22, start Node with --experimental-websocket, " +
+  "or hand in that of the package `ws` as an option";
+
 /** @param {any} options */
 function checkSockets(options) {
   const sockets = options.WebSocket ?? globalThis.WebSocket;
-  if (typeof sockets !== "function") throw new TypeError("no WebSocket here: hand in a class of sockets");
+  if (typeof sockets !== "function") throw new TypeError(NO_SOCKETS);
 }

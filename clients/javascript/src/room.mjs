@@ -5,6 +5,7 @@ import { Places } from "./places.mjs";
 import { pathOf } from "./known.mjs";
 
 /** @typedef {import("../relay.js").Shown} Shown */
+/** @typedef {import("../relay.js").State} State */
 
 // The relay takes no more slots in a view.
 const SLOTS = 16;
@@ -31,7 +32,7 @@ export class Room {
     if (pointers.length > SLOTS) throw new RangeError(`a view has at most ${SLOTS} slots`);
     pointers.forEach(pathOf);
     const shared = this.#boards.find((board) => board.hasPlaceFor(pointers)) ?? this.#another(pointers);
-    return new View(shared, [...pointers]);
+    return new SharedBoard(shared, [...pointers]);
   }
 
   close() {
@@ -55,7 +56,7 @@ class Shared {
   #wanted;
   /** @type {Promise<unknown>} */
   #shown; // of what is wanted
-  /** @type {Map<View, readonly Shown[]>} */
+  /** @type {Map<SharedBoard, readonly Shown[]>} */
   #views = new Map();
 
   /** @param {Board} board @param {readonly Shown[]} view */
@@ -70,7 +71,7 @@ class Shared {
     return this.#with(pointers).length <= SLOTS;
   }
 
-  /** @param {View} view @param {readonly Shown[]} pointers @returns {Promise<unknown>} of the slots */
+  /** @param {SharedBoard} view @param {readonly Shown[]} pointers @returns {Promise<unknown>} */
   join(view, pointers) {
     const wanted = this.#with(pointers);
     this.#views.set(view, pointers);
@@ -81,7 +82,7 @@ class Shared {
     return this.#shown;
   }
 
-  /** @param {View} view */
+  /** @param {SharedBoard} view */
   leave(view) {
     this.#views.delete(view);
   }
@@ -100,8 +101,9 @@ function distinct(all) {
   return all.filter((shown, k) => all.findIndex((other) => isSame(other, shown)) === k);
 }
 
-// What one part of a page shows.
-class View {
+// What one part of a page shows. Its edits, and what of them waits or is undone, are those of its
+// connection.
+class SharedBoard {
   #shared;
   #pointers;
   /** @type {{ slots: unknown, own: any }} */
@@ -137,6 +139,30 @@ class View {
     return this.#own(this.#shared.board.confirmed);
   }
 
+  get rev() {
+    return this.#shared.board.rev;
+  }
+
+  get epoch() {
+    return this.#shared.board.epoch;
+  }
+
+  get state() {
+    return this.#shared.board.state;
+  }
+
+  get pending() {
+    return this.#shared.board.pending;
+  }
+
+  get undoable() {
+    return this.#shared.board.undoable;
+  }
+
+  get redoable() {
+    return this.#shared.board.redoable;
+  }
+
   // Of the board's slots those of this view; null until the board shows all of them.
   /** @param {any} slots @returns {any} */
   #own(slots) {
@@ -152,15 +178,20 @@ class View {
     return before !== null && own.every((slot, k) => slot === before[k]) ? before : own;
   }
 
-  /** @param {(slots: any) => void} listener Told of each change of these slots. Gives its end. */
+  /** @param {(change: any) => void} listener Told of each change of these slots. Gives its end. */
   subscribe(listener) {
-    let last = this.slots;
-    return this.#shared.board.subscribe(() => {
-      const { slots } = this;
-      if (slots === null || slots === last) return;
-      last = slots;
-      listener(slots);
+    let last = { slots: this.slots, pending: this.pending };
+    return this.#shared.board.subscribe(({ rev, pending }) => {
+      const { slots, confirmed } = this;
+      if (slots === null || (slots === last.slots && pending === last.pending)) return;
+      last = { slots, pending };
+      listener({ slots, confirmed, rev, pending, patch: null });
     });
+  }
+
+  /** @param {(state: State) => void} listener Told of each new state. Gives its end. */
+  states(listener) {
+    return this.#shared.board.states(listener);
   }
 
   /** @param {Shown} shown */
@@ -171,6 +202,24 @@ class View {
   /** @param {readonly import("../relay.js").Operation[]} patch @param {any} [options] */
   edit(patch, options) {
     return this.#shared.board.edit(patch, options);
+  }
+
+  /** @param {(draft: any) => void} make @param {any} [options] */
+  change(make, options) {
+    return this.#shared.board.change(make, options);
+  }
+
+  undo() {
+    return this.#shared.board.undo();
+  }
+
+  redo() {
+    return this.#shared.board.redo();
+  }
+
+  async sync() {
+    await this.#shared.board.sync();
+    return this.slots;
   }
 
   close() {

@@ -47,7 +47,7 @@ async def restore_room(url: str, files: Files, state: str) -> str:
                 rev = await board.edit([{"op": "add", "path": "", "value": document}], base=board.rev)
                 return f"{files.room}: the room has the state, at revision {rev}; what it had is set aside as {aside.name}"
             except relay_client.Refused as refused:
-                if refused.fault != "stale" or refused.resent or tried == TRIES:
+                if refused.fault != "stale" or tried == TRIES:
                     raise
                 aside.unlink()
     raise AssertionError("the last try has ended it")

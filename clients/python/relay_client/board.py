@@ -3,58 +3,73 @@ from __future__ import annotations
 
 import asyncio
 import itertools
-import random
 from functools import partial
-from typing import Any, AsyncIterator, Callable, Dict, List, Literal, Optional
+from typing import Any, AsyncIterator, Callable, Dict, List, Literal, Mapping, Optional
 
+from . import follower as following
+from . import link as linking
+from .change import ChangeOptions, change, pause
 from .changes import Change, Listener, Listeners, told
+from .draft import Draft
 from .faults import Closed, Refused
+from .follower import Follower, Held
+from .guard import Guard
 from .known import UNKNOWN, known_by
-from .link import OpenLink, websocket
+from .once import Counter
 from .pending import Pending, laid_over
-from .pointer import check_room
-from .requests import Edit
-from .session import Held, Options, Session
-from .slot import Slot
+from .place import Place
+from .pointers import check_room
+from .requests import Edit, beginning
+from .said import Said
+from .transport import OpenLink, websocket
 from .undo import History, Inverse, OwnEdit, fits
 from .values import Json, Patch, Slots, State, View, as_json
+from .warning import warning
 
 TRIES = 20
 """How often `update` and `undo` try at most when others are faster."""
-
-PAUSE, LONGEST_PAUSE = 0.01, 0.5
-"""How long the third try waits at most; each further one up to twice as long, so that many who count take turns."""
 
 _NO_BASE: Any = object()
 
 
 def connect(url: str, *, view: View, **options: Any) -> "Board":
-    """Connects to a room, as ws://127.0.0.1:8080/rooms/NAME, and comes back to it whenever the connection is lost. To be called while
-    an event loop runs. The options are those of `Board`. `ValueError` if the address is none of a room."""
+    """Connects to a room, as ws://127.0.0.1:8080/rooms/NAME, and comes back to it whenever the
+    connection is lost. To be called while an event loop runs. The options are those of `Board`.
+    `ValueError` if the address is none of a room."""
     return Board(url, view=view, **options)
 
 
 class Board:
     """A room, seen through a view.
 
-    `on_change` is told after each change of the slots, as a first listener. `on_state` is told of each new state with its cause, if
-    there is one: `connecting` (the slots are awaited), `open`, `waiting` (there is no connection, and the next try comes after a while;
-    the cause is a `HandshakeFailed` if the last try failed), `closed`. `on_taken_back` is told when an optimistic edit failed, with its
-    patch and the cause: what it showed is taken back.
+    `on_change` is told after each change of the slots, as a first listener. `on_state` is told of
+    each new state with its cause, if there is one: `connecting` (the slots are awaited), `open`,
+    `waiting` (there is no connection, and the next try comes after a while; the cause is a
+    `HandshakeFailed` if the last try failed), `closed`. If it is not given, a warning of the logger
+    `relay_client` says why there is no connection. `on_taken_back` is told when an optimistic edit
+    failed, with its patch and the cause: what it showed is taken back.
 
-    The first try after a loss waits at most `first_wait` seconds, each further one up to twice as long, and at most `longest_wait`.
-    After `quiet` seconds without a message the relay is asked whether it is there, and a connection is given up if its oldest request
-    has no answer after `patience` seconds. While slots are on their way it is not asked, and is given up after both together. Each
-    connection in a row that is given up doubles the patience, at most 32 times, until slots come: a slow line may take long for them.
+    The first try after a loss waits at most `first_wait` seconds, each further one up to twice as
+    long, and at most `longest_wait`. After `quiet` seconds without a message the relay is asked
+    whether it is there, and a connection is given up if its oldest request has no answer after
+    `patience` seconds. While slots are on their way it is not asked, and is given up after both
+    together. Each connection in a row that is given up doubles the patience, at most 32 times,
+    until slots come: a slow line may take long for them.
 
-    `begin` is the document that the room is given if it has none: the client adds it, if `null` stands there, on each connection before
-    anything else. So the slots show it, and edits that waited while the relay was restarted meet it. It is no edit for `undo`. If it is
-    refused for another reason than that the room has a document, as `too-heavy`, the board ends with that.
+    `begin` is the document that the room is given if it has none: the client adds it, if `null`
+    stands there, on each connection before anything else. So the slots show it, and edits that
+    waited while the relay was restarted meet it. It is no edit for `undo`. If it is refused for
+    another reason than that the room has a document, as `too-heavy`, the board ends with that.
 
-    `queue` says which edits that are made while the connection is lost are sent later: `all`, or only those that are `guarded`, by a
-    `base` or by a `test` as their first operation; the others are refused, as `away`.
+    `once` is a pointer to an object of the document, as `begin` makes it, in which this client
+    keeps a counter for its edits that are `once`.
 
-    `link` has further words for `websockets.connect`, as `{"ssl": context}`; `open_link` is another kind of connection."""
+    `queue` says which edits that are made while the connection is lost are sent later: `all`, or
+    only those that are `guarded`, by a `base` or by a `test` as their first operation; the others
+    are refused, as `away`.
+
+    `link` has further words for `websockets.connect`, as `{"ssl": context}`; `open_link` is another
+    kind of connection."""
 
     def __init__(
         self,
@@ -62,27 +77,34 @@ class Board:
         *,
         view: View,
         on_change: Listener = lambda change: None,
-        on_state: Callable[[State, Optional[Exception]], None] = lambda state, cause: None,
+        on_state: Optional[Callable[[State, Optional[Exception]], None]] = None,
         on_taken_back: Callable[[Patch, Exception], None] = lambda patch, cause: None,
         first_wait: float = 0.2,
         longest_wait: float = 10.0,
         quiet: float = 20.0,
         patience: float = 10.0,
         begin: Json = None,
+        once: Optional[str] = None,
         queue: Literal["all", "guarded"] = "all",
         link: Optional[Dict[str, Any]] = None,
         open_link: Optional[OpenLink] = None,
     ):
         check_room(url)
-        options = Options(first_wait, longest_wait, quiet, patience, queue, as_json(begin, "/begin"))
-        self._on_state, self._on_taken_back = on_state, on_taken_back
+        self._begin, view = as_json(begin, "/begin"), as_json(view, "/view")
+        self._counter = None if once is None else Counter(once)
+        self._on_state, self._on_taken_back = on_state or warning(), on_taken_back
         self._listeners = Listeners()
         self._listeners.add(on_change)
-        self._pending, self._history = Pending(), History()
+        self._pending, self._history, self._said = Pending(), History(), Said()
         self._shown: Optional[Slots] = None
         self._waiting: List[Edit] = []  # optimistic edits, as they were laid over last
-        self._session = Session(url, as_json(view, "/view"), open_link or websocket(link or {}, patience), options, self)
-        self.ready: "asyncio.Future[Slots]" = self._session.shown()
+        self._state: State = "connecting"
+        opened = open_link or websocket(link or {}, patience)
+        options = linking.Options(first_wait, longest_wait, quiet, patience, queue)
+        self._link = linking.RoomLink(url, opened, options, self._hearer())
+        on = following.Hearer(self._took, self._present, self._end)
+        self._follower = Follower(view, self._link, on)
+        self.ready: "asyncio.Future[Slots]" = self._follower.shown()
         """The first slots. Fails with `Refused` if the view is refused, and with `Closed`."""
 
     async def __aenter__(self) -> "Board":
@@ -96,18 +118,19 @@ class Board:
     @property
     def view(self) -> View:
         """The pointers whose slots are shown."""
-        held = self._session.held
+        held = self._follower.held
         return held.of.view if held else []
 
     @property
     def slots(self) -> Optional[Slots]:
-        """What they show: what the relay has shown, with the optimistic edits that wait laid over it. None before the first snapshot."""
+        """What they show: what the relay has shown, with the optimistic edits that wait laid over
+        it. None before the first snapshot."""
         return self._shown
 
     @property
     def confirmed(self) -> Optional[Slots]:
         """What the relay has shown; None before the first snapshot."""
-        held = self._session.held
+        held = self._follower.held
         return held.slots if held else None
 
     @property
@@ -118,40 +141,62 @@ class Board:
     @property
     def rev(self) -> Optional[int]:
         """The revision that the relay has shown; None before the first snapshot."""
-        held = self._session.held
+        held = self._follower.held
         return held.rev if held else None
 
     @property
     def epoch(self) -> Optional[int]:
         """The run of the relay that it is of; None before the first snapshot."""
-        held = self._session.held
+        held = self._follower.held
         return held.epoch if held else None
 
     @property
     def state(self) -> State:
-        return self._session.state
+        return self._state
 
-    def at(self, pointer: str) -> Slot:
+    @property
+    def undoable(self) -> int:
+        """How many edits `undo` can take back."""
+        return self._history.undoable
+
+    @property
+    def redoable(self) -> int:
+        """How many edits `redo` can do again."""
+        return self._history.redoable
+
+    def at(self, pointer: str) -> Place:
         """One value of the view, or within it."""
-        return Slot(self, pointer)
+        return Place(self, pointer)
 
     def subscribe(self, listener: Listener) -> Callable[[], None]:
         """Tells a listener of each change from now on. Gives what ends it."""
         return self._listeners.add(listener)
 
     def changes(self) -> AsyncIterator[Change]:
-        """What is shown, and then each change, until the board is closed. A reader that is slow misses those between, and not the newest
-        one. Fails with what closed the board, if something did."""
+        """What is shown, and then each change, until the board is closed. A reader that is slow
+        misses those between, and not the newest one. Fails with what closed the board, if something
+        did."""
         return self._listeners.read(self._change(None))
 
     async def watch(self, view: View) -> Slots:
-        """Shows other pointers from now on. Gives their slots, or those of a later view if one was asked for in the meantime. Fails
-        with `Refused`, and the view before stays; and with `Closed`."""
-        return await self._session.watch(as_json(view, "/view"))
+        """Shows other pointers from now on. Gives their slots, or those of a later view if one was
+        asked for in the meantime. Fails with `Refused`, and the view before stays; and with
+        `Closed`."""
+        return await self._follower.watch(as_json(view, "/view"))
+
+    async def sync(self) -> Slots:
+        """The slots, once all that was said so far is answered and shown: this client's edits, and
+        all that was done before the relay heard of this. `rev` is the room's revision then. It
+        costs a snapshot. Fails with `Closed`, and with no refusal."""
+        await self._said.ended()
+        slots = await self._follower.watch_again()
+        return self._shown or slots
 
     async def close(self) -> None:
         """Leaves the room, and does not come back."""
-        await self._session.close()
+        was_closed = self._state == "closed"
+        self._end(None)
+        await self._link.left(at_once=not was_closed)
 
     # Edits.
 
@@ -163,52 +208,132 @@ class Board:
         epoch: Optional[int] = None,
         optimistic: bool = False,
         undo: bool = True,
+        once: bool = False,
     ) -> "asyncio.Future[int]":
-        """Edits the document, all of it or nothing. Gives a future of the new revision, which the slots may still be on their way to. The
-        edit is asked for at once, whether the future is awaited or not.
+        """Edits the document, all of it or nothing. Gives a future of the new revision, which the
+        slots may still be on their way to. The edit is asked for at once, whether the future is
+        awaited or not.
 
-        Fails with `Refused`, and nothing changed; with `Unknown`, if the connection was lost before the answer; with `Closed`.
-        What is no JSON, or no number that the relay takes, is a `TypeError` or a `ValueError` of the call, with the place.
-        At most 31 requests are on their way at once; the others wait here, also for a connection, and are sent in order.
+        Fails with `Refused`, and nothing changed; with `Unknown`, if the connection was lost before
+        the answer; with `Closed`. What is no JSON, or no number that the relay takes, is a
+        `TypeError` or a `ValueError` of the call, with the place. At most 31 requests are on their
+        way at once; the others wait here, also for a connection, and are sent in order.
 
-        An `optimistic` edit shows at once in the slots, as far as they tell what it does, and is taken back if it fails. With `undo`
-        left out of the history by False, `undo()` passes it over.
+        An `optimistic` edit shows at once in the slots, as far as they tell what it does, and is
+        taken back if it fails. With `undo` left out of the history by False, `undo()` passes it
+        over.
 
-        With a `base`, as `rev` of the slots from which it was made, it is done only if the room is at that revision, and gives the
-        next one. Else it is refused, as `stale`: what was seen may have changed, or anything else in the document. Then `watch(view)`
-        gives slots of the room's revision; `rev` by itself stays behind it if an edit touches none of the slots. The base is a
-        revision of the run `epoch`; if nothing is said, of that of the slots. It is to be kept beside a base that is used later. A
-        base that is None, as `rev` is before the first slots, is refused.
+        With a `base`, as `rev` of the slots from which it was made, it is done only if the room is
+        at that revision, and gives the next one. Else it is refused, as `stale`: what was seen may
+        have changed, or anything else in the document. Then `sync()` gives slots of the room's
+        revision; `rev` by itself stays behind it if an edit touches none of the slots. The base is
+        a revision of the run `epoch`; if nothing is said, of that of the slots. It is to be kept
+        beside a base that is used later. A base that is None, as `rev` is before the first slots,
+        is refused.
 
-        If the answer of an edit with a `base` was lost, it is sent again once the client is back, and is never done twice. It fails
-        with `Unknown` only if the relay was restarted in between, if the board is closed, and after five lost connections. One
-        that was not sent yet when the relay was restarted is refused, as `stale`, without being sent."""
+        If the answer of an edit with a `base` was lost, it is sent again once the client is back,
+        and is never done twice. It fails with `Unknown` if it is `stale` then, with the room's
+        revision as `rev`: it was done the first time, or another edit was faster and it never will
+        be. Also if the relay was restarted in between, if the board is closed, and after five lost
+        connections. One that was not sent yet when the relay was restarted is refused, as `stale`,
+        without being sent.
+
+        An edit that is `once` tests and raises a counter of this client, at the pointer that the
+        board was given as `once`. Then it is sent again if its answer was lost, and is never done
+        twice. It gives its revision, or a later one if the answer was lost. One is on its way at a
+        time: what was asked for behind it waits. It has 62 operations of its own at most, and no
+        `base`."""
         own = OwnEdit(_checked(patch))
-        answer = self._edit(own, base, epoch, optimistic)
+        answer = self._edit(own, base, epoch, optimistic, self._counter_of(base) if once else None)
         if undo:
             self._history.edited(own)
         return answer
 
+    def change(
+        self,
+        make: Callable[[Any], Any],
+        *,
+        guard: Guard = "values",
+        tries: int = TRIES,
+        optimistic: bool = True,
+        undo: bool = True,
+        once: bool = False,
+    ) -> "asyncio.Future[int]":
+        """Changes a draft of what is shown, as any value: by assignments, `del` and the methods of
+        lists and dicts. The least patch that does it is sent, with moves if a value moved; nothing
+        is, if nothing was changed. It shows at once. Gives a future of the new revision.
+
+        If it is refused since what the function read or addressed is another by then, the function
+        is called again, on what is shown then: so it looks for what it means, and takes no index
+        from outside. It keeps nothing of the draft. Before the first slots it waits for them. Fails
+        as `edit`; as it was refused last, after so many `tries`.
+
+        What has to be as it was seen is the `guard`: `values`, what the function read and each
+        element that it addressed, by tests in front; by the revision, if they would be too many or
+        too large. `base`, the whole document. `none`, nothing."""
+        options = ChangeOptions(guard, tries, optimistic, undo, once)
+        return self.change_draft(lambda draft: make(draft.at(())), {}, options)
+
+    def change_draft(
+        self, make: Callable[[Draft], Any], keys: Mapping[str, str], options: ChangeOptions
+    ) -> "asyncio.Future[int]":
+        """`change` and what is done to a list are made of it."""
+        return change(self, make, keys, options)
+
+    def edit_anew(
+        self, patch: Patch, by_base: bool, options: ChangeOptions
+    ) -> "asyncio.Future[int]":
+        """An edit of a change. If it is refused the application is told nothing: it is made anew."""
+        base, epoch = (self.rev, self.epoch) if by_base else (_NO_BASE, None)
+        counter = self._counter_of(base) if options.once and not by_base else None
+        own = OwnEdit(patch)
+        answer = self._edit(own, base, epoch, options.optimistic, counter, silent=True)
+        if options.undo:
+            self._history.edited(own)
+        return answer
+
+    def begin_saying(self) -> Callable[[], None]:
+        """For what asks more than once: `sync` waits for it. Gives its end."""
+        return self._said.begin()
+
+    def taken_back(self, patch: Patch, cause: Exception) -> None:
+        """Of a change that was made anew in vain."""
+        told(self._on_taken_back, patch, cause)
+
+    async def watch_again(self) -> None:
+        """Comes back with slots of the room's revision."""
+        await self._follower.watch_again()
+
+    async def quiet(self) -> None:
+        """Comes back when the edits that waited are shown."""
+        waiting = self._pending.optimistic()
+        if waiting:
+            await asyncio.wait([edit.answer for edit in waiting])
+        await self._follower.watch_again()
+
     async def undo(self) -> Optional[int]:
-        """Undoes the newest edit of this client that the slots showed and that is not undone. It shows at once. Gives the new revision;
-        None if there is no such edit. Fails as `edit` does: with `Refused`, as `changed`, if somebody has changed since what the edit
-        left. Then it is passed over."""
+        """Undoes the newest edit of this client that the slots showed and that is not undone. It
+        shows at once. Gives the new revision; None if there is no such edit. Fails as `edit` does:
+        with `Refused`, as `changed`, if somebody has changed since what the edit left. Then it is
+        passed over."""
         return await self._turn(self._history.undoing, self._history.redoing)
 
     async def redo(self) -> Optional[int]:
-        """Does again what was undone last, unless there was another edit since. Otherwise as `undo`."""
+        """Does again what was undone last, unless there was another edit since. Otherwise as
+        `undo`."""
         return await self._turn(self._history.redoing, self._history.undoing)
 
     async def _turn(self, stack: List[OwnEdit], other: List[OwnEdit]) -> Optional[int]:
-        inverse = await History.take(stack)
-        if inverse is None:
-            return None
-        try:
-            return await self._take_back(inverse, partial(History.keep, other))
-        except Refused as refused:
-            if refused.fault == "away":
-                raise
-            raise Refused("changed", refused.at, refused.rev, refused.resent) from refused
+        with self._said.during():
+            inverse = await History.take(stack)
+            if inverse is None:
+                return None
+            try:
+                return await self._take_back(inverse, partial(History.keep, other))
+            except Refused as refused:
+                if refused.fault == "away":
+                    raise
+                raise Refused("changed", refused.at, refused.rev) from refused
 
     async def _take_back(self, inverse: Inverse, keep: Callable[[OwnEdit], None]) -> int:
         if inverse.puts_back:
@@ -218,18 +343,27 @@ class Board:
         keep(own)
         return await answer
 
-    async def update_slot(self, make: Callable[[Held], Patch], tries: int, optimistic: bool, undo: bool) -> int:
-        """An edit that is made of what the relay has shown, and is done to that alone. `Slot.update` is made of it."""
-        return await self._compare_and_set(make, tries, optimistic, self._history.edited if undo else lambda own: None)
+    async def update_place(
+        self, make: Callable[[Held], Patch], tries: int, optimistic: bool, undo: bool
+    ) -> int:
+        """An edit that is made of what the relay has shown, and is done to that alone.
+        `Place.update` is made of it."""
+        keep = self._history.edited if undo else lambda own: None
+        with self._said.during():
+            return await self._compare_and_set(make, tries, optimistic, keep)
 
     async def _compare_and_set(
-        self, make: Callable[[Held], Patch], tries: int, optimistic: bool, keep: Callable[[OwnEdit], None]
+        self,
+        make: Callable[[Held], Patch],
+        tries: int,
+        optimistic: bool,
+        keep: Callable[[OwnEdit], None],
     ) -> int:
         """The edit is made anew as long as others are faster."""
         await self.ready
         for tried in itertools.count(1):
-            held = self._session.held
-            if held is None or self._session.is_closed:
+            held = self._follower.held
+            if held is None or self._state == "closed":
                 raise Closed()
             own = OwnEdit(_checked(make(held)))
             answer = self._edit(own, held.rev, held.epoch, optimistic)
@@ -237,68 +371,141 @@ class Board:
             try:
                 return await answer
             except Refused as refused:
-                if refused.fault != "stale" or refused.resent or tried >= tries:
+                if refused.fault != "stale" or tried >= tries:
                     raise
             if tried > 1:
-                await asyncio.sleep(random.uniform(0, min(PAUSE * 2**tried, LONGEST_PAUSE)))
-            # An edit elsewhere leaves the slots' revision behind the room's: only slots that come anew are of that one.
-            await self._session.watch(self._session.wanted)
+                await pause(tried)
+            # An edit elsewhere leaves the slots' revision behind the room's: only slots that come
+            # anew are of that one.
+            await self._follower.watch_again()
         raise AssertionError("the last try has ended it")
 
-    def _edit(self, own: OwnEdit, base: Optional[int], epoch: Optional[int], optimistic: bool) -> "asyncio.Future[int]":
-        request: Dict[str, Any] = {"do": "edit", "patch": own.patch}
-        if base is not _NO_BASE:
-            request["base"] = base
-        edit = Edit(request, self.epoch if epoch is None else epoch, own, optimistic, self._ended)
+    def _edit(
+        self,
+        own: OwnEdit,
+        base: Optional[int],
+        epoch: Optional[int],
+        optimistic: bool,
+        counter: Optional[Counter] = None,
+        silent: bool = False,
+    ) -> "asyncio.Future[int]":
+        """Of a silent one that is taken back the application is told nothing: it is made anew."""
+        has_base = base is not _NO_BASE
+        epoch = self.epoch if epoch is None else epoch
+        over = self._said.begin()
+
+        def ended(edit: Edit) -> None:
+            over()
+            self._ended(edit, silent)
+
+        told = (ended, self._link.ask_first, self._done_before)
+        edit = Edit(own, base if has_base else None, has_base, epoch, optimistic, counter, *told)
         self._pending.add(edit)
-        self._session.edit(edit)
+        self._link.edit(edit)
         self._lay_over()
         return edit.answer
 
-    def _ended(self, edit: Edit) -> None:
-        held = self._session.held
+    def _counter_of(self, base: Optional[int]) -> Counter:
+        if self._counter is None:
+            advice = 'say where this client may keep its counter, as `once="/once"`'
+            raise TypeError(f"an edit is `once` by a counter: {advice}")
+        if base is not _NO_BASE:
+            raise TypeError("an edit with a base is done once by that")
+        return self._counter
+
+    def _done_before(self, edit: Edit) -> None:
+        """It was done on a connection that was lost. The slots that come now are of its revision,
+        or of a later one, and what undoes it is not known."""
+        edit.own.not_done()
+
+        def shown(slots: "asyncio.Future[Slots]") -> None:
+            if slots.cancelled() or slots.exception() is not None or self.rev is None:
+                edit.drop()
+            else:
+                edit.done_at(self.rev)
+
+        self._follower.watch_again().add_done_callback(shown)
+
+    def _ended(self, edit: Edit, silent: bool) -> None:
+        held = self._follower.held
         if edit.cause is not None:
             self._pending.failed(edit)
         elif held is not None:
             self._pending.done(edit, held)
         self._lay_over()
-        if edit.cause is not None and edit.optimistic:
+        if edit.cause is not None and edit.optimistic and not silent:
             told(self._on_taken_back, edit.patch, edit.cause)
 
-    # What the session tells.
+    # What the link and the follower tell.
 
-    def held(self, before: Optional[Held], held: Held, single: bool) -> None:
+    def _hearer(self) -> linking.Hearer:
+        """The link has nothing to tell before the loop goes on, and then there is a follower."""
+        return linking.Hearer(
+            entered=self._entered,
+            told=lambda message: self._follower.told(message),
+            astray=lambda: self._follower.astray(),
+            lost=lambda: self._follower.lost(),
+            turned=self._enter,
+            ended=self._end,
+        )
+
+    def _entered(self) -> None:
+        """The room has to have a document before anything else, so that the slots are never of a
+        room that has none."""
+        self._follower.entered()
+        if self._begin is not None:
+            self._link.ask_first(beginning(self._begin, self._end))
+
+    def _took(
+        self, before: Optional[Held], held: Held, patch: Optional[Patch], single: bool
+    ) -> None:
         if before is not None and before.epoch != held.epoch:
-            self._history.forget()  # what this client did was done to a document that is not there any more
-        document = known_by(before.of.view, before.slots) if before is not None else UNKNOWN
+            # What this client did was done to a document that is not there any more.
+            self._history.forget()
+        document = UNKNOWN if before is None else known_by(before.of.view, before.slots)
         self._pending.reached(held, document, single)
         self._waiting = self._pending.optimistic()
         self._shown = laid_over(held, self._waiting)
+        self._enter("open", None)
+        self._tell(patch)
 
-    def changed(self, patch: Optional[Patch]) -> None:
+    def _present(self) -> None:
+        self._pending.all_seen()
+        self._lay_over()
+        self._enter("open", None)
+
+    def _enter(self, state: State, cause: Optional[Exception]) -> None:
+        if self._state not in (state, "closed"):
+            self._state = state
+            told(self._on_state, state, cause)
+
+    def _end(self, cause: Optional[Exception]) -> None:
+        if self._state == "closed":
+            return
+        self._state = "closed"
+        self._link.close()
+        self._follower.end(cause)
+        self._listeners.close(cause)
+        told(self._on_state, "closed", cause)
+
+    # What is told.
+
+    def _lay_over(self) -> None:
+        """Lays the edits that wait over what is held, and tells of it if another number of them
+        waits."""
+        held, before = self._follower.held, self._waiting
+        self._waiting = self._pending.optimistic()
+        if held is not None and before != self._waiting:
+            self._shown = laid_over(held, self._waiting)
+            self._tell(None)
+
+    def _tell(self, patch: Optional[Patch]) -> None:
         change = self._change(patch)
         if change is not None:
             self._listeners.tell(change)
 
-    def missed_nothing(self) -> None:
-        self._pending.all_seen()
-        self._lay_over()
-
-    def entered(self, state: State, cause: Optional[Exception]) -> None:
-        if state == "closed":
-            self._listeners.close(cause)
-        told(self._on_state, state, cause)
-
-    def _lay_over(self) -> None:
-        """Lays the edits that wait over what is held, and tells of it if another number of them waits."""
-        held, before = self._session.held, self._waiting
-        self._waiting = self._pending.optimistic()
-        if held is not None and before != self._waiting:
-            self._shown = laid_over(held, self._waiting)
-            self.changed(None)
-
     def _change(self, patch: Optional[Patch]) -> Optional[Change]:
-        held = self._session.held
+        held = self._follower.held
         if held is None or self._shown is None:
             return None
         return Change(self._shown, held.slots, held.rev, self.pending, patch)
@@ -312,5 +519,5 @@ def _checked(patch: Json) -> Patch:
 
 def _fitting(inverse: Inverse, held: Held) -> Patch:
     if not fits(known_by(held.of.view, held.slots), inverse.patch):
-        raise Refused("changed", None)
+        raise Refused("changed")
     return inverse.patch

@@ -5,33 +5,40 @@ from typing import Any, Dict, Literal, Optional
 
 
 class Refused(Exception):
-    """The relay refused a request, and nothing changed by it; but see `resent`. Or the board did, before it was sent: as `stale` an edit
-    with a base of another run, as `too-long` a text of more than 1,056,768 bytes, by which the connection would end, as `away` an edit that
-    is not guarded while the connection is lost, as `changed` an undo."""
+    """The relay refused a request, and nothing changed by it. Or the board did, before it was sent:
+    as `stale` an edit with a base of another run, as `too-long` a text of more than 1,056,768
+    bytes, by which the connection would end, as `away` an edit that is not guarded while the
+    connection is lost, as `changed` an undo."""
 
-    def __init__(self, fault: str, at: Optional[int], rev: Optional[int] = None, resent: bool = False):
+    def __init__(
+        self, fault: str, at: Optional[int] = None, rev: Optional[int] = None, advice: str = ""
+    ):
         place = "" if at is None else f" at {at}"
-        super().__init__(fault + place + ("" if rev is None else f", the room is at revision {rev}"))
+        room = "" if rev is None else f", the room is at revision {rev}"
+        super().__init__(fault + place + room + (advice and f": {advice}"))
         self.fault = fault
         """The word of the fault (docs/PROTOCOL.md, "Messages")."""
         self.at = at
-        """The place of the operation or pointer that is at fault, counted from 0; None if no single one is."""
+        """The place of the operation or pointer that is at fault, counted from 0; None if no single
+        one is."""
         self.rev = rev
         """The room's revision, if the fault is `stale`; else None."""
-        self.resent = resent
-        """Whether it is an edit that was sent before, on a connection that was lost. Then `stale` says that it was done that time, or
-        that another edit was faster and it never will be. The document tells which, if the edit left a mark there."""
 
     @classmethod
-    def by(cls, reply: Dict[str, Any], resent: bool = False) -> "Refused":
-        return cls(reply["fault"], reply["at"], reply.get("rev"), resent)
+    def by(cls, reply: Dict[str, Any]) -> "Refused":
+        return cls(reply["fault"], reply["at"], reply.get("rev"))
 
 
 class Unknown(Exception):
-    """The connection was lost before the answer: the edit may have been done, may not, and may still be done."""
+    """The connection was lost before the answer: the edit may have been done, or not."""
 
-    def __init__(self) -> None:
-        super().__init__("the connection was lost before the answer")
+    def __init__(self, rev: Optional[int] = None) -> None:
+        since = "" if rev is None else f", and the room is at revision {rev}"
+        super().__init__(f"the connection was lost before the answer{since}")
+        self.rev = rev
+        """The room's revision, if the edit had a `base` and was sent again: it was done by then, or
+        never will be. The document tells which, if the edit left a mark there. None: it may still
+        be done."""
 
 
 class Closed(Exception):
@@ -41,12 +48,45 @@ class Closed(Exception):
         super().__init__("the board is closed")
 
 
+ADVICE = {
+    404: "an address ends with /rooms/NAME",
+    503: "it is full (--sessions, --rooms), or about to stop",
+}
+
+
 class HandshakeFailed(Exception):
     """There is no connection: the cause that `on_state` gets with `waiting`."""
 
-    def __init__(self, reason: Literal["refused", "unreachable"], status: Optional[int] = None, detail: str = ""):
-        super().__init__(reason + ("" if status is None else f" with status {status}") + (f": {detail}" if detail else ""))
+    def __init__(
+        self,
+        reason: Literal["refused", "unreachable"],
+        status: Optional[int] = None,
+        detail: str = "",
+        url: str = "the address",
+    ):
+        said = _refusal(url, status) if reason == "refused" else _silence(url)
+        super().__init__(said + (f" ({detail})" if detail else ""))
         self.reason = reason
-        """`refused`, if something answered the handshake with another status than 101; `unreachable`, if nothing answered."""
+        """`refused`, if something answered the handshake with another status than 101;
+        `unreachable`, if nothing answered."""
         self.status = status
-        """The status of the answer, as 404 for a bad target and 503 for a relay without a place; None if nothing answered."""
+        """The status of the answer, as 404 for a bad target and 503 for a relay without a place;
+        None if nothing answered."""
+        self._detail = detail
+
+    def at(self, url: str) -> "HandshakeFailed":
+        """The same, with the address."""
+        failed = HandshakeFailed(self.reason, self.status, self._detail, url)
+        failed.__cause__ = self.__cause__
+        return failed
+
+
+def _refusal(url: str, status: Optional[int]) -> str:
+    if status is None:
+        return f"{url} refuses the connection"
+    advice = f": {ADVICE[status]}" if status in ADVICE else ""
+    return f"{url} refuses the connection, with {status}{advice}"
+
+
+def _silence(url: str) -> str:
+    return f"nothing answers at {url}: start the relay there, or connect to where it listens"

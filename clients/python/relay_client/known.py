@@ -11,7 +11,7 @@ from typing import Any, Callable, Dict, Iterable, Optional
 
 from . import patch as values
 from .patch import DoesNotFit, Draft, check_move
-from .pointer import Path, index, shown_path, tokens
+from .pointers import Path, index, shown_path, tokens
 from .values import Json, Operation, Shown, Slots, View, same
 
 Part = Any

@@ -1,85 +1,302 @@
-"""A connection to a room, by the `websockets` package."""
+"""A connection to a room that comes back when it is lost, and the requests that go over it, in
+order."""
 from __future__ import annotations
 
 import asyncio
-from contextlib import asynccontextmanager
-from typing import Any, AsyncContextManager, AsyncIterator, Callable, Dict, Protocol, Union
+import json
+import random
+from collections import deque
+from dataclasses import dataclass
+from typing import Any, Callable, Deque, Literal, Optional
 
-import websockets
-import websockets.exceptions
+from .faults import Closed, HandshakeFailed, Refused
+from .length import ends_connection
+from .patience import Patience
+from .requests import Asked, Edit, Message
+from .transport import Link, LinkLost, OpenLink
+from .values import State
 
-from .faults import HandshakeFailed
+ON_THE_WAY = 31
+"""With one request more on the way 32 replies could wait, and the relay would read nothing from
+this client until it drew one."""
 
+TOO_LONG: Message = {"kind": "refused", "fault": "too-long", "at": None}
+"""As the relay refuses a text that it still reads."""
 
-_connect: Any = getattr(websockets, "connect")  # its types differ from version to version
-
-
-class LinkLost(Exception):
-    """The connection was lost."""
-
-
-class Link(Protocol):
-    """What a client needs of a connection."""
-
-    def __aiter__(self) -> AsyncIterator[str]:
-        """The texts of the relay, until the connection is lost."""
-
-    async def send(self, text: str) -> None:
-        """`LinkLost` if the connection was lost."""
-
-    def abort(self) -> None:
-        """Ends it at once, without waiting for a peer that may be gone."""
+REPLIES = ("done", "refused", "watching", "resumed", "unwatched")
+"""What answers a request. The welcome does not."""
 
 
-OpenLink = Callable[[str], AsyncContextManager[Link]]
-"""Opens a connection to an address, and closes it in the end. `HandshakeFailed` if there is none to be had."""
+class Astray(Exception):
+    """A message that does not follow from those before it. Should never be; the slots are asked for
+    anew, on another connection."""
 
 
-class _Websocket:
-    def __init__(self, socket: Any):
-        self._socket = socket
+@dataclass(frozen=True)
+class Options:
+    first_wait: float
+    longest_wait: float
+    quiet: float
+    patience: float
+    queue: Literal["all", "guarded"]
 
-    async def __aiter__(self) -> AsyncIterator[str]:
+
+@dataclass(frozen=True)
+class Hearer:
+    """Who is told what becomes of the connections."""
+
+    entered: Callable[[], None]
+    """Welcomed: the first requests are to be asked by `ask_first`."""
+    told: Callable[[Message], None]
+    """A snapshot or a patch. May fail with `Astray`."""
+    astray: Callable[[], None]
+    """What is held may be wrong. The connection is given up."""
+    lost: Callable[[], None]
+    turned: Callable[[State, Optional[Exception]], None]
+    """`waiting`, with its cause if the handshake failed, or `connecting`."""
+    ended: Callable[[Exception], None]
+    """No connection can ever be had."""
+
+
+class RoomLink:
+    def __init__(self, url: str, open_link: OpenLink, options: Options, hearer: Hearer):
+        self._url, self._open_link, self._options, self._on = url, open_link, options, hearer
+        self._patience = Patience(options.quiet, options.patience)
+        self._loop = asyncio.get_running_loop()
+        self.welcome: Optional[Message] = None
+        """Of this connection; None while there is none."""
+        self.is_closed = False
+        self._link: Optional[Link] = None
+        self._welcomed = False  # on the newest connection
+        self._away = False  # a connection was lost, and no other one is there
+        self._due = False  # slots were promised, and are on their way
+        self._slots_came = 0.0  # when they came that were due last
+        self._unsent: Deque[Asked] = deque()
+        self._sent: Deque[Asked] = deque()  # requests without an answer, oldest first
+        self._ids = 0
+        self._failures = 0
+        self._to_send = asyncio.Event()
+        self._timer: Optional[asyncio.TimerHandle] = None
+        self._task = asyncio.ensure_future(self._run())
+
+    # What is asked.
+
+    def ask(self, asked: Asked) -> None:
+        self._unsent.append(asked)
+        self._to_send.set()
+
+    def ask_first(self, asked: Asked) -> None:
+        """Before whatever waits."""
+        self._unsent.appendleft(asked)
+        self._to_send.set()
+
+    def edit(self, edit: Edit) -> None:
+        if self.is_closed:
+            edit.fail(Closed())
+        elif self._away and self._options.queue == "guarded" and not edit.guarded:
+            edit.fail(Refused("away", None))
+        else:
+            self.ask(edit)
+
+    def close(self) -> None:
+        self.is_closed = True
+        self._disarm()
+        self._drop()
+
+    async def left(self, at_once: bool) -> None:
+        """Comes back when the connection is left."""
+        if at_once:
+            self._task.cancel()
+        await asyncio.wait([self._task])
+
+    # Connections.
+
+    async def _run(self) -> None:
         try:
-            async for text in self._socket:
-                yield _text(text)
-        except (OSError, websockets.exceptions.WebSocketException):
-            pass
+            while not self.is_closed:
+                cause = await self._connect()
+                if not self.is_closed:
+                    await self._wait(cause)
+        except Exception as error:
+            self._on.ended(error)  # as words for `websockets` that it does not take
 
-    async def send(self, text: str) -> None:
+    async def _connect(self) -> Optional[HandshakeFailed]:
+        """One connection, from the handshake to its loss. Gives the cause if there was none."""
         try:
-            await self._socket.send(text)
-        except (OSError, websockets.exceptions.WebSocketException) as error:
-            raise LinkLost() from error
+            async with self._open_link(self._url) as link:
+                await self._serve(link)
+        except HandshakeFailed as failed:
+            return failed.at(self._url)
+        if self._welcomed:
+            return None
+        return HandshakeFailed("unreachable", detail="no welcome came").at(self._url)
 
-    def abort(self) -> None:
-        self._socket.transport.abort()
-
-
-def _text(text: Union[str, bytes]) -> str:
-    return text if isinstance(text, str) else text.decode()
-
-
-def websocket(words: Dict[str, Any], patience: float) -> OpenLink:
-    """Connections with further words for `websockets.connect`. The client asks by requests of its own whether the relay is still
-    there, so `websockets` need not."""
-    options = {"max_size": None, "ping_interval": None, "open_timeout": patience, "close_timeout": 1, **words}
-
-    @asynccontextmanager
-    async def opened(url: str) -> AsyncIterator[Link]:
+    async def _serve(self, link: Link) -> None:
+        self._link, self._welcomed = link, False
+        self._listen()
+        sending = asyncio.ensure_future(self._send(link))
         try:
-            socket: Any = await _connect(url, **options)
-        except (OSError, asyncio.TimeoutError, websockets.exceptions.WebSocketException) as error:
-            raise _failed(error) from error
-        try:
-            yield _Websocket(socket)
+            async for text in link:
+                self._hear(text)
+                if self.is_closed:
+                    return
+        except Astray:
+            self._on.astray()
         finally:
-            await socket.close()
+            sending.cancel()
+            self._lose()
 
-    return opened
+    def _lose(self) -> None:
+        """What was sent has no answer any more, and only edits wait for the next connection, if
+        there is to be one."""
+        self._disarm()
+        self._away = self._away or self._welcomed
+        self._link, self.welcome, self._due = None, None, False
+        self._on.lost()
+        sent, self._sent = self._sent, deque()
+        unsent, self._unsent = self._unsent, deque()
+        self._unsent.extend(asked for asked in sent if isinstance(asked, Edit) and asked.lost())
+        for asked in unsent:
+            if isinstance(asked, Edit):
+                self.edit(asked)
+        if self.is_closed:
+            self._drop()
+
+    def _drop(self) -> None:
+        unsent, self._unsent = self._unsent, deque()
+        for asked in unsent:
+            if isinstance(asked, Edit):
+                asked.drop()
+
+    async def _wait(self, cause: Optional[Exception]) -> None:
+        self._on.turned("waiting", cause)
+        longest = min(self._options.first_wait * 2**self._failures, self._options.longest_wait)
+        self._failures = min(self._failures + 1, 30)
+        await asyncio.sleep(longest * random.uniform(0.5, 1))
+        self._on.turned("connecting", None)
+
+    # A peer that is gone without a word is found out by a request that does nothing: it has no
+    # `do`, and is refused.
+
+    def _listen(self) -> None:
+        """Sets the time at which the connection is given up, or at which the relay is asked whether
+        it is there."""
+        self._disarm()
+        if self._due:
+            # An answer would come behind the slots, and they may take long: to ask for one would
+            # say nothing about the peer.
+            self._timer = self._loop.call_later(self._patience.for_slots, self._give_up)
+        elif self._sent:
+            # The oldest one: those that are sent behind it say nothing about the peer.
+            asked_at = max(self._sent[0].sent_at, self._slots_came)
+            self._timer = self._loop.call_at(asked_at + self._patience.for_answers, self._give_up)
+        elif self.welcome is None:
+            self._timer = self._loop.call_later(self._patience.for_answers, self._give_up)
+        else:
+            self._timer = self._loop.call_later(self._options.quiet, self.ask, Asked({}))
+
+    def _disarm(self) -> None:
+        if self._timer is not None:
+            self._timer.cancel()
+            self._timer = None
+
+    def _give_up(self) -> None:
+        self._patience.lost()
+        if self._link is not None:
+            self._link.abort()
+
+    # Requests.
+
+    async def _send(self, link: Link) -> None:
+        while True:
+            await self._to_send.wait()
+            self._to_send.clear()
+            while self.welcome is not None and len(self._sent) < ON_THE_WAY:
+                asked = self._next(self.welcome)
+                if asked is None:
+                    break
+                text = self._text(asked, self.welcome)
+                if self.is_closed:
+                    link.abort()
+                    return
+                try:
+                    if text is not None:
+                        await link.send(text)
+                except LinkLost:
+                    return
+
+    def _next(self, welcome: Message) -> Optional[Asked]:
+        """Takes the request that has waited longest, or one that has to be sent before it. None if
+        there is none, or if it has to wait."""
+        ahead = self._unsent[0].ahead(welcome) if self._unsent else None
+        if not self._unsent or (ahead is not None and ahead is self._unsent[0]):
+            return None
+        return ahead or self._unsent.popleft()
+
+    def _text(self, asked: Asked, welcome: Message) -> Optional[str]:
+        """What is sent of a request. None if it is not sent, and has ended."""
+        if isinstance(asked, Edit) and not asked.goes_to(welcome):
+            return None
+        request = {"id": self._ids + 1, **asked.request}
+        text = json.dumps(request, ensure_ascii=False, separators=(",", ":"))
+        if ends_connection(text):
+            asked.answered(TOO_LONG)
+            return None
+        self._ids += 1
+        asked.id, asked.sent_at = self._ids, self._loop.time()
+        self._sent.append(asked)
+        if len(self._sent) == 1 and not self._due:
+            self._listen()
+        return text
+
+    # Messages.
+
+    def _hear(self, text: str) -> None:
+        try:
+            message = json.loads(text)
+            kind = message["kind"]
+            if kind == "welcome":
+                self._enter(message)
+            elif kind in ("snapshot", "patch"):
+                self._tell(message)
+            elif kind in REPLIES:
+                self._answer(message)
+            else:
+                raise Astray()  # none comes that was not asked for by something new
+        except (KeyError, TypeError, ValueError) as error:
+            raise Astray() from error
+        self._to_send.set()
+        if not self.is_closed:
+            self._listen()
+
+    def _enter(self, welcome: Message) -> None:
+        if self.welcome is not None:
+            raise Astray()
+        self.welcome, self._welcomed, self._away = welcome, True, False
+        self._on.entered()
+
+    def _tell(self, message: Message) -> None:
+        if self.welcome is None:
+            raise Astray()
+        self._failures = 0
+        self._patience.slots_came()
+        if self._due:
+            self._due, self._slots_came = False, self._loop.time()
+        self._on.told(message)
+
+    def _answer(self, reply: Message) -> None:
+        """Replies come in the order of their requests; the id says so, if the relay could read
+        it."""
+        if not self._sent or reply["id"] not in (self._sent[0].id, None):
+            raise Astray()
+        if reply["kind"] == "watching" or reply.get("how") in ("patch", "snapshot"):
+            self._due = True
+        elif reply.get("how") == "nothing":
+            self._patience.slots_came()
+        self._sent.popleft().answered(reply)
 
 
-def _failed(error: Exception) -> HandshakeFailed:
-    # Until version 13 of websockets the status is the error's own, from then on its response's.
-    status = getattr(error, "status_code", None) or getattr(getattr(error, "response", None), "status_code", None)
-    return HandshakeFailed("unreachable" if status is None else "refused", status, str(error) or type(error).__name__)
+def settle(future: "asyncio.Future[Any]", cause: Exception) -> None:
+    """Has a future fail that nobody has ended before."""
+    if not future.done():
+        future.set_exception(cause)

@@ -5,7 +5,7 @@ from __future__ import annotations
 
 from typing import Any, Callable, Dict, Iterable
 
-from .pointer import Path, index, tokens
+from .pointers import Path, index, tokens
 from .values import Json, Operation, same
 
 

@@ -1,7 +1,8 @@
-"""Edits that the slots do not show yet: from their asking until what is held is of the revision that they made.
+"""Edits that the slots do not show yet: from their asking until what is held is of the revision that
+they made.
 
-Those that are optimistic are laid over what is held, in their order. A patch is done whole or not at all, so an edit of which an operation
-is known not to fit shows nothing.
+Those that are optimistic are laid over what is held, in their order. A patch is done whole or not at
+all, so an edit of which an operation is known not to fit shows nothing.
 """
 from __future__ import annotations
 
@@ -10,7 +11,7 @@ from typing import Iterable, List, Tuple
 from .known import Part, after, known_by, slots_of
 from .patch import DoesNotFit
 from .requests import Edit
-from .session import Held
+from .follower import Held
 from .touch import touches
 from .values import Slots
 
@@ -37,6 +38,8 @@ class Pending:
             edit.own.not_done()
 
     def _will_show(self, edit: Edit, held: Held) -> bool:
+        if edit.rev is not None and edit.run == held.epoch and edit.rev <= held.rev:
+            return False
         document = known_by(held.of.view, held.slots)
         for earlier in self._edits[: self._edits.index(edit)]:
             document = _after(document, earlier)
@@ -48,7 +51,11 @@ class Pending:
     def reached(self, held: Held, document: Part, single: bool) -> None:
         """Something else is held. Those edits leave that it shows. If it is one revision on from a document of which this is known,
         that is the document to which its edit was done."""
-        for edit in [edit for edit in self._edits if edit.rev is not None and (edit.run != held.epoch or edit.rev <= held.rev)]:
+        for edit in [
+            edit
+            for edit in self._edits
+            if edit.rev is not None and (edit.run != held.epoch or edit.rev <= held.rev)
+        ]:
             self._edits.remove(edit)
             if single and edit.rev == held.rev:
                 edit.own.done_on(document)

@@ -6,7 +6,7 @@ from typing import Iterable, List, Optional
 
 from .known import ABSENT, Part, Parts, at, goes_on, is_value, may_be_list, step
 from .patch import Draft
-from .pointer import Path, index, shown_path, tokens
+from .pointers import Path, index, shown_path, tokens
 from .values import Operation, Shown, View
 
 

@@ -12,7 +12,7 @@ from typing import Iterable, List, Optional
 
 from .known import ABSENT, UNKNOWN, Part, at, is_value, step
 from .patch import DoesNotFit, Draft
-from .pointer import Path, spelled, tokens
+from .pointers import Path, spelled, tokens
 from .touch import place_of, without_origin
 from .values import Json, Operation, Patch
 
@@ -165,6 +165,12 @@ class OwnEdit:
         self.inverse: "asyncio.Future[Optional[Inverse]]" = asyncio.get_running_loop().create_future()
         """None if there is nothing that can be undone."""
 
+    @property
+    def is_known(self) -> bool:
+        """Whether what undoes it is known by now."""
+        inverse = self.inverse
+        return inverse.done() and not inverse.cancelled() and inverse.result() is not None
+
     def done_on(self, document: Part) -> None:
         """It was done on a document of which this is known."""
         self._settle(inverse(document, self.patch))
@@ -202,6 +208,14 @@ class History:
             if inverse is not None:
                 return inverse
         return None
+
+    @property
+    def undoable(self) -> int:
+        return sum(edit.is_known for edit in self.undoing)
+
+    @property
+    def redoable(self) -> int:
+        return sum(edit.is_known for edit in self.redoing)
 
     def forget(self) -> None:
         self.undoing.clear()

@@ -11,8 +11,10 @@ Patch = List[Operation]
 Shown = Union[str, Dict[str, str]]
 """A pointer, for the value to which it leads; or {"size": pointer}, for how many elements or members that has."""
 View = List[Shown]
-Slots = List[List[Json]]
-"""One for each pointer of a view: `[value]`, or `[]` if it leads to nothing."""
+Slot = List[Json]
+"""What one pointer of a view shows: `[value]`, or `[]` if it leads to nothing."""
+Slots = List[Slot]
+"""One for each pointer of a view."""
 State = Literal["connecting", "open", "waiting", "closed"]
 
 DEEPEST = 124

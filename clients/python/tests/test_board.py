@@ -318,7 +318,7 @@ class Listening(unittest.IsolatedAsyncioTestCase):
 
     async def test_one_value(self):
         card, n = self.board.at("/cards/0"), self.board.at("/n")
-        self.assertEqual((card.value, n.value, self.board.at("/cards/9").shown), ("milk", 1, []))
+        self.assertEqual((card.value, n.value, self.board.at("/cards/9").slot), ("milk", 1, []))
         with self.assertRaises(LookupError):
             self.board.at("/elsewhere").value
         with self.assertRaises(ValueError):

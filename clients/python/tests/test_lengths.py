@@ -40,7 +40,6 @@ class Long(unittest.IsolatedAsyncioTestCase):
             await self.is_sent(longest)
             with self.assertRaisesRegex(relay_client.Refused, "^too-long$") as caught:
                 await soon(self.board.edit(written(self.longest(character) + "x"), base=1))
-            self.assertFalse(caught.exception.resent)
             self.assertEqual(self.relay.last["patch"], written(longest))
         self.assertEqual((self.board.state, len(self.relay.links)), ("open", 1))
 

@@ -6,7 +6,7 @@ sys.path.insert(0, f"{os.path.dirname(os.path.abspath(__file__))}/../../../tests
 import cases
 from relay_client.known import known_by
 from relay_client.patch import DoesNotFit, applied, found
-from relay_client.pointer import tokens
+from relay_client.pointers import tokens
 from relay_client.undo import fits, inverse
 
 CASES = 3000

@@ -19,9 +19,13 @@ def tell(state: relay_client.State, cause: Optional[Exception]) -> None:
 async def main() -> None:
     url = "ws://127.0.0.1:8080/rooms/board"
     view: relay_client.View = ["/cards", {"size": "/cards"}]
-    async with relay_client.connect(url, view=view, begin={"cards": []}, on_change=show, on_state=tell) as board:
+    async with relay_client.connect(
+        url, view=view, begin={"cards": []}, on_change=show, on_state=tell
+    ) as board:
         slots: relay_client.Slots = await board.ready
-        rev: int = await board.edit([{"op": "add", "path": "/cards/-", "value": "milk"}], optimistic=True)
+        rev: int = await board.edit(
+            [{"op": "add", "path": "/cards/-", "value": "milk"}], optimistic=True
+        )
         rev = await board.edit([], base=board.rev, epoch=board.epoch)
         rev = await board.at("/cards/0").set({"title": "tea"})
         rev = await board.at("/cards/0").update(lambda card: {**card, "done": True})
@@ -31,6 +35,12 @@ async def main() -> None:
             show(change)
         async for value in board.at("/cards").changes():
             print(value, slots, rev)
+        rev = await board.change(lambda draft: draft["cards"].append("milk"), guard="base")
+        rev = await board.at(relay_client.pointer("cards")).push("milk", "bread")
+        rev = (
+            await board.at("/cards").by_key("id").change("k7", lambda card: card.update(done=True))
+        )
+        slots = await board.sync()
         undone: Optional[int] = await board.undo()
         redone: Optional[int] = await board.redo()
         print(undone, redone)

@@ -99,3 +99,40 @@ def handshakes_that_fail(driver):
     play.accept()
     play.talk()
     play.holds_present(CARDS)
+
+
+@case("A patch that `resumed` promised may fold: then a snapshot comes in its place, and is taken.")
+def a_promised_patch_may_come_as_a_snapshot(driver):
+    play = begun(driver)
+    play.cut()
+    play.relay.edit(push("bread"))
+    back(play)
+    play.draw(1)
+    play.relay.edit(push("salt"))
+    play.relay.fold()
+    play.draw(1)
+    play.holds_present(CARDS)
+    play.relay.edit(push("oil"))
+    play.draw(1)
+    play.holds_present(CARDS)
+
+
+@case("What arrives late, on a connection that is gone, is not heard.", needs="late")
+def what_comes_late_is_not_heard(driver):
+    play = begun(driver)
+    late = {"kind": "patch", "patch": [replace("/0/0/0", "late")], "rev": 2}
+    play.cut()
+    play.say_late(late)
+    play.holds(CARDS, [[["milk", "tea"]]], 1)
+    play.relay.edit(push("bread"))
+    back(play)
+    play.say_late(late)
+    play.holds(CARDS, [[["milk", "tea"]]], 1)
+    play.draw()
+    key = play.edit(push("salt"))
+    [request] = play.asked("edit")
+    play.say_late({"id": request["id"], "kind": "done", "rev": 9})
+    play.has_not_ended(key)
+    play.draw()
+    play.ended(key, done=3)
+    play.holds_present(CARDS)

@@ -136,3 +136,28 @@ def at_most_31_requests_are_on_the_way(driver):
     play.holds_present(CARDS)
     if play.relay.document["cards"][2:] != list(range(70)):
         raise Failed(f"edits are not sent in their order: {play.relay.document['cards']}")
+
+
+@case("A base of 0 is a base: the edit is done only in a room in which none was ever accepted.")
+def a_base_of_zero_is_a_base(driver):
+    play = begun(driver, [""], None, rev=0)
+    keys = [play.edit(replace("", card), base=0) for card in "ab"]
+    requests = play.asked("edit", "edit")
+    if [request.get("base") for request in requests] != [0, 0]:
+        raise Failed(f"it leaves the base out: {requests}")
+    play.draw()
+    play.ended(keys[0], done=1)
+    play.ended(keys[1], refused="stale", rev=1)
+    play.holds([""], [["a"]], 1)
+
+
+@case("A watch is one of the 31 requests on the way: behind it 30 edits are sent, and no more.")
+def a_watch_counts_among_those_on_the_way(driver):
+    play = begun(driver)
+    play.watch(["/n"])
+    for card in range(40):
+        play.edit(push(card))
+    play.heard()
+    play.watch(["/players"])
+    play.talk(rounds=100)
+    play.holds_present(["/players"])

@@ -96,3 +96,37 @@ def a_done_edit_ends_with_its_run(driver):
     play.talk()
     play.holds_present(CARDS)
     play.shows([[SHOWN]])
+
+
+@case("An edit of which an operation does not fit shows nothing of it.", needs="optimistic")
+def an_edit_that_does_not_fit_shows_nothing(driver):
+    play = begun(driver)
+    optimistic(play, push("a"), {"op": "remove", "path": "/cards/9"})
+    play.shows([[SHOWN]])
+    optimistic(play, push("b"))
+    play.shows([[[*SHOWN, "b"]]])
+    play.talk()
+    play.shows([[[*SHOWN, "b"]]])
+
+
+@case("For a `test` `true` is not 1, and the order of members is nothing.", needs="optimistic")
+def a_test_compares_values(driver):
+    play = begun(driver, document={"cards": [1, {"a": 1, "b": [False]}]})
+    for value, path in [(True, "/cards/0"), (0, "/cards/1/b/0"), ({"a": 1}, "/cards/1")]:
+        optimistic(play, {"op": "test", "path": path, "value": value}, push("no"))
+    same = {"b": [False], "a": 1}
+    optimistic(play, {"op": "test", "path": "/cards/1", "value": same}, push("yes"))
+    play.shows([[[1, {"a": 1, "b": [False]}, "yes"]]])
+
+
+@case("A value that is copied from elsewhere shows when its patch comes.", needs="optimistic")
+def a_value_from_elsewhere_is_not_shown(driver):
+    play = begun(driver)
+    key = optimistic(play, {"op": "copy", "from": "/n", "path": "/cards/0"})
+    play.shows([[SHOWN]])
+    play.asked("edit")
+    play.draw(1)
+    play.ended(key, done=2)
+    play.shows([[SHOWN]])
+    play.draw(1)
+    play.shows([[[1, *SHOWN]]])

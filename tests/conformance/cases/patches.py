@@ -97,18 +97,20 @@ def values_of_a_patch_are_its_own(driver):
     play.holds(CARDS, [[[[{"y": [2]}], {"y": [1]}]]], 2)
 
 
-@case("A patch may have more operations than an edit, and paths of up to 66 tokens.")
+@case("A patch may have more operations than an edit, and longer paths.")
 def long_patches_and_deep_paths(driver):
-    deep = {"cards": []}
-    for _ in range(60):
-        deep["cards"] = [deep["cards"]]
-    play = begun(driver, document=deep)
-    path = "/0/0" + "/0" * 60
-    play.say({"kind": "patch", "patch": [{"op": "add", "path": f"{path}/{place}", "value": place} for place in range(500)], "rev": 2})
-    wanted = list(range(500))
-    for _ in range(60):
+    deep = []
+    for _ in range(61):
+        deep = [deep]
+    play = begun(driver, [""], {"cards": deep})
+    path = "/0/0/cards" + "/0" * 61  # with an element's index behind it 65 tokens
+    numbers = list(range(500))
+    added = [{"op": "add", "path": f"{path}/{place}", "value": place} for place in numbers]
+    play.say({"kind": "patch", "patch": added, "rev": 2})
+    wanted = numbers
+    for _ in range(61):
         wanted = [wanted]
-    play.holds(CARDS, [[wanted]], 2)
+    play.holds([""], [[{"cards": wanted}]], 2)
 
 
 @case("A patch whose revision is not above the one held does not follow from it: nothing of it is applied, and the client watches anew.")
@@ -155,6 +157,28 @@ def each_misfit_is_seen(driver):
         play.say({"kind": "patch", "patch": [operation], "rev": play.relay.rev + 1})
         play.holds_present(CARDS)
         play.relay.edit(replace("/cards/1", operation))
+        play.asks_anew()
+        play.talk()
+        play.holds_present(CARDS)
+
+
+@case("An operation on a member that is not there does not fit: `replace` adds none.")
+def each_misfit_in_an_object_is_seen(driver):
+    play = begun(driver, document={"cards": {"a": 1}})
+    for operation in [
+        replace("/0/0/b", "x"),
+        replace("/0/0/__proto__", "x"),
+        {"op": "remove", "path": "/0/0/b"},
+        {"op": "remove", "path": "/0/0/A"},
+        {"op": "remove", "path": "/0/0/toString"},
+        {"op": "move", "from": "/0/0/b", "path": "/0/0/c"},
+        {"op": "copy", "from": "/0/0/constructor", "path": "/0/0/c"},
+        {"op": "add", "path": "/0/0/b/c", "value": "x"},
+        {"op": "add", "path": "/0/0/a/0", "value": "x"},
+    ]:
+        play.say({"kind": "patch", "patch": [operation], "rev": play.relay.rev + 1})
+        play.holds_present(CARDS)
+        play.relay.edit(replace("/cards/a", operation["path"]))
         play.asks_anew()
         play.talk()
         play.holds_present(CARDS)

@@ -83,3 +83,46 @@ def a_connection_lost_between_watching_and_its_snapshot(driver):
     back(play)
     play.talk()
     play.holds_present(["/n"])
+
+
+@case("A snapshot is of the view that was answered, and not of one that was asked for since.")
+def a_snapshot_is_of_the_view_that_was_answered(driver):
+    play = begun(driver)
+    first, second = play.watch(["/n"]), play.watch(["/players"])
+    # A client that waits for the first answer asks for the second view only then.
+    play.heard(1)
+    play.draw(2)
+    play.holds(["/n"], [[1]], 1)
+    play.ended(first, shown=[[1]])
+    play.has_not_ended(second)
+    play.talk()
+    play.holds_present(["/players"])
+    play.ended(second, shown=[[{"ann": 3}]])
+
+
+@case("A watch of the view that is held is sent too: its snapshot is of the room's revision.")
+def the_same_view_is_watched_again(driver):
+    play = begun(driver)
+    play.relay.edit(replace("/n", 2))
+    key = play.watch(CARDS)
+    play.asked("watch")
+    play.draw(1)
+    play.has_not_ended(key)
+    play.draw(1)
+    play.ended(key, shown=[[["milk", "tea"]]])
+    play.holds(CARDS, [[["milk", "tea"]]], 2)
+
+
+@case("Between `watching` and its snapshot no patch comes. One is wrong, of the same view as well.")
+def a_patch_is_not_applied_while_a_snapshot_is_due(driver):
+    play = begun(driver)
+    play.watch(CARDS)
+    play.asked("watch")
+    play.draw(1)
+    play.relay.edit(push("bread"))
+    patch = [{"op": "add", "path": "/0/0/2", "value": "bread"}]
+    play.say({"kind": "patch", "patch": patch, "rev": 2})
+    play.holds(CARDS, [[["milk", "tea"]]], 1)
+    play.asks_anew()
+    play.talk()
+    play.holds_present(CARDS)

@@ -13,6 +13,7 @@ const times = { firstWait: 1, longestWait: 1, quiet: HOUR, patience: HOUR };
 
 const tell = (line) => process.stdout.write(JSON.stringify(line) + "\n");
 let socket = null;
+let former = null; // the connection that was lost or left last
 let board = null;
 
 class FakeSocket {
@@ -24,7 +25,8 @@ class FakeSocket {
     tell({ says: text });
   }
   close() {
-    if (socket === this) tell({ leaves: true });
+    if (socket === this && former !== this) tell({ leaves: true });
+    former = this;
   }
 }
 
@@ -45,7 +47,11 @@ const does = {
   accept: () => socket.onopen?.({}),
   fail: () => socket.onerror?.({}),
   hear: ({ text }) => socket.onmessage({ data: text }),
-  cut: () => socket.onclose?.({}),
+  late: ({ text }) => former.onmessage({ data: text }),
+  cut: () => {
+    former = socket;
+    socket.onclose?.({});
+  },
   edit: ({ key, patch, ...options }) => ends(key, "done", board.edit(patch, options)),
   watch: ({ key, view }) => ends(key, "shown", board.watch(view)),
   look: () => {
@@ -55,7 +61,7 @@ const does = {
   end: () => board.close(),
 };
 
-tell({ traits: ["optimistic", "rounding"] });
+tell({ traits: ["optimistic", "rounding", "late"] });
 for await (const line of createInterface({ input: process.stdin })) {
   const words = JSON.parse(line);
   does[words.do](words);

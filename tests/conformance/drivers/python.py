@@ -35,6 +35,7 @@ class Link:
 class Driver:
     def __init__(self):
         self.board, self.link, self.handshake = None, None, None
+        self.former = None  # the connection that was lost or left last
 
     @asynccontextmanager
     async def open_link(self, url):
@@ -47,7 +48,7 @@ class Driver:
         finally:
             if self.link is link:
                 tell(leaves=True)
-                self.link = None
+                self.former, self.link = link, None
 
     async def connect(self, url, view):
         self.board = relay_client.connect(url, view=view, open_link=self.open_link, **TIMES)
@@ -61,9 +62,12 @@ class Driver:
     async def hear(self, text):
         self.link.heard.put_nowait(text)
 
+    async def late(self, text):
+        self.former.heard.put_nowait(text)
+
     async def cut(self):
-        link, self.link = self.link, None
-        link.heard.put_nowait(None)
+        self.former, self.link = self.link, None
+        self.former.heard.put_nowait(None)
 
     async def edit(self, key, patch, **more):
         try:
@@ -96,7 +100,7 @@ class Driver:
 
 async def main():
     driver = Driver()
-    tell(traits=["optimistic"])
+    tell(traits=["optimistic", "late"])
     while line := await asyncio.to_thread(sys.stdin.readline):
         words = json.loads(line)
         await getattr(driver, words.pop("do"))(**words)

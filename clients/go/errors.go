@@ -1,0 +1,59 @@
+package relay
+
+import (
+	"errors"
+	"fmt"
+)
+
+var (
+	// ErrClosed is how what was asked for fails if the board was closed before it was sent.
+	ErrClosed = errors.New("relay: the board is closed")
+	// ErrNotShown is how a place fails that the view does not show, or of which no slots came yet.
+	ErrNotShown = errors.New("relay: the view does not show it")
+
+	errAstray = errors.New("relay: a message that does not follow from those before it")
+	errMisfit = errors.New("relay: a patch that does not fit")
+)
+
+// Unknown is how an edit fails whose connection was lost before the answer: it may have been done,
+// or not.
+type Unknown struct {
+	// Rev is the room's revision, if the edit had a base and was sent again: it was done by then, or
+	// never will be. The document tells which, if the edit left a mark there. If it is nil, the edit
+	// may still be done.
+	Rev *int64
+}
+
+func (u *Unknown) Error() string {
+	words := "relay: the connection was lost before the answer"
+	if u.Rev != nil {
+		words += fmt.Sprintf(", and the room is at revision %d", *u.Rev)
+	}
+	return words
+}
+
+// Refused is the relay's refusal of a request: nothing changed by it. Or the board refused it
+// before it was sent: as stale an edit with a base of another run, as too-long a text by which the
+// connection would end, as away an edit that is not guarded while the connection is lost, as
+// changed an undo.
+type Refused struct {
+	Fault string // docs/PROTOCOL.md, "Messages"
+	At    *int64 // which operation or pointer is at fault, counted from 0; nil if no single one is
+	Rev   *int64 // the room's revision, if it is stale
+}
+
+func (r *Refused) Error() string {
+	words := "relay: refused as " + r.Fault
+	if r.At != nil {
+		words += fmt.Sprintf(" at %d", *r.At)
+	}
+	if r.Rev != nil {
+		words += fmt.Sprintf(", the room is at revision %d", *r.Rev)
+	}
+	return words
+}
+
+func isStale(err error) bool {
+	var refused *Refused
+	return errors.As(err, &refused) && refused.Fault == "stale"
+}

@@ -1,0 +1,80 @@
+package relay.client;
+
+/** How what was asked for failed, or why there is no connection. */
+public abstract class RelayException extends RuntimeException {
+    private static final long serialVersionUID = 1;
+
+    private RelayException(String words) {
+        super(words);
+    }
+
+    static boolean isStale(Throwable failure) {
+        return failure instanceof Refused refused && refused.fault.equals("stale");
+    }
+
+    /**
+     * The relay refused a request, and nothing changed by it. Or the board did before it was sent:
+     * as {@code stale} an edit with a base of another run, as {@code too-long} a text by which the
+     * connection would end, as {@code away} an edit that is not guarded while the connection is
+     * lost, as {@code changed} an undo.
+     */
+    public static final class Refused extends RelayException {
+        private static final long serialVersionUID = 1;
+        /** The word of the fault (docs/PROTOCOL.md, "Messages"). */
+        public final String fault;
+        /** Which operation or pointer is at fault, counted from 0; null if no single one is. */
+        public final Integer at;
+        /** The room's revision, if the fault is {@code stale}; else null. */
+        public final Long rev;
+
+        Refused(String fault, Integer at, Long rev) {
+            super(fault + (at == null ? "" : " at " + at) + (rev == null ? "" : ", at " + rev));
+            this.fault = fault;
+            this.at = at;
+            this.rev = rev;
+        }
+
+        Refused(String fault) {
+            this(fault, null, null);
+        }
+
+    }
+
+    /** The connection was lost before the answer: the edit may have been done, or not. */
+    public static final class Unknown extends RelayException {
+        private static final long serialVersionUID = 1;
+        /**
+         * The room's revision, if the edit had a base and was sent again: it was done by then, or
+         * never will be. The document tells which, if the edit left a mark there. If it is null,
+         * the edit may still be done.
+         */
+        public final Long rev;
+
+        Unknown(Long rev) {
+            super("the connection was lost before the answer" + (rev == null ? "" : ", at " + rev));
+            this.rev = rev;
+        }
+    }
+
+    /** The board was closed before what was asked for was sent. */
+    public static final class Closed extends RelayException {
+        private static final long serialVersionUID = 1;
+
+        Closed() {
+            super("the board is closed");
+        }
+    }
+
+    /** There is no connection. The board goes on trying. */
+    public static final class HandshakeFailed extends RelayException {
+        private static final long serialVersionUID = 1;
+        /** The status of the answer, as 503 of a relay without a place; null if none came. */
+        public final Integer status;
+
+        public HandshakeFailed(Integer status, Throwable cause) {
+            super(status == null ? "the relay cannot be reached" : "refused with " + status);
+            this.status = status;
+            if (cause != null) initCause(cause);
+        }
+    }
+}

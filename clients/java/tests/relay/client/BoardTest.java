@@ -1,0 +1,237 @@
+package relay.client;
+
+import static relay.client.Tests.equal;
+import static relay.client.Tests.fails;
+import static relay.client.ValuesTest.json;
+
+import com.fasterxml.jackson.databind.JsonNode;
+import java.time.Duration;
+import java.util.ArrayList;
+import java.util.List;
+import java.util.Map;
+import java.util.Optional;
+import java.util.concurrent.CompletableFuture;
+import java.util.concurrent.Flow;
+
+/** What a board does beside what the conformance suite plays to it. */
+final class BoardTest {
+    private static final String CARDS = "[[['a','b']]]";
+    private static final String FOLLOWS = "{'kind':'patch','rev':%d,'patch':[%s]}";
+
+    private BoardTest() {}
+
+    static void anAddressIsOneOfARoom() {
+        Options options = new Played().options();
+        for (String wrong : List.of("http://h/rooms/a", "ws://h/rooms/", "ws://h/rooms/a?b", "a")) {
+            fails(IllegalArgumentException.class, () -> Board.connect(wrong, options, ""));
+        }
+    }
+
+    static void aRoomBeginsBeforeAnythingElse() {
+        Played relay = new Played();
+        Options options = relay.options().begin(Map.of("cards", List.of()));
+        Board board = Board.connect("ws://h/rooms/a", options, "/cards");
+        board.edit(Patch.of().add("/cards/-", "c"));
+        relay.accept(7, 0);
+        JsonNode begins = relay.reply("'kind':'refused','fault':'test-failed','at':0");
+        equal(json("[{'op':'test','path':'','value':null},"
+                + "{'op':'add','path':'','value':{'cards':[]}}]"), begins.get("patch"));
+        equal("watch", relay.request().get("do").textValue());
+        equal("edit", relay.request().get("do").textValue());
+        equal(State.CONNECTING, board.state());
+        board.close();
+    }
+
+    static void aRoomThatCannotBeginEndsTheBoard() {
+        Played relay = new Played();
+        Options options = relay.options().begin(1);
+        Board board = Board.connect("ws://h/rooms/a", options, "");
+        relay.accept(7, 0);
+        relay.reply("'kind':'refused','fault':'too-heavy','at':1");
+        equal(State.CLOSED, board.state());
+        equal(true, relay.isLeft);
+        fails(RelayException.Refused.class, () -> board.ready().join());
+    }
+
+    static void whatIsUnguardedIsRefusedWhileAway() {
+        Played relay = new Played();
+        Options options = relay.options().queue(Options.Queue.GUARDED);
+        Board board = relay.begun(options, "/cards", CARDS);
+        relay.cut();
+        fails(RelayException.Refused.class, () -> board.at("/cards/0").set("x").join());
+        CompletableFuture<Long> guarded = board.at("/cards/0").remove();
+        equal("[[\"b\"]]", shown(board));
+        relay.accept(7, 1);
+        relay.reply("'kind':'resumed','how':'nothing'");
+        relay.reply("'kind':'done','rev':2");
+        equal(2L, guarded.join());
+        board.close();
+    }
+
+    private static String shown(Board board) {
+        List<JsonNode> slots = new ArrayList<>();
+        board.shown().orElseThrow().slots().forEach(slot -> slot.ifPresent(slots::add));
+        return slots.toString();
+    }
+
+    static void aRefusedEditIsTakenBack() {
+        Played relay = new Played();
+        List<String> told = new ArrayList<>();
+        Options options = relay.options()
+                .onTakenBack((patch, cause) -> told.add(cause.getMessage()))
+                .onChange(change -> told.add(change.pending() + " " + change.slots()));
+        Board board = relay.begun(options, "/cards", CARDS);
+        board.at("/cards").push("c");
+        relay.reply("'kind':'refused','fault':'missing','at':0");
+        equal(List.of(
+                "0 [Optional[[\"a\",\"b\"]]]",
+                "1 [Optional[[\"a\",\"b\",\"c\"]]]",
+                "0 [Optional[[\"a\",\"b\"]]]",
+                "missing at 0"), told);
+        board.close();
+    }
+
+    static void aListenerThatThrowsHoldsUpNobody() {
+        Played relay = new Played();
+        Thread here = Thread.currentThread();
+        List<String> told = new ArrayList<>();
+        here.setUncaughtExceptionHandler((thread, error) -> told.add(error.getMessage()));
+        Options options = relay.options().onChange(change -> {
+            throw new IllegalStateException("at " + change.rev());
+        });
+        Board board = relay.begun(options, "/n", "[[0]]");
+        board.subscribe(change -> told.add("second"));
+        relay.hear(FOLLOWS.formatted(2, "{'op':'replace','path':'/0','value':[1]}"));
+        equal(List.of("at 1", "at 2", "second"), told);
+        here.setUncaughtExceptionHandler(null);
+        board.close();
+    }
+
+    static void whatMayTouchNoSlotIsNotWaitedFor() {
+        Played relay = new Played();
+        Board board = relay.begun(relay.options(), "/cards", CARDS);
+        board.edit(Patch.of().move("/cards/0", "/cards/-"), EditOptions.OPTIMISTIC);
+        relay.reply("'kind':'done','rev':2");
+        equal(1, board.shown().orElseThrow().pending());
+        JsonNode asks = relay.reply("'kind':'watching'");
+        equal(json("['/cards']"), asks.get("view"));
+        relay.hear("{'kind':'snapshot','rev':2,'view':[[['b','a']]]}");
+        equal(0, board.shown().orElseThrow().pending());
+        equal(false, relay.hasSaid());
+        board.close();
+    }
+
+    static void anEditWhoseAnswerWasLostIsSentAgain() {
+        Played relay = new Played();
+        Board board = relay.begun(relay.options(), "/n", "[[0]]");
+        Patch raise = Patch.of().replace("/n", 1);
+        CompletableFuture<Long> based = board.edit(raise, EditOptions.PLAIN.on(1, 7));
+        CompletableFuture<Long> plain = board.edit(raise);
+        relay.request();
+        relay.request();
+        relay.cut();
+        equal(null, unknown(plain).rev);
+        relay.accept(7, 2);
+        relay.reply("'kind':'resumed','how':'nothing'");
+        JsonNode again = relay.reply("'kind':'refused','fault':'stale','at':null,'rev':2");
+        equal(1L, again.get("base").longValue());
+        equal(2L, unknown(based).rev);
+        board.close();
+    }
+
+    private static RelayException.Unknown unknown(CompletableFuture<Long> edit) {
+        return (RelayException.Unknown) edit.handle((rev, failure) -> failure).join();
+    }
+
+    static void undoAndRedo() {
+        Played relay = new Played();
+        Board board = relay.begun(relay.options(), "/cards", CARDS);
+        board.edit(Patch.of().remove("/cards/0"));
+        relay.reply("'kind':'done','rev':2");
+        CompletableFuture<Optional<Long>> undone = board.undo();
+        equal(false, relay.hasSaid()); // the slots do not show it yet
+        relay.hear(FOLLOWS.formatted(2, "{'op':'remove','path':'/0/0/0'}"));
+        equal("[[\"a\",\"b\"]]", shown(board));
+        JsonNode undoes = relay.reply("'kind':'done','rev':3");
+        equal(2L, undoes.get("base").longValue());
+        equal(json("[{'op':'test','path':'/cards/0','value':'b'},"
+                + "{'op':'add','path':'/cards/0','value':'a'}]"), undoes.get("patch"));
+        equal(Optional.of(3L), undone.join());
+        board.redo();
+        relay.hear(FOLLOWS.formatted(3, "{'op':'add','path':'/0/0/0','value':'a'}"));
+        JsonNode again = relay.reply("'kind':'done','rev':4");
+        equal(json("[{'op':'test','path':'/cards/0','value':'a'},"
+                + "{'op':'remove','path':'/cards/0'}]"), again.get("patch"));
+        relay.hear(FOLLOWS.formatted(4, "{'op':'remove','path':'/0/0/0'}"));
+        relay.hear(FOLLOWS.formatted(5, "{'op':'replace','path':'/0/0/0','value':'c'}"));
+        fails(RelayException.Refused.class, () -> board.undo().join());
+        equal(Optional.empty(), board.undo().join());
+        board.close();
+    }
+
+    static void anUpdateIsMadeAgainIfOthersWereFaster() {
+        Played relay = new Played();
+        Board board = relay.begun(relay.options(), "/n", "[[3]]");
+        CompletableFuture<Long> raised =
+                board.at("/n").update(before -> before.orElseThrow().longValue() + 1);
+        JsonNode first = relay.reply("'kind':'refused','fault':'stale','at':null,'rev':2");
+        equal(1L, first.get("base").longValue());
+        relay.reply("'kind':'watching'");
+        relay.hear("{'kind':'snapshot','rev':2,'view':[[7]]}");
+        JsonNode again = relay.reply("'kind':'done','rev':3");
+        equal(2L, again.get("base").longValue());
+        equal(json("[{'op':'replace','path':'/n','value':8}]"), again.get("patch"));
+        equal(3L, raised.join());
+        equal(Optional.of(7), board.at("/n").value(Integer.class));
+        fails(IllegalStateException.class, () -> board.at("/m").value());
+        board.close();
+    }
+
+    /** The oldest request is what says that the relay is there. */
+    static void aSilentRelayIsLeft() {
+        Played relay = new Played();
+        Options options = relay.options().patience(Duration.ofMillis(20), Duration.ofMillis(60));
+        Board board = relay.begun(options, "/n", "[[3]]");
+        JsonNode asks = relay.reply("'kind':'refused','fault':'shape','at':null");
+        equal(false, asks.has("do"));
+        relay.request(); // and this one has no answer
+        relay.accept(7, 1);
+        equal("resume", relay.request().get("do").textValue());
+        board.close();
+    }
+
+    static void aSlowSubscriberIsGivenTheNewest() {
+        Played relay = new Played();
+        Board board = relay.begun(relay.options(), "/n", "[[0]]");
+        List<Long> told = new ArrayList<>();
+        Flow.Subscription[] own = new Flow.Subscription[1];
+        board.changes().subscribe(new Flow.Subscriber<>() {
+            @Override
+            public void onSubscribe(Flow.Subscription subscription) {
+                own[0] = subscription;
+            }
+
+            @Override
+            public void onNext(Change change) {
+                told.add(change.rev());
+            }
+
+            @Override
+            public void onError(Throwable error) {
+                told.add(-1L);
+            }
+
+            @Override
+            public void onComplete() {
+                told.add(0L);
+            }
+        });
+        for (int rev = 2; rev < 9; rev++) {
+            if (rev == 4) own[0].request(1);
+            relay.hear(FOLLOWS.formatted(rev, "{'op':'replace','path':'/0','value':[1]}"));
+        }
+        own[0].request(5);
+        board.close();
+        equal(List.of(3L, 8L, 0L), told);
+    }
+}

@@ -1,0 +1,64 @@
+// Which elements of a list are those of another one: the same parts, and values that are equal.
+
+/** @typedef {import("./node.mjs").Node} Node */
+
+/**
+ * @param {readonly Node[]} list what stands there
+ * @param {readonly Node[]} goal what is to stand there
+ * @param {(kid: Node) => boolean} isFree whether an element may stand for an equal value
+ * @returns {Map<Node, Node>} by the goal
+ */
+export function matched(list, goal, isFree) {
+  /** @type {Map<Node, Node>} */
+  const by = new Map();
+  const left = new Set(list);
+  const match = (/** @type {Node} */ kid, /** @type {Node} */ there) => {
+    by.set(kid, there);
+    left.delete(there);
+  };
+  const isEqual = (/** @type {Node} */ kid, /** @type {Node} */ there) =>
+    kid.origin === null && left.has(there) && isFree(there) && text(kid) === text(there);
+  const isMatch = (/** @type {Node} */ kid, /** @type {Node} */ there) =>
+    kid === there || isEqual(kid, there);
+  for (const kid of goal) if (left.has(kid)) match(kid, kid);
+  for (const ends of [fromStart(list, goal), fromEnd(list, goal)]) {
+    for (const [there, kid] of ends) {
+      if (!isMatch(kid, there)) break;
+      match(kid, there);
+    }
+  }
+  const equal = queues([...left].filter((there) => isFree(there)));
+  for (const kid of goal) {
+    const there = by.has(kid) || kid.origin !== null ? undefined : equal.get(text(kid))?.shift();
+    if (there !== undefined) match(kid, there);
+  }
+  return by;
+}
+
+// What was looked into may have lost something by then, so it stands for no value.
+/** @param {Node} kid */
+function text(kid) {
+  return kid.origin !== null && kid.isOpen ? null : JSON.stringify(kid.value);
+}
+
+/** @param {readonly Node[]} kids */
+function queues(kids) {
+  /** @type {Map<string | null, Node[]>} */
+  const queues = new Map();
+  for (const kid of kids.filter((kid) => text(kid) !== null)) {
+    const key = text(kid);
+    queues.set(key, [...(queues.get(key) ?? []), kid]);
+  }
+  return queues;
+}
+
+/** @param {readonly Node[]} list @param {readonly Node[]} goal @returns {[Node, Node][]} */
+function fromStart(list, goal) {
+  const length = Math.min(list.length, goal.length);
+  return Array.from({ length }, (_, k) => [list[k], goal[k]]);
+}
+
+/** @param {readonly Node[]} list @param {readonly Node[]} goal @returns {[Node, Node][]} */
+function fromEnd(list, goal) {
+  return fromStart([...list].reverse(), [...goal].reverse());
+}

@@ -1,0 +1,56 @@
+"""JSON Pointers (RFC 6901), and the names of rooms."""
+from __future__ import annotations
+
+import re
+from typing import Optional, Tuple, Union
+from urllib.parse import urlsplit
+
+from .values import Shown
+
+Path = Tuple[str, ...]
+
+_INDEX = re.compile("0|[1-9][0-9]*")
+_ESCAPES = re.compile("(?:[^~]|~[01])*", re.DOTALL)
+_ROOM = re.compile("[A-Za-z0-9_-]{1,64}")
+
+
+def tokens(pointer: str) -> Path:
+    """The tokens of a pointer; `ValueError` if the text is no pointer."""
+    if (pointer and not pointer.startswith("/")) or not _ESCAPES.fullmatch(pointer):
+        raise ValueError(f"{pointer!r} is no JSON Pointer")
+    return tuple(token.replace("~1", "/").replace("~0", "~") for token in pointer.split("/")[1:])
+
+
+def pointer(*keys: Union[str, int]) -> str:
+    """The pointer of keys, names of members and indexes: `pointer("cards", 0)` is `/cards/0`.
+    `TypeError` if one is neither."""
+    for key in keys:
+        is_index = isinstance(key, int) and not isinstance(key, bool) and key >= 0
+        if not is_index and not isinstance(key, str):
+            raise TypeError(f"{key!r} is no key: a name, or an index")
+    return spelled(tuple(map(str, keys)))
+
+
+def spelled(path: Path) -> str:
+    return "".join("/" + token.replace("~", "~0").replace("/", "~1") for token in path)
+
+
+def index(token: str) -> Optional[int]:
+    """The index that a token names in a list, if it names one."""
+    if not _INDEX.fullmatch(token):
+        return None
+    return int(token) if len(token) < 20 else 2**64  # which is past the end of every list
+
+
+def shown_path(shown: Shown) -> Path:
+    return tokens(shown if isinstance(shown, str) else shown["size"])
+
+
+def check_room(url: str) -> None:
+    """`ValueError` if the address is none of a room, as ws://127.0.0.1:8080/rooms/NAME. A path before it is a proxy's concern."""
+    parts = urlsplit(url)
+    if parts.scheme not in ("ws", "wss") or not parts.hostname:
+        raise ValueError(f"{url}: an address begins with ws://HOST or wss://HOST")
+    _, rooms, name = parts.path.rpartition("/rooms/")
+    if not rooms or not _ROOM.fullmatch(name):
+        raise ValueError(f"{url}: an address ends with /rooms/NAME, and a name is 1 to 64 ASCII letters, digits, `-` and `_`")

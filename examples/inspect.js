@@ -1,0 +1,105 @@
+// A room, live: its document at each revision that this page saw, and what it says and hears.
+"use strict";
+
+const REVISIONS = 500; // that are kept
+const LINES = 300;
+// What a room with no document may begin with.
+const EXAMPLE = '[{ "op": "add", "path": "", "value": { "cards": ["milk"] } }]';
+
+const { url } = visit("board");
+const at = (id) => document.getElementById(id);
+const tree = new Tree(at("tree"));
+const seen = []; // revisions with their documents, oldest first
+let isLive = true;
+
+at("room").textContent = url;
+at("patch").value = EXAMPLE;
+
+const board = relay.connect(url, {
+  view: [""],
+  WebSocket: relay.inspected(logged),
+  onChange: keep,
+  onState: (state, cause) => {
+    at("state").dataset.state = state;
+    at("state").textContent = cause ? `${state}: ${cause.message}` : state;
+  },
+});
+
+function keep({ slots, rev, patch }) {
+  if (seen.at(-1)?.epoch !== board.epoch) seen.length = 0;
+  const changed = (patch ?? []).flatMap(places);
+  seen.push({ rev, epoch: board.epoch, value: slots[0][0], changed });
+  seen.splice(0, seen.length - REVISIONS);
+  const slider = at("revisions");
+  slider.max = seen.length - 1;
+  if (isLive) slider.value = slider.max;
+  draw(isLive);
+}
+
+/** Where an operation on the slot has changed the document. */
+function places({ op, path, from }) {
+  const inner = (place) => place.replace(/^\/0(\/0)?/, "");
+  const holder = inner(path).replace(/\/[^/]*$/, "");
+  if (op === "remove") return [holder];
+  return op === "move" ? [inner(path), inner(from).replace(/\/[^/]*$/, "")] : [inner(path)];
+}
+
+function draw(isNew) {
+  const shown = seen[Number(at("revisions").value)];
+  if (shown === undefined) return;
+  tree.show(shown.value, isNew ? shown.changed : []);
+  at("revision").textContent = `revision ${shown.rev} of ${seen.at(-1).rev}`;
+  at("live").setAttribute("aria-pressed", String(isLive));
+}
+
+function goLive(live) {
+  isLive = live;
+  if (live) at("revisions").value = at("revisions").max;
+  draw(false);
+}
+
+at("revisions").oninput = ({ target }) => goLive(target.value === target.max);
+at("live").onclick = () => goLive(!isLive);
+
+// What is said and heard.
+
+function logged({ way, message }) {
+  const line = document.createElement("li");
+  line.className = `${way} ${message.kind ?? ""}`;
+  const details = document.createElement("details");
+  details.append(part("summary", "", summary(message)));
+  details.append(part("pre", "", JSON.stringify(message, null, 2)));
+  line.append(details);
+  at("log").prepend(line);
+  while (at("log").children.length > LINES) at("log").lastChild.remove();
+}
+
+function summary(message) {
+  const { do: asked, kind, id, rev, patch, fault, how, epoch } = message;
+  const number = id === undefined || id === null ? "" : ` ${id}`;
+  if (kind === "refused") {
+    const place = message.at === null ? "" : ` at ${message.at}`;
+    return `refused${number}: ${fault}${place} (${FAULTS[fault] ?? "see docs/PROTOCOL.md"})`;
+  }
+  const plural = patch?.length === 1 ? "" : "s";
+  const operations = patch === undefined ? "" : `, ${patch.length} operation${plural}`;
+  const base = message.base === undefined ? "" : ` at revision ${message.base} only`;
+  const what = kind ?? asked ?? "are you there?";
+  const revision = rev === undefined ? "" : `, revision ${rev}`;
+  const words = [how && `: ${how}`, revision, epoch && `, epoch ${epoch}`];
+  return what + number + operations + base + words.filter(Boolean).join("");
+}
+
+at("edit").onsubmit = (event) => {
+  event.preventDefault();
+  const fail = (error) => (at("problem").textContent = error.message);
+  at("problem").textContent = "";
+  try {
+    board.edit(JSON.parse(at("patch").value)).catch(fail);
+  } catch (error) {
+    fail(error);
+  }
+};
+at("patch").onkeydown = (event) => {
+  if (event.key === "Enter" && (event.ctrlKey || event.metaKey)) at("edit").requestSubmit();
+};
