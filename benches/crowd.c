@@ -1,22 +1,19 @@
-// A crowd of watching sessions that say nothing more, in rooms of their own, which come back when the relay ends.
+// A crowd of watching sessions that say nothing more, in rooms of their own, which come back when
+// the relay ends.
 //
 //     crowd PORT SESSIONS ROOMS
 //
-// Each session watches the member /name of its room's document; the first of a room puts it there, also after a restart, which forgets
-// all documents. Whenever all sessions hold the right slot it prints `all SECONDS`, the time since the first of them was not right. An
-// ended connection is opened again, at most 256 at a time. The connections come from eight addresses of 127.0.1.0/24, since one has not
-// enough ports for 15,000 and those that just ended.
+// Each session watches the member /name of its room's document; the first of a room puts it there,
+// also after a restart, which forgets all documents. Whenever all sessions hold the right slot it
+// prints `all SECONDS`, the time since the first of them was not right. An ended connection is
+// opened again, at most 256 at a time. The connections come from eight addresses of 127.0.1.0/24,
+// since one has not enough ports for 15,000 and those that just ended.
 #define _GNU_SOURCE // memmem
-#include <arpa/inet.h>
+#include "client.h"
+
 #include <errno.h>
-#include <netinet/in.h>
-#include <stdio.h>
-#include <stdlib.h>
-#include <string.h>
 #include <sys/epoll.h>
 #include <sys/resource.h>
-#include <sys/socket.h>
-#include <time.h>
 #include <unistd.h>
 
 enum { ADDRESSES = 8, AT_ONCE = 256, BUFFER = 2048, EVENTS = 256 };
@@ -33,17 +30,6 @@ typedef struct {
 static int port, poller, count, rooms, opening, right, *away, behind;
 static double lost;
 
-static double now(void) {
-    struct timespec t;
-    clock_gettime(CLOCK_MONOTONIC, &t);
-    return t.tv_sec + t.tv_nsec / 1e9;
-}
-
-static void fail(const char *what) {
-    perror(what);
-    exit(1);
-}
-
 static void leave(Session *all, Session *s) {
     if (s->stage == RIGHT && right-- == count) lost = now();
     if (s->stage == CONNECTING || s->stage == SHAKING) opening--;
@@ -55,45 +41,50 @@ static void leave(Session *all, Session *s) {
 static int enter(Session *s, int number) {
     int fd = socket(AF_INET, SOCK_STREAM | SOCK_NONBLOCK, 0), one = 1;
     if (fd < 0) fail("socket");
-    struct sockaddr_in from = {.sin_family = AF_INET, .sin_addr.s_addr = htonl(0x7f000101 + number % ADDRESSES)};
-    struct sockaddr_in to = {.sin_family = AF_INET, .sin_port = htons(port), .sin_addr.s_addr = htonl(INADDR_LOOPBACK)};
+    struct sockaddr_in from = relay_at(0), to = relay_at(port);
+    from.sin_addr.s_addr = htonl(0x7f000101 + number % ADDRESSES);
     setsockopt(fd, IPPROTO_IP, IP_BIND_ADDRESS_NO_PORT, &one, sizeof one);
     if (bind(fd, (struct sockaddr *)&from, sizeof from)) fail("bind");
-    if (connect(fd, (struct sockaddr *)&to, sizeof to) && errno != EINPROGRESS) return close(fd), 0;
+    if (connect(fd, (struct sockaddr *)&to, sizeof to) && errno != EINPROGRESS) {
+        close(fd);
+        return 0;
+    }
     struct epoll_event event = {.events = EPOLLIN | EPOLLOUT | EPOLLET, .data.ptr = s};
     if (epoll_ctl(poller, EPOLL_CTL_ADD, fd, &event)) fail("epoll_ctl");
     s->fd = fd, s->stage = CONNECTING, opening++;
     return 1;
 }
 
-static int sent(Session *s, const char *bytes, size_t len) {
-    return send(s->fd, bytes, len, MSG_NOSIGNAL) == (ssize_t)len; // a few hundred bytes always fit a socket that is new
+// A few hundred bytes always fit a socket that is new.
+static int sent(Session *s, const void *bytes, size_t len) {
+    return send(s->fd, bytes, len, MSG_NOSIGNAL) == (ssize_t)len;
 }
 
 static int say(Session *s, const char *text) {
-    char frame[512] = {(char)0x81, (char)0x80};
-    size_t len = strlen(text), head = len < 126 ? 6 : 8;
-    if (len < 126) frame[1] |= len;
-    else frame[1] |= 126, frame[2] = len >> 8, frame[3] = len;
-    memcpy(frame + head, text, len); // masked by zeros
-    return sent(s, frame, head + len);
+    unsigned char frame[512];
+    return sent(s, frame, framed(frame, text, strlen(text)));
 }
 
 static int shake(Session *s) {
-    char head[256];
-    int len = snprintf(head, sizeof head, "GET /rooms/crowd%d HTTP/1.1\r\nHost: localhost\r\nUpgrade: websocket\r\nConnection: Upgrade\r\nSec-WebSocket-Key: dGhlIHNhbXBsZSBub25jZQ==\r\nSec-WebSocket-Version: 13\r\n\r\n", s->room);
+    char head[HANDSHAKE], room[32];
+    snprintf(room, sizeof room, "crowd%d", s->room);
     s->stage = SHAKING;
-    return sent(s, head, len);
+    return sent(s, head, handshake(head, room));
 }
 
 static int watch(Session *s) {
     char text[256];
     s->stage = WATCHING, opening--; // it may have to wait for the first of its room
-    snprintf(text, sizeof text, "{\"do\":\"edit\",\"id\":1,\"patch\":[{\"op\":\"add\",\"path\":\"\",\"value\":{\"name\":\"room %d.\"}}]}", s->room);
-    return (!s->first || say(s, text)) && say(s, "{\"do\":\"watch\",\"id\":2,\"view\":[\"/name\"]}");
+    snprintf(text, sizeof text,
+             "{\"do\":\"edit\",\"id\":1,\"patch\":["
+             "{\"op\":\"add\",\"path\":\"\",\"value\":{\"name\":\"room %d.\"}}]}",
+             s->room);
+    const char *view = "{\"do\":\"watch\",\"id\":2,\"view\":[\"/name\"]}";
+    return (!s->first || say(s, text)) && say(s, view);
 }
 
-// A text from the relay: with the room's name in it, it is a snapshot or a patch that makes the slot right.
+// A text from the relay: with the room's name in it, it is a snapshot or a patch that makes the
+// slot right.
 static void hear(Session *s, const char *text, size_t len) {
     char name[32];
     snprintf(name, sizeof name, "\"room %d.\"", s->room);
@@ -116,7 +107,7 @@ static int hear_all(Session *s) {
     }
     while (s->len - at >= 4) {
         const unsigned char *f = (unsigned char *)s->bytes + at;
-        size_t head = f[1] < 126 ? 2 : 4, len = f[1] < 126 ? f[1] : f[2] << 8 | f[3];
+        size_t len, head = head_of(f, &len);
         if (s->len - at < head + len) break;
         if ((f[0] & 15) == 8) return 0;
         hear(s, s->bytes + at + head, len);
@@ -136,6 +127,29 @@ static int read_all(Session *s) {
     }
 }
 
+static void enter_some(Session *all) {
+    while (behind > 0 && opening < AT_ONCE) {
+        int number = away[--behind];
+        if (!enter(&all[number], number)) {
+            away[behind++] = number;
+            usleep(10000); // nobody listens: the relay is not there yet
+            return;
+        }
+    }
+}
+
+static void turn(Session *all) {
+    struct epoll_event events[EVENTS];
+    int n = epoll_wait(poller, events, EVENTS, behind > 0 && opening < AT_ONCE ? 0 : 1000);
+    for (int i = 0; i < n; i++) {
+        Session *s = events[i].data.ptr;
+        int on = s->fd >= 0 && !(events[i].events & (EPOLLERR | EPOLLHUP));
+        if (on && s->stage == CONNECTING && events[i].events & EPOLLOUT) on = shake(s);
+        if (on && events[i].events & EPOLLIN) on = read_all(s);
+        if (!on && s->fd >= 0) leave(all, s);
+    }
+}
+
 int main(int argc, char **argv) {
     if (argc != 4) return fprintf(stderr, "usage: crowd PORT SESSIONS ROOMS\n"), 2;
     port = atoi(argv[1]), count = atoi(argv[2]), rooms = atoi(argv[3]);
@@ -144,24 +158,13 @@ int main(int argc, char **argv) {
     Session *all = calloc(count, sizeof *all);
     away = calloc(count, sizeof *away);
     poller = epoll_create1(0);
-    for (int i = 0; i < count; i++) all[i] = (Session){.fd = -1, .room = i % rooms, .first = i < rooms}, away[behind++] = count - 1 - i;
+    for (int i = 0; i < count; i++) {
+        all[i] = (Session){.fd = -1, .room = i % rooms, .first = i < rooms};
+        away[behind++] = count - 1 - i;
+    }
     lost = now();
-    for (struct epoll_event events[EVENTS];;) {
-        while (behind > 0 && opening < AT_ONCE) {
-            int number = away[--behind];
-            if (!enter(&all[number], number)) {
-                away[behind++] = number;
-                usleep(10000); // nobody listens: the relay is not there yet
-                break;
-            }
-        }
-        int n = epoll_wait(poller, events, EVENTS, behind > 0 && opening < AT_ONCE ? 0 : 1000);
-        for (int i = 0; i < n; i++) {
-            Session *s = events[i].data.ptr;
-            int on = s->fd >= 0 && !(events[i].events & (EPOLLERR | EPOLLHUP));
-            if (on && s->stage == CONNECTING && events[i].events & EPOLLOUT) on = shake(s);
-            if (on && events[i].events & EPOLLIN) on = read_all(s);
-            if (!on && s->fd >= 0) leave(all, s);
-        }
+    for (;;) {
+        enter_some(all);
+        turn(all);
     }
 }

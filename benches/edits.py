@@ -1,79 +1,70 @@
 #!/usr/bin/env python3
-"""What an edit costs the server's processor, by the size of the document.
+"""What an edit costs the server's CPU, by the size of the document.
 
     python3 benches/edits.py [--edits N] [--rounds N] [--instructions] [KIB..]
-                                          (2,000 of each kind, one round, on 1, 8, 64 and 256 KiB)
+                                  (2,000 of each kind, one round, on 1, 8, 64 and 256 KiB)
 
-Starts `./relay serve` (or the program that RELAY names), fills rooms with documents that weigh so many KiB, and has one client make
-edits of each kind, of which it keeps some on the way, so that the server is never idle. Frames are made beforehand and replies are
-counted and not read, so the client is not what is measured. Of several rounds, each of which goes over all sizes, it prints the
-median: what else the machine does meets all sizes alike. It wants nothing but Python.
+Starts `relay serve`, fills rooms with documents that weigh so many KiB, and has one client make
+edits of each kind, of which it keeps some on the way, so that the server is never idle. Frames are
+made beforehand and replies are counted and not read, so the client is not what is measured. Of
+several rounds, each of which goes over all sizes, it prints the median: what else the machine does
+meets all sizes alike. It needs nothing but Python.
 
-With --instructions it counts the server's own instructions by valgrind's callgrind, which come to nearly the same whatever else the
-machine does; those of the kernel are not among them, and what a cache miss costs does not show. 400 edits of each kind are enough there.
+With --instructions it counts the server's own instructions by valgrind's callgrind, which come to
+nearly the same whatever else the machine does; those of the kernel are not among them, and what a
+cache miss costs does not show. 400 edits of each kind are enough there.
 """
+
 import argparse
-import base64
-import json
-import os
 import pathlib
-import socket
 import statistics
-import struct
 import subprocess
 import sys
 import tempfile
 import threading
 
-ROOT = os.path.dirname(os.path.dirname(os.path.abspath(__file__)))
-KIBIBYTES = (1, 8, 64, 256)
+sys.path.append(str(pathlib.Path(__file__).resolve().parents[1] / "tests"))
+from support.relay import Relay
+from support.wire import Client, request
 
+KIBIBYTES = (1, 8, 64, 256)
 # How many edits are on the way at most; the relay lets 32 replies wait.
 ON_THE_WAY = 16
+# Members of one object, for what only objects do.
+WIDE = 16_000
+DONE, REFUSED, SNAPSHOT = b'"kind":"done"', b'"kind":"refused"', b'"kind":"snapshot"'
 
 
-def frame(request):
-    """A text frame as a client sends it, masked by zeros."""
-    text = json.dumps(request, separators=(",", ":")).encode()
-    size = bytes([0x80 | len(text)]) if len(text) < 126 else (
-        struct.pack(">BH", 0xFE, len(text)) if len(text) < 65536 else struct.pack(">BQ", 0xFF, len(text)))
-    return b"\x81" + size + bytes(4) + text
+class Counting(Client):
+    """A client that reads no message, but counts words that each has once."""
 
-
-class Client:
-    def __init__(self, port, room):
-        self.stream = socket.create_connection(("127.0.0.1", port))
-        self.stream.setsockopt(socket.IPPROTO_TCP, socket.TCP_NODELAY, 1)
-        key = base64.b64encode(os.urandom(16)).decode()
-        self.stream.sendall(
-            f"GET /rooms/{room} HTTP/1.1\r\nHost: localhost\r\nUpgrade: websocket\r\nConnection: Upgrade\r\n"
-            f"Sec-WebSocket-Key: {key}\r\nSec-WebSocket-Version: 13\r\n\r\n".encode())
-        self.rest = b""
-        self.until(b'"kind":"welcome"', 1)
-
-    def until(self, word, count):
+    def count(self, word, count):
         """Reads until the word came so often."""
+        rest = bytes(self.input)
+        self.input.clear()
+        count -= rest.count(word)
+        self.stream.settimeout(None)
         while count > 0:
             part = self.stream.recv(1 << 16)
             if not part:
                 raise SystemExit("the relay closed the connection")
-            text = self.rest + part
+            text = rest[-(len(word) - 1) :] + part
             count -= text.count(word)
-            self.rest = text[-(len(word) - 1):]
+            rest = text
 
-    def edit(self, frames, word):
+    def edit(self, frames, word=DONE):
         """Sends the frames, some at a time, and waits for an answer to each."""
         for start in range(0, len(frames), ON_THE_WAY):
-            part = frames[start:start + ON_THE_WAY]
+            part = frames[start : start + ON_THE_WAY]
             self.stream.sendall(b"".join(part))
-            self.until(word, len(part))
+            self.count(word, len(part))
 
 
-def watch(port, room, pointer):
+def watch(port, pointer):
     """A watcher that reads what comes and lets it go."""
-    client = Client(port, room)
-    client.stream.sendall(frame({"do": "watch", "id": 1, "view": [pointer]}))
-    client.until(b'"kind":"snapshot"', 1)
+    client = Counting(port, "bench")
+    client.watch([pointer])
+    client.stream.settimeout(None)
 
     def drain():
         try:
@@ -86,10 +77,8 @@ def watch(port, room, pointer):
 
 
 def document(kibibytes):
-    """Half a list, half an object, of texts of eight bytes: so many KiB by the relay's weight, less what an insertion takes.
-
-    A value weighs 8 and the bytes of its text and of its member's name.
-    """
+    """Half a list, half an object, of texts of eight bytes: so many KiB by the relay's weight, less
+    what an insertion takes. A value weighs 8 and the bytes of its text and of its member's name."""
     half = kibibytes * 512 - 64
     made = {"list": ["abcdefgh"] * (half // 16), "members": {}}
     number = 0
@@ -102,7 +91,7 @@ def document(kibibytes):
 
 
 def edit(*ops):
-    return frame({"do": "edit", "id": 2, "patch": list(ops)})
+    return request("edit", 2, patch=ops)
 
 
 def replaced(key, value="ijklmnop"):
@@ -116,90 +105,106 @@ def inserted(place):
     ]
 
 
+def moved(place):
+    return {"op": "move", "from": f"/list/{place}", "path": f"/list/{place + 9}"}
+
+
 def kinds(kibibytes):
     """The frames of each kind of edit, on a document of so many KiB."""
     middle = len(document(kibibytes)["list"]) // 2
+    failing = {"op": "test", "path": "/members/k4", "value": 0}
     return {
         "replace a member": [edit(replaced(3))],
         "insert at the front of a list, then remove": inserted(3),
-        "insert in the middle of a list, then remove": inserted(middle),
-        "move in a list": [edit({"op": "move", "from": "/list/0", "path": "/list/9"})],
-        "move in the middle of a list": [edit({"op": "move", "from": f"/list/{middle}", "path": f"/list/{middle + 9}"})],
+        "insert halfway down a list, then remove": inserted(middle),
+        "move in a list": [edit(moved(0))],
+        "move halfway down a list": [edit(moved(middle))],
         "ten operations": [edit(*(replaced(key) for key in range(10)))],
-        "refused at its second operation": [edit(replaced(3), {"op": "test", "path": "/members/k4", "value": 0})],
+        "refused at its second operation": [edit(replaced(3), failing)],
+    }
+
+
+def wide():
+    """One object of many members, in the order of their names."""
+    return {f"{number:05}": 0 for number in range(WIDE)}
+
+
+def wide_kinds():
+    """The frames of each kind of edit on that object: each two leave it as it was."""
+    first, middle, last = "/00000", f"/{WIDE // 2:05}", "/99999"
+    return {
+        "remove the first member, then add it": [
+            edit({"op": "remove", "path": first}),
+            edit({"op": "add", "path": first, "value": 0}),
+        ],
+        "move a member to the end, then back": [
+            edit({"op": "move", "from": middle, "path": last}),
+            edit({"op": "move", "from": last, "path": middle}),
+        ],
     }
 
 
 class Microseconds:
-    """Of the processor, of all threads of a process so far."""
+    """Of the CPU, of all threads of a process so far."""
 
-    TITLE = "Microseconds of the server's processor"
+    TITLE = "Microseconds of the server's CPU"
     DIGITS = 1
-    words = []
+    words = ()
 
     def spent(self, pid):
-        return sum(int(thread.read_text().split()[0]) for thread in pathlib.Path(f"/proc/{pid}/task").glob("*/schedstat")) / 1e3
+        threads = pathlib.Path(f"/proc/{pid}/task").glob("*/schedstat")
+        return sum(int(thread.read_text().split()[0]) for thread in threads) / 1e3
 
 
 class Instructions:
-    """Those of a process so far, which callgrind counts: each of its dumps has those since the one before."""
+    """Those of a process so far, which callgrind counts: each of its dumps has those since the one
+    before."""
 
     TITLE = "Instructions of the server"
     DIGITS = 0
 
     def __init__(self):
-        self.folder = tempfile.TemporaryDirectory()
-        self.words = ["valgrind", "--tool=callgrind", f"--callgrind-out-file={self.folder.name}/dump"]
-        self.count = 0
+        self.folder, self.count = tempfile.TemporaryDirectory(), 0
+        out = f"--callgrind-out-file={self.folder.name}/dump"
+        self.words = ["valgrind", "--tool=callgrind", out]
 
     def spent(self, pid):
-        subprocess.run(["callgrind_control", "--dump", str(pid)], check=True, stdout=subprocess.DEVNULL, stderr=subprocess.DEVNULL)
+        words = ["callgrind_control", "--dump", str(pid)]
+        subprocess.run(words, check=True, capture_output=True)
         for dump in pathlib.Path(self.folder.name).iterdir():
-            self.count += sum(int(line.split()[1]) for line in dump.read_text().splitlines() if line.startswith("totals:"))
+            totals = [it for it in dump.read_text().splitlines() if it.startswith("totals:")]
+            self.count += sum(int(line.split()[1]) for line in totals)
             dump.unlink()
         return self.count
 
 
-# Who watches, as pointers: each edit touches the whole document, and none of them touches the others' members.
+# Who watches, as pointers: each edit touches the whole document, and none of them touches the
+# others' members.
 WATCHERS = {
     "no watcher": [],
     "one watcher": [""],
-    "255 watchers of a member each that no edit touches": [f"/other/{number}" for number in range(255)],
+    "255 watchers of a member each that no edit touches": [f"/other/{k}" for k in range(255)],
 }
 
 
-def measure(serve, port, kibibytes, pointers, edits, cost):
-    client = Client(port, "bench")
-    client.edit([edit({"op": "add", "path": "", "value": document(kibibytes)})], b'"kind":"done"')
+def measure(serve, value, kinds, pointers, edits, cost):
+    client, pid = Counting(serve.port, "bench"), serve.process.pid
+    client.edit([edit({"op": "add", "path": "", "value": value})])
     for pointer in pointers:
-        watch(port, "bench", pointer)
-    for kind, frames in kinds(kibibytes).items():
-        word = b'"kind":"refused"' if kind.startswith("refused") else b'"kind":"done"'
+        watch(serve.port, pointer)
+    for kind, frames in kinds.items():
+        word = REFUSED if kind.startswith("refused") else DONE
         many = (frames * edits)[:edits]
         client.edit(many[:200], word)
-        before = cost.spent(serve.pid)
+        before = cost.spent(pid)
         client.edit(many, word)
-        yield kind, (cost.spent(serve.pid) - before) / edits
+        yield kind, (cost.spent(pid) - before) / edits
 
 
-def measured(program, kibibytes, pointers, edits, cost):
+def measured(value, kinds, pointers, edits, cost):
     """A server of its own for each column."""
-    words = [*cost.words, program, "serve", "--port", "0", "--turns", "1000000000000"]
-    serve = subprocess.Popen(words, stdout=subprocess.PIPE, stderr=subprocess.DEVNULL, text=True)
-    try:
-        port = int(serve.stdout.readline().split()[1])
-        return dict(measure(serve, port, kibibytes, pointers, edits, cost))
-    finally:
-        serve.kill()
-        serve.wait()
-
-
-def program():
-    """The one that RELAY names, or that `./relay` builds."""
-    if "RELAY" in os.environ:
-        return os.environ["RELAY"]
-    subprocess.run([f"{ROOT}/relay"], stdin=subprocess.DEVNULL, check=True)
-    return f"{ROOT}/crates/relay/out/relay"
+    with Relay(before=cost.words, stderr=subprocess.DEVNULL) as serve:
+        return dict(measure(serve, value, kinds, pointers, edits, cost))
 
 
 def medians(rounds):
@@ -207,23 +212,34 @@ def medians(rounds):
     return {kind: statistics.median(each[kind] for each in rounds) for kind in rounds[0]}
 
 
+def table(cost, who, heads, columns):
+    print(f"\n{cost.TITLE} an edit, {who}\n")
+    print("| Edit | " + " | ".join(heads) + " |")
+    print("|---|" + "---|" * len(heads))
+    for kind in columns[0]:
+        costs = [f"{column[kind]:,.{cost.DIGITS}f}" for column in columns]
+        if len(columns) > 1:
+            costs.append(f"{columns[-1][kind] / columns[0][kind]:.2f}")
+        print(f"| {kind} | {' | '.join(costs)} |", flush=True)
+
+
 def main():
-    words = argparse.ArgumentParser(description="What an edit costs the server's processor, by the size of the document.")
+    words = argparse.ArgumentParser(description="What an edit costs the server's CPU.")
     words.add_argument("--edits", type=int, default=2000, help="of each kind")
     words.add_argument("--rounds", type=int, default=1)
     words.add_argument("--instructions", action="store_true", help="in place of microseconds")
     words.add_argument("kibibytes", metavar="KIB", type=int, nargs="*", default=KIBIBYTES)
     given = words.parse_args()
-    sizes, of, cost = given.kibibytes, program(), Instructions if given.instructions else Microseconds
+    sizes, cost = given.kibibytes, Instructions if given.instructions else Microseconds
     for who, pointers in WATCHERS.items():
-        rounds = [[measured(of, size, pointers, given.edits, cost()) for size in sizes] for _ in range(given.rounds)]
-        columns = [medians(of_size) for of_size in zip(*rounds)]
-        print(f"\n{cost.TITLE} an edit, {who}\n")
-        print("| Edit | " + " | ".join(f"{size} KiB" for size in sizes) + f" | {sizes[-1]} against {sizes[0]} KiB |")
-        print("|---|" + "---|" * (len(sizes) + 1))
-        for kind in columns[0]:
-            costs = " | ".join(f"{column[kind]:,.{cost.DIGITS}f}" for column in columns)
-            print(f"| {kind} | {costs} | {columns[-1][kind] / columns[0][kind]:.2f} |", flush=True)
+        rounds = [
+            [measured(document(size), kinds(size), pointers, given.edits, cost()) for size in sizes]
+            for _ in range(given.rounds)
+        ]
+        heads = [*(f"{size} KiB" for size in sizes), f"{sizes[-1]} against {sizes[0]} KiB"]
+        table(cost, who, heads[: len(sizes) + (len(sizes) > 1)], list(map(medians, zip(*rounds))))
+    found = [measured(wide(), wide_kinds(), [], given.edits, cost()) for _ in range(given.rounds)]
+    table(cost, "no watcher", [f"one object of {WIDE:,} members"], [medians(found)])
 
 
 if __name__ == "__main__":

@@ -1,32 +1,28 @@
-// Load for `relay serve`: watchers that count what they are told, editors that keep some edits on the way, and idle connections.
+// Load for `relay serve`: watchers that count what they are told, editors that keep some edits on
+// the way, and idle connections.
 //
 //     load PORT deliver WATCHERS SECONDS [PID [KIB]]
-//                                            edits and patches a second; 4 editors, 8 edits of 1 KiB on the way for each; what the
-//                                            process PID, the server, took of a processor meanwhile; in a document that weighs so many
-//                                            KiB, 64 at most, besides what is edited
-//     load PORT answer IDLE EDITS            microseconds from an edit to its own patch, IDLE links beside
-//     load PORT idle LINKS                   opens links, says so, and waits for the end of its input
-//     load PORT single WATCHERS EDITS        EDITS edits of one editor, each told to all before the next
+//         edits and patches a second; 4 editors, 8 edits of 1 KiB on the way for each; what the
+// process PID, the server, took of a CPU meanwhile; in a document that weighs so many KiB, 64 at
+// most, besides what is edited load PORT answer IDLE EDITS microseconds from an edit to its own
+// patch, IDLE links beside load PORT idle LINKS opens links, says so, and waits for the end of its
+// input load PORT single WATCHERS EDITS EDITS edits of one editor, each told to all before the next
 //
-// Three threads read what is told to watchers, so that counting is not the limit: a frame is a header and a length to skip.
-#include <arpa/inet.h>
-#include <errno.h>
+// Three threads read what is told to watchers, so that counting is not the limit: a frame is a
+// header and a length to skip.
+#include "client.h"
+
 #include <netinet/tcp.h>
 #include <pthread.h>
 #include <stdint.h>
-#include <stdio.h>
-#include <stdlib.h>
-#include <string.h>
 #include <sys/epoll.h>
-#include <sys/socket.h>
-#include <time.h>
 #include <unistd.h>
 
 enum { EDITORS = 4, ON_THE_WAY = 8, TEXT = 1024, READERS = 3, ROOM = 1 << 18, SESSIONS = 250 };
 
 typedef struct {
     int fd;
-    size_t len, skip; // bytes kept of a frame that is not whole; bytes of a long frame that are still to come
+    size_t len, skip; // bytes kept of a frame that is not whole; bytes of a long one still to come
     unsigned char *kept;
     uint64_t patches, snapshots, replies;
 } Link;
@@ -34,20 +30,9 @@ typedef struct {
 static int port;
 static volatile int stopped;
 
-static void fail(const char *what) {
-    perror(what);
-    exit(1);
-}
-
-static double now(void) {
-    struct timespec t;
-    clock_gettime(CLOCK_MONOTONIC, &t);
-    return t.tv_sec + t.tv_nsec / 1e9;
-}
-
 static int connected(void) {
     int fd = socket(AF_INET, SOCK_STREAM, 0), one = 1;
-    struct sockaddr_in at = {.sin_family = AF_INET, .sin_port = htons(port), .sin_addr.s_addr = htonl(INADDR_LOOPBACK)};
+    struct sockaddr_in at = relay_at(port);
     if (fd < 0 || connect(fd, (struct sockaddr *)&at, sizeof at)) fail("connect");
     setsockopt(fd, IPPROTO_TCP, TCP_NODELAY, &one, sizeof one);
     return fd;
@@ -61,32 +46,24 @@ static void send_all(int fd, const void *bytes, size_t len) {
     }
 }
 
-// A text in one frame, masked by zeros.
-static size_t framed(unsigned char *frame, const char *text, size_t len) {
-    size_t head = len < 126 ? 6 : 8;
-    frame[0] = 0x81;
-    frame[1] = 0x80 | (len < 126 ? len : 126);
-    if (len >= 126) frame[2] = len >> 8, frame[3] = len;
-    memset(frame + head - 4, 0, 4);
-    memcpy(frame + head, text, len);
-    return head + len;
-}
-
 static void say(int fd, const char *text) {
     size_t len = strlen(text);
-    unsigned char frame[len + 8];
+    unsigned char frame[len + FRAME_HEAD];
     send_all(fd, frame, framed(frame, text, len));
 }
 
 static void edit(int fd, unsigned n) {
     char text[2 * TEXT];
-    int len = snprintf(text, sizeof text, "{\"do\":\"edit\",\"id\":2,\"patch\":[{\"op\":\"replace\",\"path\":\"/x\",\"value\":\"%08u", n);
+    const char *begin = "{\"do\":\"edit\",\"id\":2,\"patch\":["
+                        "{\"op\":\"replace\",\"path\":\"/x\",\"value\":\"%08u";
+    int len = snprintf(text, sizeof text, begin, n);
     memset(text + len, 'x', TEXT - 8);
     strcpy(text + len + TEXT - 8, "\"}]}");
     say(fd, text);
 }
 
-// Counts the frames in `bytes` and those kept before. Messages begin with `{"kind":"patch"`, `{"kind":"snapshot"` or `{"id":`.
+// Counts the frames in `bytes` and those kept before. Messages begin with `{"kind":"patch"`,
+// `{"kind":"snapshot"` or `{"id":`.
 static void count(Link *link, const unsigned char *bytes, size_t len) {
     while (len > 0) {
         if (link->skip > 0) {
@@ -94,18 +71,13 @@ static void count(Link *link, const unsigned char *bytes, size_t len) {
             link->skip -= n, bytes += n, len -= n;
             continue;
         }
-        while (link->len < 24 && len > 0) { // a header, and enough of a text to know its kind; no message is shorter
+        // A header, and enough of a text to know its kind. No message is shorter.
+        while (link->len < 24 && len > 0) {
             link->kept[link->len++] = *bytes++, len--;
         }
         if (link->len < 24) return;
         const unsigned char *f = link->kept;
-        uint64_t size = f[1] & 127;
-        size_t head = 2;
-        if (size == 126) size = f[2] << 8 | f[3], head = 4;
-        else if (size == 127) {
-            size = 0, head = 10;
-            for (int i = 2; i < 10; i++) size = size << 8 | f[i];
-        }
+        size_t size, head = head_of(f, &size);
         unsigned char kind = f[head + 9];
         if (f[head + 2] != 'k') link->replies++;
         else if (kind == 'p') link->patches++;
@@ -117,9 +89,8 @@ static void count(Link *link, const unsigned char *bytes, size_t len) {
 
 static Link opened(const char *room) {
     Link link = {.fd = connected(), .kept = malloc(24)};
-    char head[512], byte;
-    snprintf(head, sizeof head, "GET /rooms/%s HTTP/1.1\r\nHost: localhost\r\nUpgrade: websocket\r\nConnection: Upgrade\r\nSec-WebSocket-Key: dGhlIHNhbXBsZSBub25jZQ==\r\nSec-WebSocket-Version: 13\r\n\r\n", room);
-    send_all(link.fd, head, strlen(head));
+    char head[HANDSHAKE], byte;
+    send_all(link.fd, head, handshake(head, room));
     for (int end = 0; end < 4;) { // to the empty line
         if (recv(link.fd, &byte, 1, 0) != 1) fail("handshake");
         end = byte == "\r\n\r\n"[end] ? end + 1 : byte == '\r';
@@ -180,11 +151,13 @@ static void *edit_on(void *arg) {
     return 0;
 }
 
-// An editor who began the document: the text that is edited, and a list of texts of eight bytes, which weigh 16 each.
+// An editor who began the document: the text that is edited, and a list of texts of eight bytes,
+// which weigh 16 each.
 static Link begun(int kibibytes) {
     static char text[1 << 16];
     Link link = opened("bench");
-    strcpy(text, "{\"do\":\"edit\",\"id\":1,\"patch\":[{\"op\":\"add\",\"path\":\"\",\"value\":{\"x\":\"\",\"rest\":[0");
+    strcpy(text, "{\"do\":\"edit\",\"id\":1,\"patch\":["
+                 "{\"op\":\"add\",\"path\":\"\",\"value\":{\"x\":\"\",\"rest\":[0");
     char *end = text + strlen(text);
     for (int i = 0; i < kibibytes * 64; i++) end = stpcpy(end, ",\"abcdefgh\"");
     strcpy(end, "]}}]}");
@@ -201,7 +174,8 @@ static double processor(int pid) {
     FILE *stat = fopen(name, "r");
     if (!stat || !fgets(text, sizeof text, stat)) fail(name);
     fclose(stat);
-    sscanf(strrchr(text, ')'), ") %*c %*d %*d %*d %*d %*d %*u %*u %*u %*u %*u %lu %lu", &user, &system);
+    const char *fields = ") %*c %*d %*d %*d %*d %*d %*u %*u %*u %*u %*u %lu %lu";
+    sscanf(strrchr(text, ')'), fields, &user, &system);
     return (double)(user + system) / sysconf(_SC_CLK_TCK);
 }
 
@@ -218,7 +192,8 @@ static void deliver(int watchers, int seconds, int server, int kibibytes) {
         pthread_create(&threads[i], 0, read_share, &shares[i]);
         from = to;
     }
-    for (int i = 0; i < EDITORS; i++) pthread_create(&threads[READERS + i], 0, edit_on, &editors[i]);
+    pthread_t *editing = threads + READERS;
+    for (int i = 0; i < EDITORS; i++) pthread_create(&editing[i], 0, edit_on, &editors[i]);
     uint64_t patches = 0, snapshots = 0, edits = 0;
     double begin = 0, used = 0;
     for (int round = 0; round < 2; round++) { // the first second only warms up
@@ -228,7 +203,9 @@ static void deliver(int watchers, int seconds, int server, int kibibytes) {
         for (int i = 0; i < EDITORS; i++) e += editors[i].replies;
         if (round) {
             double took = now() - begin;
-            printf("%.0f edits, %.0f patches, %.0f snapshots a second", (e - edits) / took, (p - patches) / took, (s - snapshots) / took);
+            double done = (e - edits) / took, more = (p - patches) / took;
+            printf("%.0f edits, %.0f patches, ", done, more);
+            printf("%.0f snapshots a second", (s - snapshots) / took);
             if (server) printf(", %.1f %% of a processor", (processor(server) - used) / took * 100);
             printf("\n");
         }
@@ -270,7 +247,10 @@ static void answer(int links, int edits) {
         all += took[n] = now() - begin;
     }
     qsort(took, edits, sizeof *took, by_size);
-    printf("%.1f microseconds from an edit to its own patch in the middle, %.1f on average, 99 of 100 within %.1f, %d links beside\n", took[edits / 2] * 1e6, all / edits * 1e6, took[edits * 99 / 100] * 1e6, links);
+    double middle = took[edits / 2], most = took[edits * 99 / 100];
+    printf("%.1f microseconds from an edit to its own patch in the middle, ", middle * 1e6);
+    printf("%.1f on average, 99 of 100 within %.1f, ", all / edits * 1e6, most * 1e6);
+    printf("%d links beside\n", links);
 }
 
 static void single(int watchers, int edits) {
@@ -285,7 +265,7 @@ static void single(int watchers, int edits) {
         edit(writer.fd, n);
         while (writer.replies == replies) read_some(&writer, room);
         for (int i = 0; i < watchers; i++)
-            while (links[i].patches + links[i].snapshots < (uint64_t)n + 2) read_some(&links[i], room);
+            while (links[i].patches + links[i].snapshots < n + 2ul) read_some(&links[i], room);
     }
     printf("done\n");
     fflush(stdout);
@@ -294,7 +274,10 @@ static void single(int watchers, int edits) {
 
 int main(int argc, char **argv) {
     int server = argc > 5 ? atoi(argv[5]) : 0, kibibytes = argc > 6 ? atoi(argv[6]) : 0;
-    if (argc < 4 || kibibytes > 64) return fprintf(stderr, "usage: load PORT deliver|answer|idle|single NUMBER [NUMBER [PID [KIB]]]\n"), 2;
+    if (argc < 4 || kibibytes > 64) {
+        fputs("usage: load PORT deliver|answer|idle|single NUMBER [NUMBER [PID [KIB]]]\n", stderr);
+        return 2;
+    }
     port = atoi(argv[1]);
     int first = atoi(argv[3]), second = argc > 4 ? atoi(argv[4]) : 1000;
     if (!strcmp(argv[2], "deliver")) deliver(first, second, server, kibibytes);

@@ -1,33 +1,35 @@
 #!/usr/bin/env python3
-"""What it costs that a crowd of one room watches, and then leaves all at once.
+"""What it costs that many sessions of one room watch, and then leave all at once.
 
-    python3 benches/one_room.py [SESSIONS..]                   (256, 1,000 and 4,000, if none is named)
+    python3 benches/one_room.py [SESSIONS..]           (256, 1,000 and 4,000, if none is named)
 
-Starts `./relay serve` (or the program that RELAY names) with room for so many sessions. All enter one room, and each watches 16 members
-of its own; then all connections are closed at once. Printed are the microseconds of the server's processor for a session that watches
-and for one that leaves, with what its socket costs, and the longest that a client of another room waited for an answer meanwhile. It
-wants nothing but Python, and as many open files a process as there are sessions.
-"""
+Starts `relay serve` with room for so many sessions. All enter one room, and each watches 16 members
+of its own; then all connections are closed at once. Printed are the microseconds of the server's
+CPU for a session that watches and for one that leaves, with what its socket costs, and the longest
+that a client of another room waited for an answer meanwhile. It needs nothing but Python, and as
+many open files a process as there are sessions."""
+
 import argparse
 import multiprocessing
-import os
-import resource
-import subprocess
 import time
 
-from edits import Client, Microseconds, ROOT, edit, frame
+from edits import SNAPSHOT, Counting, Microseconds, edit
+from support.process import open_files
+from support.relay import Relay
+from support.wire import request
 
 SLOTS = 16
 ROUND = edit({"op": "add", "path": "", "value": 0})
 
 
 def beside(port, entered, ended, waits):
-    """A client of another room, whose edits are answered one after the other: the longest that it waited."""
-    client, longest = Client(port, "beside"), 0.0
+    """A client of another room, whose edits are answered one after the other: the longest that it
+    waited."""
+    client, longest = Counting(port, "beside"), 0.0
     entered.set()
     while not ended.is_set():
         begun = time.monotonic()
-        client.edit([ROUND], b'"kind":"done"')
+        client.edit([ROUND])
         longest = max(longest, time.monotonic() - begun)
         time.sleep(0.01)
     waits.put(longest)
@@ -37,7 +39,9 @@ class Beside:
     def __init__(self, port):
         apart = multiprocessing.get_context("spawn")  # a fork would keep the crowd's sockets open
         self.entered, self.ended, self.waits = apart.Event(), apart.Event(), apart.Queue()
-        self.process = apart.Process(target=beside, args=(port, self.entered, self.ended, self.waits))
+        self.process = apart.Process(
+            target=beside, args=(port, self.entered, self.ended, self.waits)
+        )
 
     def __enter__(self):
         self.process.start()
@@ -53,9 +57,10 @@ class Beside:
 def watched(crowd):
     """Each of the crowd watches 16 members of its own."""
     for number, client in enumerate(crowd):
-        client.stream.sendall(frame({"do": "watch", "id": 1, "view": [f"/{number}/{slot}" for slot in range(SLOTS)]}))
+        view = [f"/{number}/{slot}" for slot in range(SLOTS)]
+        client.send(request("watch", view=view))
     for client in crowd:
-        client.until(b'"kind":"snapshot"', 1)
+        client.count(SNAPSHOT, 1)
 
 
 def left(crowd):
@@ -74,7 +79,7 @@ def settled(pid):
 
 
 def part(pid, port, work, count):
-    """Microseconds of the processor for each of the crowd, and the longest wait of a client beside, in milliseconds."""
+    """Microseconds of the CPU for each of the crowd, and the longest wait of a client beside."""
     with Beside(port) as other:
         begun = Microseconds().spent(pid)
         work()
@@ -83,27 +88,22 @@ def part(pid, port, work, count):
 
 
 def measure(sessions):
-    program = os.environ.get("RELAY", f"{ROOT}/relay")
-    words = [program, "serve", "--port", "0", "--epoch", "2", "--turns", "1000000000000", "--sessions", str(sessions + 8)]
-    serve = subprocess.Popen(words, stdout=subprocess.PIPE, text=True)
-    try:
-        port = int(serve.stdout.readline().split()[1])
-        crowd = [Client(port, "crowd") for _ in range(sessions)]
-        watch = part(serve.pid, port, lambda: watched(crowd), sessions)
-        leave = part(serve.pid, port, lambda: left(crowd), sessions)
+    with Relay("--sessions", sessions + 8) as serve:
+        pid, port = serve.process.pid, serve.port
+        crowd = [Counting(port, "crowd") for _ in range(sessions)]
+        watch = part(pid, port, lambda: watched(crowd), sessions)
+        leave = part(pid, port, lambda: left(crowd), sessions)
         print(f"{sessions:8} | {watch} | {leave}", flush=True)
-    finally:
-        serve.kill()
-        serve.wait()
 
 
 def main():
-    words = argparse.ArgumentParser(description=__doc__, formatter_class=argparse.RawDescriptionHelpFormatter)
+    form = argparse.RawDescriptionHelpFormatter
+    words = argparse.ArgumentParser(description=__doc__, formatter_class=form)
     words.add_argument("sessions", nargs="*", type=int, default=[256, 1000, 4000])
-    most = resource.getrlimit(resource.RLIMIT_NOFILE)[1]
-    resource.setrlimit(resource.RLIMIT_NOFILE, (most, most))
-    print("sessions | watches: processor, wait | leaves: processor, wait", flush=True)
-    for sessions in words.parse_args().sessions:
+    asked = words.parse_args()
+    open_files()
+    print("sessions | watches: CPU, wait | leaves: CPU, wait", flush=True)
+    for sessions in asked.sessions:
         measure(sessions)
 
 

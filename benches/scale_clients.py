@@ -1,14 +1,15 @@
 """Some of the clients of scale_out.py: scale_clients.py PORT CERTIFICATE FIRST LAST CLIENTS ROOMS
 
-Client k is in room k modulo ROOMS, whose document counts for each of its clients: {"of": {"7": 3, "207": 3}}. Each counts up its own
-member, one edit after the other; where a room was begun anew it says its count again. A line of input is carried out, and then answered
-by a line:
+Client k is in room k modulo ROOMS, whose document counts for each of its clients: {"of": {"7": 3,
+"207": 3}}. Each counts up its own member, one edit after the other; where a room was begun anew it
+says its count again. A line of input is carried out, and then answered by a line:
 
     enter               all enter, some at a time
     count N             they count to N from now on
     half                half of them have made half of these edits
-    hold EPOCH,..       all are connected to a run of these, and their slots show that each client of their room has counted to N
-    tell EPOCH,..       for each of these runs, how many are connected to it, and how many connections they lost"""
+    hold EPOCH,..       all are connected to a run of these, and their slots show that each client
+    of their room has counted to N tell EPOCH,..       for each of these runs, how many are
+    connected to it, and how many connections they lost"""
 
 import asyncio
 import pathlib
@@ -16,17 +17,18 @@ import random
 import ssl
 import sys
 
-sys.dont_write_bytecode = True
 sys.path.insert(0, str(pathlib.Path(__file__).resolve().parent.parent / "clients/python"))
 import relay_client
 
 BEGIN = [{"op": "test", "path": "", "value": None}, {"op": "add", "path": "", "value": {"of": {}}}]
-# How many enter at a time, and seconds that a handshake and an answer may take, also on a busy machine.
+# How many enter at a time, and seconds that a handshake and an answer may take, also on a busy
+# machine.
 AT_A_TIME, PATIENCE = 25, 120
 
 
 def address(room):
-    """The clients of a room have an address of their own, so that nginx's limit for each address is kept."""
+    """The clients of a room have an address of their own, so that nginx's limit for each address is
+    kept."""
     return f"127.0.1.{room % 200 + 1}"
 
 
@@ -47,7 +49,11 @@ class Client:
 
     async def enter(self, port, context):
         self.board = relay_client.connect(
-            url(port, self.room), view=["/of"], patience=PATIENCE, on_change=lambda change: self.changed.set(), on_state=self.on_state,
+            url(port, self.room),
+            view=["/of"],
+            patience=PATIENCE,
+            on_change=lambda change: self.changed.set(),
+            on_state=self.on_state,
             link={"ssl": context, "local_addr": (address(self.room), 0)},
         )
         await self.board.ready
@@ -64,7 +70,11 @@ class Client:
 
     def is_right(self, epochs):
         board = self.board
-        return board.state == "open" and board.epoch in epochs and board.slots == right(*self.of, self.wanted)
+        return (
+            board.state == "open"
+            and board.epoch in epochs
+            and board.slots == right(*self.of, self.wanted)
+        )
 
     async def count_up(self):
         while True:
@@ -76,7 +86,10 @@ class Client:
             epoch = self.board.epoch
             try:
                 rev = await self.board.edit(edit, undo=False)
-            except (relay_client.Refused, relay_client.Unknown):  # another began the room, or the relay ended
+            except (
+                relay_client.Refused,
+                relay_client.Unknown,
+            ):  # another began the room, or the relay ended
                 await asyncio.sleep(random.uniform(0, 0.1))
                 continue
             while self.board.state == "open" and self.board.epoch == epoch and self.board.rev < rev:
@@ -103,25 +116,36 @@ async def until(holds):
 async def carry_out(words, port, context, all_clients):
     if words[0] == "enter":
         for first in range(0, len(all_clients), AT_A_TIME):
-            await asyncio.gather(*(client.enter(port, context) for client in all_clients[first : first + AT_A_TIME]))
+            await asyncio.gather(
+                *(client.enter(port, context) for client in all_clients[first : first + AT_A_TIME])
+            )
     elif words[0] == "count":
         for client in all_clients:
             client.before = client.count
             client.want(int(words[1]))
     elif words[0] == "half":
-        await until(lambda: 2 * sum(2 * client.count >= client.before + client.wanted for client in all_clients) >= len(all_clients))
+        await until(
+            lambda: 2
+            * sum(2 * client.count >= client.before + client.wanted for client in all_clients)
+            >= len(all_clients)
+        )
     elif words[0] == "hold":
         epochs = {int(epoch) for epoch in words[1].split(",")}
         await until(lambda: all(client.is_right(epochs) for client in all_clients))
     else:
-        inside = [[client for client in all_clients if client.board.epoch == int(epoch)] for epoch in words[1].split(",")]
+        inside = [
+            [client for client in all_clients if client.board.epoch == int(epoch)]
+            for epoch in words[1].split(",")
+        ]
         return " ".join(f"{len(some)} {sum(client.losses for client in some)}" for some in inside)
     return "done"
 
 
 async def main(port, certificate, first, last, clients, rooms):
     context = ssl.create_default_context(cafile=certificate)
-    all_clients = [Client(number, int(clients), int(rooms)) for number in range(int(first), int(last))]
+    all_clients = [
+        Client(number, int(clients), int(rooms)) for number in range(int(first), int(last))
+    ]
     loop = asyncio.get_running_loop()
     while line := await loop.run_in_executor(None, sys.stdin.readline):
         print(await carry_out(line.split(), int(port), context, all_clients), flush=True)

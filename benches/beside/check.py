@@ -1,74 +1,41 @@
 #!/usr/bin/env python3
-"""Whether a server says what the relay says, as far as the loads go: benches/beside/check.py PORT, with the relay in RELAY.
+"""Whether a server says what the relay says, as far as the loads go: benches/beside/check.py PORT,
+with the relay in RELAY.
 
-Prints an exchange: first of the load's own edits, message by message; then which of some edits, of all six operations, are done, and
-what watchers of several views hold in the end. What they hold is found by the relay's own follower from what each was sent, and has
-to be what a new watcher is shown. Two servers agree where this prints the same for both. It wants nothing but Python.
-"""
-import base64
+Prints an exchange: first of the load's own edits, message by message; then which of some edits, of
+all six operations, are done, and what watchers of several views hold in the end. What they hold is
+found by the relay's own follower from what each was sent, and has to be what a new watcher is
+shown. Two servers agree where this prints the same for both. It needs nothing but Python."""
+
 import json
-import os
 import pathlib
-import socket
-import subprocess
 import sys
 
-sys.path.append(str(pathlib.Path(__file__).resolve().parent.parent))
-from edits import frame
-
-ROOT = pathlib.Path(__file__).resolve().parent.parent.parent
+sys.path.append(str(pathlib.Path(__file__).resolve().parents[2] / "tests"))
+from support import wire
+from support.relay import run
 
 
 def canonical(value):
     return json.dumps(value, separators=(",", ":"), sort_keys=True)
 
 
-class Client:
+class Client(wire.Client):
     """A client that keeps all that it was told."""
 
-    def __init__(self, port, room):
-        self.stream = socket.create_connection(("127.0.0.1", port), timeout=10)
-        self.input = self.stream.makefile("rb")
-        self.heard = []
-        key = base64.b64encode(bytes(16)).decode()
-        self.stream.sendall(
-            f"GET /rooms/{room} HTTP/1.1\r\nHost: localhost\r\nUpgrade: websocket\r\nConnection: Upgrade\r\n"
-            f"Sec-WebSocket-Key: {key}\r\nSec-WebSocket-Version: 13\r\n\r\n".encode())
-        if not self.input.readline().startswith(b"HTTP/1.1 101 "):
-            raise SystemExit("the server refused the handshake")
-        while self.input.readline() != b"\r\n":
-            pass
-        self.until(kind="welcome")
-
     def message(self):
-        head = self.input.read(2)
-        if len(head) < 2 or head[0] != 0x81:
-            raise SystemExit(f"no text in one frame: {head}")
-        length = head[1]
-        if length > 125:
-            length = int.from_bytes(self.input.read(2 if length == 126 else 8), "big")
-        self.heard.append(json.loads(self.input.read(length)))
+        self.heard = [*getattr(self, "heard", ()), super().message()]
         return self.heard[-1]
-
-    def until(self, **members):
-        """The next message with such members."""
-        while True:
-            message = self.message()
-            if members.items() <= message.items():
-                return message
 
     def edit(self, patch):
         """The reply to an edit, by a client that watches nothing."""
-        self.stream.sendall(frame({"do": "edit", "id": 2, "patch": patch}))
+        self.send(wire.request("edit", 2, patch=patch))
         return self.message()
-
-    def watch(self, view):
-        self.stream.sendall(frame({"do": "watch", "id": 1, "view": view}))
-        return self.until(kind="snapshot")
 
 
 def load(port):
-    """The messages to an editor and to a watcher of the load, but for the numbers of the run and of the session."""
+    """The messages to an editor and to a watcher of the load, but for the numbers of the run and of
+    the session."""
     editor, watcher = Client(port, "load"), Client(port, "load")
     editor.edit([{"op": "add", "path": "", "value": {"x": ""}}])
     watcher.watch(["/x"])
@@ -76,23 +43,54 @@ def load(port):
         editor.edit([{"op": "replace", "path": "/x", "value": text}])
     watcher.until(rev=4)
     for message in editor.heard + watcher.heard:
-        yield canonical({name: value for name, value in message.items() if name not in ("epoch", "session")})
+        own = {name: it for name, it in message.items() if name not in ("epoch", "session")}
+        yield canonical(own)
 
 
-VIEWS = ([""], ["/list"], ["/list/1", "/one/two"], ["/one", "/one"], ["/gone", "/a~1b", "/list/0/deep"])
+VIEWS = (
+    [""],
+    ["/list"],
+    ["/list/1", "/one/two"],
+    ["/one", "/one"],
+    ["/gone", "/a~1b", "/list/0/deep"],
+)
 
 EDITS = (
-    [{"op": "add", "path": "", "value": {"list": ["a", {"deep": 1}, "c"], "one": {"two": 2}, "none": None, "a/b": 0}}],
+    [
+        {
+            "op": "add",
+            "path": "",
+            "value": {"list": ["a", {"deep": 1}, "c"], "one": {"two": 2}, "none": None, "a/b": 0},
+        }
+    ],
     [{"op": "add", "path": "/list/1", "value": "z"}],
-    [{"op": "add", "path": "/list/-", "value": [1, 2]}, {"op": "add", "path": "/list/4/0", "value": 0}],
-    [{"op": "test", "path": "/list/4", "value": [0, 1, 2]}, {"op": "replace", "path": "/one/two", "value": [[]]}],
-    [{"op": "replace", "path": "/list/0", "value": {"deep": None}}, {"op": "add", "path": "/list/0/deep", "value": "é"}],
+    [
+        {"op": "add", "path": "/list/-", "value": [1, 2]},
+        {"op": "add", "path": "/list/4/0", "value": 0},
+    ],
+    [
+        {"op": "test", "path": "/list/4", "value": [0, 1, 2]},
+        {"op": "replace", "path": "/one/two", "value": [[]]},
+    ],
+    [
+        {"op": "replace", "path": "/list/0", "value": {"deep": None}},
+        {"op": "add", "path": "/list/0/deep", "value": "é"},
+    ],
     [{"op": "move", "from": "/list/4", "path": "/list/0"}],
     [{"op": "move", "from": "/list/0", "path": "/one/moved"}],
-    [{"op": "copy", "from": "/one", "path": "/one/copied"}, {"op": "remove", "path": "/one/moved/0"}],
-    [{"op": "copy", "from": "/list/0", "path": "/gone"}, {"op": "replace", "path": "/a~1b", "value": True}],
+    [
+        {"op": "copy", "from": "/one", "path": "/one/copied"},
+        {"op": "remove", "path": "/one/moved/0"},
+    ],
+    [
+        {"op": "copy", "from": "/list/0", "path": "/gone"},
+        {"op": "replace", "path": "/a~1b", "value": True},
+    ],
     [{"op": "remove", "path": "/list/0"}, {"op": "remove", "path": "/gone"}],
-    [{"op": "replace", "path": "/one/two", "value": 3}, {"op": "test", "path": "/one/two", "value": 2}],
+    [
+        {"op": "replace", "path": "/one/two", "value": 3},
+        {"op": "test", "path": "/one/two", "value": 2},
+    ],
     [{"op": "add", "path": "/list/9", "value": 0}],
     [{"op": "remove", "path": "/list/1"}, {"op": "remove", "path": "/nowhere"}],
     [{"op": "move", "from": "/one", "path": "/one/two"}],
@@ -100,16 +98,18 @@ EDITS = (
     [{"op": "move", "from": "/none/a/0", "path": "/list/0"}],
     [{"op": "add", "path": "/list/0", "value": "front"}],
     [{"op": "copy", "from": "/list/0", "path": "/one/three"}],
-    [{"op": "copy", "from": "/one/three", "path": "/one/four"}, {"op": "move", "from": "/one/two", "path": "/one/five"}],
+    [
+        {"op": "copy", "from": "/one/three", "path": "/one/four"},
+        {"op": "move", "from": "/one/two", "path": "/one/five"},
+    ],
     [{"op": "add", "path": "/end", "value": 1}],
 )
 
 
 def held(messages):
     """What the relay's follower holds of these messages."""
-    words = [os.environ.get("RELAY", f"{ROOT}/relay"), "follow"]
     texts = "".join(canonical(message) + "\n" for message in messages)
-    lines = subprocess.run(words, input=texts, stdout=subprocess.PIPE, text=True, check=True).stdout.splitlines()
+    lines = run("follow", given=texts, check=True).stdout.splitlines()
     if any(line.startswith("off") for line in lines):
         raise SystemExit(f"the follower cannot take what was told: {lines}\n{texts}")
     _, rev, slots = lines[-1].split(" ", 2)
@@ -117,7 +117,8 @@ def held(messages):
 
 
 def views(port):
-    """Which edits are done, and what watchers hold then. Each watches `/end` too, which the last edit makes."""
+    """Which edits are done, and what watchers hold then. Each watches `/end` too, which the last
+    edit makes."""
     editor = Client(port, "views")
     watchers = [Client(port, "views") for _ in VIEWS]
     for watcher, view in zip(watchers, VIEWS):

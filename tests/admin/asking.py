@@ -1,9 +1,8 @@
 """Requests to the admin port, byte by byte as they are given, and their replies."""
 
 import dataclasses
-import socket
 
-PATIENCE = 60
+from support.wire import all_of, connected
 
 
 @dataclasses.dataclass(frozen=True)
@@ -19,12 +18,12 @@ def head(line, *fields, host="localhost"):
     return "\r\n".join([line, *hosts, *fields, "", ""]).encode()
 
 
-def read(stream):
-    """The reply that ends with the connection."""
-    said = b""
-    while part := stream.recv(1 << 16):
-        said += part
-    front, _, body = said.partition(b"\r\n\r\n")
+def ask(port, *parts):
+    """The reply to what these parts are together, each sent by itself."""
+    with connected(port) as stream:
+        for part in parts:
+            stream.sendall(part)
+        front, _, body = all_of(stream).partition(b"\r\n\r\n")
     line, *fields = front.decode().split("\r\n")
     version, status, _ = line.split(" ", 2)
     assert version == "HTTP/1.1", line
@@ -33,20 +32,6 @@ def read(stream):
     assert reply.fields["X-Content-Type-Options"] == "nosniff", reply
     assert int(reply.fields["Content-Length"]) == len(body), reply
     return reply
-
-
-def connected(port):
-    stream = socket.create_connection(("127.0.0.1", port), timeout=PATIENCE)
-    stream.setsockopt(socket.IPPROTO_TCP, socket.TCP_NODELAY, 1)
-    return stream
-
-
-def ask(port, *parts):
-    """The reply to what these parts are together, each sent by itself."""
-    with connected(port) as stream:
-        for part in parts:
-            stream.sendall(part)
-        return read(stream)
 
 
 def get(port, path):

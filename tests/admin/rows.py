@@ -1,11 +1,20 @@
-"""What each request is answered by: its name, its bytes, and the status, with the methods that a 405 allows."""
+"""What each request is answered by: its name, its bytes, and the status, with the methods that a
+405 allows."""
 
 from asking import head
 
 HEALTH = "GET /health HTTP/1.1"
 STOP = "POST /stop HTTP/1.1"
 
-HERE = ["localhost", "LOCALHOST", "LocalHost:1", "127.0.0.1", "127.0.0.1:65535", "[::1]", "[::1]:8080"]
+HERE = [
+    "localhost",
+    "LOCALHOST",
+    "LocalHost:1",
+    "127.0.0.1",
+    "127.0.0.1:65535",
+    "[::1]",
+    "[::1]:8080",
+]
 ELSEWHERE = [
     "evil.example",
     "localhost.evil.example",
@@ -42,7 +51,16 @@ def rows():
     yield "HTTP/1.0", head("GET /health HTTP/1.0"), 200, None
     yield "HTTP/2.0", head("GET /health HTTP/2.0"), 400, None
     yield "no request", b"\x16\x03\x01\x02\x00\x01\x00\r\n\r\n", 400, None
-    for path in ("/", "/healthy", "/health/", "/health?x=1", "//health", "/HEALTH", "*", "http://localhost/health"):
+    for path in (
+        "/",
+        "/healthy",
+        "/health/",
+        "/health?x=1",
+        "//health",
+        "/HEALTH",
+        "*",
+        "http://localhost/health",
+    ):
         yield path, head(f"GET {path} HTTP/1.1"), 404, None
     for path in ("/health", "/metrics", "/rooms"):
         for method in ("POST", "HEAD", "PUT", "get"):

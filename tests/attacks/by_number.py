@@ -1,31 +1,37 @@
-"""Attacks by number: places that are taken and not used, and a crowd that is told what each of it says."""
+"""Attacks by number: places that are taken and not used, and many that are told what each says."""
 
-import wire
-from attackers import Wrong
+import functools
+
+from attackers import ATTACKS, Wrong, attack
+from support import wire
 
 ROOMS = 64
 CROWD = 200
-LETTERS = 7_000
-SECONDS = 5
+EDIT = wire.request("edit", patch=[{"op": "add", "path": "", "value": "x" * 7_000}])
 
 
+@attack
 def names_left(attackers):
     """64 rooms that are entered and left untouched."""
     opened = 0
     for room in range(ROOMS):
-        if attackers.open_or_none(f"name{room}"):
-            opened += 1
-            attackers.leave()
+        opened += len(attackers.open_many([f"name{room}"]))
+        attackers.leave()
     # The good client's room may take one of the places.
     if opened < ROOMS - 1:
         raise Wrong(f"only {opened} rooms are opened")
 
 
-def crowd(attackers):
-    """200 clients of one room that watch it, read, and edit it for five seconds, 7 KB each time, as fast as they are read."""
-    clients = attackers.open_many(["crowd"] * CROWD)
-    if len(clients) < CROWD:
+@attack
+def crowd(attackers, count=CROWD):
+    """So many clients of one room that watch it, read, and edit it for five seconds, 7 KB each
+    time, as fast as they are read."""
+    clients = attackers.open_many(["crowd"] * count)
+    if len(clients) < count:
         raise Wrong(f"only {len(clients)} sessions are opened")
     for client in clients:
-        client.ask(wire.request("watch", view=[""]))
-    attackers.pour(clients, wire.request("edit", patch=[{"op": "add", "path": "", "value": "x" * LETTERS}]), 1_000_000, SECONDS)
+        client.watch([""])
+    attackers.pour(clients, EDIT)
+
+
+ATTACKS.update({f"crowd-{count}": functools.partial(crowd, count=count) for count in (18, 60, 240)})

@@ -1,19 +1,23 @@
-"""The good client: in a room of its own it edits and watches, one request each 20 ms, and tells how long the longest `done` took.
+"""The good client: in a room of its own it edits and watches, one request each 20 ms, and tells how
+long the longest `done` took.
 
-It is a process of its own, so that what the attackers compute is not counted. `python3 good.py PORT` writes `ready`, goes on until
-its standard input ends, and then writes what it saw, as JSON: how many edits were answered, the worst wait in seconds (one that was
-not over counts as long as it lasted), whether that one was not over, and what went wrong, or null."""
+It is a process of its own, so that what the attackers compute is not counted. `python3 good.py
+PORT` writes `ready`, goes on until its standard input ends, and then writes what it saw, as JSON:
+how many edits were answered, the worst wait in seconds (one that was not over counts as long as it
+lasted), whether that one was not over, and what went wrong, or null."""
 
 import json
 import os
+import pathlib
 import select
 import subprocess
 import sys
 import time
 
-sys.dont_write_bytecode = True
-import wire
-from deadline import Deadline, OutOfTime
+if __name__ == "__main__":
+    sys.path.append(str(pathlib.Path(__file__).resolve().parents[1]))
+from support import wire
+from support.patience import Deadline, OutOfTime
 
 PERIOD = 0.02
 # How long it sleeps before it looks whether it is to end.
@@ -25,8 +29,8 @@ class Beside:
     """The handle of such a process."""
 
     def __init__(self, port):
-        words = [sys.executable, os.path.abspath(__file__), str(port)]
-        self.process = subprocess.Popen(words, stdin=subprocess.PIPE, stdout=subprocess.PIPE, text=True)
+        words, pipe = [sys.executable, os.path.abspath(__file__), str(port)], subprocess.PIPE
+        self.process = subprocess.Popen(words, stdin=pipe, stdout=pipe, text=True)
         assert self.process.stdout.readline() == "ready\n", "the good client found no place"
 
     def __enter__(self):
@@ -65,22 +69,22 @@ class Good:
 
     def edit(self, begun):
         """One edit, until it is answered and shown. False if it was to end before."""
-        number = self.edits + 1
+        number, done = self.edits + 1, False
         patch = [{"op": "add", "path": "", "value": number}]
-        done = False
         try:
             self.client.deadline = Deadline(PATIENCE)
             self.client.send(wire.request("edit", number, patch=patch))
-            done = self.wait({"id": number, "kind": "done", "rev": number}, [])
+            done = self.wait({"id": number, "kind": "done", "rev": number})
         finally:
             wait = time.monotonic() - begun
             if wait > self.worst:
                 self.worst, self.is_cut = wait, not done
         self.edits += done
-        told = {"kind": "patch", "patch": [{"op": "replace", "path": "/0", "value": [number]}], "rev": number}
-        return done and self.wait(told, [{"kind": "snapshot", "rev": number, "view": [[number]]}])
+        told = [{"op": "replace", "path": "/0", "value": [number]}]
+        snapshot = {"kind": "snapshot", "rev": number, "view": [[number]]}
+        return done and self.wait({"kind": "patch", "patch": told, "rev": number}, snapshot)
 
-    def wait(self, wanted, others):
+    def wait(self, *wanted):
         """Until the next message, which is one of these. False if it was to end before."""
         while not is_over(0):
             self.client.deadline = Deadline(LOOK)
@@ -88,8 +92,8 @@ class Good:
                 message = self.client.message()
             except OutOfTime:
                 continue
-            if message not in [wanted, *others]:
-                raise Wrong(f"{message}, and not {wanted}")
+            if message not in wanted:
+                raise Wrong(f"{message}, and not {wanted[0]}")
             return True
         return False
 
@@ -108,7 +112,8 @@ def main(port):
         fault = str(wrong)
     except OutOfTime:
         fault = "its edit is not read"
-    print(json.dumps({"edits": good.edits, "worst": good.worst, "is_cut": good.is_cut, "fault": fault}))
+    seen = {"edits": good.edits, "worst": good.worst, "is_cut": good.is_cut, "fault": fault}
+    print(json.dumps(seen))
 
 
 if __name__ == "__main__":

@@ -1,9 +1,9 @@
-"""A new connection to a new room, as somebody makes it who comes later: it is answered, edits, and is told."""
+"""A new connection to a new room, as somebody makes it who comes later: it is answered, edits, and
+is told."""
 
-import wire
-from deadline import Deadline, OutOfTime
+from support import wire
+from support.patience import Deadline, OutOfTime
 
-PATCH = [{"op": "add", "path": "", "value": "new"}]
 REPLIES = [
     {"id": 1, "kind": "watching"},
     {"kind": "snapshot", "rev": 0, "view": [[None]]},
@@ -15,24 +15,16 @@ REPLIES = [
 def fault_of(port, room, seconds):
     """Why it is not served within that time, or None."""
     try:
-        client = wire.Client(port, room, Deadline(seconds))
+        with wire.Client(port, room, Deadline(seconds)) as client:
+            replies = replies_to(client)
     except wire.Ended as ended:
         return f"a new connection is {ended}"
     except OutOfTime:
-        return f"a new connection has no reply within {seconds:g} s"
-    try:
-        return wrong_reply(client)
-    except wire.Ended as ended:
-        return f"a new session is {ended}"
-    except OutOfTime:
-        return f"a new session is not served within {seconds:g} s"
-    finally:
-        client.close()
+        return f"a new connection is not served within {seconds:g} s"
+    return None if replies == REPLIES else f"a new session is told {replies}"
 
 
-def wrong_reply(client):
+def replies_to(client):
     client.send(wire.request("watch", 1, view=[""]))
     replies = [client.message(), client.message()]
-    client.send(wire.request("edit", 2, patch=PATCH))
-    replies += [client.message(), client.message()]
-    return None if replies == REPLIES else f"a new session is told {replies}"
+    return [*replies, client.set("new", number=2), client.message()]

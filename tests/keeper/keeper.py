@@ -1,5 +1,33 @@
-"""A keeper that runs, and the service manager that it tells of itself."""
-import asyncio, os, pathlib, socket, sys
+"""A keeper that runs beside a relay, and the service manager that it tells of itself."""
+
+import asyncio
+import contextlib
+import itertools
+import json
+import os
+import pathlib
+import socket
+import subprocess
+import sys
+import tempfile
+
+from support.patience import PATIENCE, becomes
+from support.ports import free_port
+from support.relay import Relay
+from support.room import Room
+
+QUIET = {"stdout": subprocess.DEVNULL}
+HEARD = {"stdout": subprocess.PIPE, "stderr": subprocess.STDOUT, "text": True}
+
+
+def words_of(*words):
+    return [sys.executable, os.environ["KEEPER"], *map(str, words)]
+
+
+def says(*words):
+    """What `relay-keeper` prints, and its status."""
+    ran = subprocess.run(words_of(*words), **HEARD)
+    return ran.stdout, ran.returncode
 
 
 class Manager:
@@ -13,8 +41,9 @@ class Manager:
 
     async def hears(self, line):
         """Waits for a message with that line."""
+        loop = asyncio.get_running_loop()
         while True:
-            told = await asyncio.wait_for(asyncio.get_running_loop().sock_recv(self.socket, 4096), 60)
+            told = await asyncio.wait_for(loop.sock_recv(self.socket, 4096), PATIENCE)
             if line in told.decode().split("\n"):
                 return
 
@@ -25,38 +54,81 @@ class Manager:
         except BlockingIOError:
             return None
 
-    def close(self):
-        self.socket.close()
-        os.unlink(self.path)
+
+class Place:
+    """A folder of kept rooms, a relay that begins on the same port again, and a keeper."""
+
+    def __init__(self, folder):
+        self.folder, self.epochs = pathlib.Path(folder, "kept"), itertools.count(1)
+        self.manager, self.port = Manager(folder), free_port()
+        self.relay = self.keeper = None
+
+    def start_relay(self):
+        self.relay = Relay("--history", 64, port=self.port, epoch=next(self.epochs))
+
+    def start_keeper(self, *options, rooms=("one", "two"), **how):
+        words = words_of("keep", f"ws://127.0.0.1:{self.port}", self.folder, *rooms, *options)
+        environment = {**os.environ, "NOTIFY_SOCKET": self.manager.path}
+        self.keeper = subprocess.Popen(words, env=environment, **QUIET, **how)
+
+    async def start_ready(self, *options, **more):
+        self.start_keeper(*options, **more)
+        await self.manager.hears("READY=1")
+
+    def end_keeper(self):
+        self.keeper.kill()
+        self.keeper.wait()
+
+    def room(self, name):
+        return Room(self.relay, name)
+
+    def file(self, room):
+        return self.folder / f"{room}.json"
+
+    def aside(self, room):
+        """The files in which older documents of a room were set aside."""
+        return sorted(self.folder.glob(f"{room}.*.aside.json"))
+
+    async def set(self, room, document):
+        await self.room(room).set(document)
+
+    async def has(self, room, document):
+        """The room has that document, now."""
+        found = await self.room(room).document()
+        assert found == document, found
+
+    async def kept(self, room, document):
+        """Soon the room's file has that document."""
+        await becomes(lambda: read(self.file(room)), lambda found: found == document)
+
+    async def put_back(self, room, document):
+        """Soon the room has that document, and the keeper knows that its file is of this run of the
+        relay."""
+        await becomes(self.room(room).document, lambda found: found == document)
+        mark = self.folder / f"{room}.epoch"
+        await becomes(lambda: read(mark), lambda found: found == self.relay.epoch)
+
+    def end(self):
+        if self.keeper:
+            self.end_keeper()
+        if self.relay:
+            self.relay.end()
+        self.manager.socket.close()
 
 
-class Keeper:
-    """One run of `relay-keeper keep`."""
-
-    @classmethod
-    async def begin(cls, port, folder, manager, rooms, *options, errors=None):
-        keeper = cls()
-        words = ["keep", f"ws://127.0.0.1:{port}", str(folder), *rooms, *options]
-        keeper.process = await run(*words, env={**os.environ, "NOTIFY_SOCKET": manager.path}, stderr=errors)
-        return keeper
-
-    def kill(self):
-        self.process.kill()
-
-    async def end(self):
-        self.process.kill()
-        await self.process.wait()
+@contextlib.contextmanager
+def place():
+    with tempfile.TemporaryDirectory() as folder:
+        here = Place(folder)
+        try:
+            yield here
+        finally:
+            here.end()
 
 
-async def run(*words, **options):
-    nowhere = asyncio.subprocess.DEVNULL
-    return await asyncio.create_subprocess_exec(
-        sys.executable, os.environ["KEEPER"], *words, **{"stdout": nowhere, **options}
-    )
+async def read(file):
+    return json.loads(file.read_text()) if file.exists() else None
 
 
-async def says(*words):
-    """What `relay-keeper` prints, and its status."""
-    ran = await run(*words, stdout=asyncio.subprocess.PIPE, stderr=asyncio.subprocess.STDOUT)
-    told, _ = await ran.communicate()
-    return told.decode(), ran.returncode
+async def documents(files):
+    return [await read(file) for file in files]

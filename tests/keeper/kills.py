@@ -1,25 +1,36 @@
-"""The relay, its keeper, or both are killed by signal 9 at random moments, while clients edit as fast as they can
+"""The relay, its keeper, or both are killed by signal 9 at random moments, while clients edit as
+fast as they can.
 
-After each kill the file of each room has to be whole, and no older than what the relay had answered 100 milliseconds, two writes to
-this disk and the age of a document of that size before; with --slow FACTOR the first two are as many times longer, for a machine that is
-slow, or busy with other work. Then what
-was killed is started again. A room has to have its document again, unless another client was first: then the old document has to stand
-aside, whole. All the while a reader looks whether a whole document stands under each name.
+After each kill the file of each room has to be whole, and no older than what the relay had answered
+100 milliseconds, two writes to this disk and the age of a document of that size before; with --slow
+FACTOR the first two are as many times longer, for a machine that is slow, or busy with other work.
+Then what was killed is started again. A room has to have its document again, unless another client
+was first: then the old document has to stand aside, whole. All the while a reader looks whether a
+whole document stands under each name.
 """
-import argparse, asyncio, collections, itertools, json, os, pathlib, random, sys, tempfile, time
 
-ROOT = os.path.dirname(os.path.dirname(os.path.dirname(os.path.abspath(__file__))))
-sys.path.insert(0, f"{ROOT}/tests/clients")
+import argparse
+import asyncio
+import collections
+import json
+import os
+import random
+import subprocess
+import sys
+import tempfile
+import time
+
 import websockets
-from keeper import Keeper, Manager
-from server import Relay, free_port
+from keeper import Place
+from support.patience import PATIENCE, becomes
+from support.room import Room
 
+# How many seconds before a kill the state of a file may be, beside two writes and the age.
 OLDEST = 0.1
-"""How many seconds before a kill the state of a file may be, beside two writes and the age."""
+# The age of a document of that many bytes, and in proportion of a smaller one.
 AGE, LARGE = 2.0, 1 << 20
-"""The age of a document of that many bytes, and in proportion of a smaller one."""
+# The rooms, and how many bytes their documents have beside what is counted.
 SIZES = {"small": 0, "middle": 10_000, "large": 150_000}
-"""The rooms, and how many bytes their documents have beside what is counted."""
 
 
 def first_document(room, by):
@@ -42,10 +53,10 @@ class Editor:
         self.sent = 0  # the highest number that was sent
         self.answered = collections.deque(maxlen=100_000)  # when a number was answered, and which
 
-    async def edit(self, port):
+    async def edit(self, relay):
         """Until the relay is gone."""
         try:
-            async with websockets.connect(f"ws://127.0.0.1:{port}/rooms/{self.room}", max_size=None) as link:
+            async with Room(relay, self.room).enter() as link:
                 await link.recv()
                 await self._edit(link)
         except (OSError, websockets.exceptions.WebSocketException):
@@ -56,7 +67,8 @@ class Editor:
         while True:
             while on_the_way < 16:
                 self.sent += 1
-                patch = [{"op": "replace", "path": f"/{name}", "value": self.sent} for name in ("n", "twin")]
+                number = {"op": "replace", "value": self.sent}
+                patch = [{**number, "path": "/n"}, {**number, "path": "/twin"}]
                 await link.send(json.dumps({"do": "edit", "id": self.sent, "patch": patch}))
                 on_the_way += 1
             answer = json.loads(await link.recv())
@@ -70,26 +82,23 @@ class Editor:
 
     def age(self, number, moment):
         """How old a state is that has this number: for how long the next one had been answered."""
-        return max([moment - at for at, other in self.answered if other > number and at <= moment], default=0.0)
+        newer = [at for at, other in self.answered if other > number and at <= moment]
+        return moment - min(newer, default=moment)
 
 
-class Play:
+class Play(Place):
     def __init__(self, folder, seed, slow):
-        self.folder, self.slow = pathlib.Path(folder, "kept"), slow
-        self.manager, self.random = Manager(folder), random.Random(seed)
-        self.port, self.epochs = free_port(), itertools.count(1)
+        super().__init__(folder)
+        self.slow, self.random = slow, random.Random(seed)
         self.editors = {room: Editor(room) for room in SIZES}
-        self.editing = []
+        self.editing, self.looking = [], None
         self.oldest, self.looks, self.edits = 0.0, 0, 0
         self.write = 0.0  # how long the longest of the test's own writes took
         self.counts = collections.Counter()
 
-    def file(self, room):
-        return self.folder / f"{room}.json"
-
     async def begin(self):
-        await self.start_relay()
-        await self.start_keeper()
+        self.start_relay()
+        await self.start_again()
         for room in SIZES:
             assert await self.claim(room, "first")
         self.start_editors()
@@ -97,16 +106,13 @@ class Play:
             await asyncio.sleep(0.01)
         self.looking = asyncio.ensure_future(self.look())
 
-    async def start_relay(self):
-        self.epoch = next(self.epochs)
-        self.relay = await Relay.begin(os.environ["RELAY"], self.epoch, 64, 32, self.port)
-
-    async def start_keeper(self):
-        self.keeper = await Keeper.begin(self.port, self.folder, self.manager, SIZES, "--age", str(AGE), errors=asyncio.subprocess.DEVNULL)
-        await self.manager.hears("READY=1")
+    async def start_again(self):
+        """The keeper."""
+        await self.start_ready("--age", str(AGE), rooms=SIZES, stderr=subprocess.DEVNULL)
 
     def start_editors(self):
-        self.editing = [asyncio.ensure_future(editor.edit(self.relay.port)) for editor in self.editors.values()]
+        editors = self.editors.values()
+        self.editing = [asyncio.ensure_future(editor.edit(self.relay)) for editor in editors]
 
     async def look(self):
         """At every moment a whole document stands under each name."""
@@ -118,8 +124,9 @@ class Play:
 
     async def claim(self, room, by):
         """Begins a room, as a client does that was not told to wait. Whether it was first."""
-        patch = [{"op": "test", "path": "", "value": None}, {"op": "add", "path": "", "value": first_document(room, by)}]
-        async with websockets.connect(f"ws://127.0.0.1:{self.relay.port}/rooms/{room}", max_size=None) as link:
+        begin = {"op": "add", "path": "", "value": first_document(room, by)}
+        patch = [{"op": "test", "path": "", "value": None}, begin]
+        async with self.room(room).enter() as link:
             await link.recv()
             await link.send(json.dumps({"do": "edit", "id": 1, "patch": patch}))
             return json.loads(await link.recv())["kind"] == "done"
@@ -130,21 +137,20 @@ class Play:
         self.check_alive()
         what = self.random.choice(["relay", "keeper", "both"])
         moment = time.monotonic()
-        if what != "relay":
-            self.keeper.process.kill()
-        if what != "keeper":
-            self.relay.process.kill()
+        for name, process in (("relay", self.relay.process), ("keeper", self.keeper)):
+            if what in (name, "both"):
+                process.kill()
         self.counts[what] += 1
         self.time_write()
         kept = {room: self.check_file(room, moment) for room in SIZES}
         if what != "relay":
-            await self.keeper.process.wait()
+            self.keeper.wait()
         if what == "keeper":
             unsure = [room for room in SIZES if not self.is_sure(room)]
-            await self.start_keeper()
+            await self.start_again()
             self.check_aside(unsure)
         else:
-            await self.relay.process.wait()
+            self.relay.end()
             await asyncio.gather(*self.editing)
             await self.begin_again(what, f"round {round}", kept)
 
@@ -170,16 +176,18 @@ class Play:
         age = editor.age(document["n"], moment)
         self.oldest = max(self.oldest, age)
         may_miss = self.slow * (OLDEST + 2 * self.write) + AGE * SIZES[room] / LARGE
-        assert document["n"] >= editor.answered_before(moment - may_miss), f"{room}: {age * 1000:.0f} ms old"
+        wanted = editor.answered_before(moment - may_miss)
+        assert document["n"] >= wanted, f"{room}: {age * 1000:.0f} ms old"
         assert document["n"] <= editor.sent
         return document
 
     def is_sure(self, room):
         """The keeper knows that the room's file is of this run of the relay."""
-        return pathlib.Path(self.folder, f"{room}.epoch").read_text() == f"{self.epoch}\n"
+        return (self.folder / f"{room}.epoch").read_text() == f"{self.relay.epoch}\n"
 
     def check_aside(self, unsure):
-        """Nothing was set aside but in rooms whose document a keeper had put back and was killed before it knew."""
+        """Nothing was set aside but in rooms whose document a keeper had put back and was killed
+        before it knew."""
         for room in SIZES:
             for path in self.aside(room):
                 assert room in unsure, path
@@ -187,19 +195,18 @@ class Play:
                 path.unlink()
 
     async def begin_again(self, what, by, kept):
-        """The relay, and perhaps its keeper. Some rooms are claimed by a client that does not wait for the keeper."""
-        await self.start_relay()
+        """The relay, and perhaps its keeper. Some rooms are claimed by a client that does not wait
+        for the keeper."""
+        self.start_relay()
         rude = [room for room in SIZES if self.random.random() < 0.3]
         claiming = asyncio.gather(*[self.claim(room, by) for room in rude])
-        if what == "both" and self.random.random() < 0.5:
+        is_beside = what == "both" and self.random.random() < 0.5
+        if is_beside:
             await asyncio.sleep(0)
-            await self.start_keeper()
-            claimed = await claiming
-        else:
-            claimed = await claiming
-            if what == "both":
-                await self.start_keeper()
-        claims = dict(zip(rude, claimed))
+            await self.start_again()
+        claims = dict(zip(rude, await claiming))
+        if what == "both" and not is_beside:
+            await self.start_again()
         for room in SIZES:
             await self.check_room(room, kept[room], by if claims.get(room) else None)
         for editor in self.editors.values():
@@ -209,46 +216,34 @@ class Play:
 
     async def check_room(self, room, kept, by):
         """`by`: who was first in the room, if it was not the keeper."""
-        editor = self.editors[room]
-        found = await self.until(lambda: self.shown(room), lambda document: document is not None)
+        sent = self.editors[room].sent
+        found = await becomes(lambda: self.shown(room), lambda document: document is not None)
         if by is None:
-            assert found["by"] == kept["by"] and kept["n"] <= found["n"] <= editor.sent, (found["by"], found["n"], kept["n"])
+            assert found["by"] == kept["by"] and kept["n"] <= found["n"] <= sent, (found, kept)
             assert not self.aside(room), self.aside(room)
             self.counts["put back"] += 1
             return
         assert found["by"] == by, (found["by"], by)
-        await self.until(lambda: self.read(room), lambda document: document["by"] == by)
+        await becomes(lambda: self.written(room), lambda document: document["by"] == by)
         [path] = self.aside(room)
         old = whole(path.read_text())
-        assert old["by"] == kept["by"] and kept["n"] <= old["n"] <= editor.sent, (old["by"], old["n"], kept["n"])
+        assert old["by"] == kept["by"] and kept["n"] <= old["n"] <= sent, (old, kept)
         path.unlink()
-        editor.sent = 0
+        self.editors[room].sent = 0
         self.counts["set aside"] += 1
 
     async def shown(self, room):
-        _, [[document]] = await self.relay.shows(room, [""])
+        document = await self.room(room).document()
         return document and whole(json.dumps(document))
 
-    async def read(self, room):
+    async def written(self, room):
         return whole(self.file(room).read_text())
 
-    def aside(self, room="*"):
-        return list(self.folder.glob(f"{room}.*.aside.json"))
-
-    async def until(self, look, holds):
-        for _ in range(3000):
-            seen = await look()
-            if holds(seen):
-                return seen
-            await asyncio.sleep(0.01)
-        raise AssertionError(str(seen)[:200])
-
-    async def end(self):
-        for task in self.editing + [self.looking]:
-            task.cancel()
-        await self.keeper.end()
-        await self.relay.end()
-        self.manager.close()
+    def end(self):
+        for task in [*self.editing, self.looking]:
+            if task:
+                task.cancel()
+        super().end()
 
 
 async def main(kills, slow):
@@ -256,24 +251,26 @@ async def main(kills, slow):
     with tempfile.TemporaryDirectory() as folder:
         play = Play(folder, seed, slow)
         try:
-            await asyncio.wait_for(play.begin(), 60)
+            await asyncio.wait_for(play.begin(), PATIENCE)
             for round in range(kills):
-                await asyncio.wait_for(play.kill(round), 60)
+                await asyncio.wait_for(play.kill(round), PATIENCE)
         except BaseException:
             print(f"tests/keeper: SEED={seed} {dict(play.counts)}", file=sys.stderr)
             raise
         finally:
-            await play.end()
+            play.end()
     counts = play.counts
+    of = ", ".join(f"{what} {counts[what]}" for what in ("relay", "keeper", "both"))
     print(
-        f"{kills} kills (relay {counts['relay']}, keeper {counts['keeper']}, both {counts['both']}) under {play.edits} edits: "
-        f"the oldest file was {play.oldest * 1000:.0f} ms behind; {counts['put back']} rooms put back, {counts['set aside']} set aside; "
-        f"{play.looks} looks at the files, none torn"
+        f"{kills} kills ({of}) under {play.edits} edits: {play.looks} looks at the files, none torn"
     )
+    rooms = f"{counts['put back']} rooms put back, {counts['set aside']} set aside"
+    print(f"the oldest file was {play.oldest * 1000:.0f} ms behind; {rooms}")
 
 
 words = argparse.ArgumentParser(description=__doc__)
 words.add_argument("kills", nargs="?", type=int, default=10, metavar="KILLS")
-words.add_argument("--slow", type=float, default=1, metavar="FACTOR", help="a file may be so many times older, on a slow machine")
+slow = "a file may be so many times older, on a slow machine"
+words.add_argument("--slow", type=float, default=1, metavar="FACTOR", help=slow)
 asked = words.parse_args()
 asyncio.run(main(asked.kills, asked.slow))

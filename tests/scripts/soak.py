@@ -1,16 +1,18 @@
-"""A long script that chance writes, line by line: names of two rooms edit lists that shift, draw, leave, and resume from what they hold.
+"""A long script that chance writes, line by line: names of two rooms edit lists that shift, draw,
+leave, and resume from what they hold.
 
 No follower is ever off its view, and at the end each name holds what it should."""
 
 import collections
-import json
 import random
 import subprocess
 import threading
 
+from support.patience import PATIENCE
+from support.wire import compact
+
 OPTIONS = ["--history", "3", "--outbox", "2"]
 STEPS = 3_000
-SECONDS = 60
 SEED = 11
 # The view of each name, so that it resumes with what it held.
 VIEWS = [
@@ -45,7 +47,7 @@ class Soak:
         return answer
 
     def say(self, name, **request):
-        self.answer(name, f"say {json.dumps(request, separators=(',', ':'))}")
+        self.answer(name, f"say {compact(request)}")
 
     def shown(self, name, word):
         """The revision and the view that a name holds, or should hold; None where it is nothing."""
@@ -112,8 +114,10 @@ class Soak:
 
 def fault_of(path, job):
     """Why a run by a job is not what it should be, or None."""
-    with subprocess.Popen([path, job, *OPTIONS], stdin=subprocess.PIPE, stdout=subprocess.PIPE) as ran:
-        soak, watchdog = Soak(ran), threading.Timer(SECONDS, ran.kill)
+    with subprocess.Popen(
+        [path, job, *OPTIONS], stdin=subprocess.PIPE, stdout=subprocess.PIPE
+    ) as ran:
+        soak, watchdog = Soak(ran), threading.Timer(PATIENCE, ran.kill)
         watchdog.start()
         try:
             soak.play()

@@ -1,15 +1,16 @@
-"""A WebSocket client that speaks RFC 6455 as far as it has to: its masks are of zeros, so its frames can be made beforehand."""
+"""A WebSocket client that speaks RFC 6455 as far as it has to. Its masks are of zeros, so its
+frames can be made beforehand; and it can send what no good client sends."""
 
 import json
 import socket
 
-from deadline import OutOfTime
+from support.patience import Deadline, OutOfTime
 
 HANDSHAKE = (
     "GET /rooms/%s HTTP/1.1\r\nHost: localhost\r\nUpgrade: websocket\r\nConnection: Upgrade\r\n"
     "Sec-WebSocket-Key: dGhlIHNhbXBsZSBub25jZQ==\r\nSec-WebSocket-Version: 13\r\n\r\n"
 )
-TEXT, CONTINUATION = 1, 0
+TEXT, BINARY, CONTINUATION, PING = 1, 2, 0, 9
 LAST = 0x80
 
 
@@ -29,31 +30,65 @@ def frame(content, opcode=TEXT, is_last=True):
     return bytes([opcode | (LAST if is_last else 0)]) + head + bytes(4) + content
 
 
+def compact(value):
+    return json.dumps(value, separators=(",", ":"))
+
+
 def request(word, number=1, **members):
     """The frame of a request."""
-    return frame(json.dumps({"do": word, "id": number, **members}, separators=(",", ":")).encode())
+    return frame(compact({"do": word, "id": number, **members}).encode())
+
+
+def connected(port, address="127.0.0.1", seconds=60):
+    """A TCP connection that delays nothing."""
+    stream = socket.create_connection((address, port), timeout=seconds)
+    stream.setsockopt(socket.IPPROTO_TCP, socket.TCP_NODELAY, 1)
+    return stream
+
+
+def listens(port, address="127.0.0.1"):
+    try:
+        connected(port, address).close()
+    except OSError:
+        return False
+    return True
+
+
+def all_of(stream):
+    """What comes until the other side closes."""
+    return b"".join(iter(lambda: stream.recv(1 << 16), b""))
 
 
 class Client:
-    """One session. Every call ends by the deadline, by OutOfTime; what had come by then is kept for the next call."""
+    """One session. Every call ends by the deadline, or in PATIENCE if there is none, by OutOfTime;
+    what had come by then is kept for the next call."""
 
-    def __init__(self, port, room, deadline):
+    def __init__(self, port, room, deadline=None):
         self.deadline, self.input = deadline, bytearray()
-        self.stream = socket.socket()
         try:
-            self._enter(port, room)
+            self.stream = connected(port, seconds=self._left())
+        except TimeoutError:
+            raise OutOfTime from None
+        except OSError as fault:
+            raise Ended(f"ended: {fault.strerror}") from None
+        try:
+            self._enter(room)
         except BaseException:
             self.stream.close()
             raise
 
-    def _enter(self, port, room):
-        self._within(self.stream.connect, ("127.0.0.1", port))
-        self.stream.setsockopt(socket.IPPROTO_TCP, socket.TCP_NODELAY, 1)
+    def _enter(self, room):
         self.send((HANDSHAKE % room).encode())
         status = self._head().split(b"\r\n")[0].decode()
         if not status.startswith("HTTP/1.1 101 "):
             raise Ended(f"refused by {status}")
         self.welcome = self.message()
+
+    def __enter__(self):
+        return self
+
+    def __exit__(self, *_):
+        self.close()
 
     def send(self, frames):
         self._within(self.stream.sendall, frames)
@@ -64,18 +99,39 @@ class Client:
             self._receive()
         return json.loads(text)
 
-    def ask(self, frame):
-        """Sends a request, and gives the first reply; patches and snapshots before it are forgotten."""
-        self.send(frame)
+    def until(self, **members):
+        """The next message with such members; those before it are forgotten."""
+        while not members.items() <= (message := self.message()).items():
+            pass
+        return message
+
+    def ask(self, frames):
+        """Sends a request, and gives the first reply; patches and snapshots before it are
+        forgotten."""
+        self.send(frames)
         while (reply := self.message())["kind"] in ("patch", "snapshot"):
             pass
         return reply
 
+    def set(self, value, path="", number=1):
+        """The reply to an edit that puts a value in a place."""
+        return self.ask(
+            request("edit", number, patch=[{"op": "add", "path": path, "value": value}])
+        )
+
+    def watch(self, view):
+        """The snapshot of a new view."""
+        self.send(request("watch", view=view))
+        return self.until(kind="snapshot")
+
     def close(self):
         self.stream.close()
 
+    def _left(self):
+        return (self.deadline or Deadline()).left()
+
     def _within(self, call, *words):
-        self.stream.settimeout(self.deadline.left())
+        self.stream.settimeout(self._left())
         try:
             return call(*words)
         except TimeoutError:
@@ -95,7 +151,8 @@ class Client:
         return self._take(end + 4)
 
     def _text(self):
-        """The text of the frame at the front, if all of it has come. The relay sends each message in one frame."""
+        """The text of the frame at the front, if all of it has come. The relay sends each message
+        in one frame."""
         size, start = self.input[1] if len(self.input) > 1 else 0, 2
         if size > 125:
             start = 4 if size == 126 else 10

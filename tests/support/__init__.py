@@ -1,0 +1,1 @@
+"""What the tests and the benches share: tests/README.md says which module has what."""
