@@ -59,7 +59,7 @@ fn bring(
     ensures made { OnOk result (Makes tree.old change.now tree.new) }
     ensures back { taken_back tree.new kept.new.items ≡ taken_back tree.old kept.old.items }
 {
-    let path = path.copy(alloc)?;
+    let path = path.copy()?;
     kept.reserve(1)?;
     let part = make(alloc, tree, change)?;
     kept.push_reserved(brought(path, part));
@@ -163,7 +163,7 @@ fn settle(
     ensures err { OnErr result (tree.new ≡ tree.old) }
     ensures given_back { IfErr result (λ back. back.value ≡ value) }
 {
-    let Ok(path) = place.path.copy(alloc) else {
+    let Ok(path) = place.path.copy() else {
         return Err(AllocFailed { value });
     };
     if kept.reserve(1).is_err() {

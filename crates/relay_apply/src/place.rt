@@ -21,15 +21,15 @@ pub(crate) fn place(
 {
     let item = is_item(insert_target);
     let [before @ .., last] = path.tokens() else {
-        let path = Pointer::root(alloc);
-        return Ok(Place { path, item });
+        return Ok(Place {
+            path: Pointer::root(alloc)?,
+            item,
+        });
     };
     let mut tokens = copy_tokens(alloc, before)?;
     tokens.push(final_token(alloc, insert_target, last)?)?;
-    Ok(Place {
-        path: Pointer::from_tokens(tokens),
-        item,
-    })
+    let path = Pointer::from_tokens(alloc, tokens)?;
+    Ok(Place { path, item })
 }
 
 fn is_item(insert_target: InsertTarget) -> bool

@@ -26,7 +26,7 @@ pub(crate) fn record(alloc: Global, tree: &Tree, op: &Op) -> Result<Option<Chang
 {
     match op {
         Op::Add { path, value } => record_add(alloc, tree, path, value),
-        Op::Remove { path } => record_remove(alloc, tree, path),
+        Op::Remove { path } => record_remove(tree, path),
         Op::Replace { path, value } => record_replace(alloc, tree, path, value),
         Op::Move { from, path } => record_move(alloc, tree, from, path),
         Op::Copy { from, path } => record_copy(alloc, tree, from, path),
@@ -48,13 +48,13 @@ fn record_add(
     Ok(Some(insertion(alloc, path, insert_target, value)?))
 }
 
-fn record_remove(alloc: Global, tree: &Tree, path: &Pointer) -> Result<Option<Change>, Cause>
+fn record_remove(tree: &Tree, path: &Pointer) -> Result<Option<Change>, Cause>
     ensures ok { OnOk result (IsOk (effect tree.now (Remove path.now))) }
     ensures changes { IfOk result (λ change. listed change ≡ changes_of tree.now (Remove path.now)) }
     ensures err { IfErr result (Refuses (effect tree.now (Remove path.now))) }
 {
     let item = resolve_existing(tree, path.tokens())?;
-    Ok(Some(removal(alloc, path, item)?))
+    Ok(Some(removal(path, item)?))
 }
 
 fn record_replace(
@@ -141,15 +141,15 @@ fn insertion(
 fn replacement(alloc: Global, path: &Pointer, value: &Tree) -> Result<Change, AllocError>
     ensures { IfOk result (λ made. made ≡ change.Set path.now value.now) }
 {
-    let path = path.copy(alloc)?;
+    let path = path.copy()?;
     let value = value.copy(alloc)?;
     Ok(Change::Set { path, value })
 }
 
-fn removal(alloc: Global, path: &Pointer, item: bool) -> Result<Change, AllocError>
+fn removal(path: &Pointer, item: bool) -> Result<Change, AllocError>
     ensures { IfOk result (λ made. made ≡ removal item path.now) }
 {
-    let path = path.copy(alloc)?;
+    let path = path.copy()?;
     Ok(if item {
         Change::DropItem { path }
     } else {
@@ -168,7 +168,7 @@ fn relocation(
     ensures { IfOk result (λ made. made ≡ change.Move (record { path = from.now; item = item }) (landed insert_target path.now) value.now) }
 {
     let from = Place {
-        path: from.copy(alloc)?,
+        path: from.copy()?,
         item,
     };
     let to = place(alloc, path, insert_target)?;
@@ -185,7 +185,7 @@ fn duplication(
 ) -> Result<Change, AllocError>
     ensures { IfOk result (λ made. made ≡ change.Copy from.now (landed insert_target path.now) value.now) }
 {
-    let from = from.copy(alloc)?;
+    let from = from.copy()?;
     let to = place(alloc, path, insert_target)?;
     let value = value.copy(alloc)?;
     Ok(Change::Copy { from, to, value })

@@ -74,7 +74,7 @@ pub(crate) fn vacate_item(
     let [before @ .., last] = path else {
         unreachable!()
     };
-    let list = Pointer::from_tokens(copy_tokens(alloc, before)?);
+    let list = Pointer::from_tokens(alloc, copy_tokens(alloc, before)?)?;
     let spare = Vec::with_capacity(alloc, length_at(tree, before))?;
     let element = Element::new(alloc, Tree::from(Node::Null))?;
     let index = position(last.as_str());
@@ -123,7 +123,7 @@ pub(crate) fn vacate_member(
     let [before @ .., last] = path else {
         unreachable!()
     };
-    let object = Pointer::from_tokens(copy_tokens(alloc, before)?);
+    let object = Pointer::from_tokens(alloc, copy_tokens(alloc, before)?)?;
     let name = last.clone()?;
     let spare = Members::with_capacity(alloc, members_at(tree, before))?;
     let value = remove_at(tree, path);

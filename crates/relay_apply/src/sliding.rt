@@ -70,9 +70,9 @@ fn container_of(alloc: Global, path: &[String]) -> Result<Pointer, AllocError>
     ensures { IfOk result (λ container. container ≡ front (path_of path.now)) }
 {
     let [before @ .., _] = path else {
-        return Ok(Pointer::root(alloc));
+        return Pointer::root(alloc);
     };
-    Ok(Pointer::from_tokens(copy_tokens(alloc, before)?))
+    Pointer::from_tokens(alloc, copy_tokens(alloc, before)?)
 }
 
 // The index that the last token of the path spells.

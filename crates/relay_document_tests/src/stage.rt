@@ -25,15 +25,15 @@ pub(crate) struct Stage {
 
 impl Stage {
     /// Begins with the count 7 as the document, the root as the pointer, and nothing else.
-    pub(crate) fn new(alloc: Global) -> Stage {
-        Stage {
+    pub(crate) fn new(alloc: Global) -> Option<Stage> {
+        Some(Stage {
             tree: Tree::of_count(7),
-            pointer: Pointer::root(alloc),
+            pointer: Pointer::root(alloc).ok()?,
             view: View::of_slots(Vec::new(alloc)),
             patch: Patch::from_ops(Vec::new(alloc)),
             changes: Vec::new(alloc),
             index: WatchIndex::new(alloc),
-        }
+        })
     }
 }
 
@@ -46,7 +46,7 @@ impl<R: AllocGlobal> Subject<R> for Stage {
 
 /// Plays rows on a new stage.
 pub(crate) fn play_anew(rt: &(impl Abort + AllocGlobal), rows: &str) {
-    let mut stage = Stage::new(rt.alloc());
+    let mut stage = Stage::new(rt.alloc()).expect(rt, "memory");
     play(rt, &mut stage, rows).expect(rt, "each row holds");
 }
 

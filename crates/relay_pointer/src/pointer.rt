@@ -4,11 +4,13 @@ ghost use Rattle.relay_pointer.specs.Path.{path_of, is_proper_prefix, same_path}
 
 use std::alloc::{AllocError, Global};
 use std::marker::Model;
+use std::rc::Rc;
 
-/// A path into a document, as the list of its tokens. Contracts see each token as its bytes, with nothing escaped.
+/// A path into a document, as the list of its tokens. Copies share the tokens by reference count.
+/// Contracts see each token as its bytes, with nothing escaped.
 #[derive(Drop)]
 pub struct Pointer {
-    tokens: Vec<String>,
+    tokens: Rc<Vec<String>>,
 }
 
 impl Model for Pointer {
@@ -17,49 +19,45 @@ impl Model for Pointer {
 
     ghost Value = { List (List ℕ) };
 
-    ghost view = { λ p. path_of p.tokens.items };
+    ghost view = { λ p. path_of p.tokens.value.items };
 }
 
 impl Pointer {
     ghost use Rattle.std.specs.Prelude.{◌≡◌, [], IfOk};
     ghost use Rattle.relay_pointer.specs.Path.{path_of, is_prefix, is_proper_prefix};
 
-    /// Returns the path without tokens, which leads to the whole document. Allocates nothing.
-    pub fn root(alloc: Global) -> Pointer
-        ensures { result ≡ [] }
+    /// Returns the path without tokens, which leads to the whole document.
+    pub fn root(alloc: Global) -> Result<Pointer, AllocError>
+        ensures { IfOk result (λ root. root ≡ []) }
     {
-        Pointer {
-            tokens: Vec::new(alloc),
-        }
+        Pointer::from_tokens(alloc, Vec::new(alloc))
     }
 
-    /// Returns the path of these tokens. Allocates nothing.
-    pub fn from_tokens(texts: Vec<String>) -> Pointer
-        ensures { result ≡ path_of texts.items }
+    /// Returns the path of these tokens. They are dropped if memory runs out.
+    pub fn from_tokens(alloc: Global, tokens: Vec<String>) -> Result<Pointer, AllocError>
+        ensures { IfOk result (λ pointer. pointer ≡ path_of tokens.items) }
     {
-        Pointer { tokens: texts }
+        match Rc::new(alloc, tokens) {
+            Ok(tokens) => Ok(Pointer { tokens }),
+            Err(_) => Err(AllocError),
+        }
     }
 
     /// Returns the tokens, in order.
     pub fn tokens(&self) -> &[String]
         ensures { path_of result.now ≡ self.now }
     {
-        self.tokens.as_slice()
+        self.tokens.as_ref().as_slice()
     }
 
-    /// Converts the pointer into its tokens, in order. Allocates nothing.
-    pub fn into_tokens(self) -> Vec<String>
-        ensures { path_of result.items ≡ self }
-    {
-        let Pointer { tokens } = self;
-        tokens
-    }
-
-    /// Returns an equal pointer. If memory runs out, nothing stays allocated.
-    pub fn copy(&self, alloc: Global) -> Result<Pointer, AllocError>
+    /// Returns an equal pointer, which shares the tokens. Allocates nothing. `AllocError`: there
+    /// are as many copies as can be counted.
+    pub fn copy(&self) -> Result<Pointer, AllocError>
         ensures { IfOk result (λ copy. copy ≡ self.now) }
     {
-        Ok(Pointer::from_tokens(copy_tokens(alloc, self.tokens())?))
+        Ok(Pointer {
+            tokens: self.tokens.clone()?,
+        })
     }
 
     /// Returns whether the other path begins with this one or is this one. Allocates nothing.

@@ -52,7 +52,7 @@ impl Pointer {
         if count_tokens(text) > most {
             return Err(PointerFault::TooManyTokens);
         }
-        Ok(Pointer::from_tokens(tokens_of(alloc, text)?))
+        Ok(Pointer::from_tokens(alloc, tokens_of(alloc, text)?)?)
     }
 }
 

@@ -21,19 +21,20 @@ impl Site<'_> {
     {
         let mut tokens = Vec::new(alloc);
         tokens.push(index_text(alloc, self.number)?)?;
-        Ok(Pointer::from_tokens(tokens))
+        Pointer::from_tokens(alloc, tokens)
     }
 
     /// Returns `/k/0`, the path of the slot's value in the view, followed by the tokens of the path after the slot's pointer.
     pub fn path(&self, alloc: Global, path: &Pointer) -> Result<Pointer, AllocError>
         ensures { IfOk result (λ inner. inner ≡ in_slot self.now.number self.now.pointer.now path.now) }
     {
-        let mut tokens = self.place(alloc)?.into_tokens();
+        let mut tokens = Vec::new(alloc);
+        tokens.push(index_text(alloc, self.number)?)?;
         tokens.push(String::from_str(alloc, "0")?)?;
         for token in tokens_behind(path, self.pointer.tokens().len()) {
             tokens.push(token.clone()?)?;
         }
-        Ok(Pointer::from_tokens(tokens))
+        Pointer::from_tokens(alloc, tokens)
     }
 }
 

@@ -4,7 +4,7 @@ ghost use Rattle.std.specs.Prelude.{◌≡◌, IfOk};
 use relay_view::{Slot, View};
 use std::alloc::{AllocError, Global};
 
-/// Returns a deep copy of the view.
+/// Returns a copy of the view, which shares its pointers.
 pub(crate) fn copy_view(alloc: Global, view: &View) -> Result<View, AllocError>
     ensures { IfOk result (λ copy. copy ≡ view.now) }
 {
@@ -19,7 +19,7 @@ fn copy_slot(alloc: Global, slot: &Slot) -> Result<Slot, AllocError>
     ensures { IfOk result (λ copy. copy ≡ slot.now) }
 {
     Ok(Slot {
-        pointer: slot.pointer.copy(alloc)?,
+        pointer: slot.pointer.copy()?,
         kind: slot.kind,
     })
 }

@@ -1,4 +1,4 @@
-use Rattle.std.proofs.Common.{◌-◌, length, take, sym, ap, ◌∙◌}
+use Rattle.std.proofs.Common.{◌≡◌, ◌-◌, length, take, sym, ap, ◌∙◌, subst, IfOk}
 use Rattle.relay_pointer.specs.Path.{path_of}
 use Rattle.relay_pointer.proofs.Tokens.{tokens_last}
 use Rattle.relay_patch.specs.Place.{front}
@@ -9,4 +9,5 @@ pub returns : goal.returns
 returns c =
     let path = c.args.path.now in
     let end = tokens_last path c.in-len1-up.len_at_least in
-    c.from_tokens.ensures ∙ c.in_ok-copy_tokens.ensures ∙ sym (ap front end.1 ∙ front-append (path_of (take (length path - 1) path)) end.0)
+    let here = c.in_ok-copy_tokens.ensures ∙ sym (ap front end.1 ∙ front-append (path_of (take (length path - 1) path)) end.0) in
+    subst (λ container. IfOk c.from_tokens.result (λ made. made ≡ container)) here c.from_tokens.ensures
