@@ -9,7 +9,7 @@ use crate::refusal::{Refusal, RequestFault};
 use crate::request::Request;
 use crate::word::Word;
 use relay_patch::{Patch, PatchFault, PatchLimits};
-use relay_tree::{Tree, TreeFault};
+use relay_tree::{Scratch, Tree, TreeFault};
 use relay_view::{View, ViewFault};
 use std::alloc::Global;
 
@@ -24,10 +24,24 @@ impl Request {
         ensures refused { IfErr result (λ fault. IsRefusedAs fault (request_of_text text.now)) }
         ensures no_memory { IsErrOf result RequestFault.NoMemory → length text.now ≤ MAX_REQUEST }
     {
+        let mut scratch = Scratch::new(alloc);
+        Request::read_with(alloc, text, &mut scratch)
+    }
+
+    /// Reads a request as [`Request::read`] does, in memory that is kept from text to text ([`relay_tree::read_with`]).
+    pub fn read_with(
+        alloc: Global,
+        text: &str,
+        scratch: &mut Scratch,
+    ) -> Result<Request, RequestFault>
+        ensures ok { IfOk result (λ request. request_of_text text.now ≡ Ok request) }
+        ensures refused { IfErr result (λ fault. IsRefusedAs fault (request_of_text text.now)) }
+        ensures no_memory { IsErrOf result RequestFault.NoMemory → length text.now ≤ MAX_REQUEST }
+    {
         if text.len() as u64 > MAX_REQUEST {
             return refuse(Word::TooLong, None, None);
         }
-        let tree = match relay_tree::read(alloc, text) {
+        let tree = match relay_tree::read_with(alloc, text, scratch) {
             Ok(tree) => tree,
             Err(TreeFault::NotJson) => return refuse(Word::NotJson, None, None),
             Err(TreeFault::Number) => return refuse(Word::Number, None, None),

@@ -94,6 +94,15 @@ impl Members {
         self.entries.iter()
     }
 
+    /// Returns the names and values alone, in the order of the names.
+    pub(crate) fn into_entries(self) -> Vec<(String, Tree)>
+        ensures entries { result.items ≡ self.entries }
+        ensures ascending { IsAscending self.entries }
+    {
+        let Members { entries } = self;
+        entries
+    }
+
     /// Returns the value under a name.
     pub fn get(&self, name: &str) -> Option<&Tree>
         ensures { option_copied result ≡ value_at self.now.entries name.now }
@@ -192,7 +201,7 @@ impl Members {
     }
 
     /// Gives back what is empty, once it is more than a quarter of the place.
-    fn trim(&mut self)
+    pub(crate) fn trim(&mut self)
         ensures { self.new.entries ≡ self.old.entries }
     {
         let len = self.entries.len();

@@ -13,6 +13,7 @@ ghost use Rattle.relay_tree.specs.Lending.{LendsItem, LendsMember};
 use crate::element::Element;
 use crate::members::Members;
 use crate::tree::{Node, Tree};
+use std::mem::replace;
 
 impl Tree {
     /// Returns the element at `index`, counted from 0, or `None` if the index is past the end or the tree is not a list.
@@ -42,16 +43,17 @@ impl Tree {
         }
     }
 
-    /// Removes the member `name` from an object and returns its value. Returns `None`, with the tree unchanged, if there is no such
-    /// member or the tree is not an object. Allocates nothing.
+    /// Takes the value of the member `name` out of an object, and leaves `null` there. Returns `None`,
+    /// with the tree unchanged, if there is no such member or the tree is not an object. Allocates
+    /// nothing.
     pub fn take_member(&mut self, name: &str) -> Option<Tree>
         ensures value { result ≡ object_member self.old name.now }
         ensures missing { result ≡ None → self.new ≡ self.old }
         ensures others { (other : list_of ℕ) → bytes_eq name.now other ≡ false → object_member self.new other ≡ object_member self.old other }
     {
-        match &mut self.node {
-            Node::Members(members) => members.remove(name),
-            _ => None,
+        match self.node.member_mut(name) {
+            Some(member) => Some(replace(member, Tree::from(Node::Null))),
+            None => None,
         }
     }
 

@@ -12,16 +12,16 @@ ghost use Rattle.serde_json.specs.Read.{of_json, of_items, of_members, converted
 ghost use Rattle.relay_tree.specs.Document.{items_of, list, object};
 ghost use Rattle.relay_tree.specs.Seen.{members_of};
 ghost use Rattle.relay_tree.specs.Text.{tree_of_text, IsNumberFault, tree_of, items_tree, members_tree};
-ghost use Rattle.relay_tree.specs.Reading.{AreRead, extended};
+ghost use Rattle.relay_tree.specs.Reading.{extended};
 ghost use Rattle.relay_tree.specs.declared.reading.TreeFault.TheVariants.{NotJson, Number, NoMemory};
 
 use crate::element::Element;
 use crate::members::Members;
 use crate::number::whole_number;
+use crate::open_object::OpenObject;
 use crate::tree::{Node, Tree};
 use json::{Invalid, Reader, Scratch, Token};
 use std::alloc::{AllocError, Global};
-use std::collections::BTreeMap;
 use thiserror::Error;
 
 /// Why a text does not read as a tree, in the order of the checks.
@@ -64,10 +64,12 @@ pub fn read(alloc: Global, text: &str) -> Result<Tree, TreeFault>
     ensures number { IfErr result (λ fault. fault ≡ Number → IsNumberFault text.now) }
 {
     let mut scratch = Scratch::new(alloc);
-    read_all(alloc, text, &mut scratch)
+    read_with(alloc, text, &mut scratch)
 }
 
-fn read_all(alloc: Global, text: &str, scratch: &mut Scratch) -> Result<Tree, TreeFault>
+/// Reads a text as [`read`] does, in memory that is kept from text to text: 16 KiB that a new
+/// `Scratch` clears, and as many bytes as the longest text had.
+pub fn read_with(alloc: Global, text: &str, scratch: &mut Scratch) -> Result<Tree, TreeFault>
     ensures ok { IfOk result (λ tree. tree_of_text text.now ≡ Some tree) }
     ensures not_json { IfErr result (λ fault. fault ≡ NotJson → json.read text.now ≡ None) }
     ensures number { IfErr result (λ fault. fault ≡ Number → IsNumberFault text.now) }
@@ -199,8 +201,7 @@ fn with_item(
     Ok(Some(items))
 }
 
-/// Reads the rest of an object. Its members are kept in order by a map, so that their number costs
-/// no more than a look-up for each.
+/// Reads the rest of an object.
 #[cycle(read)]
 fn read_members(
     alloc: Global,
@@ -212,7 +213,7 @@ fn read_members(
     ensures not_json { result ≡ Err NotJson → converted (λ ms. of_members ms no_members) (members (value depth) (length reader.old) reader.old) ≡ None }
     ensures other { IfErr result (λ fault. fault ≢ Number) }
 {
-    let mut found = BTreeMap::new(alloc);
+    let mut object = OpenObject::new(alloc);
     'members: while let Some(name) = reader.next_key()? {
         let Ok(name) = String::from_str(alloc, name) else {
             return Err(TreeFault::NoMemory);
@@ -221,30 +222,13 @@ fn read_members(
             Ok(value) => value,
             Err(fault) => return Err(fault),
         };
-        match found.insert(name, value) {
-            Ok(earlier) => drop(earlier),
+        object = match object.with(alloc, name, value) {
+            Ok(object) => object,
             Err(_) => return Err(TreeFault::NoMemory),
-        }
+        };
     }
-    match gather(alloc, found) {
+    match object.close(alloc) {
         Ok(members) => Ok(members),
         Err(_) => Err(TreeFault::NoMemory),
     }
-}
-
-/// Returns the members of an object, if all their values could be read.
-fn gather(
-    alloc: Global,
-    found: BTreeMap<String, Option<Tree>>,
-) -> Result<Option<Members>, AllocError>
-    ensures { IfOk result (λ members. (ms : read_as.Members) → AreRead ms found.entries → members_tree ms ≡ option_map (λ m. members_of m.entries) members) }
-{
-    let mut members = Members::with_capacity(alloc, found.len())?;
-    for (name, value) in found {
-        let Some(value) = value else {
-            return Ok(None);
-        };
-        drop(members.insert(name, value)?);
-    }
-    Ok(Some(members))
 }

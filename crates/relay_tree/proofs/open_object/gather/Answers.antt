@@ -3,7 +3,7 @@ use Rattle.std.specs.List.Sorted.{IsStrictlySortedBy}
 use Rattle.std.specs.Map.{keys_of}
 use Rattle.relay_tree.specs.Reading.{AreRead}
 use Rattle.relay_tree.proofs.ReadLemmas.{Read, EachRead, none_left, members_read, no_members_read, read_last, insert_last}
-use Rattle.relay_tree.proofs.reading.gather.Goals as goal
+use Rattle.relay_tree.proofs.open_object.gather.Goals as goal
 
 pub returns-in_default : goal.returns-in_default
 returns-in_default c = λ ms are_read.

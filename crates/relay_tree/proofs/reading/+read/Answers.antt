@@ -7,7 +7,7 @@ use Rattle.serde_json.specs.Data.{put}
 use Rattle.serde_json.specs.Read.{of_json, of_members, converted}
 use Rattle.relay_tree.specs.Document.{list, object, items_of, whole}
 use Rattle.relay_tree.specs.Seen.{members_of}
-use Rattle.relay_tree.specs.Reading.{extended}
+use Rattle.relay_tree.specs.Reading.{extended, members_read}
 use Rattle.relay_tree.proofs.Conversions.{map_twice, converted_array, converted_object, item_turn, item_fault, items_over, member_turn, member_fault, key_fault, members_over}
 use Rattle.relay_tree.proofs.ReadLemmas.{same_fault, none_left, number_read, no_number_read, before, trees_of-last, one_more, items_tree-before, put_read}
 use Rattle.relay_tree.proofs.reading.+read.Goals as goal
@@ -147,7 +147,7 @@ read_members-members-init t c =
       done = json_data.no_members;
       rest = refl;
       shorter = omega arith;
-      read = rw c.new-found.ensures.empty tt;
+      read = rw c.new-object.ensures tt;
     }
 
 pub read_members-returns-in_err-name-clause-not_json : goal.read_members-returns-in_err-name-clause-not_json
@@ -185,12 +185,12 @@ read_members-members-preserved t c =
       rest = l.invariant.rest ∙ member_turn p done n k l.reader s r d (omega (arith, l.invariant.enough, less, lesser)) named read.1
           ∙ ap (λ name. converted (λ ms. of_members ms (put name d done)) (members p (n - 1) r)) (sym copied);
       shorter = omega (arith, l.invariant.shorter, less, lesser);
-      read = rw c.in-Ok-insert.ensures.entries (put_read done l.found.entries d c.in-Ok.name c.in-Ok-read_tree.value l.invariant.read read.2);
+      read = rw c.in-Ok-with.ensures (put_read done (members_read l.object) d c.in-Ok.name c.in-Ok-read_tree.value l.invariant.read read.2);
     }
 
-pub read_members-returns-in-Ok-gather-clause-ok : goal.read_members-returns-in-Ok-gather-clause-ok
-read_members-returns-in-Ok-gather-clause-ok t c =
+pub read_members-returns-in-Ok-close-clause-ok : goal.read_members-returns-in-Ok-close-clause-ok
+read_members-returns-in-Ok-close-clause-ok t c =
     let l = c.members in
     let s = c.next_key.new.self in
     let closed = c.in_ok-name.ensures.value ∙ ap (λ name. Some (option_map (λ x. x.now) name, s)) (none_left c.in_ok-name.field-0 c.in_default.not-Some) in
-    (l.invariant.done, l.invariant.rest ∙ members_over (value c.args.depth) l.invariant.done l.invariant.turns l.reader s l.invariant.enough closed, c.in-Ok-gather.ensures l.invariant.done l.invariant.read)
+    (l.invariant.done, l.invariant.rest ∙ members_over (value c.args.depth) l.invariant.done l.invariant.turns l.reader s l.invariant.enough closed, c.in-Ok-close.ensures l.invariant.done l.invariant.read)

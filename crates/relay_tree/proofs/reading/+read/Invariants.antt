@@ -2,7 +2,7 @@ use Rattle.std.proofs.Common.{◌≡◌, ℕ, ◌+◌, ◌*◌, ◌≤◌, List,
 use Rattle.json.specs.Json.{items, members, value, parse_map}
 use Rattle.serde_json.specs.Data.{Data, Members, no_members}
 use Rattle.serde_json.specs.Read.{of_items, of_members, converted}
-use Rattle.relay_tree.specs.Reading.{AreRead}
+use Rattle.relay_tree.specs.Reading.{AreRead, members_read}
 use Rattle.relay_tree.proofs.ReadLemmas.{before, trees_of}
 use Rattle.relay_tree.proofs.reading.+read.Given as goal
 
@@ -35,7 +35,7 @@ invariant-read_members-members l = record {
   done : Members;
   rest : converted (λ ms. of_members ms no_members) (members (value l.depth) (length l.initial.reader) l.initial.reader) ≡ converted (λ ms. of_members ms done) (members (value l.depth) turns l.reader);
   shorter : length l.reader ≤ length l.initial.reader;
-  read : AreRead done l.found.entries;
+  read : AreRead done (members_read l.object);
 }
 
 abbrev pub decreases-read_members-members : goal.decreases-read_members-members

@@ -2,7 +2,7 @@ use Rattle.std.proofs.Common.{◌≡◌, ◌≤◌, Ok, length, subst, arith, If
 use Rattle.relay_proto.specs.Request.{IsRefusedAs}
 use Rattle.relay_proto.specs.declared.reading.TheConstants.{MAX_REQUEST}
 use Rattle.relay_proto.proofs.Requests.{asks_as_its_tree}
-use Rattle.relay_proto.proofs.request.Request.read.Goals as goal
+use Rattle.relay_proto.proofs.request.Request.read_with.Goals as goal
 
 pub returns-clause-ok : goal.returns-clause-ok
 returns-clause-ok c =
