@@ -1,5 +1,5 @@
 -- A history trimmed to the newest revisions that together weigh no more than a budget.
-use Rattle.std.specs.Prelude.{ℕ, min, List, [], ◌∷◌, Some, None}
+use Rattle.std.specs.Prelude.{ℕ, ◌+◌, ◌*◌, min, length, List, [], ◌∷◌, Some, None}
 use Rattle.std.specs.List.{sum_by}
 use Rattle.relay_tree.specs.declared.count.TheConstants.{MAX_COUNT}
 use Rattle.relay_tree.specs.declared.budget.Budget.{Budget}
@@ -7,10 +7,12 @@ use Rattle.relay_tree.specs.Budget.{paid}
 use Rattle.relay_patch.specs.declared.change.Change.{Change}
 use Rattle.relay_patch.specs.Weight.{changes_weight}
 use Rattle.relay_history.specs.History.{Past}
+use Rattle.relay_history.specs.declared.revision.TheConstants.{CHANGE_WEIGHT}
 
--- the weight of a revision: that of its changes, or MAX_COUNT if they are heavier, so that the sum of all held ones fits in 64 bits
+-- the weight of a revision: CHANGE_WEIGHT for each of its changes, and that of their paths and values; or MAX_COUNT if that is more,
+-- so that the sum of all held ones fits in 64 bits
 abbrev pub revision_weight : List Change → ℕ
-revision_weight revision = min (changes_weight revision) MAX_COUNT
+revision_weight revision = min (CHANGE_WEIGHT * length revision + changes_weight revision) MAX_COUNT
 
 -- what the held revisions weigh together
 abbrev pub history_weight : Past → ℕ

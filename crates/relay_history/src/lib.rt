@@ -13,5 +13,5 @@ mod since;
 
 pub use fault::HistoryFault;
 pub use history::{History, LAST_REVISION, MAX_REVISIONS};
-pub use revision::RevisionSlot;
+pub use revision::{CHANGE_WEIGHT, RevisionSlot};
 pub use since::Since;

@@ -8,6 +8,10 @@ use relay_tree::{Budget, MAX_COUNT};
 use std::alloc::{AllocError, Global};
 use std::marker::Model;
 
+/// What a change weighs in a history besides its paths and its value, so that weight also bounds
+/// the number of the changes that are held.
+pub const CHANGE_WEIGHT: u64 = 64;
+
 /// The memory for a revision. It is allocated before a patch is applied, so that keeping its changes needs none.
 #[derive(Drop)]
 pub struct RevisionSlot {
@@ -75,7 +79,7 @@ impl Revision {
         &self.weighed.changes
     }
 
-    /// Returns the weight of its changes, or [`MAX_COUNT`] if they are heavier.
+    /// Returns its weight, at most [`MAX_COUNT`].
     pub(crate) fn weight(&self) -> u64
         ensures { result ≡ revision_weight self.now }
     {
@@ -93,11 +97,16 @@ pub(crate) fn weight_of(revision: Option<Revision>) -> u64
     }
 }
 
-/// Returns the weight of changes, or [`MAX_COUNT`] if they are heavier.
+/// Returns what changes weigh in a history: [`CHANGE_WEIGHT`] for each, and their own weight. If that
+/// is above [`MAX_COUNT`], returns [`MAX_COUNT`].
 fn weigh(changes: &[Change]) -> u64
     ensures { result ≡ revision_weight changes.now }
 {
-    match pay_changes(changes, Budget::Left(MAX_COUNT)) {
+    let number = CHANGE_WEIGHT.saturating_mul(changes.len() as u64);
+    let Some(rest) = Budget::Left(MAX_COUNT).pay(number) else {
+        return MAX_COUNT;
+    };
+    match pay_changes(changes, rest) {
         Some(Budget::Left(left)) => MAX_COUNT - left,
         _ => MAX_COUNT,
     }

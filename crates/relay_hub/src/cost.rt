@@ -3,7 +3,7 @@
 //!
 //! It is counted where the work is done, so nothing is guessed of a text that was not served yet.
 //! No clause speaks of it.
-use memchr::memchr3_iter;
+use relay_history::CHANGE_WEIGHT;
 use relay_patch::{Op, Patch};
 use relay_view::View;
 
@@ -38,20 +38,24 @@ const COMPARED: u64 = 2;
 
 /// A text is read. Between two values stands a comma, and before one a colon or a bracket.
 pub(crate) fn reading(text: &str) -> u64 {
-    let mut values = 1u64;
-    for _ in memchr3_iter(b',', b':', b'[', text.as_bytes()) {
-        values = values.saturating_add(1);
-    }
+    let signs = text
+        .bytes()
+        .filter(|byte| matches!(*byte, b',' | b':' | b'['));
+    let values = signs.count() as u64;
     values
         .saturating_mul(VALUE)
+        .saturating_add(VALUE)
         .saturating_add(text.len() as u64)
 }
 
-/// A document of this weight is edited, and the changes have that weight.
+/// A document of this weight is edited, and the changes have that weight in the history, which
+/// counts some for each change that nothing is copied for.
 pub(crate) fn editing(patch: &Patch, weight: u64, changed: u64) -> u64 {
+    let operations = patch.ops().len() as u64;
     changed
+        .saturating_sub(operations.saturating_mul(CHANGE_WEIGHT))
         .saturating_mul(CHANGED)
-        .saturating_add(performing(patch, patch.ops().len() as u64, weight))
+        .saturating_add(performing(patch, operations, weight))
 }
 
 /// An edit is refused, once so many of its operations were done to a document of this weight: each

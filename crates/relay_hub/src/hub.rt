@@ -29,11 +29,10 @@ use crate::shed::{shed_budget, shed_rooms};
 use crate::summary::{RoomSummary, summary_of};
 use crate::text::Text;
 use crate::told::Told;
-use crate::work::most_work;
 use indexmap::IndexMap;
 use relay_proto::is_room_name;
 use relay_room::Room;
-use relay_tree::{MAX_COUNT, Tree};
+use relay_tree::{MAX_COUNT, Scratch, Tree};
 use std::alloc::{AllocError, Global};
 use std::marker::Model;
 
@@ -50,6 +49,8 @@ pub struct Hub {
     counts: MessageCounts,
     /// Whom the last text told something.
     told: Told,
+    /// The memory in which texts are read.
+    scratch: Box<Scratch>,
 }
 
 impl Model for Hub {
@@ -96,6 +97,9 @@ impl Hub {
         ensures bad_limit { IsErrOf result BadLimit ↔ BadLimits made }
     {
         made.check()?;
+        let Ok(scratch) = Box::new(alloc, Scratch::new(alloc)) else {
+            return Err(HubNewFault::NoMemory);
+        };
         Ok(Hub {
             made,
             next: made.first,
@@ -103,6 +107,7 @@ impl Hub {
             homes: IndexMap::new(alloc),
             counts: MessageCounts::none(),
             told: Told::nobody(alloc),
+            scratch,
         })
     }
 
@@ -196,7 +201,14 @@ impl Hub {
         let Some(room_sessions) = self.rooms.get_index_mut(*place) else {
             unreachable!()
         };
-        room_sessions.receive(alloc, self.made, session, text, &mut self.told)
+        room_sessions.receive(
+            alloc,
+            self.made,
+            session,
+            text,
+            &mut self.told,
+            &mut self.scratch,
+        )
     }
 
     /// Whom the last text that an open session sent told something, besides that session: no other outbox changed. No clause speaks of
@@ -284,16 +296,6 @@ impl Hub {
     /// speaks of it. Allocates nothing.
     pub fn room_of(&self, session: u64) -> Option<usize> {
         self.homes.get(&session).copied()
-    }
-
-    /// At most how much weight the session's room walks over to carry out a text, told before the text is read: for each operation the
-    /// document, which each copy may double, and for each slot of a view the document, and of a resume what the room remembers. 0 if
-    /// the session is not open. No clause speaks of it. Allocates nothing.
-    pub fn most_work(&self, session: u64, text: &str) -> u64 {
-        match self.find(session) {
-            Some((room, _)) => most_work(text, room),
-            None => 0,
-        }
     }
 
     /// The present revision and the session's view of the present document; `None` if it watches nothing. `NoSession`: it is not open.

@@ -27,7 +27,6 @@ mod summary;
 mod text;
 mod told;
 mod update;
-mod work;
 
 pub use config::{DEFAULT_ROOMS, DEFAULT_SESSIONS, HubConfig, MAX_ROOMS, MAX_SESSIONS};
 pub use event::{Answer, Event, Heard};
@@ -37,4 +36,3 @@ pub use message_counts::{FaultCount, MessageCounts, SnapshotCounts};
 pub use summary::RoomSummary;
 pub use text::Text;
 pub use told::Told;
-pub use work::OPERATION_WORK;

@@ -30,6 +30,7 @@ use relay_patch::{Cause, Patch};
 use relay_proto::{Refusal, Reply, Request, RequestFault, Word};
 use relay_room::{CatchFault, CatchUp, EditFault, Room};
 use relay_translate::WatchIndex;
+use relay_tree::Scratch;
 use relay_view::View;
 use std::alloc::{AllocError, Global};
 
@@ -44,6 +45,7 @@ pub fn receive(
     number: u64,
     text: &str,
     told: &mut Told,
+    scratch: &mut Scratch,
 ) -> Result<Heard, HubFault>
     requires there { IsSome (session_in sessions.old number) }
     requires indexed { IsIndexed watches.old sessions.old }
@@ -61,7 +63,7 @@ pub fn receive(
         return Err(HubFault::NoMemory);
     };
     told.count(cost::reading(text));
-    let served = match Request::read(alloc, text) {
+    let served = match Request::read_with(alloc, text, scratch) {
         Ok(request) => perform(
             alloc, made, room, watches, sessions, caller, slot, request, told,
         ),

@@ -10,7 +10,7 @@ use crate::shed::shed_sessions;
 use crate::told::Told;
 use relay_room::Room;
 use relay_translate::WatchIndex;
-use relay_tree::Budget;
+use relay_tree::{Budget, Scratch};
 use std::alloc::{AllocError, Global};
 use std::marker::Model;
 
@@ -135,6 +135,7 @@ impl RoomSessions {
         number: u64,
         text: &str,
         told: &mut Told,
+        scratch: &mut Scratch,
     ) -> Result<Heard, HubFault>
         requires { IsSome (session_in self.old.sessions number) }
         ensures told { ChangesToldAnd number told.new self.old.sessions self.new.sessions }
@@ -150,6 +151,7 @@ impl RoomSessions {
             number,
             text,
             told,
+            scratch,
         )
     }
 

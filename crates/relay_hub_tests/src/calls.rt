@@ -51,20 +51,18 @@ fn act_on_one(alloc: Global, hub: &mut Hub, word: &str, rest: &str) -> Came {
     let number = number.parse::<u64>().ok()?;
     match word {
         "say" => words(alloc, hub.receive(alloc, number, text)),
-        "say-long" => say_long(alloc, hub, number),
         "draw" => drawn(alloc, hub.draw(alloc, number)),
         "close" => words(alloc, hub.close(number)),
-        _ => seen_of_one(alloc, hub, word, number, text),
+        _ => seen_of_one(alloc, hub, word, number),
     }
 }
 
 /// What a hub tells of a session, or of the room at a place.
-fn seen_of_one(alloc: Global, hub: &Hub, word: &str, number: u64, text: &str) -> Came {
+fn seen_of_one(alloc: Global, hub: &Hub, word: &str, number: u64) -> Came {
     match word {
         "waiting" => words(alloc, hub.waiting(number)),
         "may-hear" => words(alloc, hub.may_hear(number)),
         "truth" => seen(alloc, hub.truth(alloc, number)),
-        "work" => words(alloc, hub.most_work(number, text)),
         "room-at" => words(alloc, hub.room_at(number as usize)),
         _ => None,
     }
@@ -142,13 +140,4 @@ fn counted(alloc: Global, counts: &MessageCounts) -> Came {
 fn give_memory_back(alloc: Global, hub: &mut Hub) -> Came {
     hub.shed();
     owned(alloc, "done")
-}
-
-/// Says an edit that replaces the document by a text of 100,000 letters, which is too long to spell.
-fn say_long(alloc: Global, hub: &mut Hub, session: u64) -> Came {
-    let letters = "x".repeat(alloc, 100_000).ok()?;
-    let edit = format!(in alloc;
-        r#"{{"do":"edit","id":3,"patch":[{{"op":"add","path":"","value":"{letters}"}}]}}"#
-    );
-    words(alloc, hub.receive(alloc, session, edit.ok()?.as_str()))
 }

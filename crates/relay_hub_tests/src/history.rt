@@ -7,8 +7,8 @@ use relay_tree::{Budget, Node, Tree};
 use relay_wire::{Subject, cut, play};
 use std::alloc::{AllocError, AllocGlobal, Global};
 
-/// What `five` stands for: a history of five revisions. A whole number weighs 8 and the root's path nothing, so the third revision, which
-/// sets the root twice, weighs 16 and the others 8.
+/// What `five` stands for: a history of five revisions. A change weighs 64 and its whole number 8, and the root's path nothing, so the
+/// third revision, which sets the root twice, weighs 144 and the others 72.
 const FIVE: &str = "
 new 5 0 => Ok(0)
 push 1
@@ -43,27 +43,27 @@ trim unbounded
 kept => (0, 5)
 after 0 => [1, 2, 3, 3, 4, 5]
 five
-trim 48
+trim 432
 kept => (0, 5)
 after 0 => [1, 2, 3, 3, 4, 5]
 five
-trim 47
+trim 431
 kept => (1, 5)
 after 1 => [2, 3, 3, 4, 5]
 five
-trim 32
+trim 288
 kept => (2, 5)
 after 2 => [3, 3, 4, 5]
 five
-trim 31
+trim 287
 kept => (3, 5)
 after 3 => [4, 5]
 five
-trim 8
+trim 72
 kept => (4, 5)
 after 4 => [5]
 five
-trim 7
+trim 71
 kept => (5, 5)
 after 5 => []
 five
@@ -128,17 +128,17 @@ fn changes_of(alloc: Global, numbers: &str) -> Option<Vec<Change>> {
     let mut changes = Vec::new(alloc);
     for number in numbers.split_whitespace() {
         let number = number.parse::<i64>().ok()?;
-        changes.push(set(alloc, number)).ok()?;
+        changes.push(set(alloc, number)?).ok()?;
     }
     Some(changes)
 }
 
 /// A change that sets the root to a number.
-fn set(alloc: Global, number: i64) -> Change {
-    Change::Set {
-        path: Pointer::root(alloc),
+fn set(alloc: Global, number: i64) -> Option<Change> {
+    Some(Change::Set {
+        path: Pointer::root(alloc).ok()?,
         value: Tree::from(Node::Whole(number)),
-    }
+    })
 }
 
 fn trim(alloc: Global, history: &mut History, budget: &str) -> Came {

@@ -35,4 +35,3 @@ mod shared;
 #[cfg(test)]
 mod weights;
 #[cfg(test)]
-mod work;

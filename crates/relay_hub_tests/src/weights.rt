@@ -60,9 +60,9 @@ watching
 say 2 {"do":"edit","id":2,"patch":[{"op":"add","path":"/x","value":1}]} => Ok(Answered { short: 0 })
 draw 1 => {"kind":"snapshot","rev":2,"view":[[{"x":1}]]}
 
-# A room remembers within a weight: with a bound of 34 it keeps two revisions of 17. A client that resumes from an earlier one receives a
-# snapshot.
-new history-weight=34
+# A room remembers within a weight: with a bound of 162 it keeps two revisions of 81, 64 for each of their changes. A client that
+# resumes from an earlier one receives a snapshot.
+new history-weight=162
 watching
 3 say 2 {"do":"edit","id":2,"patch":[{"op":"add","path":"/x","value":1}]} => Ok(Answered { short: 0 })
 open r => Ok(3)

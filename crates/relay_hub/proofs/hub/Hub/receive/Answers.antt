@@ -8,10 +8,10 @@ use Rattle.relay_hub.proofs.Promises.{refuses_edits}
 use Rattle.relay_hub.proofs.Stands.{call_stands}
 use Rattle.relay_hub.proofs.hub.Hub.receive.Goals as goal
 
-abbrev left : goal.After-self-2-1 → RoomSessions
+abbrev left : goal.After-self-3-1 → RoomSessions
 left c = c.receive.new.self
 
-step : (c : goal.After-self-2-1) → StepIf (hub_of c.self.inside) (Receive c.args.session c.args.text.now) (receiving c.receive.result) (hub_with c.self.inside c.in-Some.place.now (left c))
+step : (c : goal.After-self-3-1) → StepIf (hub_of c.self.inside) (Receive c.args.session c.args.text.now) (receiving c.receive.result) (hub_with c.self.inside c.in-Some.place.now (left c))
 step c =
     let g = c.in-Some-get_index_mut.room_sessions.now in
     receives c.self.inside c.args.session c.in-Some.place.now g (left c) (sym c.in-Some.ensures.value) (sym c.in-Some-get_index_mut.ensures.value) c.args.text.now (receiving c.receive.result) c.receive.ensures.step
