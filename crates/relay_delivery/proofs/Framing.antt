@@ -12,10 +12,11 @@ use Rattle.relay_link.specs.Follows.{Point, at, no_room, Follows, stays, makes, 
 use Rattle.relay_link.specs.Frames.{framed, text_frames}
 use Rattle.relay_link.specs.Tells.{Told, WhileOpen}
 use Rattle.relay_link.specs.Turns.{Turns}
-use Rattle.relay_link.specs.declared.open_socket.OpenSocket.{OpenSocket}
+use Rattle.relay_link.specs.declared.corked_writer.CorkedWriter.{CorkedWriter}
 use Rattle.relay_link.specs.declared.state.State.{State}
 use Rattle.relay_link.specs.declared.state.State.TheVariants.{Open}
 use Rattle.relay_link.specs.declared.turn.Turn.{Turn}
+use Rattle.tungstenite.specs.Socket.{Socket}
 use Rattle.relay_proto.specs.Client.{Client}
 use Rattle.relay_delivery.specs.Turn.{FramedWriteTurn, Resumes}
 
@@ -47,9 +48,10 @@ nobody_resumes b E s c (makes {q = q} (Close t) answer follows own step) none =
 -- ---- a turn
 
 module _ {S : Type 0} (remaining contents : S → Option (List ℕ)) where
-  told_turn : (hub next : Hub) (made : List Event) (s t : ℕ) (old new : OpenSocket S) (before frames : List ℕ)
-      → Told contents (at hub (Some s) []) (at next (Some t) made) old new → receives made ≤ 0 → framed contents old.socket ≡ Some before → framed contents new.socket ≡ Some (before ++ frames)
-      → FramedWriteTurn s hub next made frames
+  told_turn : (hub next : Hub) (made : List Event) (s t : ℕ) (old new : Socket (CorkedWriter S))
+      (before frames : List ℕ) → Told contents (at hub (Some s) []) (at next (Some t) made) old new
+      → receives made ≤ 0 → framed contents old ≡ Some before
+      → framed contents new ≡ Some (before ++ frames) → FramedWriteTurn s hub next made frames
   told_turn hub next made s t old new before frames told few was is =
       let none : receives made ≡ 0 = omega (arith, few) in
       record {
@@ -57,22 +59,30 @@ module _ {S : Type 0} (remaining contents : S → Option (List ℕ)) where
           after = t;
           follows = told.follows;
           utf8 = told.utf8;
-          frames_are = appended (framed contents old.socket) (framed contents new.socket) before frames (text_frames (drawn told.follows)) told.frames was is;
+          frames_are = appended (framed contents old) (framed contents new) before frames
+              (text_frames (drawn told.follows)) told.frames was is;
         };
         resumes = λ b E c. nobody_resumes b E s c told.follows none;
       }
 
-  framed_turn : (hub next : Hub) (old new : State S) (draws : ℕ) (turn : Turn) → Turns remaining 0 draws hub old next new turn → WhileOpen (Told contents) hub [] old next turn.made.items new
-      → (was is : OpenSocket S) (s t : ℕ) (before frames : List ℕ) → old ≡ Open was s → new ≡ Open is t → framed contents was.socket ≡ Some before → framed contents is.socket ≡ Some (before ++ frames)
+  framed_turn : (hub next : Hub) (old new : State S) (draws : ℕ) (turn : Turn)
+      → Turns remaining 0 draws hub old next new turn
+      → WhileOpen (Told contents) hub [] old next turn.made.items new
+      → (was is : Socket (CorkedWriter S)) (s t : ℕ) (before frames : List ℕ)
+      → old ≡ Open was s → new ≡ Open is t → framed contents was ≡ Some before
+      → framed contents is ≡ Some (before ++ frames)
       → FramedWriteTurn s hub next turn.made.items frames
   framed_turn hub next old new draws turn turns tells was is s t before frames from to known grown =
       told_turn hub next turn.made.items s t was is before frames
       (subst (λ x. WhileOpen (Told contents) hub [] (Open was s) next turn.made.items x) to (subst (λ x. WhileOpen (Told contents) hub [] x next turn.made.items new) from tells))
       turns.heard known grown
 
-  pub framed_if : {E : Type 0} (result : Result Turn E) (hub next : Hub) (old new : State S) (draws : ℕ) → IfOk result (Turns remaining 0 draws hub old next new)
+  pub framed_if : {E : Type 0} (result : Result Turn E) (hub next : Hub) (old new : State S)
+      (draws : ℕ) → IfOk result (Turns remaining 0 draws hub old next new)
       → IfOk result (λ turn. WhileOpen (Told contents) hub [] old next turn.made.items new)
-      → IfOk result (λ turn. (was is : OpenSocket S) (s t : ℕ) (before frames : List ℕ) → old ≡ Open was s → new ≡ Open is t → framed contents was.socket ≡ Some before
-      → framed contents is.socket ≡ Some (before ++ frames) → FramedWriteTurn s hub next turn.made.items frames)
+      → IfOk result (λ turn. (was is : Socket (CorkedWriter S)) (s t : ℕ) (before frames : List ℕ)
+      → old ≡ Open was s → new ≡ Open is t → framed contents was ≡ Some before
+      → framed contents is ≡ Some (before ++ frames)
+      → FramedWriteTurn s hub next turn.made.items frames)
   framed_if (Ok turn) hub next old new draws turns tells = framed_turn hub next old new draws turn turns tells
   framed_if (Err e) hub next old new draws turns tells = tt

@@ -2,8 +2,9 @@
 ghost use Rattle.std.specs.Prelude.{◌≡◌, ◌++◌, ℕ, List, Some, IfOk};
 ghost use Rattle.relay_delivery.specs.Turn.{FramedWriteTurn};
 ghost use Rattle.relay_link.specs.Frames.{framed};
-ghost use Rattle.relay_link.specs.declared.open_socket.OpenSocket.{OpenSocket};
+ghost use Rattle.relay_link.specs.declared.corked_writer.CorkedWriter.{CorkedWriter};
 ghost use Rattle.relay_link.specs.declared.state.State.TheVariants.{Open};
+ghost use Rattle.tungstenite.specs.Socket.{Socket};
 
 use relay_hub::Hub;
 use relay_link::{Link, Turn};
@@ -18,8 +19,10 @@ pub fn write_turn<S: Read + Write + Drop>(
     hub: &mut Hub,
     draws: u64,
 ) -> Result<Turn, AllocError>
-    ensures { IfOk result (λ turn. (old new : OpenSocket S) (s t : ℕ) (before frames : List ℕ) →
-        link.old ≡ Open old s → link.new ≡ Open new t → framed S.contents old.socket ≡ Some before → framed S.contents new.socket ≡ Some (before ++ frames) →
+    ensures { IfOk result (λ turn.
+        (old new : Socket (CorkedWriter S)) (s t : ℕ) (before frames : List ℕ) →
+        link.old ≡ Open old s → link.new ≡ Open new t →
+        framed S.contents old ≡ Some before → framed S.contents new ≡ Some (before ++ frames) →
         FramedWriteTurn s hub.old hub.new turn.made.items frames) }
 {
     link.write_turn(alloc, hub, draws)

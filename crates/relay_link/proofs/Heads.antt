@@ -38,21 +38,21 @@ module _ {S : Type 0} (remaining : S → Option (List ℕ)) where
   pub received_past : (old new : State S) → awaits_head new ≡ false → Receives remaining old new
   received_past old (Head stream bytes) is = absurd (cc is)
   received_past old (Replying stream reply) is = tt
-  received_past old (Open opened s) is = tt
+  received_past old (Open socket s) is = tt
   received_past old (Closing socket left) is = tt
   received_past old Gone is = tt
 
   pub received_open : (old new : State S) → IsForward stage.Open (stage_of new) → Receives remaining old new
   received_open old (Head stream bytes) is = absurd (omega (arith, is))
   received_open old (Replying stream reply) is = tt
-  received_open old (Open opened s) is = tt
+  received_open old (Open socket s) is = tt
   received_open old (Closing socket left) is = tt
   received_open old Gone is = tt
 
   pub received_closing : (old new : State S) → IsForward stage.Closing (stage_of new) → Receives remaining old new
   received_closing old (Head stream bytes) is = absurd (omega (arith, is))
   received_closing old (Replying stream reply) is = tt
-  received_closing old (Open opened s) is = tt
+  received_closing old (Open socket s) is = tt
   received_closing old (Closing socket left) is = tt
   received_closing old Gone is = tt
 
@@ -60,7 +60,7 @@ module _ {S : Type 0} (remaining : S → Option (List ℕ)) where
   received_same : (state : State S) → Receives remaining state state
   received_same (Head stream bytes) = ([], Consumes-nil (remaining (stream_of stream)), sym (append-nil bytes.items))
   received_same (Replying stream reply) = tt
-  received_same (Open opened s) = tt
+  received_same (Open socket s) = tt
   received_same (Closing socket left) = tt
   received_same Gone = tt
 

@@ -1,5 +1,5 @@
 -- How what a link reads and what it passes to the hub go on together.
-use Rattle.std.proofs.Common.{◌≡◌, ◌⊎◌, inl, inr, ℕ, zero, suc, Bool, true, false, if◌then◌else◌, List, [], ◌∷◌, ◌++◌, Option, None, Some, Result, Ok, Err, OnOk, refl, sym, subst, ap, ◌∙◌, append_assoc, append-nil, arith}
+use Rattle.std.proofs.Common.{◌≡◌, inl, inr, ℕ, zero, suc, Bool, true, false, if◌then◌else◌, List, [], ◌∷◌, ◌++◌, Option, None, Some, Result, Ok, Err, OnOk, refl, sym, subst, ap, ◌∙◌, append_assoc, append-nil, arith}
 use Rattle.tungstenite.specs.Socket.{Socket, Reads}
 use Rattle.tungstenite.specs.declared.error.Error.{Error}
 use Rattle.tungstenite.specs.declared.message.Message.{Message}
@@ -7,15 +7,14 @@ use Rattle.relay_hub.specs.Queries.{may_hear}
 use Rattle.relay_hub.specs.State.{State as Hub, session_of as hub_session}
 use Rattle.relay_hub.specs.declared.event.Event.{Event}
 use Rattle.relay_hub.specs.declared.event.Event.TheVariants.{Receive}
-use Rattle.relay_link.specs.Follows.{closing_of, given}
-use Rattle.relay_link.specs.Hears.{received_by, received, Passes, allowed_reads, text_of, held, ReadsOn, GoesOnFrom, Finds, FindsNothing, HearsOnce, Hears, PassesOn, SendsAndPassesOn, GoesOn, BeginsFresh, ReadsTexts, PassesTexts}
+use Rattle.relay_link.specs.Follows.{closing_of}
+use Rattle.relay_link.specs.Hears.{received_by, received, Passes, allowed_reads, text_of, ReadsOn, Finds, Hears, PassesOn, SendsAndPassesOn, GoesOn, BeginsFresh, ReadsTexts, PassesTexts}
 use Rattle.relay_link.specs.Stage.{stage_of, session_of, entered, IsForward}
 use Rattle.relay_link.specs.Stream.{stream_of}
 use Rattle.relay_link.specs.Tells.{Hearing}
 use Rattle.relay_link.specs.Terms.{KeepsTerms}
 use Rattle.relay_link.proofs.Terms.{keeps_same}
 use Rattle.relay_link.specs.declared.corked_writer.CorkedWriter.{CorkedWriter}
-use Rattle.relay_link.specs.declared.open_socket.OpenSocket.{OpenSocket}
 use Rattle.relay_link.specs.declared.stage.Stage.TheVariants as stage
 use Rattle.relay_link.specs.declared.state.State.{State}
 use Rattle.relay_link.specs.declared.state.State.TheVariants.{Head, Replying, Open, Closing, Gone}
@@ -63,9 +62,6 @@ module _ {S : Type 0} where
   pub terms_kept : {a b : Socket (CorkedWriter S)} → ReadsOn a b → KeepsTerms a.conn b.conn
   terms_kept {a = a} {b = b} f = keeps_same a.conn b.conn f.conn
 
-  pub goes_on_same : (a : OpenSocket S) → GoesOnFrom a a
-  goes_on_same a = record { reads_on = reads_on_same a.socket; holds = refl }
-
 module _ {S : Type 0} (remaining : S → Option (List ℕ)) where
   -- ---- what a read found
 
@@ -75,64 +71,47 @@ module _ {S : Type 0} (remaining : S → Option (List ℕ)) where
   pub finds_none : (a b : Socket (CorkedWriter S)) (error : Error) → Reads (λ w. remaining (stream_of w)) a b (Err error) → Finds remaining a b (text_of None)
   finds_none a b error reads = (Err error, reads, refl)
 
-  -- ---- which text comes next
-
-  nothing_new : (a : OpenSocket S) → HearsOnce remaining a a []
-  nothing_new a = record { found = []; finds = inl (refl, refl); in_order = append-nil (held a) }
-
-  -- the one that was held
-  pub hears_held : (a b : OpenSocket S) (text : List ℕ) → a.held ≡ Some text → b.socket ≡ a.socket → b.held ≡ None → HearsOnce remaining a b (text ∷ [])
-  hears_held a b text had same has = record { found = []; finds = inl (same, refl); in_order = rw (had, has) refl }
-
-  -- that of the message that a read found, if it is a text
-  pub hears_found : (a b : OpenSocket S) (found : Option Message) → a.held ≡ None → b.held ≡ None → Finds remaining a.socket b.socket (text_of found) → HearsOnce remaining a b (text_of found)
-  hears_found a b found had has finds = record { found = text_of found; finds = inr finds; in_order = rw (had, has) (sym (append-nil (text_of found))) }
-
-  -- it has none
-  pub hears_no_text : (a b : OpenSocket S) (found : Option Message) → a.held ≡ None → b.held ≡ None → Finds remaining a.socket b.socket (text_of found) → text_of found ≡ []
-      → HearsOnce remaining a b []
-  hears_no_text a b found had has finds none = subst (HearsOnce remaining a b) none (hears_found a b found had has finds)
-
-  -- it is held, and none is passed on
-  held_back : (a b c : OpenSocket S) (text : List ℕ) → HearsOnce remaining a b (text ∷ []) → b.held ≡ None → c.socket ≡ b.socket → c.held ≡ Some text → HearsOnce remaining a c []
-  held_back a b c text hears none same has = record {
-    found = hears.found;
-    finds = subst (λ s. FindsNothing a.socket s hears.found ⊎ Finds remaining a.socket s hears.found) (sym same) hears.finds;
-    in_order = hears.in_order ∙ ap (λ h. text ∷ given h) none ∙ sym (ap given has);
-  }
+  -- of a message that is no text it found none
+  pub finds_no_text : (a b : Socket (CorkedWriter S)) (found : Option Message)
+      → Finds remaining a b (text_of found) → text_of found ≡ [] → Finds remaining a b []
+  finds_no_text a b found finds none = subst (Finds remaining a b) none finds
 
   -- ---- what was heard
 
-  hears_nothing : (most : ℕ) (a : OpenSocket S) → Hears remaining most a a []
+  hears_nothing : (most : ℕ) (a : Socket (CorkedWriter S)) → Hears remaining most a a []
   hears_nothing zero a = (refl, refl)
-  hears_nothing (suc n) a = nothing_new a
+  hears_nothing (suc n) a = inl (refl, refl)
 
   -- nothing was read, and no text was passed on
-  pub hearing_none : (most : ℕ) (before after : List Event) (a b : OpenSocket S) → b ≡ a → after ≡ before → Hearing remaining most before after a b
-  hearing_none most before after a b same none = rw same (record { texts = []; passes = passes_same before after none; hears = hears_nothing most a; terms = keeps_same a.socket.conn a.socket.conn refl })
-
-  -- the next text was passed on, if there was one
-  pub hearing_found : (before after : List Event) (a b : OpenSocket S) (texts : List (List ℕ)) → HearsOnce remaining a b texts → KeepsTerms a.socket.conn b.socket.conn → Passes before after texts
-      → Hearing remaining 1 before after a b
-  hearing_found before after a b texts hears terms passes = record { texts = texts; passes = passes; hears = hears; terms = terms }
-
-  -- it is held
-  pub hearing_held : (before after : List Event) (a b c : OpenSocket S) (text : List ℕ) → HearsOnce remaining a b (text ∷ []) → b.held ≡ None → KeepsTerms a.socket.conn b.socket.conn
-      → c.socket ≡ b.socket → c.held ≡ Some text → after ≡ before → Hearing remaining 1 before after a c
-  hearing_held before after a b c text hears none terms same has quiet = record {
+  pub hearing_none : (most : ℕ) (before after : List Event) (a b : Socket (CorkedWriter S)) → b ≡ a
+      → after ≡ before → Hearing remaining most before after a b
+  hearing_none most before after a b same none = rw same (record {
     texts = [];
-    passes = passes_same before after quiet;
-    hears = held_back a b c text hears none same has;
-    terms = subst (λ (s : Socket (CorkedWriter S)). KeepsTerms a.socket.conn s.conn) (sym same) terms;
-  }
+    passes = passes_same before after none;
+    hears = hears_nothing most a;
+    terms = keeps_same a.conn a.conn refl;
+  })
 
-  pub hearing_most : {E : Type 0} (result : Result (Unit {0}) E) (hub : Hub) (s most : ℕ) (before after : List Event) (a b : OpenSocket S) → may_hear (hub_session hub s) ≡ true → most ≡ 1
-      → OnOk result (Hearing remaining 1 before after a b) → OnOk result (Hearing remaining (allowed_reads hub (Some s) most) before after a b)
-  hearing_most (Ok u) hub s most before after a b may one hearing = subst (λ n. Hearing remaining n before after a b) (sym (reads_one hub s most may one)) hearing
+  -- the text that a read found was passed on, if it found one
+  pub hearing_found : (before after : List Event) (a b : Socket (CorkedWriter S))
+      (texts : List (List ℕ)) → Finds remaining a b texts → KeepsTerms a.conn b.conn
+      → Passes before after texts → Hearing remaining 1 before after a b
+  hearing_found before after a b texts finds terms passes =
+      record { texts = texts; passes = passes; hears = inr finds; terms = terms }
+
+  pub hearing_most : {E : Type 0} (result : Result (Unit {0}) E) (hub : Hub) (s most : ℕ)
+      (before after : List Event) (a b : Socket (CorkedWriter S))
+      → may_hear (hub_session hub s) ≡ true → most ≡ 1
+      → OnOk result (Hearing remaining 1 before after a b)
+      → OnOk result (Hearing remaining (allowed_reads hub (Some s) most) before after a b)
+  hearing_most (Ok u) hub s most before after a b may one hearing =
+      subst (λ n. Hearing remaining n before after a b) (sym (reads_one hub s most may one)) hearing
   hearing_most (Err e) hub s most before after a b may one hearing = tt
 
   -- then no more was passed on
-  pub hearing_then : (most : ℕ) (before middle after : List Event) (a b : OpenSocket S) → Hearing remaining most before middle a b → Passes middle after [] → Hearing remaining most before after a b
+  pub hearing_then : (most : ℕ) (before middle after : List Event) (a b : Socket (CorkedWriter S))
+      → Hearing remaining most before middle a b → Passes middle after []
+      → Hearing remaining most before after a b
   hearing_then most before middle after a b hearing none = record {
     texts = hearing.texts;
     passes = passes_then hearing.texts before middle after hearing.passes none;
@@ -142,28 +121,39 @@ module _ {S : Type 0} (remaining : S → Option (List ℕ)) where
 
   -- ---- what was passed on, whatever comes of it
 
-  pub passes_on_none : (most : ℕ) (a : OpenSocket S) (before after : List Event) → Passes before after [] → PassesOn remaining most a before after
+  pub passes_on_none : (most : ℕ) (a : Socket (CorkedWriter S)) (before after : List Event)
+      → Passes before after [] → PassesOn remaining most a before after
   passes_on_none most a before after none = record { texts = []; passes = none; heard = a; hears = hears_nothing most a }
 
-  pub passes_on_heard : (most : ℕ) (a b : OpenSocket S) (before middle after : List Event) → Hearing remaining most before middle a b → Passes middle after [] → PassesOn remaining most a before after
+  pub passes_on_heard : (most : ℕ) (a b : Socket (CorkedWriter S))
+      (before middle after : List Event) → Hearing remaining most before middle a b
+      → Passes middle after []
+      → PassesOn remaining most a before after
   passes_on_heard most a b before middle after hearing none =
       let on = hearing_then most before middle after a b hearing none in
       record { texts = on.texts; passes = on.passes; heard = b; hears = on.hears }
 
   -- the same of a link that sends first
-  pub sends_none : (most : ℕ) (a : OpenSocket S) (before after : List Event) → after ≡ before → SendsAndPassesOn remaining most a before after
-  sends_none most a before after none = record { ready = a; same = goes_on_same a; passes_on = passes_on_none most a before after (passes_same before after none) }
+  pub sends_none : (most : ℕ) (a : Socket (CorkedWriter S)) (before after : List Event)
+      → after ≡ before → SendsAndPassesOn remaining most a before after
+  sends_none most a before after none = record {
+    ready = a;
+    reads_on = reads_on_same a;
+    passes_on = passes_on_none most a before after (passes_same before after none);
+  }
 
-  pub sends_and_passes : (most : ℕ) (a b : OpenSocket S) (before after : List Event) → ReadsOn a.socket b.socket → b.held ≡ a.held → PassesOn remaining most b before after
+  pub sends_and_passes : (most : ℕ) (a b : Socket (CorkedWriter S)) (before after : List Event)
+      → ReadsOn a b → PassesOn remaining most b before after
       → SendsAndPassesOn remaining most a before after
-  sends_and_passes most a b before after reads_on holds passes = record { ready = b; same = record { reads_on = reads_on; holds = holds }; passes_on = passes }
+  sends_and_passes most a b before after reads_on passes =
+      record { ready = b; reads_on = reads_on; passes_on = passes }
 
   -- ---- a turn of a link
 
   fresh_closing : (state : State S) → IsForward stage.Closing (stage_of state) → BeginsFresh state
   fresh_closing (Head stream bytes) is = tt
   fresh_closing (Replying stream reply) is = tt
-  fresh_closing (Open opened s) is = absurd (omega (arith, is))
+  fresh_closing (Open socket s) is = absurd (omega (arith, is))
   fresh_closing (Closing socket left) is = tt
   fresh_closing Gone is = tt
 
@@ -174,7 +164,10 @@ module _ {S : Type 0} (remaining : S → Option (List ℕ)) where
   -- one that changes nothing
   unchanged : (most : ℕ) (hub : Hub) (state : State S) (before : List Event) → PassesTexts remaining most hub state state before before
   unfolding sends_none passes_on_none
-  unchanged most hub (Open opened s) before = record { sends = sends_none (allowed_reads hub (Some s) most) opened before before refl; goes_on = goes_on_same opened }
+  unchanged most hub (Open socket s) before = record {
+    sends = sends_none (allowed_reads hub (Some s) most) socket before before refl;
+    goes_on = reads_on_same socket;
+  }
   unchanged most hub (Head stream bytes) before = (passes_same before before refl, tt)
   unchanged most hub (Replying stream reply) before = (passes_same before before refl, tt)
   unchanged most hub (Closing socket left) before = (passes_same before before refl, tt)
@@ -184,25 +177,35 @@ module _ {S : Type 0} (remaining : S → Option (List ℕ)) where
   passes_unchanged most hub old new before after same none = rw (same, none) (unchanged most hub old before)
 
   -- a turn that reads nothing is one that reads at most once
-  hears_wider : (may : Bool) (a b : OpenSocket S) (texts : List (List ℕ)) → Hears remaining (if may then 0 else 0) a b texts → Hears remaining (if may then 1 else 0) a b texts
-  hears_wider true a b texts nothing = rw (nothing.0, nothing.1) (nothing_new a)
+  hears_wider : (may : Bool) (a b : Socket (CorkedWriter S)) (texts : List (List ℕ))
+      → Hears remaining (if may then 0 else 0) a b texts
+      → Hears remaining (if may then 1 else 0) a b texts
+  hears_wider true a b texts nothing = inl nothing
   hears_wider false a b texts nothing = nothing
 
-  reads_wider : (may : Bool) (a : OpenSocket S) (new : State S) (before after : List Event) → ReadsTexts remaining (if may then 0 else 0) a new before after
+  reads_wider : (may : Bool) (a : Socket (CorkedWriter S)) (new : State S)
+      (before after : List Event)
+      → ReadsTexts remaining (if may then 0 else 0) a new before after
       → ReadsTexts remaining (if may then 1 else 0) a new before after
   reads_wider may a new before after reads =
       let on = reads.sends.passes_on in
       record {
         sends = record {
           ready = reads.sends.ready;
-          same = reads.sends.same;
-          passes_on = record { texts = on.texts; passes = on.passes; heard = on.heard; hears = hears_wider may reads.sends.ready on.heard on.texts on.hears };
+          reads_on = reads.sends.reads_on;
+          passes_on = record {
+            texts = on.texts;
+            passes = on.passes;
+            heard = on.heard;
+            hears = hears_wider may reads.sends.ready on.heard on.texts on.hears;
+          };
         };
         goes_on = reads.goes_on;
       }
 
   pub passes_wider : (hub : Hub) (old new : State S) (before after : List Event) → PassesTexts remaining 0 hub old new before after → PassesTexts remaining 1 hub old new before after
-  passes_wider hub (Open opened s) new before after passes = reads_wider (may_hear (hub_session hub s)) opened new before after passes
+  passes_wider hub (Open socket s) new before after passes =
+      reads_wider (may_hear (hub_session hub s)) socket new before after passes
   passes_wider hub (Head stream bytes) new before after passes = passes
   passes_wider hub (Replying stream reply) new before after passes = passes
   passes_wider hub (Closing socket left) new before after passes = passes
@@ -213,25 +216,31 @@ module _ {S : Type 0} (remaining : S → Option (List ℕ)) where
   closing_passes None = refl
   closing_passes (Some s) = refl
 
-  ended_goes : (a : OpenSocket S) (new : State S) → stage_of new ≡ stage.Gone → GoesOn a new
+  ended_goes : (a : Socket (CorkedWriter S)) (new : State S) → stage_of new ≡ stage.Gone
+      → GoesOn a new
   ended_goes a (Head stream bytes) gone = tt
   ended_goes a (Replying stream reply) gone = tt
-  ended_goes a (Open opened s) gone = absurd (cc gone)
+  ended_goes a (Open socket s) gone = absurd (cc gone)
   ended_goes a (Closing socket left) gone = tt
   ended_goes a Gone gone = tt
 
   ended_fresh : (new : State S) → stage_of new ≡ stage.Gone → BeginsFresh new
   ended_fresh (Head stream bytes) gone = tt
   ended_fresh (Replying stream reply) gone = tt
-  ended_fresh (Open opened s) gone = absurd (cc gone)
+  ended_fresh (Open socket s) gone = absurd (cc gone)
   ended_fresh (Closing socket left) gone = tt
   ended_fresh Gone gone = tt
 
   pub passes_ended : (hub : Hub) (old new : State S) (made : List Event) → made ≡ closing_of (session_of old) → stage_of new ≡ stage.Gone → PassesTexts remaining 1 hub old new [] made
   unfolding passes_on_none
-  passes_ended hub (Open opened s) new made is gone = record {
-    sends = record { ready = opened; same = goes_on_same opened; passes_on = passes_on_none (allowed_reads hub (Some s) 1) opened [] made (subst (λ m. Passes [] m []) (sym is) (closing_passes (Some s))) };
-    goes_on = ended_goes opened new gone;
+  passes_ended hub (Open socket s) new made is gone = record {
+    sends = record {
+      ready = socket;
+      reads_on = reads_on_same socket;
+      passes_on = passes_on_none (allowed_reads hub (Some s) 1) socket [] made
+          (subst (λ m. Passes [] m []) (sym is) (closing_passes (Some s)));
+    };
+    goes_on = ended_goes socket new gone;
   }
   passes_ended hub (Head stream bytes) new made is gone = (subst (λ m. Passes [] m []) (sym is) refl, ended_fresh new gone)
   passes_ended hub (Replying stream reply) new made is gone = (subst (λ m. Passes [] m []) (sym is) (closing_passes (entered reply.verdict)), ended_fresh new gone)

@@ -1,9 +1,9 @@
 -- What a link wrote of a reply, and what it keeps.
-use Rattle.std.proofs.Common.{◌≡◌, ℕ, List, [], ◌++◌, take, drop, Option, None, refl, sym, subst, ap, ◌∙◌, append_assoc, append-nil, Vec, Global, String}
+use Rattle.std.proofs.Common.{◌≡◌, ℕ, List, [], ◌++◌, take, drop, Option, refl, sym, subst, ap, ◌∙◌, append_assoc, append-nil, Vec, Global, String}
 use Rattle.std.proofs.KnownBytes.{Appends-trans, Appends-nil}
 use Rattle.std.proofs.lemmas.List.{take-append-drop}
 use Rattle.std.specs.Io.KnownBytes.{Appends, Keeps, Consumes}
-use Rattle.tungstenite.specs.Socket.{IsFresh}
+use Rattle.tungstenite.specs.Socket.{Socket, IsFresh}
 use Rattle.websocket.specs.declared.protocol.config.Role.TheVariants.{Server}
 use Rattle.relay_shake.specs.Shaken.{AnswersHead, AnswersNoHead}
 use Rattle.relay_shake.specs.Replies.{refusal_of}
@@ -15,7 +15,6 @@ use Rattle.relay_link.specs.Hears.{Passes, HasReadNothing, BeginsFresh, PassesTe
 use Rattle.relay_link.specs.Replies.{WritesReply, RepliesTo, RepliesToHead, IfReplies, Replies}
 use Rattle.relay_link.specs.Stream.{stream_of, written}
 use Rattle.relay_link.specs.declared.corked_writer.CorkedWriter.{CorkedWriter}
-use Rattle.relay_link.specs.declared.open_socket.OpenSocket.{OpenSocket}
 use Rattle.relay_link.specs.declared.reply.Reply.{Reply}
 use Rattle.relay_link.specs.declared.reply.Verdict.{Verdict}
 use Rattle.relay_link.specs.declared.reply.Verdict.TheVariants.{Entered, Refused}
@@ -48,21 +47,20 @@ sent_all reply before now (sent, is, appends) = subst (Appends before now) (sym 
 
 module _ {S : Type 0} (contents : S → Option (List ℕ)) where
   -- the reply was written, and the link is open
-  pub writes_all : (reply : List ℕ) (before : Option (List ℕ)) (now : CorkedWriter S) (opened : OpenSocket S) (s : ℕ) (verdict : Verdict)
-      → IsSent reply [] before (written contents now) → IsFresh opened.socket now Server → opened.held ≡ None → verdict ≡ Entered s → WritesReply contents before verdict reply (Open opened s)
-  writes_all reply before now opened s verdict sent fresh holds is =
+  pub writes_all : (reply : List ℕ) (before : Option (List ℕ)) (now : CorkedWriter S)
+      (socket : Socket (CorkedWriter S)) (s : ℕ) (verdict : Verdict)
+      → IsSent reply [] before (written contents now) → IsFresh socket now Server
+      → verdict ≡ Entered s → WritesReply contents before verdict reply (Open socket s)
+  writes_all reply before now socket s verdict sent fresh is =
       let all = sent_all reply before (written contents now) sent in
-      let read_nothing : HasReadNothing opened = (
-        record {
-          on_stream = refl;
-          nothing_read = fresh.nothing_read;
-          nothing_waits = fresh.nothing_waits;
-          has_role = fresh.has_role;
-          is_active = fresh.is_active;
-          no_fragments = fresh.no_fragments;
-        },
-        holds,
-      ) in
+      let read_nothing : HasReadNothing socket = record {
+        on_stream = refl;
+        nothing_read = fresh.nothing_read;
+        nothing_waits = fresh.nothing_waits;
+        has_role = fresh.has_role;
+        is_active = fresh.is_active;
+        no_fragments = fresh.no_fragments;
+      } in
       (subst (λ w. Appends before (written contents w) reply) (sym fresh.on_stream) all, is, read_nothing)
 
   -- the reply of a head that is accepted
@@ -88,7 +86,7 @@ module _ {S : Type 0} (remaining contents : S → Option (List ℕ)) where
   unchanged : (state : State S) → Replies remaining contents state state
   unchanged (Head stream bytes) = tt
   unchanged (Replying stream kept) = ([], refl, Appends-nil (written contents stream), refl)
-  unchanged (Open opened s) = tt
+  unchanged (Open socket s) = tt
   unchanged (Closing socket left) = tt
   unchanged Gone = tt
 
@@ -98,7 +96,7 @@ module _ {S : Type 0} (remaining contents : S → Option (List ℕ)) where
   -- ---- a link that became open has read nothing
 
   fresh_writes : (before : Option (List ℕ)) (verdict : Verdict) (reply : List ℕ) (state : State S) → WritesReply contents before verdict reply state → BeginsFresh state
-  fresh_writes before verdict reply (Open opened s) writes = writes.2
+  fresh_writes before verdict reply (Open socket s) writes = writes.2
   fresh_writes before verdict reply (Head stream bytes) writes = tt
   fresh_writes before verdict reply (Replying stream kept) writes = tt
   fresh_writes before verdict reply (Closing socket left) writes = tt
@@ -109,7 +107,9 @@ module _ {S : Type 0} (remaining contents : S → Option (List ℕ)) where
   passes_replying most hub stream kept new before after passes writes = (passes, fresh_writes (written contents stream) kept.verdict kept.rest.items new writes)
 
   fresh_head : (stream : CorkedWriter S) (bytes : Vec ℕ Global) (state : State S) → Replies remaining contents (Head stream bytes) state → BeginsFresh state
-  fresh_head stream bytes (Open opened s) replies = fresh_writes replies.before replies.replies.verdict replies.replies.reply (Open opened s) replies.replies.writes
+  fresh_head stream bytes (Open socket s) replies =
+      let to = replies.replies in
+      fresh_writes replies.before to.verdict to.reply (Open socket s) to.writes
   fresh_head stream bytes (Head other received) replies = tt
   fresh_head stream bytes (Replying other kept) replies = tt
   fresh_head stream bytes (Closing socket left) replies = tt
@@ -140,7 +140,7 @@ module _ {S : Type 0} (remaining contents : S → Option (List ℕ)) where
     where
       if_replies : {P : Type 0} (state : State S) → P → IfReplies state P
       if_replies (Replying other kept) p = p
-      if_replies (Open opened s) p = p
+      if_replies (Open socket s) p = p
       if_replies (Head other received) p = tt
       if_replies (Closing socket left) p = tt
       if_replies Gone p = tt

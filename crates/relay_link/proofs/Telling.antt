@@ -20,7 +20,6 @@ use Rattle.relay_link.specs.declared.state.State.{State}
 use Rattle.relay_link.specs.declared.turn.Turn.{Turn}
 use Rattle.relay_link.specs.declared.state.State.TheVariants.{Head, Replying, Open, Closing, Gone}
 use Rattle.relay_link.specs.declared.corked_writer.CorkedWriter.{CorkedWriter}
-use Rattle.relay_link.specs.declared.open_socket.OpenSocket.{OpenSocket}
 use Rattle.relay_link.specs.Terms.{Serves}
 use Rattle.relay_link.proofs.Hearing.{reads_on_same, reads_on_then, terms_kept, hearing_none, hearing_then, passes_then}
 use Rattle.relay_link.proofs.Terms.{keeps_then, serves_then}
@@ -106,16 +105,18 @@ module _ {S : Type 0} {contents : S → Option (List ℕ)} where
   tells_text p q r a b c text f drew framed = tells_then f (tells_drawn (text ∷ []) drew (frames_as (append-nil (text_frame text)) framed))
 
   -- of a server's socket the frames are known
-  told : {p q : Point} {a b : OpenSocket S} → Tells contents p q a.socket b.socket → b.held ≡ a.held → a.socket.conn.role ≡ Server → Told contents p q a b
-  told tells holds server = record {
+  told : {p q : Point} {a b : Socket (CorkedWriter S)} → Tells contents p q a b
+      → a.conn.role ≡ Server → Told contents p q a b
+  told tells server = record {
     follows = tells.follows;
     utf8 = tells.utf8;
     frames = tells.frames.bytes server;
-    goes_on = record { reads_on = tells.frames.reads_on; holds = holds };
+    reads_on = tells.frames.reads_on;
   }
 
-over_goes : {S : Type 0} (a : OpenSocket S) (state : State S) → is_over (stage_of state) ≡ true → GoesOn a state
-over_goes a (Open opened s) over = absurd (cc over)
+over_goes : {S : Type 0} (a : Socket (CorkedWriter S)) (state : State S)
+    → is_over (stage_of state) ≡ true → GoesOn a state
+over_goes a (Open socket s) over = absurd (cc over)
 over_goes a (Head stream bytes) over = tt
 over_goes a (Replying stream reply) over = tt
 over_goes a (Closing socket turns) over = tt
@@ -125,32 +126,41 @@ module _ {S : Type 0} (remaining contents : S → Option (List ℕ)) where
   -- ---- a turn
 
   -- what was heard comes before what was told
-  pub exchanged : (most : ℕ) (p m q : Point) (a b c : OpenSocket S) → Drew [] p m → Hearing remaining (allowed_reads p.hub p.session most) p.made m.made a b → Passes m.made q.made []
-      → Tells contents m q b.socket c.socket → c.held ≡ b.held → Exchanges remaining contents most p q a c
-  exchanged most p m q a b c drew hearing quiet tells holds = record {
-    heard = b;
-    hearing = hearing_then remaining (allowed_reads p.hub p.session most) p.made m.made q.made a b hearing quiet;
-    tells = tells_then (tells_none p m b.socket b.socket drew refl) tells;
-    holds = holds;
-  }
+  pub exchanged : (most : ℕ) (p m q : Point) (a b c : Socket (CorkedWriter S)) → Drew [] p m
+      → Hearing remaining (allowed_reads p.hub p.session most) p.made m.made a b
+      → Passes m.made q.made [] → Tells contents m q b c → Exchanges remaining contents most p q a c
+  exchanged most p m q a b c drew hearing quiet tells =
+      let reads = allowed_reads p.hub p.session most in
+      record {
+        heard = b;
+        hearing = hearing_then remaining reads p.made m.made q.made a b hearing quiet;
+        tells = tells_then (tells_none p m b b drew refl) tells;
+      }
 
   -- what waits has still to wait
-  pub talked_none : (most : ℕ) (p : Point) (a b : OpenSocket S) → Frames contents a.socket b.socket [] → b.held ≡ a.held → Talks remaining contents most p p a b
-  talked_none most p a b sent holds = record {
-    ready = b;
-    sent = sent;
-    holds = holds;
-    exchanges = record { heard = b; hearing = hearing_none remaining (allowed_reads p.hub p.session most) p.made p.made b b refl refl; tells = tells_start p b.socket; holds = refl };
-  }
+  pub talked_none : (most : ℕ) (p : Point) (a b : Socket (CorkedWriter S)) → Frames contents a b []
+      → Talks remaining contents most p p a b
+  talked_none most p a b sent =
+      let reads = allowed_reads p.hub p.session most in
+      record {
+        ready = b;
+        sent = sent;
+        exchanges = record {
+          heard = b;
+          hearing = hearing_none remaining reads p.made p.made b b refl refl;
+          tells = tells_start p b;
+        };
+      }
 
   -- what waited was sent, and what was told was sent or has to wait
-  pub talked : {E : Type 0} (result : Result (Unit {0}) E) (most : ℕ) (p q : Point) (a b c d : OpenSocket S) → Frames contents a.socket b.socket [] → b.held ≡ a.held
-      → OnOk result (Exchanges remaining contents most p q b c) → Frames contents c.socket d.socket [] → d.held ≡ c.held → OnOk result (Talks remaining contents most p q a d)
-  talked (Err e) most p q a b c d sent holds exchanges last kept = tt
-  talked (Ok u) most p q a b c d sent holds exchanges last kept = record {
+  pub talked : {E : Type 0} (result : Result (Unit {0}) E) (most : ℕ) (p q : Point)
+      (a b c d : Socket (CorkedWriter S)) → Frames contents a b []
+      → OnOk result (Exchanges remaining contents most p q b c) → Frames contents c d []
+      → OnOk result (Talks remaining contents most p q a d)
+  talked (Err e) most p q a b c d sent exchanges last = tt
+  talked (Ok u) most p q a b c d sent exchanges last = record {
     ready = b;
     sent = sent;
-    holds = holds;
     exchanges = record {
       heard = exchanges.heard;
       hearing = exchanges.hearing;
@@ -159,31 +169,39 @@ module _ {S : Type 0} (remaining contents : S → Option (List ℕ)) where
         utf8 = exchanges.tells.utf8;
         frames = frames_as (sym (append-nil _)) (frames_more _ _ exchanges.tells.frames last);
       };
-      holds = kept ∙ exchanges.holds;
     };
   }
 
   -- ---- a turn of a link
 
-  pub talked_into : {E : Type 0} (turned : Result (Unit {0}) E) (texts : ℕ) (p : Point) (hub next : Hub) (made after : List Event) (s : ℕ) (a b : OpenSocket S) (state : State S)
-      → OnOk turned (Talks remaining contents texts p (at hub (Some s) made) a b) → OnOk turned ((state ≡ Open b s) × (next ≡ hub) × (after ≡ made)) → OnErr turned (is_over (stage_of state) ≡ true)
+  pub talked_into : {E : Type 0} (turned : Result (Unit {0}) E) (texts : ℕ) (p : Point)
+      (hub next : Hub) (made after : List Event) (s : ℕ) (a b : Socket (CorkedWriter S))
+      (state : State S)
+      → OnOk turned (Talks remaining contents texts p (at hub (Some s) made) a b)
+      → OnOk turned ((state ≡ Open b s) × (next ≡ hub) × (after ≡ made))
+      → OnErr turned (is_over (stage_of state) ≡ true)
       → IfOpen (Talks remaining contents texts) p a next after state
   talked_into (Ok u) texts p hub next made after s a b state talks stayed over = rw (stayed.0, stayed.1, stayed.2) talks
-  talked_into (Err e) texts p hub next made after s a b (Open opened t) talks stayed over = absurd (cc over)
+  talked_into (Err e) texts p hub next made after s a b (Open socket t) talks stayed over =
+      absurd (cc over)
   talked_into (Err e) texts p hub next made after s a b (Head stream bytes) talks stayed over = tt
   talked_into (Err e) texts p hub next made after s a b (Replying stream reply) talks stayed over = tt
   talked_into (Err e) texts p hub next made after s a b (Closing socket turns) talks stayed over = tt
   talked_into (Err e) texts p hub next made after s a b Gone talks stayed over = tt
 
   -- what was read and passed on: if the link is still open, its next turn reads on
-  pub reads_into : {E : Type 0} (turned : Result (Unit {0}) E) (most : ℕ) (p : Point) (hub next : Hub) (made after : List Event) (s : ℕ) (a b : OpenSocket S) (state : State S)
-      → OnOk turned (Talks remaining contents most p (at hub (Some s) made) a b) → SendsAndPassesOn remaining (allowed_reads p.hub p.session most) a p.made made
-      → OnOk turned ((state ≡ Open b s) × (next ≡ hub) × (after ≡ made)) → OnErr turned (is_over (stage_of state) ≡ true) → Passes made after []
+  pub reads_into : {E : Type 0} (turned : Result (Unit {0}) E) (most : ℕ) (p : Point)
+      (hub next : Hub) (made after : List Event) (s : ℕ) (a b : Socket (CorkedWriter S))
+      (state : State S)
+      → OnOk turned (Talks remaining contents most p (at hub (Some s) made) a b)
+      → SendsAndPassesOn remaining (allowed_reads p.hub p.session most) a p.made made
+      → OnOk turned ((state ≡ Open b s) × (next ≡ hub) × (after ≡ made))
+      → OnErr turned (is_over (stage_of state) ≡ true) → Passes made after []
       → ReadsTexts remaining (allowed_reads p.hub p.session most) a state p.made after
   reads_into (Ok u) most p hub next made after s a b state talks sends stayed over quiet = rw (stayed.0, stayed.2) (record {
     sends = record {
       ready = talks.ready;
-      same = record { reads_on = talks.sent.reads_on; holds = talks.holds };
+      reads_on = talks.sent.reads_on;
       passes_on = record {
         texts = talks.exchanges.hearing.texts;
         passes = talks.exchanges.hearing.passes;
@@ -191,12 +209,12 @@ module _ {S : Type 0} (remaining contents : S → Option (List ℕ)) where
         hears = talks.exchanges.hearing.hears;
       };
     };
-    goes_on = record { reads_on = talks.exchanges.tells.frames.reads_on; holds = talks.exchanges.holds };
+    goes_on = talks.exchanges.tells.frames.reads_on;
   })
   reads_into (Err e) most p hub next made after s a b state talks sends stayed over quiet = record {
     sends = record {
       ready = sends.ready;
-      same = sends.same;
+      reads_on = sends.reads_on;
       passes_on = record {
         texts = sends.passes_on.texts;
         passes = passes_then sends.passes_on.texts p.made made after sends.passes_on.passes quiet;
@@ -208,8 +226,10 @@ module _ {S : Type 0} (remaining contents : S → Option (List ℕ)) where
   }
 
   -- the terms stay
-  pub serves_on : (texts : ℕ) (p : Point) (next : Hub) (made : List Event) (a : OpenSocket S) (state : State S) → IfOpen (Talks remaining contents texts) p a next made state
-      → Serves a.socket.conn → IsServing state
+  pub serves_on : (texts : ℕ) (p : Point) (next : Hub) (made : List Event)
+      (a : Socket (CorkedWriter S)) (state : State S)
+      → IfOpen (Talks remaining contents texts) p a next made state
+      → Serves a.conn → IsServing state
   serves_on texts p next made a (Open b t) talks serves =
       serves_then serves (keeps_then (terms_kept talks.sent.reads_on) (keeps_then talks.exchanges.hearing.terms (terms_kept talks.exchanges.tells.frames.reads_on)))
   serves_on texts p next made a (Head stream bytes) talks serves = tt
@@ -218,32 +238,44 @@ module _ {S : Type 0} (remaining contents : S → Option (List ℕ)) where
   serves_on texts p next made a Gone talks serves = tt
 
   -- of no reads none is made
-  reads_nothing : (may : Bool) (a b : OpenSocket S) (texts : List (List ℕ)) → Hears remaining (if may then 0 else 0) a b texts → (b ≡ a) × (texts ≡ [])
+  reads_nothing : (may : Bool) (a b : Socket (CorkedWriter S)) (texts : List (List ℕ))
+      → Hears remaining (if may then 0 else 0) a b texts → (b ≡ a) × (texts ≡ [])
   reads_nothing true a b texts nothing = nothing
   reads_nothing false a b texts nothing = nothing
 
-  told_alone : (p q : Point) (a b : OpenSocket S) → Talks remaining contents 0 p q a b → a.socket.conn.role ≡ Server → Told contents p q a b
+  told_alone : (p q : Point) (a b : Socket (CorkedWriter S)) → Talks remaining contents 0 p q a b
+      → a.conn.role ≡ Server → Told contents p q a b
   told_alone p q a b talks server =
       let hearing = talks.exchanges.hearing in
       let same = (reads_nothing _ talks.ready talks.exchanges.heard hearing.texts hearing.hears).0 in
-      let tells = subst (λ (x : OpenSocket S). Tells contents p q x.socket b.socket) same talks.exchanges.tells in
-      let holds = talks.exchanges.holds ∙ ap (λ (x : OpenSocket S). x.held) same ∙ talks.holds in
-      told (record { follows = tells.follows; utf8 = tells.utf8; frames = frames_more [] _ talks.sent tells.frames }) holds server
+      let tells = subst (λ x. Tells contents p q x b) same talks.exchanges.tells in
+      told (record {
+        follows = tells.follows;
+        utf8 = tells.utf8;
+        frames = frames_more [] _ talks.sent tells.frames;
+      }) server
 
-  answered : (p q : Point) (a b : OpenSocket S) → Talks remaining contents 1 p q a b → a.socket.conn.role ≡ Server → Answered remaining contents p q a b
+  answered : (p q : Point) (a b : Socket (CorkedWriter S)) → Talks remaining contents 1 p q a b
+      → a.conn.role ≡ Server → Answered remaining contents p q a b
   answered p q a b talks server = record {
     ready = talks.ready;
     sent = talks.sent.bytes server;
-    goes_on = record { reads_on = talks.sent.reads_on; holds = talks.holds };
+    reads_on = talks.sent.reads_on;
     texts = talks.exchanges.hearing.texts;
     passes = talks.exchanges.hearing.passes;
     heard = talks.exchanges.heard;
     hears = talks.exchanges.hearing.hears;
-    told = told talks.exchanges.tells talks.exchanges.holds (talks.exchanges.hearing.terms.role ∙ (terms_kept talks.sent.reads_on).role ∙ server);
+    told = told talks.exchanges.tells
+        (talks.exchanges.hearing.terms.role ∙ (terms_kept talks.sent.reads_on).role ∙ server);
   }
 
-module _ {S : Type 0} (P Q : Point → Point → OpenSocket S → OpenSocket S → Type 0) (told_of : (p q : Point) (a b : OpenSocket S) → P p q a b → a.socket.conn.role ≡ Server → Q p q a b) where
-  if_open : (p : Point) (a : OpenSocket S) (next : Hub) (made : List Event) (new : State S) → IfOpen P p a next made new → a.socket.conn.role ≡ Server → IfOpen Q p a next made new
+module _ {S : Type 0}
+    (P Q : Point → Point → Socket (CorkedWriter S) → Socket (CorkedWriter S) → Type 0)
+    (told_of : (p q : Point) (a b : Socket (CorkedWriter S)) → P p q a b → a.conn.role ≡ Server
+    → Q p q a b) where
+  if_open : (p : Point) (a : Socket (CorkedWriter S)) (next : Hub) (made : List Event)
+      (new : State S) → IfOpen P p a next made new → a.conn.role ≡ Server
+      → IfOpen Q p a next made new
   if_open p a next made (Open b t) holds server = told_of p (at next (Some t) made) a b holds server
   if_open p a next made (Head stream bytes) holds server = tt
   if_open p a next made (Replying stream reply) holds server = tt
@@ -272,7 +304,7 @@ module _ {S : Type 0} (remaining contents : S → Option (List ℕ)) where
 module _ {S : Type 0} where
   -- a link that closes, or is gone, serves nobody
   pub serves_over : (state : State S) → IsForward stage.Closing (stage_of state) → IsServing state
-  serves_over (Open opened s) is = absurd (omega (arith, is))
+  serves_over (Open socket s) is = absurd (omega (arith, is))
   serves_over (Head stream bytes) is = tt
   serves_over (Replying stream reply) is = tt
   serves_over (Closing socket turns) is = tt

@@ -22,7 +22,7 @@ draws made = count_by is_draw made
 
 -- the maximum number of texts that a turn passes to the hub
 abbrev pub texts_of : TurnPhase → ℕ
-texts_of (Read most_work) = 1
+texts_of Read = 1
 texts_of Write = 0
 texts_of Both = 1
 

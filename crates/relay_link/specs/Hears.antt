@@ -1,4 +1,4 @@
--- What a link hears in a turn: the text that it reads, which it passes to the hub, in this turn or in a later one.
+-- What a link hears in a turn: the text that it reads, which it passes to the hub in the same turn.
 use Rattle.std.specs.Prelude.{◌≡◌, ◌⊎◌, ⊤, ℕ, zero, suc, List, [], ◌∷◌, ◌++◌, if◌then◌else◌, Option, None, Some, option_and_then, Result, Ok, Err}
 use Rattle.relay_hub.specs.Queries.{may_hear}
 use Rattle.relay_hub.specs.State.{State as Hub, session_of}
@@ -9,10 +9,8 @@ use Rattle.tungstenite.specs.declared.error.Error.{Error}
 use Rattle.tungstenite.specs.declared.message.Message.{Message}
 use Rattle.tungstenite.specs.declared.message.Message.TheVariants.{Text}
 use Rattle.websocket.specs.declared.protocol.config.Role.TheVariants.{Server}
-use Rattle.relay_link.specs.Follows.{given}
 use Rattle.relay_link.specs.Stream.{stream_of}
 use Rattle.relay_link.specs.declared.corked_writer.CorkedWriter.{CorkedWriter}
-use Rattle.relay_link.specs.declared.open_socket.OpenSocket.{OpenSocket}
 use Rattle.relay_link.specs.declared.state.State.{State}
 use Rattle.relay_link.specs.declared.state.State.TheVariants as state
 
@@ -47,19 +45,10 @@ message_of (Ok message) = Some message
 message_of (Err error) = None
 
 module _ {S : Type 0} where
-  -- the texts that an open link has read and not passed to the hub: one at most
-  abbrev pub held : OpenSocket S → List (List ℕ)
-  held opened = given opened.held
-
   -- the second socket reads on where the first would: what was read before and is not yet part of a message is the same
   pub record ReadsOn (old new : Socket (CorkedWriter S)) : Type 0 where
     pub conn : new.conn ≡ old.conn
     pub input : new.input ≡ old.input
-
-  -- the same of two open links, which also hold the same text, or none
-  pub record GoesOnFrom (old new : OpenSocket S) : Type 0 where
-    pub reads_on : ReadsOn old.socket new.socket
-    pub holds : new.held ≡ old.held
 
   -- The socket read once, with whatever outcome, and found these texts: that of the message, if it is a text message. `Reads` says which
   -- message that is: the next one in the bytes that were read before and those that the stream gave, frame after frame.
@@ -71,54 +60,59 @@ module _ {S : Type 0} where
   abbrev pub FindsNothing : Socket (CorkedWriter S) → Socket (CorkedWriter S) → List (List ℕ) → Type 0
   FindsNothing old new texts = (new ≡ old) × (texts ≡ [])
 
-  -- An open link read once, or not at all, and passes on these texts. What it held and what it found is what it passes on and what it then
-  -- holds, in this order: no text is lost, made, or overtakes another.
-  pub record HearsOnce (remaining : S → Option (List ℕ)) (old new : OpenSocket S) (texts : List (List ℕ)) : Type 0 where
-    pub found : List (List ℕ)
-    pub finds : FindsNothing old.socket new.socket found ⊎ Finds remaining old.socket new.socket found
-    pub in_order : held old ++ found ≡ texts ++ held new
+  -- The socket of an open link read once, or not at all, and the link passes on the texts that the
+  -- read found: no text is lost or made.
+  abbrev pub HearsOnce : (S → Option (List ℕ)) → Socket (CorkedWriter S) → Socket (CorkedWriter S)
+      → List (List ℕ) → Type 0
+  HearsOnce remaining old new texts = FindsNothing old new texts ⊎ Finds remaining old new texts
 
-  -- it read at most so many messages, one at most, and passes on these texts
-  abbrev pub Hears : (S → Option (List ℕ)) → ℕ → OpenSocket S → OpenSocket S → List (List ℕ) → Type 0
-  Hears remaining zero old new texts = (new ≡ old) × (texts ≡ [])
+  -- it read at most so many messages, one at most, and the link passes on these texts
+  abbrev pub Hears : (S → Option (List ℕ)) → ℕ → Socket (CorkedWriter S) → Socket (CorkedWriter S)
+      → List (List ℕ) → Type 0
+  Hears remaining zero old new texts = FindsNothing old new texts
   Hears remaining (suc n) old new texts = HearsOnce remaining old new texts
 
   -- from one list of events to another, the texts were passed to the hub that the link passes on after at most so many reads: these, and no
   -- others
-  pub record PassesOn (remaining : S → Option (List ℕ)) (most : ℕ) (opened : OpenSocket S) (before after : List Event) : Type 0 where
+  pub record PassesOn (remaining : S → Option (List ℕ)) (most : ℕ)
+      (socket : Socket (CorkedWriter S)) (before after : List Event) : Type 0 where
     pub texts : List (List ℕ)
     pub passes : Passes before after texts
-    pub heard : OpenSocket S
-    pub hears : Hears remaining most opened heard texts
+    pub heard : Socket (CorkedWriter S)
+    pub hears : Hears remaining most socket heard texts
 
   -- the same of a link that sends first what waits
-  pub record SendsAndPassesOn (remaining : S → Option (List ℕ)) (most : ℕ) (opened : OpenSocket S) (before after : List Event) : Type 0 where
-    pub ready : OpenSocket S
-    pub same : GoesOnFrom opened ready
+  pub record SendsAndPassesOn (remaining : S → Option (List ℕ)) (most : ℕ)
+      (socket : Socket (CorkedWriter S)) (before after : List Event) : Type 0 where
+    pub ready : Socket (CorkedWriter S)
+    pub reads_on : ReadsOn socket ready
     pub passes_on : PassesOn remaining most ready before after
 
   -- a link that is still open will go on from there
-  abbrev pub GoesOn : OpenSocket S → State S → Type 0
-  GoesOn heard (state.Open opened s) = GoesOnFrom heard opened
+  abbrev pub GoesOn : Socket (CorkedWriter S) → State S → Type 0
+  GoesOn heard (state.Open socket s) = ReadsOn heard socket
   GoesOn heard _ = ⊤
 
-  -- an open link has read nothing yet
-  abbrev pub HasReadNothing : OpenSocket S → Type 0
-  HasReadNothing opened = IsFresh opened.socket opened.socket.stream Server × (opened.held ≡ None)
+  -- the socket of an open link has read nothing yet
+  abbrev pub HasReadNothing : Socket (CorkedWriter S) → Type 0
+  HasReadNothing socket = IsFresh socket socket.stream Server
 
-  -- so has one that became open
+  -- so has that of a link that became open
   abbrev pub BeginsFresh : State S → Type 0
-  BeginsFresh (state.Open opened s) = HasReadNothing opened
+  BeginsFresh (state.Open socket s) = HasReadNothing socket
   BeginsFresh _ = ⊤
 
   -- An open link reads on where it stopped, passes the texts that it reads to the hub, and no others, in the order in which it reads them,
   -- and stops where its next turn goes on.
-  pub record ReadsTexts (remaining : S → Option (List ℕ)) (most : ℕ) (opened : OpenSocket S) (new : State S) (before after : List Event) : Type 0 where
-    pub sends : SendsAndPassesOn remaining most opened before after
+  pub record ReadsTexts (remaining : S → Option (List ℕ)) (most : ℕ)
+      (socket : Socket (CorkedWriter S)) (new : State S) (before after : List Event) : Type 0 where
+    pub sends : SendsAndPassesOn remaining most socket before after
     pub goes_on : GoesOn sends.passes_on.heard new
 
   -- The same of any link. One that is open reads nothing if the hub before the turn may not hear its session; one that is not open passes no
   -- text.
-  abbrev pub PassesTexts : (S → Option (List ℕ)) → ℕ → Hub → State S → State S → List Event → List Event → Type 0
-  PassesTexts remaining most hub (state.Open opened s) new before after = ReadsTexts remaining (allowed_reads hub (Some s) most) opened new before after
+  abbrev pub PassesTexts : (S → Option (List ℕ)) → ℕ → Hub → State S → State S → List Event
+      → List Event → Type 0
+  PassesTexts remaining most hub (state.Open socket s) new before after =
+      ReadsTexts remaining (allowed_reads hub (Some s) most) socket new before after
   PassesTexts remaining most hub _ new before after = Passes before after [] × BeginsFresh new

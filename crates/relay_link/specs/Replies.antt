@@ -22,13 +22,15 @@ IsReply (Refuse status reply) (Entered s) bytes = ⊥
 IsReply More verdict bytes = ⊥
 
 module _ {S : Type 0} where
-  -- A link wrote a front part of the reply behind what its stream held before, and keeps the rest. If it is open, it wrote all of the reply,
-  -- its WebSocket has read nothing and has nothing to send, and the link holds no text.
+  -- A link wrote a front part of the reply behind what its stream held before, and keeps the rest.
+  -- If it is open, it wrote all of the reply, and its WebSocket has read nothing and has nothing to
+  -- send.
   abbrev pub WritesReply : (S → Option (List ℕ)) → Option (List ℕ) → Verdict → List ℕ → State S → Type 0
   WritesReply contents before verdict reply (Replying stream kept) =
       (sent : List ℕ) × (reply ≡ sent ++ kept.rest.items) × Appends before (written contents stream) sent × (kept.verdict ≡ verdict)
-  WritesReply contents before verdict reply (Open opened s) =
-      Appends before (written contents opened.socket.stream) reply × (verdict ≡ Entered s) × HasReadNothing opened
+  WritesReply contents before verdict reply (Open socket s) =
+      Appends before (written contents socket.stream) reply × (verdict ≡ Entered s)
+      × HasReadNothing socket
   WritesReply contents before verdict reply _ = ⊤
 
   -- a reply to the answer, which may have been written in part
@@ -52,7 +54,7 @@ module _ {S : Type 0} where
   -- a link that replies, or that is open, has a reply; a link that is gone has no stream to speak of
   abbrev pub IfReplies : State S → Type 0 → Type 0
   IfReplies (Replying stream kept) P = P
-  IfReplies (Open opened s) P = P
+  IfReplies (Open socket s) P = P
   IfReplies _ P = ⊤
 
   -- What a turn writes of a reply. A link that waits for its head begins one, and a link that replies goes on with what it kept.

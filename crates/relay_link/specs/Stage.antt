@@ -1,5 +1,5 @@
 -- The stage and the session of a link.
-use Rattle.std.specs.Prelude.{ℕ, ◌≤◌, ◌&&◌, ◌==◌, length, Bool, true, false, not, Option, Some, None, is_some}
+use Rattle.std.specs.Prelude.{ℕ, ◌≤◌, ◌&&◌, ◌==◌, length, Bool, true, false, not, Option, Some, None}
 use Rattle.std.specs.Io.Buffered.{writer_buffer, writer_inner}
 use Rattle.relay_link.specs.declared.cause.Cause.{Cause}
 use Rattle.relay_link.specs.declared.cause.Cause.TheVariants as cause
@@ -19,32 +19,28 @@ module _ {S : Type 0} where
   abbrev pub stage_of : State S → Stage
   stage_of (Head stream bytes) = stage.Head
   stage_of (Replying stream reply) = stage.Head
-  stage_of (Open opened s) = stage.Open
+  stage_of (Open socket s) = stage.Open
   stage_of (Closing socket turns) = stage.Closing
   stage_of Gone = stage.Gone
 
   abbrev pub session_of : State S → Option ℕ
   session_of (Replying stream reply) = entered reply.verdict
-  session_of (Open opened s) = Some s
+  session_of (Open socket s) = Some s
   session_of _ = None
 
   -- nothing has asked for another turn: there is no work until the stream is ready or a message waits for the session
   abbrev pub is_idle : State S → Bool
   is_idle (Head stream bytes) = not (writer_inner stream.writer).wants_poll
   is_idle (Replying stream reply) = not (writer_inner stream.writer).wants_poll
-  is_idle (Open opened s) = not (writer_inner opened.socket.stream.writer).wants_poll
+  is_idle (Open socket s) = not (writer_inner socket.stream.writer).wants_poll
   is_idle (Closing socket turns) = not (writer_inner socket.stream.writer).wants_poll
   is_idle Gone = true
 
   -- the link is open, and its output buffer is corked and not empty
   abbrev pub has_corked_output : State S → Bool
-  has_corked_output (Open opened s) = opened.socket.stream.holds && not (length (writer_buffer opened.socket.stream.writer) == 0)
+  has_corked_output (Open socket s) =
+      socket.stream.holds && not (length (writer_buffer socket.stream.writer) == 0)
   has_corked_output _ = false
-
-  -- the link is open, and has read a text that it has not passed to the hub
-  abbrev pub holds_text : State S → Bool
-  holds_text (Open opened s) = is_some opened.held
-  holds_text _ = false
 
 -- the order of the stages
 abbrev pub place : Stage → ℕ

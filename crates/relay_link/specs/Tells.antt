@@ -7,10 +7,9 @@ use Rattle.relay_hub.specs.declared.event.Event.{Event}
 use Rattle.tungstenite.specs.Socket.{Socket}
 use Rattle.relay_link.specs.Follows.{Point, at, no_room, Follows, drawn}
 use Rattle.relay_link.specs.Frames.{text_frames, framed, Frames}
-use Rattle.relay_link.specs.Hears.{allowed_reads, Hears, Passes, GoesOnFrom}
+use Rattle.relay_link.specs.Hears.{allowed_reads, Hears, Passes, ReadsOn}
 use Rattle.relay_link.specs.Terms.{Serves, KeepsTerms}
 use Rattle.relay_link.specs.declared.corked_writer.CorkedWriter.{CorkedWriter}
-use Rattle.relay_link.specs.declared.open_socket.OpenSocket.{OpenSocket}
 use Rattle.relay_link.specs.declared.state.State.{State}
 use Rattle.relay_link.specs.declared.state.State.TheVariants.{Open}
 
@@ -29,60 +28,67 @@ module _ {S : Type 0} where
     pub frames : Frames contents old new (text_frames (drawn follows))
 
   -- the link hears at most so many messages, and passes texts on
-  pub record Hearing (remaining : S → Option (List ℕ)) (most : ℕ) (before after : List Event) (old new : OpenSocket S) : Type 0 where
+  pub record Hearing (remaining : S → Option (List ℕ)) (most : ℕ) (before after : List Event)
+      (old new : Socket (CorkedWriter S)) : Type 0 where
     pub texts : List (List ℕ)
     pub passes : Passes before after texts
     pub hears : Hears remaining most old new texts
-    pub terms : KeepsTerms old.socket.conn new.socket.conn
+    pub terms : KeepsTerms old.conn new.conn
 
   -- a link that has nothing to send hears, and then tells
-  pub record Exchanges (remaining contents : S → Option (List ℕ)) (most : ℕ) (p q : Point) (old new : OpenSocket S) : Type 0 where
-    pub heard : OpenSocket S
+  pub record Exchanges (remaining contents : S → Option (List ℕ)) (most : ℕ) (p q : Point)
+      (old new : Socket (CorkedWriter S)) : Type 0 where
+    pub heard : Socket (CorkedWriter S)
     pub hearing : Hearing remaining (allowed_reads p.hub p.session most) p.made q.made old heard
-    pub tells : Tells contents p q heard.socket new.socket
-    pub holds : new.held ≡ heard.held
+    pub tells : Tells contents p q heard new
 
   -- the same of a link that may have something to send, which goes first
-  pub record Talks (remaining contents : S → Option (List ℕ)) (most : ℕ) (p q : Point) (old new : OpenSocket S) : Type 0 where
-    pub ready : OpenSocket S
-    pub sent : Frames contents old.socket ready.socket []
-    pub holds : ready.held ≡ old.held
+  pub record Talks (remaining contents : S → Option (List ℕ)) (most : ℕ) (p q : Point)
+      (old new : Socket (CorkedWriter S)) : Type 0 where
+    pub ready : Socket (CorkedWriter S)
+    pub sent : Frames contents old ready []
     pub exchanges : Exchanges remaining contents most p q ready new
 
   -- an open link speaks as a server, within its limits
   abbrev pub IsServing : State S → Type 0
-  IsServing (Open opened s) = Serves opened.socket.conn
+  IsServing (Open socket s) = Serves socket.conn
   IsServing _ = ⊤
 
   -- a relation of an open link before a turn, which begins at the point, to it after the turn, if the turn leaves it open
-  abbrev pub IfOpen : (Point → Point → OpenSocket S → OpenSocket S → Type 0) → Point → OpenSocket S → Hub → List Event → State S → Type 0
+  abbrev pub IfOpen : (Point → Point → Socket (CorkedWriter S) → Socket (CorkedWriter S) → Type 0)
+      → Point → Socket (CorkedWriter S) → Hub → List Event → State S → Type 0
   IfOpen P p old next made (Open new t) = P p (at next (Some t) made) old new
   IfOpen P p old next made _ = ⊤
 
   -- the same of any link: what it says of one that a turn finds open and leaves open
-  abbrev pub WhileOpen : (Point → Point → OpenSocket S → OpenSocket S → Type 0) → Hub → List Event → State S → Hub → List Event → State S → Type 0
-  WhileOpen P hub before (Open old s) next made new = IfOpen P (at hub (Some s) before) old next made new
+  abbrev pub WhileOpen :
+      (Point → Point → Socket (CorkedWriter S) → Socket (CorkedWriter S) → Type 0)
+      → Hub → List Event → State S → Hub → List Event → State S → Type 0
+  WhileOpen P hub before (Open old s) next made new =
+      IfOpen P (at hub (Some s) before) old next made new
   WhileOpen P hub before _ next made new = ⊤
 
   -- ---- what a public turn says
 
   -- The bytes that were framed before, and the frames of the texts that the events drew, each whole and in order: these, and nothing else,
-  -- are what is framed now. Each of the texts is UTF-8. Nothing was read, and the link holds the same text, or none.
-  pub record Told (contents : S → Option (List ℕ)) (p q : Point) (old new : OpenSocket S) : Type 0 where
+  -- are what is framed now. Each of the texts is UTF-8. Nothing was read.
+  pub record Told (contents : S → Option (List ℕ)) (p q : Point) (old new : Socket (CorkedWriter S))
+      : Type 0 where
     pub follows : Follows no_room p q
     pub utf8 : AllByRecursion IsUtf8 (drawn follows)
-    pub frames : Appends (framed contents old.socket) (framed contents new.socket) (text_frames (drawn follows))
-    pub goes_on : GoesOnFrom old new
+    pub frames : Appends (framed contents old) (framed contents new) (text_frames (drawn follows))
+    pub reads_on : ReadsOn old new
 
   -- The same of a turn that may hear. What was framed before it reads stays, and what the read itself sends is as the WebSocket says of it.
-  -- The text that the link held, or that the read finds, is what the events pass to the hub, unless the link goes on to hold it; the next
-  -- turn reads on behind it.
-  pub record Answered (remaining contents : S → Option (List ℕ)) (p q : Point) (old new : OpenSocket S) : Type 0 where
-    pub ready : OpenSocket S
-    pub sent : Appends (framed contents old.socket) (framed contents ready.socket) []
-    pub goes_on : GoesOnFrom old ready
+  -- The text that the read finds is what the events pass to the hub; the next turn reads on behind
+  -- it.
+  pub record Answered (remaining contents : S → Option (List ℕ)) (p q : Point)
+      (old new : Socket (CorkedWriter S)) : Type 0 where
+    pub ready : Socket (CorkedWriter S)
+    pub sent : Appends (framed contents old) (framed contents ready) []
+    pub reads_on : ReadsOn old ready
     pub texts : List (List ℕ)
     pub passes : Passes p.made q.made texts
-    pub heard : OpenSocket S
+    pub heard : Socket (CorkedWriter S)
     pub hears : Hears remaining (allowed_reads p.hub p.session 1) ready heard texts
     pub told : Told contents p q heard new

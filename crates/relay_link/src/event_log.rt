@@ -13,8 +13,6 @@ pub(crate) struct EventLog {
     events: Vec<Event>,
     /// The bytes of the texts that were drawn.
     drawn: u64,
-    /// How much work the texts may be that were passed to the hub.
-    work: u64,
     /// Why the hub opened no session, if it was asked for one.
     fault: Cell<Option<OpenFault>>,
     /// Whether memory was refused for a text that was to be drawn.
@@ -44,7 +42,6 @@ impl EventLog {
         Ok(EventLog {
             events: Vec::with_capacity(alloc, MAX_EVENTS)?,
             drawn: 0,
-            work: 0,
             fault: Cell::new(None),
             lacks_memory: false,
         })
@@ -72,18 +69,6 @@ impl EventLog {
     /// The bytes of the texts that were drawn.
     pub(crate) fn drawn(&self) -> u64 {
         self.drawn
-    }
-
-    /// Counts how much work a text may be that is passed to the hub. Allocates nothing.
-    pub(crate) fn count_work(&mut self, work: u64)
-        ensures { self.new ≡ self.old }
-    {
-        self.work = self.work.saturating_add(work);
-    }
-
-    /// How much work the texts may be that were passed to the hub.
-    pub(crate) fn work(&self) -> u64 {
-        self.work
     }
 
     /// Notes why the hub opened no session. Allocates nothing.

@@ -20,7 +20,6 @@ use crate::corked_writer::CorkedWriter;
 use crate::event_log::EventLog;
 use crate::events;
 use crate::non_blocking::is_nothing_now;
-use crate::open_socket::OpenSocket;
 use crate::reply::{Reply, Verdict};
 use crate::socket::socket_on;
 use crate::state::State;
@@ -163,10 +162,7 @@ pub(crate) fn reply<S: Read + Write + Drop>(
     match reply.send(&mut stream) {
         Ok(()) => match reply.verdict {
             Verdict::Entered(session) => Transition::on(State::Open {
-                opened: OpenSocket {
-                    socket: socket_on(alloc, stream),
-                    held: None,
-                },
+                socket: socket_on(alloc, stream),
                 session,
             }),
             Verdict::Refused(status) => Transition::gone(Cause::Refused(status)),

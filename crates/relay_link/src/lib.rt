@@ -11,8 +11,8 @@
 //! message, 640 bytes for output, and a few hundred bytes of state. A handshake takes 90 KB more while it is checked.
 //! Once a read has filled its 1.25 KiB, the link reads 8 KiB at once, and costs some 15 KiB more from then on.
 //! Longer messages come on top, and their capacity is kept: one incoming message (at most 1,056,768 bytes), and outgoing
-//! texts of up to 64 KiB together plus one more, since a link draws no further text while output is pending; and one text that is held for a
-//! later turn ([`Link::read_turn`]), until it is passed on.
+//! texts of up to 64 KiB together plus one more, since a link draws no further text while output
+//! is pending.
 #![tactic(auto)]
 
 mod cause;
@@ -23,7 +23,6 @@ mod events;
 mod head;
 mod link;
 mod non_blocking;
-mod open_socket;
 mod opened;
 mod reply;
 mod socket;

@@ -6,7 +6,7 @@ ghost use Rattle.relay_link.specs.Ends.{turns_left};
 ghost use Rattle.relay_link.specs.Follows.{Follows, no_room, at, closing_of};
 ghost use Rattle.relay_link.specs.Hears.{PassesTexts};
 ghost use Rattle.relay_link.specs.Replies.{Replies};
-ghost use Rattle.relay_link.specs.Stage.{stage_of, session_of, has_corked_output, holds_text, is_idle, leaves, ended, IsForward};
+ghost use Rattle.relay_link.specs.Stage.{stage_of, session_of, has_corked_output, is_idle, leaves, ended, IsForward};
 ghost use Rattle.relay_link.specs.Tells.{IsServing, Talks, WhileOpen, Told, Answered};
 ghost use Rattle.relay_link.specs.Turns.{Turns};
 ghost use Rattle.relay_link.specs.declared.cause.Cause.TheVariants.{Silent};
@@ -82,20 +82,14 @@ impl<S: Read + Write + Drop> Link<S> {
         self.state.stage()
     }
 
-    /// Whether a turn has no work until the stream is ready again or a message waits for the session. `false` if the last read turn held its
-    /// text, or took the one that was held, or found a close; if it found a message and bytes behind it were read, or the stream's last read
-    /// gave all that it was asked for, since more may have come; or if a turn since then was interrupted or out of memory.
+    /// Whether a turn has no work until the stream is ready again or a message waits for the
+    /// session. `false` if the last read turn found a close; if it found a message and bytes behind
+    /// it were read, or the stream's last read gave all that it was asked for, since more may have
+    /// come; or if a turn since then was interrupted or out of memory.
     pub fn is_idle(&self) -> bool
         ensures { result ≡ is_idle self.now }
     {
         self.state.is_idle()
-    }
-
-    /// Whether the link holds a text that it has read and not passed to the hub ([`Link::read_turn`]). Allocates nothing.
-    pub fn holds_text(&self) -> bool
-        ensures { result ≡ holds_text self.now }
-    {
-        self.state.holds_text()
     }
 
     /// Whether output of [`Link::read_turn`] is corked. Allocates nothing.
@@ -112,12 +106,14 @@ impl<S: Read + Write + Drop> Link<S> {
     ///   received so far as a handshake. A valid one opens a session; if the hub opens none the reply is 503. Once the reply is
     ///   written the link is Open, or Gone with [`Cause::Refused`]. If the bytes end, the stream fails, or memory runs out before that, it
     ///   is Gone, and a session that was opened is closed.
-    /// - Open: while output is pending the turn only sends. Otherwise it passes the text that it holds to the hub. If it holds none
-    ///   ([`Link::read_turn`]), it reads one message: a text is passed to the hub, a ping is answered, a pong has no effect, a binary
-    ///   message is answered by a close with 1003, and a close is answered. If the session is busy ([`Hub::may_hear`] is false before
-    ///   the turn), it reads nothing, and passes no text to the hub. Then it draws messages, and sends them together, 64 KiB at a time,
-    ///   until output is pending; a draw that is out of memory ends the turn. After a binary message or a close the link is Closing. If
-    ///   the bytes end, the stream fails, frames violate the protocol, or memory runs out, it is Gone.
+    /// - Open: while output is pending the turn only sends. Otherwise it reads one message: a text
+    ///   is passed to the hub, a ping is answered, a pong has no effect, a binary message is
+    ///   answered by a close with 1003, and a close is answered. If the session is busy
+    ///   ([`Hub::may_hear`] is false before the turn), it reads nothing, and passes no text to the
+    ///   hub. Then it draws messages, and sends them together, 64 KiB at a time, until output is
+    ///   pending; a draw that is out of memory ends the turn. After a binary message or a close
+    ///   the link is Closing. If the bytes end, the stream fails, frames violate the protocol, or
+    ///   memory runs out, it is Gone.
     /// - Closing: the turn reads one message and drops it. If the other side's close has not arrived after 16 such turns, the
     ///   link is Gone with [`Cause::Silent`]. If that close or the end of the bytes comes, the stream fails, frames violate the protocol,
     ///   or memory runs out, it is Gone at once.
@@ -139,16 +135,12 @@ impl<S: Read + Write + Drop> Link<S> {
 
     /// Runs the read part of a turn, for a link that reads more than once before it writes. As [`Link::turn`], but up to 640 bytes of
     /// an open link's output are corked until [`Link::write_turn`]. A link that ends sends its output first.
-    ///
-    /// A text that may be more than `most_work` ([`Hub::most_work`]) is held: the link passes it to the hub in the first turn that allows
-    /// as much, and reads nothing before. Texts stay in order.
     #[tactic(auto, using(crate::proofs::Telling::answers_if))]
     pub fn read_turn(
         &mut self,
         alloc: Global,
         hub: &mut Hub,
         draws: u64,
-        most_work: u64,
     ) -> Result<Turn, AllocError>
         ensures turns { IfOk result (Turns S.remaining 1 draws hub.old self.old hub.new self.new) }
         ensures frames { IfOk result (λ turn. WhileOpen (Answered S.remaining S.contents) hub.old [] self.old hub.new turn.made.items self.new) }
@@ -157,7 +149,7 @@ impl<S: Read + Write + Drop> Link<S> {
         ensures unchanged { OnErr result (self.new ≡ self.old) }
         ensures hub_unchanged { OnErr result (hub.new ≡ hub.old) }
     {
-        self.take(alloc, TurnPhase::Read { most_work }, hub, draws)
+        self.take(alloc, TurnPhase::Read, hub, draws)
     }
 
     /// Runs the write part of a turn, which reads nothing: it writes the rest of an unfinished reply, and an open link draws
@@ -196,9 +188,9 @@ impl<S: Read + Write + Drop> Link<S> {
         events::end(hub, self.session(), &mut made);
         let cause = match mem::replace(&mut self.state, State::Gone) {
             State::Gone => None,
-            State::Open { mut opened, .. } => {
-                opened.socket.get_ref().hold(false);
-                let _ = close(&mut opened.socket, CloseCode::Away);
+            State::Open { mut socket, .. } => {
+                socket.get_ref().hold(false);
+                let _ = close(&mut socket, CloseCode::Away);
                 Some(Cause::Ended)
             }
             State::Head { .. } | State::Replying { .. } | State::Closing { .. } => {
@@ -207,7 +199,6 @@ impl<S: Read + Write + Drop> Link<S> {
         };
         Ok(Turn {
             drawn: made.drawn(),
-            work: made.work(),
             cost: 0,
             fault: None,
             lacks_memory: false,
@@ -241,7 +232,6 @@ impl<S: Read + Write + Drop> Link<S> {
         self.state = next.state;
         Ok(Turn {
             drawn: made.drawn(),
-            work: made.work(),
             cost: hub.cost().saturating_sub(before),
             fault: made.fault(),
             lacks_memory: made.lacks_memory(),
@@ -279,8 +269,8 @@ fn advance<S: Read + Write + Drop>(
 {
     match state {
         State::Replying { stream, reply } => head::reply(alloc, stream, reply, hub, made),
-        State::Open { opened, session } => {
-            opened::turn(alloc, opened, session, phase, draws, hub, made)
+        State::Open { socket, session } => {
+            opened::turn(alloc, socket, session, phase, draws, hub, made)
         }
         State::Head { stream, bytes } if phase != TurnPhase::Write => {
             head::listen(alloc, stream, bytes, hub, made)

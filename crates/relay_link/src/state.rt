@@ -1,9 +1,8 @@
 //! The state of a link, by stage.
 ghost use Rattle.std.specs.Prelude.{◌≡◌};
-ghost use Rattle.relay_link.specs.Stage.{stage_of, session_of, has_corked_output, holds_text, is_idle};
+ghost use Rattle.relay_link.specs.Stage.{stage_of, session_of, has_corked_output, is_idle};
 
 use crate::corked_writer::CorkedWriter;
-use crate::open_socket::OpenSocket;
 use crate::reply::{Reply, Verdict};
 use crate::socket::Socket;
 use crate::stage::Stage;
@@ -22,7 +21,7 @@ pub(crate) enum State<S: Write + Drop> {
         reply: Reply,
     },
     Open {
-        opened: OpenSocket<S>,
+        socket: Socket<S>,
         session: u64,
     },
     /// The other side may answer in the next `turns` turns.
@@ -63,17 +62,7 @@ impl<S: Write + Drop> State<S> {
         ensures { result ≡ has_corked_output self.now }
     {
         match self {
-            State::Open { opened, .. } => opened.socket.get_ref().has_corked_output(),
-            _ => false,
-        }
-    }
-
-    /// Whether an open link holds a text that it has read.
-    pub(crate) fn holds_text(&self) -> bool
-        ensures { result ≡ holds_text self.now }
-    {
-        match self {
-            State::Open { opened, .. } => opened.held.is_some(),
+            State::Open { socket, .. } => socket.get_ref().has_corked_output(),
             _ => false,
         }
     }
@@ -84,7 +73,7 @@ impl<S: Write + Drop> State<S> {
         match self {
             State::Head { stream, .. } => stream.is_idle(),
             State::Replying { stream, .. } => stream.is_idle(),
-            State::Open { opened, .. } => opened.socket.get_ref().is_idle(),
+            State::Open { socket, .. } => socket.get_ref().is_idle(),
             State::Closing { socket, .. } => socket.get_ref().is_idle(),
             State::Gone => true,
         }

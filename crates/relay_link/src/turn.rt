@@ -18,9 +18,6 @@ pub struct Turn {
     pub cause: Option<Cause>,
     /// How many bytes the texts have that the turn drew.
     pub drawn: u64,
-    /// How much work the text may be that the turn passed to the hub ([`relay_hub::Hub::most_work`]), also if the hub had no memory for it;
-    /// 0 if there was none.
-    pub work: u64,
     /// What the hub's work cost, in microseconds ([`relay_hub::Hub::cost`]).
     pub cost: u64,
     /// Why the hub opened no session, if the turn asked it for one.

@@ -75,7 +75,7 @@ impl<'a> LinkFixture<'a> {
     /// Does an act, and tells its turn but for what was written:
     ///
     /// - `idle` runs a turn, and `draws N` one with so many draws at most, as each later one;
-    /// - `hear`, `hear WORK` and `tell` run a read turn, one that allows so much work, and a write turn;
+    /// - `hear` and `tell` run a read turn and a write turn;
     /// - `end` ends the link;
     /// - `bring ACT` does what comes before a turn;
     /// - `look` tells the stage and the session;
@@ -85,7 +85,7 @@ impl<'a> LinkFixture<'a> {
         let turn = match word {
             "look" => return self.seen(alloc),
             "bring" => return self.brought(alloc, rest),
-            "hear" => self.heard(alloc, hub, rest)?,
+            "hear" => self.link.read_turn(alloc, hub, self.draws).ok()?,
             "tell" => self.link.write_turn(alloc, hub, self.draws).ok()?,
             "end" => self.link.end(alloc, hub).ok()?,
             _ => {
@@ -113,12 +113,6 @@ impl<'a> LinkFixture<'a> {
         Some(String::new(alloc))
     }
 
-    fn heard(&mut self, alloc: Global, hub: &mut Hub, work: &str) -> Option<Turn> {
-        let most_work = work.parse::<u64>().unwrap_or(u64::MAX);
-        let turn = self.link.read_turn(alloc, hub, self.draws, most_work);
-        turn.ok()
-    }
-
     /// The stage and the session.
     fn seen(&self, alloc: Global) -> Option<String> {
         let mut told = format!(in alloc; "{:?}", self.link.stage()).ok()?;
@@ -126,7 +120,7 @@ impl<'a> LinkFixture<'a> {
         Some(told)
     }
 
-    /// Whether the link is idle, has output that is corked, and holds a text.
+    /// Whether the link is idle, and has output that is corked.
     pub fn flags(&self, alloc: Global) -> Option<String> {
         let idle = if self.link.is_idle() { "idle" } else { "busy" };
         let corked = if self.link.has_corked_output() {
@@ -134,12 +128,7 @@ impl<'a> LinkFixture<'a> {
         } else {
             ""
         };
-        let holds = if self.link.holds_text() {
-            ", holds a text"
-        } else {
-            ""
-        };
-        format!(in alloc; "{idle}{corked}{holds}").ok()
+        format!(in alloc; "{idle}{corked}").ok()
     }
 }
 

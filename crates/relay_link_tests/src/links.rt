@@ -36,7 +36,7 @@ impl<R: AllocGlobal> Subject<R> for Links<'_> {
     /// - `other` goes on with the other link;
     /// - `hub K` is a new hub that lets so many patches wait, and `full` fills it with as many sessions as it allows;
     /// - `join` opens session 2, which has no link, and `beside ACT` has it edit after an act;
-    /// - `flags ACT` tells whether the link is idle, has output that is corked, and holds a text after an act;
+    /// - `flags ACT` tells whether the link is idle, and has output that is corked, after an act;
     /// - `waiting N` tells how many messages wait for a session, and `count-reads` and `count-writes` how often the link read or wrote since it
     ///   was last asked;
     /// - every other act is one of the link.

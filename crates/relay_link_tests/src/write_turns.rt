@@ -1,7 +1,7 @@
-//! Read turns and write turns, what they hold, and whether a link is idle after a turn.
+//! Read turns and write turns, what they cork, and whether a link is idle after a turn.
 use crate::links::play_anew;
 
-/// What arrives, and which turn reads it, holds it or sends what came of it.
+/// What arrives, which turn reads it, and which turn sends what came of it.
 const ROWS: &str = r#"
 # A write turn reads nothing: it draws what waits, and a request waits for the next turn.
 asks 13 /rooms/a => open a; Open as 1 > switched
@@ -103,24 +103,6 @@ hear => receive 1; draw 1; draw 1; Open as 1 > {"id":7,"kind":"unwatched"}
 hear => draw 1; Open as 1
 tell => draw 1; Open as 1 > {"id":7,"kind":"unwatched"}
 flags look => idle
-
-# A text may be more work than a read turn allows. It is held until one allows it, and the next stays behind it.
-enter
-bring says {"do":"edit","id":2,"patch":[{"op":"add","path":"","value":7}]}
-bring says {"do":"unwatch","id":7}
-hear 2727 => Open as 1
-flags look => busy, holds a text
-hear 0 => Open as 1
-flags look => busy, holds a text
-hear 2728 => receive 1; Open as 1
-flags look => busy
-hear 255 => Open as 1
-flags look => busy, holds a text
-hear 256 => receive 1; Open as 1
-flags look => busy
-hear 0 => Open as 1
-flags look => idle
-draws 9 => draw 1; draw 1; draw 1; draw 1; Open as 1 > {"epoch":1,"kind":"welcome","rev":0,"session":1} > {"id":2,"kind":"done","rev":1} > {"id":7,"kind":"unwatched"}
 
 # A request of 65,536 bytes, whose frame has a length of eight bytes (RFC 6455, section 5.2).
 enter

@@ -5,7 +5,8 @@ use Rattle.relay_link.proofs.Telling.{talked_none, talked}
 use Rattle.relay_link.proofs.opened.talk.Goals as goal
 
 pub returns-then-not-branch-clause-talks : goal.returns-then-not-branch-clause-talks
-returns-then-not-branch-clause-talks g c = talked_none g.S.Read.remaining g.S.Write.contents _ _ _ _ c.flush.ensures.frames refl
+returns-then-not-branch-clause-talks g c =
+    talked_none g.S.Read.remaining g.S.Write.contents _ _ _ _ c.flush.ensures.frames
 
 pub returns-then-not-branch-clause-passes : goal.returns-then-not-branch-clause-passes
 returns-then-not-branch-clause-passes g c = sends_none g.S.Read.remaining _ _ _ _ refl
@@ -15,4 +16,5 @@ returns-in_err-flush-clause-passes g c = sends_none g.S.Read.remaining _ _ _ _ r
 
 pub returns-in_ok-sent-clause-talks : goal.returns-in_ok-sent-clause-talks
 returns-in_ok-sent-clause-talks g c =
-    talked g.S.Read.remaining g.S.Write.contents c.exchange-exchanged.result _ _ _ _ _ _ _ c.flush.ensures.frames refl c.exchange-exchanged.ensures.exchanges c.flush-sent.ensures.frames refl
+    talked g.S.Read.remaining g.S.Write.contents c.exchange-exchanged.result _ _ _ _ _ _ _
+    c.flush.ensures.frames c.exchange-exchanged.ensures.exchanges c.flush-sent.ensures.frames
