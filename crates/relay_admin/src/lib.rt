@@ -4,7 +4,7 @@
 //! head: it has one `Host`, which names the loopback, and no `Origin`, so that no page in a browser on the same machine can read
 //! anything or stop the relay, neither under the port's own address nor under a name that leads there (DNS rebinding).
 //!
-//! It does no input or output: `relay_serving` moves the bytes, and closes each connection after one reply. So a body is ignored.
+//! It does no input or output: `relay_operator` moves the bytes, and closes each connection after one reply. So a body is ignored.
 #![tactic(auto)]
 
 mod answer;

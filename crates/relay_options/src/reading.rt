@@ -14,7 +14,7 @@ use clap::{Arg, ArgAction, ArgMatches, Command, Error};
 use std::alloc::{AllocError, Global};
 
 /// The version of the program, and the version line of the kit that proves it (`rt version`).
-const VERSION: &str = "0.2.0\nrattle-kit-13b logic dac8208d650f15bf";
+const VERSION: &str = "0.2.0\nrattle-kit-13f logic dac8208d650f15bf";
 
 const ABOUT: &str =
     "Keeps shared JSON documents in rooms, and tells each watcher what changed in the parts that it watches";

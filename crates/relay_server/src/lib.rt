@@ -21,8 +21,8 @@ pub use relay_lines::{
 };
 pub use relay_link::Cause;
 pub use relay_loopback::{Client, ClientHandshake, ServeFault};
+pub use relay_operator::{AdminPort, AdminReadiness, Polling, Readiness, ReadyEvent, StreamReady};
 pub use relay_serving::{
-    AdminPort, AdminReadiness, ConnectionId, ConnectionLog, LogEntry, NoLog, Polling, Readiness,
-    ReadyEvent, Refusal, RoomSession, Server, StreamReady, connection_limit,
+    ConnectionId, ConnectionLog, LogEntry, NoLog, Refusal, RoomSession, Server, connection_limit,
 };
 pub use status::{Status, report};

@@ -7,10 +7,10 @@ ghost use Rattle.relay_serving.specs.Advances.{IsNew};
 ghost use Rattle.relay_serving.specs.Connections.{has_room};
 
 use crate::connection_log::{ConnectionId, Refusal, RoomSession};
-use crate::readiness::StreamReady;
 use crate::ready::{Known, Watched};
 use relay_hub::{Hub, OpenFault};
 use relay_link::{Link, Stage};
+use relay_operator::StreamReady;
 use relay_schedule::Credit;
 use std::alloc::{AllocError, Global};
 use std::cell::Cell;

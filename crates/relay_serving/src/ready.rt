@@ -2,7 +2,7 @@
 //! of it.
 ghost use Rattle.relay_serving.specs.Ready.{left_of};
 
-use crate::readiness::StreamReady;
+use relay_operator::StreamReady;
 use std::alloc::{AllocError, Global};
 use std::cell::Cell;
 use std::io;

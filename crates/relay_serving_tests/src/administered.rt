@@ -1,7 +1,8 @@
 //! A server with an admin port: what it answers beside its rounds, and how it stops.
 use crate::memory_server::{MemoryListener, ReadinessScript, ScriptedReadiness};
 use relay_hub::{Hub, HubConfig};
-use relay_serving::{AdminPort, AdminReadiness, NoLog, ReadyEvent, Server};
+use relay_operator::{AdminPort, AdminReadiness, ReadyEvent};
+use relay_serving::{NoLog, Server};
 use relay_wire::{End, Subject, Wire, cut, play, push_signs};
 use std::alloc::{AllocGlobal, Global};
 use std::cell::{RefCell, RefMut};

@@ -1,7 +1,7 @@
 //! A server and its clients, each at a wire of its own, to which the acts of rows are done.
 use crate::memory_server::{MemoryServer, ReadinessScript};
 use relay_hub::HubConfig;
-use relay_serving::{ReadyEvent, StreamReady};
+use relay_operator::{ReadyEvent, StreamReady};
 use relay_tree::Budget;
 use relay_wire::{Subject, Wire, cut, play, push_signs};
 use std::alloc::{AllocGlobal, Global};

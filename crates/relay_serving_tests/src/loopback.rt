@@ -1,7 +1,8 @@
 //! A server behind a loopback socket, and two clients of its room.
 use relay_hub::Hub;
 use relay_loopback::{Client, ClientHandshake};
-use relay_serving::{NoLog, Polling, Server};
+use relay_operator::Polling;
+use relay_serving::{NoLog, Server};
 use relay_wire::{Subject, cut, play};
 use std::alloc::{AllocGlobal, Global};
 use std::net::{Ipv4Addr, Net, OpenListener, OpenStream, SocketAddr};

@@ -1,6 +1,7 @@
 //! A server over in-memory streams, whose readiness the test controls.
 use relay_hub::{Hub, HubConfig};
-use relay_serving::{ConnectionLog, LogEntry, Readiness, ReadyEvent, Server};
+use relay_operator::{Readiness, ReadyEvent};
+use relay_serving::{ConnectionLog, LogEntry, Server};
 use relay_wire::{End, Wire};
 use std::alloc::Global;
 use std::cell::{RefCell, RefMut};

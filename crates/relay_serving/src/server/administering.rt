@@ -5,12 +5,9 @@ ghost use Rattle.relay_serving.specs.Connections.{connections_of, limit_of};
 ghost use Rattle.relay_serving.specs.Rounds.{RoundsOf};
 
 use super::Server;
-use crate::admin_port::AdminPort;
-use crate::admin_readiness::AdminReadiness;
-use crate::admin_view::AdminView;
 use crate::connection_log::ConnectionLog;
-use crate::counters::Counted;
-use crate::readiness::Readiness;
+use crate::counted::Counted;
+use relay_operator::{AdminPort, AdminReadiness, AdminView, Readiness};
 use std::alloc::Global;
 use std::io::{Read, Write};
 use std::net::{OpenListener, OpenStream};

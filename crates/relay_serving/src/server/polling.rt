@@ -2,7 +2,7 @@
 ghost use Rattle.relay_serving.specs.Advances.{KeepsFewer};
 
 use super::Server;
-use crate::readiness::{Readiness, ReadyEvent, StreamReady};
+use relay_operator::{Readiness, ReadyEvent, StreamReady};
 use std::io::{Read, Write};
 use std::net::OpenStream;
 use std::time::Duration;

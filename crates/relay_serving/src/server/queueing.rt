@@ -11,8 +11,8 @@ ghost use Rattle.relay_serving.specs.Advances.{KeepsFewer};
 
 use super::Server;
 use crate::connection::Connection;
-use crate::readiness::Readiness;
 use relay_link::Turn;
+use relay_operator::Readiness;
 use relay_schedule::RoomShares;
 use std::io::{Read, Write};
 use std::net::OpenStream;

@@ -3,8 +3,8 @@ ghost use Rattle.relay_serving.specs.Advances.{KeepsFewer};
 
 use super::Server;
 use crate::connection_log::ConnectionLog;
-use crate::readiness::Readiness;
 use relay_link::Turn;
+use relay_operator::Readiness;
 use relay_schedule::Spending;
 use std::alloc::Global;
 use std::io::{Read, Write};
@@ -169,10 +169,7 @@ impl<S: Read + Write + OpenStream + Drop, R: Readiness<S>> Server<S, R> {
             return 0;
         };
         let before = connection.link.stage();
-        let Ok(turn) = connection
-            .link
-            .read_turn(alloc, &mut self.hub, READ_DRAWS, u64::MAX)
-        else {
+        let Ok(turn) = connection.link.read_turn(alloc, &mut self.hub, READ_DRAWS) else {
             self.shed(log);
             return TURN_COST;
         };

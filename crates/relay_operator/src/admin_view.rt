@@ -9,11 +9,14 @@ use std::alloc::{AllocError, Global};
 
 /// A hub, which no request changes, and the numbers of its server.
 #[derive(Clone, Copy)]
-pub(crate) struct AdminView<'v> {
+pub struct AdminView<'v> {
     pub hub: &'v Hub,
+    /// How many connections are held, with and without a session.
     pub connections: u64,
     pub max_connections: u64,
+    /// How many rounds there were.
     pub rounds: u64,
+    /// How long the longest round of the last minute worked, in microseconds.
     pub longest_round: u64,
 }
 

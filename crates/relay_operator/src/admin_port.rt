@@ -12,17 +12,19 @@ use std::net::{OpenListener, OpenStream};
 /// How many connections are held at most. A further one takes the place of the oldest.
 const MAX_CONNECTIONS: usize = 8;
 
-/// A listener, and the connections to it, the oldest first. They never wait for each other, nor does a client of the relay wait for one.
+/// A listener, and the connections to it, the oldest first. They never wait for each other, nor
+/// does a client of the relay wait for one.
 #[derive(Drop)]
 pub struct AdminPort<L: OpenListener> {
     listener: L,
     connections: Vec<AdminConnection<L::Stream>>,
-    pub(crate) counters: Counters,
+    /// What the server's log said so far, which the server counts.
+    pub counters: Counters,
 }
 
 /// What a turn of the admin port came to.
 #[derive(Clone, Copy, Debug, PartialEq, Eq)]
-pub(crate) struct AdminTurn {
+pub struct AdminTurn {
     /// Whether it left work for the next round.
     pub has_more: bool,
     /// Whether a stop was asked.
@@ -45,13 +47,9 @@ where
         }
     }
 
-    /// Accepts connections that wait, at most as many as may be held. Returns whether more may wait. A connection that cannot be held is
-    /// dropped.
-    pub(crate) fn accept<R: Readiness<L::Stream>>(
-        &mut self,
-        alloc: Global,
-        readiness: &mut R,
-    ) -> bool {
+    /// Accepts connections that wait, at most as many as may be held. Returns whether more may
+    /// wait. A connection that cannot be held is dropped.
+    pub fn accept<R: Readiness<L::Stream>>(&mut self, alloc: Global, readiness: &mut R) -> bool {
         for _ in 0..MAX_CONNECTIONS {
             let Ok((stream, _)) = self.listener.accept() else {
                 return false;
@@ -65,7 +63,8 @@ where
         true
     }
 
-    /// Holds a connection, in place of the oldest if there are as many as may be. Without memory it is dropped.
+    /// Holds a connection, in place of the oldest if there are as many as may be. Without memory it
+    /// is dropped.
     fn hold(&mut self, connection: AdminConnection<L::Stream>) {
         if self.connections.len() >= MAX_CONNECTIONS {
             let _ = self.connections.remove(0);
@@ -73,8 +72,8 @@ where
         let _ = self.connections.push(connection);
     }
 
-    /// Gives each connection a turn.
-    pub(crate) fn turn(&mut self, alloc: Global, view: &AdminView<'_>) -> AdminTurn {
+    /// Gives each connection a turn, in which its request is read and the reply is written.
+    pub fn turn(&mut self, alloc: Global, view: &AdminView<'_>) -> AdminTurn {
         let mut turn = AdminTurn {
             has_more: false,
             is_stopping: false,
@@ -93,8 +92,8 @@ where
         turn
     }
 
-    /// Gives the connection at a place a turn. Returns what it found, and whether it asked for a stop. A connection for which there is no
-    /// memory is over.
+    /// Gives the connection at a place a turn. Returns what it found, and whether it asked for a
+    /// stop. A connection for which there is no memory is over.
     fn turn_at(&mut self, alloc: Global, place: usize, view: &AdminView<'_>) -> (Found, bool) {
         let Some(connection) = self.connections.get_mut(place) else {
             return (Found::Over, false);

@@ -1,6 +1,6 @@
 -- The list began with an empty buffer.
 use Rattle.std.proofs.Common.{◌≡◌, []}
-use Rattle.relay_serving.proofs.admin_view.AdminView.rooms.Given as goal
+use Rattle.relay_operator.proofs.admin_view.AdminView.rooms.Given as goal
 
 abbrev pub invariant-loop-place : goal.invariant-loop-place
 invariant-loop-place l = l.out.before ≡ []

@@ -1,4 +1,5 @@
-//! Readiness for a server with an admin port. The admin port's events are kept from the server's rounds, and each round's work is timed.
+//! Readiness for a server with an admin port. The admin port's events are kept from the server's
+//! rounds, and each round's work is timed.
 use crate::longest_round::LongestRound;
 use crate::readiness::{Readiness, ReadyEvent};
 use std::io;
@@ -7,7 +8,8 @@ use std::time::{Clock, Duration};
 /// The key of the admin port's listener. No slab has this key, nor the next.
 pub const ADMIN_LISTENER: usize = usize::MAX - 1;
 
-/// The key of each connection to the admin port. They share one, since any event makes the port look at all of them.
+/// The key of each connection to the admin port. They share one, since any event makes the port
+/// look at all of them.
 pub(crate) const ADMIN_STREAM: usize = usize::MAX - 2;
 
 /// The readiness of a server's streams, and whether something became ready at its admin port.
@@ -38,24 +40,24 @@ impl<'c, R, C: Clock> AdminReadiness<'c, R, C> {
     }
 
     /// Whether the admin port may have work. It has none afterwards, until the next event.
-    pub(crate) fn take_ready(&mut self) -> bool {
+    pub fn take_ready(&mut self) -> bool {
         let was = self.is_ready;
         self.is_ready = false;
         was
     }
 
     /// Notes that the admin port left work for the next round.
-    pub(crate) fn ready_again(&mut self) {
+    pub fn ready_again(&mut self) {
         self.is_ready = true;
     }
 
-    /// The time by the clock.
-    pub(crate) fn now(&self) -> Duration {
+    /// The time by the clock; 0 if that fails.
+    pub fn now(&self) -> Duration {
         now(self.clock)
     }
 
     /// How long the longest round of the last minute worked, in microseconds.
-    pub(crate) fn longest_round(&self) -> u64 {
+    pub fn longest_round(&self) -> u64 {
         self.longest.longest()
     }
 

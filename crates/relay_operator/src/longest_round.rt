@@ -7,7 +7,8 @@ const PARTS: usize = 6;
 /// How many seconds each part has.
 const SECONDS: u64 = 10;
 
-/// The longest round of each ten seconds of the last minute, in microseconds. A round is forgotten 50 to 60 seconds after it.
+/// The longest round of each ten seconds of the last minute, in microseconds. A round is forgotten
+/// 50 to 60 seconds after it.
 #[derive(Clone, Copy, Debug)]
 pub(crate) struct LongestRound {
     parts: [u64; PARTS],

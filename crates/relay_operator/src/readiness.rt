@@ -1,4 +1,5 @@
-//! The readiness of sockets: the trait that a server's rounds use, and its implementation by the operating system's poll.
+//! The readiness of sockets: the trait that a server's rounds use, and its implementation by the
+//! operating system's poll.
 use crate::admin_readiness::ADMIN_LISTENER;
 use mio::event::Event;
 use mio::unix::SourceFd;
@@ -15,7 +16,8 @@ use std::time::Duration;
 pub struct StreamReady {
     pub readable: bool,
     pub writable: bool,
-    /// Whether the stream failed, or the other side closed it: its end may follow its last bytes without another event.
+    /// Whether the stream failed, or the other side closed it: its end may follow its last bytes
+    /// without another event.
     pub is_over: bool,
 }
 
@@ -42,9 +44,10 @@ pub trait Readiness<S> {
     /// Watches a stream under a key until the stream is dropped. After an error it is not watched.
     fn watch(&mut self, key: usize, stream: &S) -> io::Result<()>;
 
-    /// Waits for events for at most `most`, and appends to `events` what became ready since the last call. An event may be
-    /// spurious, may repeat, or may name a dropped stream; events that exceed the capacity come with the next call. After an error
-    /// nothing is known: everything may be ready.
+    /// Waits for events for at most `most`, and appends to `events` what became ready since the
+    /// last call. An event may be spurious, may repeat, or may name a dropped stream; events that
+    /// exceed the capacity come with the next call. After an error nothing is known: everything may
+    /// be ready.
     fn wait(&mut self, most: Duration, events: &mut Vec<ReadyEvent>) -> io::Result<()>;
 }
 
@@ -62,7 +65,8 @@ pub struct Polling {
 }
 
 impl Polling {
-    /// Sets up the system's poll, and watches the listener. After an error, which may be `OutOfMemory`, readiness cannot be polled.
+    /// Sets up the system's poll, and watches the listener. After an error, which may be
+    /// `OutOfMemory`, readiness cannot be polled.
     pub fn new<N: Net>(alloc: Global, net: &N, listener: &N::Listener) -> io::Result<Polling> {
         let poll = Poll::new(net)?;
         let Ok(events) = Events::with_capacity(alloc, MAX_EVENTS) else {

@@ -54,7 +54,8 @@ impl<S: Read + Write + OpenStream + Drop> AdminConnection<S> {
         self.reply = Some(reply);
     }
 
-    /// Reads until the bytes received are answered, or no more are there. `None` if the stream is over or failed.
+    /// Reads until the bytes received are answered, or no more are there. `None` if the stream is
+    /// over or failed.
     pub(crate) fn hear(&mut self, alloc: Global) -> Result<Option<Ask>, AllocError> {
         for _ in 0..READS {
             let mut bytes = [0; READ];
@@ -77,7 +78,8 @@ impl<S: Read + Write + OpenStream + Drop> AdminConnection<S> {
         Ok(Some(Ask::More))
     }
 
-    /// Sends what is left of the reply, and then waits for the other side to close, dropping what it still sends.
+    /// Sends what is left of the reply, and then waits for the other side to close, dropping what
+    /// it still sends.
     pub(crate) fn tell(&mut self) -> Found {
         match self.send() {
             Found::Over if self.is_sent() => self.drain(),
@@ -119,8 +121,8 @@ impl<S: Read + Write + OpenStream + Drop> AdminConnection<S> {
         Found::More
     }
 
-    /// Drops what the other side still sends, so that its reply is not lost. Whoever sends more than a head's length is left to be the
-    /// oldest connection.
+    /// Drops what the other side still sends, so that its reply is not lost. Whoever sends more
+    /// than a head's length is left to be the oldest connection.
     fn drain(&mut self) -> Found {
         for _ in 0..READS {
             let mut bytes = [0; READ];

@@ -1,0 +1,55 @@
+//! What an operator is told of a server's log, in numbers.
+use relay_admin::{EndedBy, RefusedBy};
+use std::time::Duration;
+
+/// For how many seconds a server counts as short of memory after its log said so.
+const SHORT: u64 = 60;
+
+/// How many entries of each kind the log of a server had since it began, and when memory was short.
+#[derive(Clone, Copy, Debug)]
+pub struct Counters {
+    /// Sessions that were opened.
+    pub opened: u64,
+    /// Handshakes that were refused.
+    pub refused: RefusedBy,
+    /// Connections that ended.
+    pub ended: EndedBy,
+    /// Entries that say that memory was refused.
+    pub(crate) shed: u64,
+    /// When the log last said that memory was refused.
+    last_shed: Option<Duration>,
+    /// The time of the present round.
+    now: Duration,
+}
+
+impl Counters {
+    pub(crate) fn new() -> Counters {
+        Counters {
+            opened: 0,
+            refused: RefusedBy::default(),
+            ended: EndedBy::default(),
+            shed: 0,
+            last_shed: None,
+            now: Duration::ZERO,
+        }
+    }
+
+    /// Begins a round at this time.
+    pub fn begin(&mut self, now: Duration) {
+        self.now = now;
+    }
+
+    /// Counts that memory was refused in the present round.
+    pub fn count_shed(&mut self) {
+        self.shed = self.shed.saturating_add(1);
+        self.last_shed = Some(self.now);
+    }
+
+    /// Whether memory was refused within the last minute.
+    pub(crate) fn is_short_of_memory(&self) -> bool {
+        match self.last_shed {
+            Some(then) => self.now.saturating_sub(then).as_secs() < SHORT,
+            None => false,
+        }
+    }
+}

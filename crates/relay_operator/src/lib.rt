@@ -1,0 +1,24 @@
+//! The operator's half of a server: the port at which an operator asks how it is and stops it, what
+//! the replies say, and the readiness of all the server's sockets, the port's among them.
+//!
+//! The promise: no request changes the hub, or anything else of its server. The port sees both
+//! through references that nothing is written through ([`AdminView`]), and of a stop it only says
+//! that it was asked ([`AdminTurn`]). No round knows of the port, since [`AdminReadiness`] takes
+//! the port's events out before a round sees them.
+//!
+//! No link is known here. What a server's log says of links, the server counts ([`Counters`]).
+#![tactic(auto)]
+
+mod admin_connection;
+mod admin_port;
+mod admin_readiness;
+mod admin_view;
+mod counters;
+mod longest_round;
+mod readiness;
+
+pub use admin_port::{AdminPort, AdminTurn};
+pub use admin_readiness::{ADMIN_LISTENER, AdminReadiness};
+pub use admin_view::AdminView;
+pub use counters::Counters;
+pub use readiness::{Polling, Readiness, ReadyEvent, StreamReady};
