@@ -166,8 +166,8 @@ static Link begun(int kibibytes) {
     return link;
 }
 
-// Seconds of a processor that a process took so far, all its threads together.
-static double processor(int pid) {
+// Seconds of CPU time that a process took so far, all its threads together.
+static double cpu_time(int pid) {
     char name[64], text[1024] = "";
     unsigned long user = 0, system = 0;
     snprintf(name, sizeof name, "/proc/%d/stat", pid);
@@ -206,11 +206,11 @@ static void deliver(int watchers, int seconds, int server, int kibibytes) {
             double done = (e - edits) / took, more = (p - patches) / took;
             printf("%.0f edits, %.0f patches, ", done, more);
             printf("%.0f snapshots a second", (s - snapshots) / took);
-            if (server) printf(", %.1f %% of a processor", (processor(server) - used) / took * 100);
+            if (server) printf(", %.1f %% of a CPU", (cpu_time(server) - used) / took * 100);
             printf("\n");
         }
         patches = p, snapshots = s, edits = e, begin = now();
-        if (server) used = processor(server);
+        if (server) used = cpu_time(server);
     }
     exit(0);
 }
@@ -247,9 +247,9 @@ static void answer(int links, int edits) {
         all += took[n] = now() - begin;
     }
     qsort(took, edits, sizeof *took, by_size);
-    double middle = took[edits / 2], most = took[edits * 99 / 100];
-    printf("%.1f microseconds from an edit to its own patch in the middle, ", middle * 1e6);
-    printf("%.1f on average, 99 of 100 within %.1f, ", all / edits * 1e6, most * 1e6);
+    double median = took[edits / 2], p99 = took[edits * 99 / 100];
+    printf("%.1f microseconds from an edit to its own patch (median), ", median * 1e6);
+    printf("%.1f on average, %.1f at p99, ", all / edits * 1e6, p99 * 1e6);
     printf("%d links beside\n", links);
 }
 

@@ -37,7 +37,7 @@ def beside(port, entered, ended, waits):
 
 class Beside:
     def __init__(self, port):
-        apart = multiprocessing.get_context("spawn")  # a fork would keep the crowd's sockets open
+        apart = multiprocessing.get_context("spawn")  # a fork would keep the clients' sockets open
         self.entered, self.ended, self.waits = apart.Event(), apart.Event(), apart.Queue()
         self.process = apart.Process(
             target=beside, args=(port, self.entered, self.ended, self.waits)
@@ -54,17 +54,17 @@ class Beside:
         self.process.join()
 
 
-def watched(crowd):
-    """Each of the crowd watches 16 members of its own."""
-    for number, client in enumerate(crowd):
+def watched(clients):
+    """Each of the clients watches 16 members of its own."""
+    for number, client in enumerate(clients):
         view = [f"/{number}/{slot}" for slot in range(SLOTS)]
         client.send(request("watch", view=view))
-    for client in crowd:
+    for client in clients:
         client.count(SNAPSHOT, 1)
 
 
-def left(crowd):
-    for client in crowd:
+def left(clients):
+    for client in clients:
         client.stream.close()
 
 
@@ -79,7 +79,7 @@ def settled(pid):
 
 
 def part(pid, port, work, count):
-    """Microseconds of the CPU for each of the crowd, and the longest wait of a client beside."""
+    """Microseconds of the CPU for each of the clients, and the longest wait of a client beside."""
     with Beside(port) as other:
         begun = Microseconds().spent(pid)
         work()
@@ -90,9 +90,9 @@ def part(pid, port, work, count):
 def measure(sessions):
     with Relay("--sessions", sessions + 8) as serve:
         pid, port = serve.process.pid, serve.port
-        crowd = [Counting(port, "crowd") for _ in range(sessions)]
-        watch = part(pid, port, lambda: watched(crowd), sessions)
-        leave = part(pid, port, lambda: left(crowd), sessions)
+        clients = [Counting(port, "full") for _ in range(sessions)]
+        watch = part(pid, port, lambda: watched(clients), sessions)
+        leave = part(pid, port, lambda: left(clients), sessions)
         print(f"{sessions:8} | {watch} | {leave}", flush=True)
 
 

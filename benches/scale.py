@@ -6,8 +6,8 @@
 For each number a relay is started with room for them, 20 in a room. Printed are the memory that a
 session takes, with its share of a room; deliveries to 200 watchers of one more room and the time
 from an edit to its own patch, by load.c; and, after the relay was killed and started again, the
-time until each session is back and holds the right slot, by crowd.c. It needs cc, and as many open
-files a process as there are connections."""
+time until each session is back and holds the right slot, by idle_sessions.c. It needs cc, and as
+many open files a process as there are connections."""
 
 import argparse
 import pathlib
@@ -32,8 +32,8 @@ def compiled(name, folder):
     return program
 
 
-class Crowd:
-    """The sessions that say nothing; none is a crowd too."""
+class IdleSessions:
+    """The watching sessions that say nothing; there may be none."""
 
     def __init__(self, program, port, sessions, rooms):
         words = [program, str(port), str(sessions), str(rooms)]
@@ -54,10 +54,10 @@ class Crowd:
             self.process.wait()
 
 
-def measure(server, sessions, load, crowd):
-    """Of a server, with `load` and `crowd` as they are compiled."""
+def measure(server, sessions, load, idle):
+    """Of a server, with `load` as it is compiled, and the idle sessions."""
     before = server.memory()
-    crowd.all_there()
+    idle.all_there()
     each = f", {(server.memory() - before) / sessions / 1024:.1f} KiB each" if sessions else ""
     print(f"{sessions} sessions beside{each}", flush=True)
     for words in (["deliver", "200", "5", str(server.process.pid)], ["answer", "0", "3000"]):
@@ -66,19 +66,19 @@ def measure(server, sessions, load, crowd):
         print("  " + said.stdout.strip(), flush=True)
 
 
-def play(other, sessions, load, crowd_program):
+def play(other, sessions, load, idle_program):
     rooms = max(1, sessions // IN_A_ROOM)
     sizes = [] if other else ["--sessions", sessions + BUSY, "--rooms", rooms + BUSY_ROOMS]
     how = {"of": other, "stderr": subprocess.DEVNULL}
     with Relay(*sizes, **how) as server:
-        crowd = Crowd(crowd_program, server.port, sessions, rooms)
+        idle = IdleSessions(idle_program, server.port, sessions, rooms)
         try:
-            measure(server, sessions, load, crowd)
+            measure(server, sessions, load, idle)
             server.end()
             with Relay(*sizes, port=server.port, epoch=server.epoch + 1, **how):
-                back = crowd.all_there()
+                back = idle.all_there()
         finally:
-            crowd.end()
+            idle.end()
     if sessions:
         print(f"  all back {back:.1f} s after the server was killed", flush=True)
 
@@ -95,9 +95,9 @@ def asked():
 def main(words):
     open_files()
     with tempfile.TemporaryDirectory() as folder:
-        load, crowd = compiled("load", folder), compiled("crowd", folder)
+        load, idle = compiled("load", folder), compiled("idle_sessions", folder)
         for sessions in words.numbers:
-            play(words.of, sessions, load, crowd)
+            play(words.of, sessions, load, idle)
 
 
 if __name__ == "__main__":

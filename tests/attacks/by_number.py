@@ -6,7 +6,7 @@ from attackers import ATTACKS, Wrong, attack
 from support import wire
 
 ROOMS = 64
-CROWD = 200
+EDITORS = 200
 EDIT = wire.request("edit", patch=[{"op": "add", "path": "", "value": "x" * 7_000}])
 
 
@@ -23,10 +23,10 @@ def names_left(attackers):
 
 
 @attack
-def crowd(attackers, count=CROWD):
+def editors(attackers, count=EDITORS):
     """So many clients of one room that watch it, read, and edit it for five seconds, 7 KB each
     time, as fast as they are read."""
-    clients = attackers.open_many(["crowd"] * count)
+    clients = attackers.open_many(["full"] * count)
     if len(clients) < count:
         raise Wrong(f"only {len(clients)} sessions are opened")
     for client in clients:
@@ -34,4 +34,6 @@ def crowd(attackers, count=CROWD):
     attackers.pour(clients, EDIT)
 
 
-ATTACKS.update({f"crowd-{count}": functools.partial(crowd, count=count) for count in (18, 60, 240)})
+ATTACKS.update(
+    {f"editors-{count}": functools.partial(editors, count=count) for count in (18, 60, 240)}
+)

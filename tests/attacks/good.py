@@ -2,9 +2,10 @@
 long the longest `done` took.
 
 It is a process of its own, so that what the attackers compute is not counted. `python3 good.py
-PORT` writes `ready`, goes on until its standard input ends, and then writes what it saw, as JSON:
-how many edits were answered, the worst wait in seconds (one that was not over counts as long as it
-lasted), whether that one was not over, and what went wrong, or null."""
+PORT` makes some edits, so that it has paid what a new connection owes, and writes `ready`. It goes
+on until its standard input ends, and then writes what it saw since, as JSON: how many edits were
+answered, the worst wait in seconds (one that was not over counts as long as it lasted), whether
+that one was not over, and what went wrong, or null."""
 
 import json
 import os
@@ -20,6 +21,8 @@ from support import wire
 from support.patience import Deadline, OutOfTime
 
 PERIOD = 0.02
+# How many edits it makes before it is ready.
+FIRST = 25
 # How long it sleeps before it looks whether it is to end.
 LOOK = 0.05
 PATIENCE = 10
@@ -58,6 +61,13 @@ class Good:
         snapshot = self.client.message()
         if (reply["kind"], snapshot["kind"]) != ("watching", "snapshot"):
             raise Wrong(f"a watch is answered {reply}, {snapshot}")
+
+    def begin(self):
+        """Edits some times, which are not among what it saw."""
+        for _ in range(FIRST):
+            self.edit(time.monotonic())
+            time.sleep(PERIOD)
+        self.worst = 0
 
     def play(self):
         """Edits until it is to end."""
@@ -105,6 +115,7 @@ def is_over(seconds):
 
 def main(port):
     good, fault = Good(int(port)), None
+    good.begin()
     print("ready", flush=True)
     try:
         good.play()
@@ -112,7 +123,7 @@ def main(port):
         fault = str(wrong)
     except OutOfTime:
         fault = "its edit is not read"
-    seen = {"edits": good.edits, "worst": good.worst, "is_cut": good.is_cut, "fault": fault}
+    seen = {"edits": good.edits - FIRST, "worst": good.worst, "is_cut": good.is_cut, "fault": fault}
     print(json.dumps(seen))
 
 

@@ -1,7 +1,7 @@
-// A crowd of watching sessions that say nothing more, in rooms of their own, which come back when
+// Watching sessions that say nothing more, in rooms of their own, which come back when
 // the relay ends.
 //
-//     crowd PORT SESSIONS ROOMS
+//     idle_sessions PORT SESSIONS ROOMS
 //
 // Each session watches the member /name of its room's document; the first of a room puts it there,
 // also after a restart, which forgets all documents. Whenever all sessions hold the right slot it
@@ -67,7 +67,7 @@ static int say(Session *s, const char *text) {
 
 static int shake(Session *s) {
     char head[HANDSHAKE], room[32];
-    snprintf(room, sizeof room, "crowd%d", s->room);
+    snprintf(room, sizeof room, "idle%d", s->room);
     s->stage = SHAKING;
     return sent(s, head, handshake(head, room));
 }
@@ -151,7 +151,7 @@ static void turn(Session *all) {
 }
 
 int main(int argc, char **argv) {
-    if (argc != 4) return fprintf(stderr, "usage: crowd PORT SESSIONS ROOMS\n"), 2;
+    if (argc != 4) return fprintf(stderr, "usage: idle_sessions PORT SESSIONS ROOMS\n"), 2;
     port = atoi(argv[1]), count = atoi(argv[2]), rooms = atoi(argv[3]);
     struct rlimit files = {count + 64, count + 64};
     if (setrlimit(RLIMIT_NOFILE, &files)) fail("files");

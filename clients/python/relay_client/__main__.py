@@ -1,0 +1,153 @@
+"""The program `relay-client`."""
+from __future__ import annotations
+
+import argparse
+import asyncio
+import json
+import os
+import sys
+from typing import Any, Coroutine, Optional, Sequence
+
+from . import commands
+from .commands import NoAnswer
+from .faults import Closed, HandshakeFailed, Refused, Unknown
+from .pointers import check_room, tokens
+from .values import Patch, as_json
+
+DONE, REFUSED, NO_RELAY = 0, 1, 3  # 2 is argparse's, for words that it does not take
+
+ABOUT = """Gets, watches and edits the document of a room. What it prints is one JSON a line."""
+EXAMPLES = """\
+A relay that listens on port 8080 runs these as they stand, in this order:
+
+  relay-client edit ws://127.0.0.1:8080/rooms/shop '[{"op":"add","path":"","value":{"n":1}}]'
+  relay-client get ws://127.0.0.1:8080/rooms/shop
+  relay-client get ws://127.0.0.1:8080/rooms/shop /n
+  relay-client watch ws://127.0.0.1:8080/rooms/shop /n | head -n 1
+  echo '[{"op":"replace","path":"/n","value":2}]' |
+    relay-client edit ws://127.0.0.1:8080/rooms/shop - --base 1
+
+It exits with 0 if all was done, 1 if the relay refused it, 2 if the words are wrong, and 3 if there
+is no relay, or the connection was lost before the answer.
+"""
+GET = """Prints the value at each pointer, by default the whole document. If one of them leads to
+nothing, it prints none and exits with 1."""
+WATCH = """Prints {"rev":R,"slots":[..]} at first and for each change, until Ctrl-C or until nobody
+reads it any more. A slot is [value], or [] if its pointer leads to nothing. If the connection is
+lost it comes back by itself, and says so on standard error."""
+EDIT = """Applies a JSON Patch, whole or not at all, and prints {"rev":N}, the revision that it
+made."""
+
+
+def main(words: Optional[Sequence[str]] = None) -> int:
+    asked = _parser().parse_args(words)
+    try:
+        asyncio.run(_running(asked))
+        return DONE
+    except BrokenPipeError:
+        # What was not written is not tried again when Python ends.
+        os.dup2(os.open(os.devnull, os.O_WRONLY), sys.stdout.fileno())
+        return DONE
+    except KeyboardInterrupt:
+        return DONE if asked.command == "watch" else NO_RELAY
+    except Refused as refused:
+        print(f"relay-client: refused: {_in_words(refused, asked)}", file=sys.stderr)
+        return REFUSED
+    except (Closed, HandshakeFailed, NoAnswer, Unknown) as error:
+        is_open = asked.command == "edit" and isinstance(error, (NoAnswer, Unknown))
+        also = ": the edit may have been done, or not" if is_open else ""
+        print(f"relay-client: {error}{also}", file=sys.stderr)
+        return NO_RELAY
+
+
+def _running(asked: argparse.Namespace) -> Coroutine[Any, Any, None]:
+    if asked.command == "get":
+        return commands.get(asked.url, asked.pointers or [""], asked.timeout)
+    if asked.command == "watch":
+        return commands.watch(asked.url, asked.pointers or [""], asked.timeout)
+    return commands.edit(asked.url, asked.patch, asked.base, asked.timeout)
+
+
+def _in_words(refused: Refused, asked: argparse.Namespace) -> str:
+    of = "operation" if asked.command == "edit" else "pointer"
+    place = "" if refused.at is None else f", at {of} {refused.at} (the first is 0)"
+    room = "" if refused.rev is None else f", the room is at revision {refused.rev}"
+    return f"{refused.fault}{place}{room}"
+
+
+def _parser() -> argparse.ArgumentParser:
+    shape: Any = argparse.RawDescriptionHelpFormatter
+    parser = argparse.ArgumentParser(
+        prog="relay-client", description=ABOUT, epilog=EXAMPLES, formatter_class=shape
+    )
+    room = argparse.ArgumentParser(add_help=False)
+    room.add_argument("url", type=_room, metavar="URL", help="as ws://127.0.0.1:8080/rooms/NAME")
+    room.add_argument(
+        "--timeout",
+        type=_seconds,
+        default=10.0,
+        metavar="SECONDS",
+        help="how long to wait for the first answer (10)",
+    )
+    jobs = parser.add_subparsers(dest="command", required=True, metavar="get|watch|edit")
+    for name, help_line, about in (
+        ("get", "print the values at pointers", GET),
+        ("watch", "print each change", WATCH),
+    ):
+        job = jobs.add_parser(name, parents=[room], help=help_line, description=about)
+        about_pointers = "a JSON Pointer, as /cards/0; none is the whole document"
+        job.add_argument(
+            "pointers", nargs="*", type=_pointer, metavar="POINTER", help=about_pointers
+        )
+    job = jobs.add_parser("edit", parents=[room], help="apply a JSON Patch", description=EDIT)
+    about_patch = "a JSON Patch, or - to read it from standard input"
+    job.add_argument("patch", type=_patch, metavar="PATCH", help=about_patch)
+    about_base = "the revision that the patch was made for; at another it is refused, as stale"
+    job.add_argument("--base", type=_count, metavar="REV", help=about_base)
+    return parser
+
+
+def _room(word: str) -> str:
+    try:
+        check_room(word)
+    except ValueError as error:
+        raise argparse.ArgumentTypeError(str(error)) from error
+    return word
+
+
+def _pointer(word: str) -> str:
+    try:
+        tokens(word)
+    except ValueError as error:
+        raise argparse.ArgumentTypeError(str(error)) from error
+    return word
+
+
+def _patch(word: str) -> Patch:
+    try:
+        value = json.loads(sys.stdin.buffer.read() if word == "-" else word)
+    except (RecursionError, ValueError) as error:
+        raise argparse.ArgumentTypeError(f"no JSON: {error}") from error
+    try:
+        patch: Patch = as_json(value)
+    except ValueError as error:
+        raise argparse.ArgumentTypeError(str(error)) from error
+    return patch
+
+
+def _count(word: str) -> int:
+    number = int(word)
+    if not 0 <= number < 2**53:
+        raise argparse.ArgumentTypeError(f"{word} is no revision")
+    return number
+
+
+def _seconds(word: str) -> float:
+    number = float(word)
+    if not 0 < number < float("inf"):
+        raise argparse.ArgumentTypeError(f"{word} is no time")
+    return number
+
+
+if __name__ == "__main__":
+    sys.exit(main())

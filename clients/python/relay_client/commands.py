@@ -1,0 +1,120 @@
+"""What `relay-client` does with a room: get, watch, edit."""
+from __future__ import annotations
+
+import asyncio
+import contextlib
+import json
+import os
+import stat
+import sys
+from typing import Any, Callable, List, Optional, TypeVar
+
+from .board import Board
+from .changes import Change
+from .faults import HandshakeFailed, Refused
+from .link import settle
+from .values import Json, Patch, State, View
+from .warning import warning
+
+Answer = TypeVar("Answer")
+
+
+class NoAnswer(Exception):
+    """The relay gave no answer within the timeout."""
+
+
+class Room:
+    """A board, for whoever waits for one answer. A handshake that fails before the first slots is
+    final; later the client comes back by itself, and warns on standard error. `hears` is told of
+    each change, and of None if there can be no more."""
+
+    def __init__(
+        self, url: str, view: View, timeout: float, hears: Callable[[Optional[Change]], None]
+    ):
+        self._timeout, self._warn, self._hears = timeout, warning(), hears
+        self._failed: "asyncio.Future[None]" = asyncio.get_running_loop().create_future()
+        self._failed.add_done_callback(lambda failed: failed.cancelled() or failed.exception())
+        # The board's own patience is the longer one, so that `NoAnswer` comes first.
+        patience = timeout + 10
+        self.board = Board(
+            url, view=view, on_change=hears, on_state=self._turned, patience=patience
+        )
+
+    def _turned(self, state: State, cause: Optional[Exception]) -> None:
+        if state == "closed" and cause is not None:
+            settle(self._failed, cause)
+            self._hears(None)
+        elif self.board.ready.done():
+            self._warn(state, cause)
+        elif isinstance(cause, HandshakeFailed):
+            settle(self._failed, cause)
+
+    async def answer(self, coming: "asyncio.Future[Answer]") -> Answer:
+        """Its result. Fails with the cause if there is no connection, and with `NoAnswer`."""
+        either: "List[asyncio.Future[Any]]" = [coming, self._failed]
+        first = asyncio.FIRST_COMPLETED
+        await asyncio.wait(either, timeout=self._timeout, return_when=first)
+        if not coming.done():
+            coming.cancel()
+            self.check()
+            raise NoAnswer(f"no answer within {self._timeout:g} seconds")
+        return coming.result()
+
+    def check(self) -> None:
+        """Fails with the cause if there can be no answer."""
+        if self._failed.done():
+            self._failed.result()
+
+
+async def get(url: str, pointers: List[str], timeout: float) -> None:
+    """Prints the value at each pointer. Refused, as `missing`, if one leads to nothing: then none is
+    printed, so that line k is always of pointer k."""
+    room = Room(url, [*pointers], timeout, lambda change: None)
+    async with room.board:
+        slots = await room.answer(room.board.ready)
+    for at, slot in enumerate(slots):
+        if not slot:
+            raise Refused("missing", at)
+    for [value] in slots:
+        write(value)
+
+
+async def watch(url: str, pointers: List[str], timeout: float) -> None:
+    """Prints what the pointers show, and then each change, until nobody reads it any more."""
+    changes: "asyncio.Queue[Optional[Change]]" = asyncio.Queue()
+    room = Room(url, [*pointers], timeout, changes.put_nowait)
+    _when_closed(lambda: changes.put_nowait(None))
+    async with room.board:
+        await room.answer(room.board.ready)
+        while (change := await changes.get()) is not None:
+            write({"rev": change.rev, "slots": change.slots})
+        room.check()
+
+
+async def edit(url: str, patch: Patch, base: Optional[int], timeout: float) -> None:
+    """Prints the revision that the patch made."""
+    room = Room(url, [], timeout, lambda change: None)
+    async with room.board as board:
+        done = board.edit(patch) if base is None else board.edit(patch, base=base)
+        write({"rev": await room.answer(done)})
+
+
+def write(value: Json) -> None:
+    """One line, as the relay writes JSON: compact, and member names in byte order."""
+    line = json.dumps(value, ensure_ascii=False, separators=(",", ":"), sort_keys=True)
+    sys.stdout.buffer.write(f"{line}\n".encode())
+    sys.stdout.buffer.flush()
+
+
+def _when_closed(closed: Callable[[], None]) -> None:
+    """Calls `closed` once nobody reads standard output any more, if that is a pipe. Without this a
+    quiet room would keep the command until its next change."""
+    loop, out = asyncio.get_running_loop(), sys.stdout.fileno()
+
+    def gone() -> None:
+        loop.remove_reader(out)
+        closed()
+
+    if stat.S_ISFIFO(os.fstat(out).st_mode):
+        with contextlib.suppress(NotImplementedError):  # by the event loop of Windows
+            loop.add_reader(out, gone)

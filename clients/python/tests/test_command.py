@@ -1,0 +1,233 @@
+"""The command `relay-client`, as another process. The relay is one that the test plays over a
+socket; the examples of `--help` are played to the program that RELAY names."""
+import asyncio, json, os, re, signal, sys, tempfile, unittest
+from contextlib import asynccontextmanager
+
+import websockets
+
+from fake import done, patch, refused, relay_client, snapshot, watching, welcome
+
+PACKAGE = os.path.dirname(os.path.dirname(os.path.abspath(relay_client.__file__)))
+ENVIRONMENT = {**os.environ, "PYTHONPATH": PACKAGE}
+PIPE = asyncio.subprocess.PIPE
+PATIENCE = 60
+SHOWN = {"": {"n": 1}, "/n": 1, "/name": "Zoë"}
+CHANGE = patch(8, {"op": "replace", "path": "/0", "value": [2]})
+INSERT = '[{"op":"add","path":"/cards/0","value":"tea"}]'
+
+
+class Relay:
+    """Shows `SHOWN` at revision 7 on each connection, as if it had been restarted. It answers each
+    edit by the next of `answers`, and ends the connection if there is none."""
+
+    def __init__(self, *answers):
+        self.answers, self.edits, self.sockets = list(answers), [], []
+
+    async def serve(self, socket):
+        self.sockets.append(socket)
+        await self.say(welcome(7, epoch=len(self.sockets)))
+        async for text in socket:
+            request = json.loads(text)
+            if "view" in request:
+                await self.show(request)
+            else:
+                self.edits.append(request)
+                if not self.answers:
+                    return
+                await self.say({**self.answers.pop(0), "id": request["id"]})
+
+    async def show(self, request):
+        number, view = request["id"], request["view"]
+        resumed = {"how": "snapshot", "id": number, "kind": "resumed"}
+        slots = [[SHOWN[pointer]] if pointer in SHOWN else [] for pointer in view]
+        if len(view) > 16:
+            await self.say(refused(number, "too-many"))
+        else:
+            reply = watching(number) if request["do"] == "watch" else resumed
+            await self.say(reply, snapshot(7, slots))
+
+    async def say(self, *messages):
+        for message in messages:
+            await self.sockets[-1].send(json.dumps(message))
+
+    @asynccontextmanager
+    async def listening(self):
+        async with websockets.serve(self.serve, "127.0.0.1", 0) as server:
+            yield f"ws://127.0.0.1:{server.sockets[0].getsockname()[1]}/rooms/play"
+
+
+async def begin(*words, stdout=PIPE):
+    command = [sys.executable, "-m", "relay_client", *words]
+    pipes = {"stdin": PIPE, "stdout": stdout, "stderr": PIPE}
+    return await asyncio.create_subprocess_exec(*command, env=ENVIRONMENT, **pipes)
+
+
+async def ended(program, typed=b""):
+    """Its status, and what it printed to both."""
+    printed, said = await asyncio.wait_for(program.communicate(typed), PATIENCE)
+    return program.returncode, (printed or b"").decode(), said.decode()
+
+
+async def run(*words, typed=b""):
+    return await ended(await begin(*words), typed)
+
+
+class Get(unittest.IsolatedAsyncioTestCase):
+    async def test_each_value_has_a_line(self):
+        async with Relay().listening() as url:
+            self.assertEqual(await run("get", url), (0, '{"n":1}\n', ""))
+            self.assertEqual(await run("get", url, "/name", "/n"), (0, '"Zoë"\n1\n', ""))
+
+    async def test_a_pointer_to_nothing_is_refused_and_no_line_is_printed(self):
+        async with Relay().listening() as url:
+            status, printed, said = await run("get", url, "/n", "/m")
+        self.assertEqual((status, printed), (1, ""))
+        self.assertEqual(said, "relay-client: refused: missing, at pointer 1 (the first is 0)\n")
+
+    async def test_a_view_that_the_relay_refuses_is_refused(self):
+        async with Relay().listening() as url:
+            outcome = await run("get", url, *["/n"] * 17)
+        self.assertEqual(outcome, (1, "", "relay-client: refused: too-many\n"))
+
+
+class Edit(unittest.IsolatedAsyncioTestCase):
+    async def test_the_new_revision_is_printed(self):
+        relay = Relay(done(0, 8), done(0, 9))
+        async with relay.listening() as url:
+            self.assertEqual(await run("edit", url, INSERT), (0, '{"rev":8}\n', ""))
+            outcome = await run("edit", "--base", "8", url, "-", typed=INSERT.encode())
+        self.assertEqual(outcome, (0, '{"rev":9}\n', ""))
+        self.assertEqual([it["patch"] for it in relay.edits], [json.loads(INSERT)] * 2)
+        self.assertEqual([it.get("base") for it in relay.edits], [None, 8])
+
+    async def test_a_refusal_is_said_in_words(self):
+        relay = Relay(refused(0, "missing", 0), refused(0, "stale", rev=9))
+        async with relay.listening() as url:
+            first, second = await run("edit", url, INSERT), await run(
+                "edit", url, INSERT, "--base", "8"
+            )
+        missing = "relay-client: refused: missing, at operation 0 (the first is 0)\n"
+        self.assertEqual(first, (1, "", missing))
+        self.assertEqual(
+            second, (1, "", "relay-client: refused: stale, the room is at revision 9\n")
+        )
+
+    async def test_a_lost_answer_is_no_answer(self):
+        async with Relay().listening() as url:
+            status, printed, said = await run("edit", url, INSERT)
+        self.assertEqual((status, printed), (3, ""))
+        self.assertIn(
+            "the connection was lost before the answer: the edit may have been done", said
+        )
+
+
+class Watch(unittest.IsolatedAsyncioTestCase):
+    async def test_each_change_has_a_line_until_ctrl_c(self):
+        relay = Relay()
+        async with relay.listening() as url:
+            program = await begin("watch", url, "/n", "/m")
+            line = await asyncio.wait_for(program.stdout.readline(), PATIENCE)
+            self.assertEqual(line, b'{"rev":7,"slots":[[1],[]]}\n')
+            await relay.say(CHANGE)
+            line = await asyncio.wait_for(program.stdout.readline(), PATIENCE)
+            self.assertEqual(line, b'{"rev":8,"slots":[[2],[]]}\n')
+            program.send_signal(signal.SIGINT)
+            self.assertEqual(await ended(program), (0, "", ""))
+
+    async def test_it_ends_once_nobody_reads_it_also_without_a_change(self):
+        async with Relay().listening() as url:
+            reading, writing = os.pipe()
+            program = await begin("watch", url, "/n", stdout=writing)
+            os.close(writing)
+            line = await asyncio.get_running_loop().run_in_executor(None, os.read, reading, 100)
+            self.assertEqual(line, b'{"rev":7,"slots":[[1]]}\n')
+            os.close(reading)
+            self.assertEqual(await ended(program), (0, "", ""))
+
+    async def test_it_goes_on_after_a_lost_connection(self):
+        relay = Relay()
+        async with relay.listening() as url:
+            program = await begin("watch", url, "/n")
+            await asyncio.wait_for(program.stdout.readline(), PATIENCE)
+            await relay.say(CHANGE)
+            await relay.sockets[0].close()
+            lines = [await asyncio.wait_for(program.stdout.readline(), PATIENCE) for _ in range(2)]
+            self.assertEqual(lines, [b'{"rev":8,"slots":[[2]]}\n', b'{"rev":7,"slots":[[1]]}\n'])
+            program.send_signal(signal.SIGINT)
+            self.assertEqual((await ended(program))[0], 0)
+
+
+class Words(unittest.IsolatedAsyncioTestCase):
+    async def test_words_that_are_wrong_are_a_matter_of_usage(self):
+        url = "ws://127.0.0.1:1/rooms/play"
+        for words, said in [
+            ([], "required"),
+            (["put", url], "invalid choice"),
+            (["get", "ws://127.0.0.1:1/room"], "an address ends with /rooms/NAME"),
+            (["get", url, "n"], "'n' is no JSON Pointer"),
+            (["watch", url, "--timeout", "0"], "0 is no time"),
+            (["edit", url, "[{"], "no JSON"),
+            (["edit", url, '[{"value":1.5}]'], "/0/value: 1.5 is no whole number"),
+            (["edit", url, "[]", "--base", "-1"], "-1 is no revision"),
+        ]:
+            status, printed, told = await run(*words)
+            self.assertEqual((status, printed), (2, ""), words)
+            self.assertIn(said, told)
+
+    async def test_no_relay_is_said_at_once(self):
+        for words in [["get"], ["watch"], ["edit", INSERT]]:
+            url = "ws://127.0.0.1:1/rooms/play"
+            status, printed, said = await run(words[0], url, *words[1:])
+            self.assertEqual((status, printed), (3, ""))
+            self.assertIn(f"relay-client: nothing answers at {url}", said)
+
+    async def test_a_relay_that_says_nothing_is_waited_for_as_long_as_the_timeout(self):
+        async def silent(socket):
+            await socket.wait_closed()
+
+        relay = Relay()
+        relay.serve = silent
+        async with relay.listening() as url:
+            for words in [["get"], ["watch"], ["edit", INSERT]]:
+                status, printed, said = await run(words[0], url, *words[1:], "--timeout", "0.5")
+                self.assertEqual((status, printed), (3, ""))
+                self.assertIn("relay-client: no answer within 0.5 seconds", said)
+
+
+EXAMPLE = re.compile(r"^  (?:relay-client|echo) (?:.*\|\n)?.*$", re.MULTILINE)
+PRINTED = ['{"rev":1}\n', '{"n":1}\n', "1\n", '{"rev":1,"slots":[[1]]}\n', '{"rev":2}\n']
+"""What the relay's protocol has for each, in a new room."""
+
+
+class Help(unittest.IsolatedAsyncioTestCase):
+    @unittest.skipUnless(os.environ.get("RELAY"), "RELAY names no program")
+    async def test_its_examples_run_as_they_stand(self):
+        status, told, _ = await run("--help")
+        examples = EXAMPLE.findall(told)
+        self.assertEqual((status, len(examples)), (0, len(PRINTED)))
+        words = [os.environ["RELAY"], "serve", "--port", "0"]
+        server = await asyncio.create_subprocess_exec(*words, stdout=PIPE)
+        try:
+            line = (await asyncio.wait_for(server.stdout.readline(), PATIENCE)).decode()
+            port = line.split()[1]
+            for example, printed in zip(examples, PRINTED):
+                outcome = await self.typed(example.replace(":8080/", f":{port}/"))
+                self.assertEqual(outcome, (0, printed, ""), example)
+        finally:
+            server.kill()
+            await server.wait()
+
+    async def typed(self, line):
+        """Into a shell that has the command."""
+        with tempfile.TemporaryDirectory() as folder:
+            command = os.path.join(folder, "relay-client")
+            with open(command, "w") as file:
+                file.write(f'#!/bin/sh\nexec "{sys.executable}" -m relay_client "$@"\n')
+            os.chmod(command, 0o755)
+            found = {**ENVIRONMENT, "PATH": f"{folder}:{os.environ['PATH']}"}
+            shell = await asyncio.create_subprocess_shell(line, env=found, stdout=PIPE, stderr=PIPE)
+            return await ended(shell, None)
+
+
+if __name__ == "__main__":
+    unittest.main()
