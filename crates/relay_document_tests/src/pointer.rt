@@ -2,7 +2,8 @@ use crate::patch;
 use crate::shared::{nothing, part_text, shown, taken_text};
 use crate::stage::{Stage, play_anew};
 use relay_pointer::{
-    MAX_TOKENS, Pointer, PointerFault, child, copy_tokens, exchange, index_of, resolve, resolve_mut, set, take,
+    MAX_TOKENS, Pointer, PointerFault, child, copy_tokens, exchange, index_of, resolve,
+    resolve_mut, set, take,
 };
 use relay_tree::{Node, read};
 use std::alloc::Global;

@@ -34,4 +34,3 @@ mod shake;
 mod shared;
 #[cfg(test)]
 mod weights;
-#[cfg(test)]
