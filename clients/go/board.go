@@ -259,10 +259,11 @@ func (b *Board) Send(patch Patch, options ...EditOption) (*Answer, error) {
 		one.base.Epoch = b.session.present.Epoch
 	}
 	b.overlay = append(b.overlay, one)
-	b.session.ask(one.request(b.session))
-	if one.isOptimistic && one.err == nil {
+	// A change shows it before another one tells what became of it, which may be at once.
+	if one.isOptimistic && b.session.takes(one) {
 		b.publish(nil)
 	}
+	b.session.ask(one.request(b.session))
 	return &Answer{one}, nil
 }
 
@@ -303,7 +304,7 @@ func (b *Board) settle() {
 		return
 	}
 	before := b.overlay.pending()
-	b.overlay.take(present.isShown)
+	b.overlay.take(present.shows)
 	if b.overlay.settle(present) && !b.isAsking && b.session.state == Open {
 		b.isAsking = true
 		b.ask(b.session.wanted.view)

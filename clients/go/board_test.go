@@ -274,6 +274,49 @@ func TestARefusedEditIsTakenBack(t *testing.T) {
 	}
 }
 
+// anotherRun is entered in the place of the one before, whose slots are still shown.
+func (r *playedRoom) anotherRun() {
+	r.Helper()
+	close(r.link.texts)
+	r.enter(8, 1)
+	r.reply(`"kind":"resumed","how":"snapshot"`)
+}
+
+func TestWhatIsDoneInAnotherRunWaitsForTheSlotsOfThat(t *testing.T) {
+	room := begun(t, Options{}, "/cards", `[[["a"]]]`)
+	room.anotherRun()
+	answer := room.send(push, Optimistic)
+	room.reply(`"kind":"done","rev":1`)
+	if made, err := answer.Wait(soon(t)); made != (Revision{1, 8}) || err != nil {
+		t.Fatal(made, err)
+	}
+	room.shows(`[[["a","tea"]]]`)
+	room.hear(`{"kind":"snapshot","rev":1,"view":[[["b","tea"]]]}`)
+	room.hear(`{"kind":"patch","rev":2,"patch":[]}`) // the one before was taken by now
+	if seen, _ := room.board.Shown(); seen.Pending != 0 {
+		t.Error(seen)
+	}
+	room.shows(`[[["b","tea"]]]`)
+}
+
+func TestAnEditThatFailsAtOnceIsToldOfFirst(t *testing.T) {
+	told := make(chan string, 10)
+	room := begun(t, Options{
+		OnChange:    func(change Change) { told <- fmt.Sprint(change.Pending, change.Slots) },
+		OnTakenBack: func(_ Patch, err error) { told <- err.Error() },
+	}, "/cards", `[[["a"]]]`)
+	room.anotherRun()
+	room.send(push, Optimistic, On(Revision{1, 7}))
+	for _, wanted := range []string{
+		"0 [[[a]]]", "1 [[[a tea]]]", "0 [[[a]]]",
+		"relay: refused as stale, the room is at revision 1",
+	} {
+		if word := <-told; word != wanted {
+			t.Fatalf("it tells %s, and not %s", word, wanted)
+		}
+	}
+}
+
 func TestWhatMayTouchNoSlotIsNotWaitedFor(t *testing.T) {
 	room := begun(t, Options{}, "/cards", `[[["a","b"]]]`)
 	room.send(Patch{Move("/cards/0", "/cards/-")}, Optimistic)

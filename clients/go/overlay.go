@@ -31,9 +31,9 @@ func (o *overlay) take(leaves func(*edit) bool) []*edit {
 	return left
 }
 
-// isShown says whether slots show an edit, or whether its run has ended.
-func (h *held) isShown(one *edit) bool {
-	return one.rev > 0 && (one.run != h.Epoch || one.rev <= h.Rev)
+// shows says whether slots show an edit that was done. Of another run they tell nothing.
+func (h *held) shows(one *edit) bool {
+	return one.rev > 0 && one.run == h.Epoch && one.rev <= h.Rev
 }
 
 // settle takes out those that are done and may touch no slot, for which no message may come. It

@@ -200,14 +200,19 @@ func (s *session) watch(number int, view []Shown) {
 // ask has an edit wait to be sent.
 func (s *session) ask(one *request) {
 	switch {
-	case s.state == Closed:
-		one.edit.drop(s)
-	case s.away && s.options.GuardedOnly && !one.edit.isGuarded():
-		s.fail(one.edit, &Refused{Fault: "away"})
-	default:
+	case s.takes(one.edit):
 		s.unsent = append(s.unsent, one)
 		s.proceed()
+	case s.state == Closed:
+		one.edit.drop(s)
+	default:
+		s.fail(one.edit, &Refused{Fault: "away"})
 	}
+}
+
+// takes says whether an edit may wait to be sent; else it fails as soon as it is asked for.
+func (s *session) takes(one *edit) bool {
+	return s.state != Closed && (!s.away || !s.options.GuardedOnly || one.isGuarded())
 }
 
 func (s *session) fail(one *edit, err error) {

@@ -8,7 +8,9 @@ func (t *told) held(before, now *held, patch Patch, single bool) {
 	if before.slots != nil && before.Epoch != now.Epoch {
 		b.undoing, b.redoing = nil, nil // what was done was done to a document that is gone
 	}
-	for _, one := range b.overlay.take(now.isShown) {
+	// Slots that came are of the newest run: what was done in another one is gone.
+	leaves := func(one *edit) bool { return now.shows(one) || (one.rev > 0 && one.run != now.Epoch) }
+	for _, one := range b.overlay.take(leaves) {
 		if single && one.rev == now.Rev && one.run == now.Epoch {
 			b.record(one, inverse(knownBy(before.view, before.slots), one.patch))
 		}

@@ -236,7 +236,8 @@ export interface Place<T> {
   subscribe(listener: (value: T | undefined) => void): () => void;
   /**
    * Writes another value, which shows at once: replaces what stands there, or adds a member, or an element at the end, where nothing does.
-   * Fails as `edit`, and throws before the first slots.
+   * One value of a place is on its way at a time: of those that are set meanwhile the newest is sent, and the others end as it does,
+   * unless something else is asked for in between. Fails as `edit`, and throws before the first slots.
    */
   set(value: T, options?: SetOptions): Promise<number>;
   /**

@@ -89,8 +89,15 @@ const editModule = (() => {
    * @typedef {import("../relay.js").Operation} Operation
    * @typedef {import("./once.mjs").Counter} Counter
    * @typedef {{ epoch: number, rev: number }} Welcome
-   * @typedef {{ patch: Operation[], base?: number, epoch: number | null }} Kept
-   * @typedef {Kept & { counter: Counter | null }} Asked
+   * @typedef {import("./overlay.mjs").Unconfirmed} Unconfirmed
+   * @typedef {{
+   *   own: Unconfirmed,
+   *   base?: number,
+   *   epoch: number | null,
+   *   counter: Counter | null,
+   *   sets?: string,
+   *   exchange: (later: Unconfirmed) => Promise<number>,
+   * }} Asked
    * @typedef {{
    *   done: (rev: number, epoch: number) => void,
    *   doneBefore: (edit: Edit, epoch: number) => void,
@@ -102,7 +109,7 @@ const editModule = (() => {
    */
 
   class Edit {
-    #patch;
+    #own;
     #base;
     #counter;
     #epoch; // the run to which it belongs; null where the first connection decides
@@ -113,8 +120,12 @@ const editModule = (() => {
     #on;
 
     /** @param {Asked} asked @param {Outcome} on */
-    constructor({ patch, base, epoch, counter }, on) {
-      this.#patch = patch;
+    constructor({ own, base, epoch, counter, sets, exchange }, on) {
+      /** The place whose value it replaces, if it does no more and is sent once. */
+      this.sets = base === undefined && counter === null ? sets : undefined;
+      /** Has a later one that sets the same place be sent for it. Gives what becomes of that. */
+      this.exchange = exchange;
+      this.#own = own;
       this.#base = base;
       this.#epoch = epoch;
       this.#counter = counter;
@@ -123,7 +134,7 @@ const editModule = (() => {
 
     /** What is sent. */
     get request() {
-      const own = this.#refusal === null ? this.#patch : [];
+      const own = this.#refusal === null ? this.#own.patch : [];
       const patch = this.#counter === null ? own : [...this.#counter.raise, ...own];
       return this.#hasBase ? { do: "edit", base: this.#base, patch } : { do: "edit", patch };
     }
@@ -131,7 +142,7 @@ const editModule = (() => {
     /** What is kept of it while it waits, so that another board can send it. */
     get kept() {
       const once = this.#counter === null ? undefined : true;
-      return { patch: this.#patch, base: this.#base, epoch: this.#epoch, once };
+      return { patch: this.#own.patch, base: this.#base, epoch: this.#epoch, once };
     }
 
     get #hasBase() {
@@ -140,7 +151,7 @@ const editModule = (() => {
 
     /** Whether it does no harm when it is late: it has a base, or tests something first. */
     get isGuarded() {
-      return this.#hasBase || this.#patch[0]?.op === "test";
+      return this.#hasBase || this.#own.patch[0]?.op === "test";
     }
 
     /**
@@ -277,6 +288,15 @@ const pointerModule = (() => {
   }
 
   /**
+   * Whether one of two pointers leads to the other's value or into it.
+   * @param {string} one
+   * @param {string} other
+   */
+  function overlap(one, other) {
+    return `${one}/`.startsWith(`${other}/`) || `${other}/`.startsWith(`${one}/`);
+  }
+
+  /**
    * Whether a path is another one, or leads into its value.
    * @param {readonly string[]} path
    * @param {readonly string[]} start
@@ -285,7 +305,7 @@ const pointerModule = (() => {
     return start.length <= path.length && start.every((token, k) => token === path[k]);
   }
 
-  return { index, pointer, spelled, startsWith, tokens };
+  return { index, overlap, pointer, spelled, startsWith, tokens };
 })();
 
 const jsonModule = (() => {
@@ -367,19 +387,18 @@ const jsonModule = (() => {
     return names.length === Object.keys(other).length && names.every((name) => Object.hasOwn(other, name) && same(parts[name], others[name]));
   }
 
-  return { checked, isObject, same };
+  return { DEEPEST, checked, isObject, same };
 })();
 
 const patchModule = (() => {
   // JSON Patch (RFC 6902) on values that are never written to: what a patch leads to has new parts where it differs, so a value that was
   // handed out stays what it was. A patch copies each container once, however many of its operations change it.
-  const { index, startsWith, tokens } = pointerModule;
-  const { same } = jsonModule;
-
-  /** @typedef {import("../relay.js").Operation} Operation */
+  const { index, startsWith } = pointerModule;
 
   /** An operation does not fit the value. */
-  class Misfit extends Error {}
+  class Misfit extends Error {
+    message = "the patch does not fit";
+  }
 
   /** The containers that one patch made. Nobody else has them, and each stands in one place, so the patch may write to them. */
   class Owned {
@@ -391,7 +410,7 @@ const patchModule = (() => {
      * @param {any} part
      */
     writable(part) {
-      if (typeof part !== "object" || part === null) throw new Misfit("no list and no object");
+      if (typeof part !== "object" || part === null) throw new Misfit();
       if (this.#made.has(part)) return part;
       const copy = Array.isArray(part) ? part.slice() : { ...part };
       this.#made.add(copy);
@@ -409,46 +428,9 @@ const patchModule = (() => {
     }
   }
 
-  /**
-   * @param {any} whole
-   * @param {readonly Operation[]} patch
-   */
-  function applied(whole, patch) {
-    const owned = new Owned();
-    return patch.reduce((present, operation) => step(present, operation, owned), whole);
-  }
-
-  /** @param {any} whole @param {any} operation @param {Owned} owned */
-  function step(whole, { op, path, from, value }, owned) {
-    switch (op) {
-      case "add":
-        return added(whole, tokens(path), value, owned);
-      case "remove":
-        return removed(whole, tokens(path), owned);
-      case "replace":
-        return replaced(whole, tokens(path), value, owned);
-      case "move": {
-        const moved = found(whole, tokens(from));
-        if (path === from) return whole;
-        checkMove(tokens(from), tokens(path));
-        return added(removed(whole, tokens(from), owned), tokens(path), moved, owned);
-      }
-      case "copy": {
-        const copied = found(whole, tokens(from));
-        owned.share(copied);
-        return added(whole, tokens(path), copied, owned);
-      }
-      case "test":
-        if (!same(found(whole, tokens(path)), value)) throw new Misfit(`another value at ${path}`);
-        return whole;
-      default:
-        throw new TypeError(`no operation: ${op}`);
-    }
-  }
-
   /** @param {readonly string[]} from @param {readonly string[]} path */
   function checkMove(from, path) {
-    if (path.length > from.length && startsWith(path, from)) throw new Misfit("into itself");
+    if (path.length > from.length && startsWith(path, from)) throw new Misfit();
   }
 
   /** @param {any} part @param {string} token */
@@ -460,7 +442,7 @@ const patchModule = (() => {
   /** @param {any} whole @param {readonly string[]} path */
   function found(whole, path) {
     return path.reduce((part, token) => {
-      if (!has(part, token)) throw new Misfit(`nothing at ${token}`);
+      if (!has(part, token)) throw new Misfit();
       return part[token];
     }, whole);
   }
@@ -470,7 +452,7 @@ const patchModule = (() => {
     return changed(whole, path, owned, () => value, (part, token) => {
       if (!Array.isArray(part)) return put(part, token, value);
       const place = token === "-" ? part.length : index(token) ?? Infinity;
-      if (place > part.length) throw new Misfit(`no place ${token}`);
+      if (place > part.length) throw new Misfit();
       part.splice(place, 0, value);
     });
   }
@@ -479,7 +461,7 @@ const patchModule = (() => {
   function removed(whole, path, owned) {
     found(whole, path);
     const atRoot = () => {
-      throw new Misfit("the whole cannot be removed");
+      throw new Misfit();
     };
     return changed(whole, path, owned, atRoot, (part, token) => {
       if (Array.isArray(part)) part.splice(Number(token), 1);
@@ -517,13 +499,381 @@ const patchModule = (() => {
     return part;
   }
 
-  return { Misfit, Owned, added, applied, checkMove, found, has, removed, replaced };
+  return { Misfit, Owned, added, checkMove, found, has, removed, replaced };
+})();
+
+const knownModule = (() => {
+  // What a client knows of the document by its slots, and of the documents to which its own patches lead: some values are known, some
+  // places are known to be empty, and of the rest nothing is known. What an operation means to a slot (docs/PROTOCOL.md, "What a change
+  // means to a slot") follows: the operation is done on what is known, and the slots are read again.
+  const { index, tokens } = pointerModule;
+  const { same } = jsonModule;
+  const { Misfit, Owned, added, checkMove, has, removed, replaced } = patchModule;
+
+  /**
+   * A part of the document: a value; nothing (`absent`); unknown; or a container of which only some children, or the size, are known.
+   *
+   * @typedef {{ is: "value", value: any } | { is: "absent" } | { is: "unknown" } | Container} Part
+   * @typedef {{ is: "container", children: Map<string, Part>, size: number | null }} Container
+   * @typedef {import("../relay.js").Shown} Shown
+   * @typedef {import("../relay.js").Operation} Operation
+   * @typedef {readonly unknown[]} Slot
+   */
+
+  /** @type {{ is: "unknown" }} */
+  const UNKNOWN = { is: "unknown" };
+  /** @type {{ is: "absent" }} */
+  const ABSENT = { is: "absent" };
+
+  /** @param {any} value @returns {{ is: "value", value: any }} */
+  const known = (value) => ({ is: "value", value });
+
+  /** @param {Shown} shown */
+  function pathOf(shown) {
+    return tokens(typeof shown === "string" ? shown : shown.size);
+  }
+
+  /**
+   * What slots tell of their document.
+   * @param {readonly Shown[]} view
+   * @param {readonly Slot[]} slots
+   */
+  function knownBy(view, slots) {
+    const told = view.map((shown, k) => ({ path: pathOf(shown), value: typeof shown === "string", slot: slots[k] }));
+    // What an outer slot shows stands first, and values before sizes: what lies within a known value tells nothing new.
+    told.sort((one, other) => one.path.length - other.path.length || Number(other.value) - Number(one.value));
+    return told.reduce(tell, UNKNOWN);
+  }
+
+  /** @param {Part} whole @param {{ path: string[], value: boolean, slot: Slot }} told */
+  function tell(whole, { path, value, slot }) {
+    const before = read(whole, path);
+    if (before.is === "value" || before.is === "absent") return whole;
+    if (value) return laid(whole, path, () => (slot.length === 0 ? ABSENT : known(slot[0])));
+    if (slot.length === 0) return whole;
+    return laid(whole, path, (part) => ({ ...container(part), size: Number(slot[0]) }));
+  }
+
+  /** @param {Part} part @returns {Container} */
+  function container(part) {
+    return part.is === "container" ? part : { is: "container", children: new Map(), size: null };
+  }
+
+  /** @param {Part} part @param {string} token @returns {Part} */
+  function child(part, token) {
+    if (part.is === "value") return has(part.value, token) ? known(part.value[token]) : ABSENT;
+    if (part.is === "container") return part.children.get(token) ?? UNKNOWN;
+    return part;
+  }
+
+  /** @param {Part} whole @param {readonly string[]} path */
+  function read(whole, path) {
+    return path.reduce(child, whole);
+  }
+
+  /**
+   * Another part in a place, where nothing moves.
+   * @param {Part} whole
+   * @param {readonly string[]} path
+   * @param {(part: Part) => Part} change
+   * @returns {Part}
+   */
+  function laid(whole, path, change) {
+    if (path.length === 0) return change(whole);
+    const [token, ...rest] = path;
+    const { children, size } = container(whole);
+    return { is: "container", children: new Map(children).set(token, laid(child(whole, token), rest, change)), size };
+  }
+
+  /**
+   * Whether a part is a list, or null where that is not known.
+   * @param {Part} part
+   * @returns {boolean | null}
+   */
+  function isList(part) {
+    if (part.is === "value") return Array.isArray(part.value);
+    if (part.is !== "container") return null;
+    return [...part.children].some(([token, child]) => index(token) === null && isThere(child)) ? false : null;
+  }
+
+  /**
+   * Whether a part is known to be there. A container of which only absent children are known may be absent itself.
+   * @param {Part} part
+   * @returns {boolean}
+   */
+  function isThere(part) {
+    if (part.is === "container") return part.size !== null || [...part.children.values()].some(isThere);
+    return part.is === "value";
+  }
+
+  /**
+   * Whether a part is known to have more behind an index, if it is a list.
+   * @param {Part} part
+   * @param {number} at
+   */
+  function goesOn(part, at) {
+    if (part.is !== "container") return false;
+    return (part.size ?? 0) > at + 1 || [...part.children].some(([token, child]) => (index(token) ?? 0) > at && isThere(child));
+  }
+
+  /**
+   * The place that a path names: the part that holds it, whether that is a list, and the index there; null where that is not known.
+   * @param {Part} whole
+   * @param {readonly string[]} path
+   */
+  function placeOf(whole, path) {
+    const [token] = path.slice(-1);
+    if (token === undefined) return { path, holder: null, list: false, at: null };
+    const holder = read(whole, path.slice(0, -1));
+    const list = index(token) === null && token !== "-" ? false : isList(holder);
+    const end = holder.is === "value" && list ? holder.value.length : null;
+    const at = list === false ? null : token === "-" ? end : index(token);
+    const canonical = list && at !== null ? [...path.slice(0, -1), String(at)] : path;
+    return { path: canonical, holder, list, at };
+  }
+
+  /**
+   * What is known after one operation. Fails with `Misfit` where it is known to be refused.
+   * @param {Part} whole
+   * @param {Operation} operation
+   */
+  function after(whole, operation) {
+    return afterAll(whole, [operation]);
+  }
+
+  /** @param {Part} whole @param {readonly Operation[]} patch */
+  function afterAll(whole, patch) {
+    const draft = new Draft(whole);
+    for (const operation of patch) draft.do(operation);
+    return draft.whole;
+  }
+
+  /**
+   * A value after a patch. Fails with `Misfit` where an operation does not fit.
+   * @param {any} value
+   * @param {readonly Operation[]} patch
+   * @returns {any}
+   */
+  function applied(value, patch) {
+    return /** @type {any} */ (afterAll(known(value), patch)).value;
+  }
+
+  /** What is known while a patch is done, operation by operation, on values that the draft alone has: so it copies each container once. */
+  class Draft {
+    #owned = new Owned();
+
+    /** @param {Part} whole */
+    constructor(whole) {
+      this.whole = whole;
+    }
+
+    /**
+     * The value at a path, which no later operation writes to; undefined where it is not known.
+     * @param {readonly string[]} path
+     */
+    kept(path) {
+      const part = read(this.whole, path);
+      if (part.is !== "value") return undefined;
+      this.#owned.share(part.value);
+      return part.value;
+    }
+
+    /**
+     * Fails with `Misfit` where the operation is known to be refused.
+     * @param {Operation} operation
+     * @param {() => void} [puts] told before something is added, copied or moved to a place; of a move, when it was taken from where it was
+     */
+    do(operation, puts = () => {}) {
+      const path = tokens(operation.path);
+      switch (operation.op) {
+        case "add":
+          return this.#put(path, known(operation.value), puts);
+        case "remove":
+          return this.#take(path);
+        case "replace":
+          this.whole = exchanged(this.whole, path, known(operation.value), this.#owned);
+          return;
+        case "test":
+          return tested(this.whole, path, operation.value);
+        case "copy":
+          return this.#put(path, this.#shared(source(this.whole, tokens(operation.from))), puts);
+        case "move":
+          return this.#move(operation, puts);
+        default:
+          throw new TypeError(`no operation: ${/** @type {any} */ (operation).op}`);
+      }
+    }
+
+    /** @param {readonly string[]} path @param {Part} part @param {() => void} puts */
+    #put(path, part, puts) {
+      puts();
+      this.whole = put(this.whole, path, part, this.#owned);
+    }
+
+    /** @param {readonly string[]} path */
+    #take(path) {
+      this.whole = taken(this.whole, path, this.#owned);
+    }
+
+    /** @param {{ from: string, path: string }} operation @param {() => void} puts */
+    #move(operation, puts) {
+      const [from, path] = [tokens(operation.from), tokens(operation.path)];
+      const moved = source(this.whole, from);
+      if (operation.path === operation.from) return;
+      checkMove(from, path);
+      this.#take(from);
+      this.#put(path, moved, puts);
+    }
+
+    /** @param {Part} part */
+    #shared(part) {
+      if (part.is === "value") this.#owned.share(part.value);
+      if (part.is === "container") part.children.forEach((inner) => this.#shared(inner));
+      return part;
+    }
+  }
+
+  /** @param {Part} whole @param {readonly string[]} from */
+  function source(whole, from) {
+    const part = read(whole, from);
+    if (part.is === "absent") throw new Misfit();
+    return part;
+  }
+
+  /** @param {Part} whole @param {readonly string[]} path @param {any} value */
+  function tested(whole, path, value) {
+    const part = read(whole, path);
+    if (part.is === "absent" || (part.is === "value" && !same(part.value, value))) throw new Misfit();
+  }
+
+  /** @param {Part} whole @param {readonly string[]} path @param {Part} part @param {Owned} owned */
+  function put(whole, path, part, owned) {
+    return changed(whole, path, () => part, {
+      inValue: (value, rest) => (part.is === "value" ? known(added(value, rest, part.value, owned)) : UNKNOWN),
+      inContainer: (holder, token) => inserted(holder, token, part),
+    });
+  }
+
+  /** @param {Part} whole @param {readonly string[]} path @param {Owned} owned */
+  function taken(whole, path, owned) {
+    const atRoot = () => {
+      throw new Misfit();
+    };
+    return changed(whole, path, atRoot, { inValue: (value, rest) => known(removed(value, rest, owned)), inContainer: dropped });
+  }
+
+  /** @param {Part} whole @param {readonly string[]} path @param {{ is: "value", value: any }} part @param {Owned} owned */
+  function exchanged(whole, path, part, owned) {
+    return changed(whole, path, () => part, {
+      inValue: (value, rest) => known(replaced(value, rest, part.value, owned)),
+      inContainer: (holder, token) => {
+        if (child(holder, token).is === "absent") throw new Misfit();
+        return { ...holder, children: new Map(holder.children).set(token, part) };
+      },
+    });
+  }
+
+  /**
+   * Goes along a path to where a value is known, or to the container that holds the last token, and changes that.
+   * @param {Part} whole
+   * @param {readonly string[]} path
+   * @param {() => Part} atRoot
+   * @param {{ inValue: (value: any, rest: readonly string[]) => Part, inContainer: (holder: Container, token: string) => Part }} change
+   * @returns {Part}
+   */
+  function changed(whole, path, atRoot, change) {
+    if (path.length === 0) return atRoot();
+    if (whole.is === "absent") throw new Misfit();
+    if (whole.is === "value") return change.inValue(whole.value, path);
+    const [token, ...rest] = path;
+    const holder = container(whole);
+    if (rest.length === 0) return change.inContainer(holder, token);
+    const part = changed(child(holder, token), rest, atRoot, change);
+    return { ...holder, children: new Map(holder.children).set(token, part) };
+  }
+
+  // In a container that may be a list, what stands behind an insertion or a removal may have moved, and is not known any more.
+
+  /** @param {Container} holder @param {string} token @returns {Map<string, Part>} */
+  function unmoved({ children }, token) {
+    const from = index(token);
+    const stays = (/** @type {string} */ name, /** @type {Part} */ part) => {
+      const at = index(name);
+      return at === null || (from === null ? isThere(part) : at < from);
+    };
+    return new Map([...children].filter(([name, part]) => name !== "-" && stays(name, part)));
+  }
+
+  /** @param {Container} holder @param {string} token @param {Part} part @returns {Part} */
+  function inserted(holder, token, part) {
+    const { list } = placeOf(holder, [token]);
+    if (list !== false) {
+      const children = unmoved(holder, token);
+      return { is: "container", children: token === "-" ? children : children.set(token, part), size: null };
+    }
+    const before = child(holder, token);
+    const isKnown = before.is === "absent" || isThere(before);
+    const size = holder.size === null || !isKnown ? null : holder.size + Number(before.is === "absent");
+    return { is: "container", children: new Map(holder.children).set(token, part), size };
+  }
+
+  /** @param {Container} holder @param {string} token @returns {Part} */
+  function dropped(holder, token) {
+    if (child(holder, token).is === "absent") throw new Misfit();
+    const size = holder.size === null ? null : holder.size - 1;
+    const { list } = placeOf(holder, [token]);
+    // Nothing is removed at the end of a list: `-` is a member here.
+    const children = list === false || token === "-" ? new Map(holder.children).set(token, ABSENT) : unmoved(holder, token);
+    return { is: "container", children, size };
+  }
+
+  /**
+   * The slots of a view, each as it was where it is not known what it shows.
+   * @template {Slot} S
+   * @param {Part} whole
+   * @param {readonly Shown[]} view
+   * @param {readonly S[]} before
+   * @returns {S[]}
+   */
+  function slotsOf(whole, view, before) {
+    return view.map((shown, k) => {
+      const slot = slotOf(whole, shown);
+      return /** @type {any} */ (slot === null || equal(slot, before[k]) ? before[k] : slot);
+    });
+  }
+
+  /** @param {Slot} one @param {Slot} other */
+  function equal(one, other) {
+    return one.length === other.length && one[0] === other[0];
+  }
+
+  /**
+   * What one slot shows; null where that is not known.
+   * @param {Part} whole
+   * @param {Shown} shown
+   * @returns {Slot | null}
+   */
+  function slotOf(whole, shown) {
+    const part = read(whole, pathOf(shown));
+    if (part.is === "absent") return [];
+    if (part.is === "value") return typeof shown === "string" ? [part.value] : sizeOf(part.value);
+    if (part.is === "container" && typeof shown !== "string" && part.size !== null) return [part.size];
+    return null;
+  }
+
+  /** @param {any} value @returns {Slot} */
+  function sizeOf(value) {
+    if (typeof value !== "object" || value === null) return [];
+    return [Array.isArray(value) ? value.length : Object.keys(value).length];
+  }
+
+  return { Draft, after, afterAll, applied, child, goesOn, knownBy, pathOf, placeOf, read, slotOf, slotsOf };
 })();
 
 const followerModule = (() => {
   // The slots of a view as the relay shows them, kept right over lost connections and restarts (docs/PROTOCOL.md, "What a client does").
   const { Closed, Refused } = errorsModule;
-  const { applied } = patchModule;
+  const { applied } = knownModule;
   const { checked } = jsonModule;
 
   /**
@@ -728,368 +1078,11 @@ const historyModule = (() => {
   return { History };
 })();
 
-const knownModule = (() => {
-  // What a client knows of the document by its slots, and of the documents to which its own patches lead: some values are known, some
-  // places are known to be empty, and of the rest nothing is known. What an operation means to a slot (docs/PROTOCOL.md, "What a change
-  // means to a slot") follows: the operation is done on what is known, and the slots are read again.
-  const { index, tokens } = pointerModule;
-  const { same } = jsonModule;
-  const { Misfit, Owned, added, checkMove, has, removed, replaced } = patchModule;
-
-  /**
-   * A part of the document: a value; nothing (`absent`); unknown; or a container of which only some children, or the size, are known.
-   *
-   * @typedef {{ is: "value", value: any } | { is: "absent" } | { is: "unknown" } | Container} Part
-   * @typedef {{ is: "container", children: Map<string, Part>, size: number | null }} Container
-   * @typedef {import("../relay.js").Shown} Shown
-   * @typedef {import("../relay.js").Operation} Operation
-   * @typedef {readonly unknown[]} Slot
-   */
-
-  /** @type {{ is: "unknown" }} */
-  const UNKNOWN = { is: "unknown" };
-  /** @type {{ is: "absent" }} */
-  const ABSENT = { is: "absent" };
-
-  /** @param {any} value @returns {{ is: "value", value: any }} */
-  const known = (value) => ({ is: "value", value });
-
-  /** @param {Shown} shown */
-  function pathOf(shown) {
-    return tokens(typeof shown === "string" ? shown : shown.size);
-  }
-
-  /**
-   * What slots tell of their document.
-   * @param {readonly Shown[]} view
-   * @param {readonly Slot[]} slots
-   */
-  function knownBy(view, slots) {
-    const told = view.map((shown, k) => ({ path: pathOf(shown), value: typeof shown === "string", slot: slots[k] }));
-    // What an outer slot shows stands first, and values before sizes: what lies within a known value tells nothing new.
-    told.sort((one, other) => one.path.length - other.path.length || Number(other.value) - Number(one.value));
-    return told.reduce(tell, UNKNOWN);
-  }
-
-  /** @param {Part} whole @param {{ path: string[], value: boolean, slot: Slot }} told */
-  function tell(whole, { path, value, slot }) {
-    const before = read(whole, path);
-    if (before.is === "value" || before.is === "absent") return whole;
-    if (value) return laid(whole, path, () => (slot.length === 0 ? ABSENT : known(slot[0])));
-    if (slot.length === 0) return whole;
-    return laid(whole, path, (part) => ({ ...container(part), size: Number(slot[0]) }));
-  }
-
-  /** @param {Part} part @returns {Container} */
-  function container(part) {
-    return part.is === "container" ? part : { is: "container", children: new Map(), size: null };
-  }
-
-  /** @param {Part} part @param {string} token @returns {Part} */
-  function child(part, token) {
-    if (part.is === "value") return has(part.value, token) ? known(part.value[token]) : ABSENT;
-    if (part.is === "container") return part.children.get(token) ?? UNKNOWN;
-    return part;
-  }
-
-  /** @param {Part} whole @param {readonly string[]} path */
-  function read(whole, path) {
-    return path.reduce(child, whole);
-  }
-
-  /**
-   * Another part in a place, where nothing moves.
-   * @param {Part} whole
-   * @param {readonly string[]} path
-   * @param {(part: Part) => Part} change
-   * @returns {Part}
-   */
-  function laid(whole, path, change) {
-    if (path.length === 0) return change(whole);
-    const [token, ...rest] = path;
-    const { children, size } = container(whole);
-    return { is: "container", children: new Map(children).set(token, laid(child(whole, token), rest, change)), size };
-  }
-
-  /**
-   * Whether a part is a list, or null where that is not known.
-   * @param {Part} part
-   * @returns {boolean | null}
-   */
-  function isList(part) {
-    if (part.is === "value") return Array.isArray(part.value);
-    if (part.is !== "container") return null;
-    return [...part.children].some(([token, child]) => index(token) === null && isThere(child)) ? false : null;
-  }
-
-  /**
-   * Whether a part is known to be there. A container of which only absent children are known may be absent itself.
-   * @param {Part} part
-   * @returns {boolean}
-   */
-  function isThere(part) {
-    if (part.is === "container") return part.size !== null || [...part.children.values()].some(isThere);
-    return part.is === "value";
-  }
-
-  /**
-   * Whether a part is known to have more behind an index, if it is a list.
-   * @param {Part} part
-   * @param {number} at
-   */
-  function goesOn(part, at) {
-    if (part.is !== "container") return false;
-    return (part.size ?? 0) > at + 1 || [...part.children].some(([token, child]) => (index(token) ?? 0) > at && isThere(child));
-  }
-
-  /**
-   * The place that a path names: the part that holds it, whether that is a list, and the index there; null where that is not known.
-   * @param {Part} whole
-   * @param {readonly string[]} path
-   */
-  function placeOf(whole, path) {
-    const [token] = path.slice(-1);
-    if (token === undefined) return { path, holder: null, list: false, at: null };
-    const holder = read(whole, path.slice(0, -1));
-    const list = index(token) === null && token !== "-" ? false : isList(holder);
-    const end = holder.is === "value" && list ? holder.value.length : null;
-    const at = list === false ? null : token === "-" ? end : index(token);
-    const canonical = list && at !== null ? [...path.slice(0, -1), String(at)] : path;
-    return { path: canonical, holder, list, at };
-  }
-
-  /**
-   * What is known after one operation. Fails with `Misfit` where it is known to be refused.
-   * @param {Part} whole
-   * @param {Operation} operation
-   */
-  function after(whole, operation) {
-    return afterAll(whole, [operation]);
-  }
-
-  /** @param {Part} whole @param {readonly Operation[]} patch */
-  function afterAll(whole, patch) {
-    const draft = new Draft(whole);
-    for (const operation of patch) draft.do(operation);
-    return draft.whole;
-  }
-
-  /** What is known while a patch is done, operation by operation, on values that the draft alone has: so it copies each container once. */
-  class Draft {
-    #owned = new Owned();
-
-    /** @param {Part} whole */
-    constructor(whole) {
-      this.whole = whole;
-    }
-
-    /**
-     * The value at a path, which no later operation writes to; undefined where it is not known.
-     * @param {readonly string[]} path
-     */
-    kept(path) {
-      const part = read(this.whole, path);
-      if (part.is !== "value") return undefined;
-      this.#owned.share(part.value);
-      return part.value;
-    }
-
-    /**
-     * Fails with `Misfit` where the operation is known to be refused.
-     * @param {Operation} operation
-     * @param {() => void} [puts] told before something is added, copied or moved to a place; of a move, when it was taken from where it was
-     */
-    do(operation, puts = () => {}) {
-      const path = tokens(operation.path);
-      switch (operation.op) {
-        case "add":
-          return this.#put(path, known(operation.value), puts);
-        case "remove":
-          return this.#take(path);
-        case "replace":
-          this.whole = exchanged(this.whole, path, known(operation.value), this.#owned);
-          return;
-        case "test":
-          return tested(this.whole, path, operation.value);
-        case "copy":
-          return this.#put(path, this.#shared(source(this.whole, tokens(operation.from))), puts);
-        case "move":
-          return this.#move(operation, puts);
-        default:
-          throw new TypeError(`no operation: ${/** @type {any} */ (operation).op}`);
-      }
-    }
-
-    /** @param {readonly string[]} path @param {Part} part @param {() => void} puts */
-    #put(path, part, puts) {
-      puts();
-      this.whole = put(this.whole, path, part, this.#owned);
-    }
-
-    /** @param {readonly string[]} path */
-    #take(path) {
-      this.whole = taken(this.whole, path, this.#owned);
-    }
-
-    /** @param {{ from: string, path: string }} operation @param {() => void} puts */
-    #move(operation, puts) {
-      const [from, path] = [tokens(operation.from), tokens(operation.path)];
-      const moved = source(this.whole, from);
-      if (operation.path === operation.from) return;
-      checkMove(from, path);
-      this.#take(from);
-      this.#put(path, moved, puts);
-    }
-
-    /** @param {Part} part */
-    #shared(part) {
-      if (part.is === "value") this.#owned.share(part.value);
-      if (part.is === "container") part.children.forEach((inner) => this.#shared(inner));
-      return part;
-    }
-  }
-
-  /** @param {Part} whole @param {readonly string[]} from */
-  function source(whole, from) {
-    const part = read(whole, from);
-    if (part.is === "absent") throw new Misfit("nothing to take");
-    return part;
-  }
-
-  /** @param {Part} whole @param {readonly string[]} path @param {any} value */
-  function tested(whole, path, value) {
-    const part = read(whole, path);
-    if (part.is === "absent" || (part.is === "value" && !same(part.value, value))) throw new Misfit("another value");
-  }
-
-  /** @param {Part} whole @param {readonly string[]} path @param {Part} part @param {Owned} owned */
-  function put(whole, path, part, owned) {
-    return changed(whole, path, () => part, {
-      inValue: (value, rest) => (part.is === "value" ? known(added(value, rest, part.value, owned)) : UNKNOWN),
-      inContainer: (holder, token) => inserted(holder, token, part),
-    });
-  }
-
-  /** @param {Part} whole @param {readonly string[]} path @param {Owned} owned */
-  function taken(whole, path, owned) {
-    const atRoot = () => {
-      throw new Misfit("the whole cannot be removed");
-    };
-    return changed(whole, path, atRoot, { inValue: (value, rest) => known(removed(value, rest, owned)), inContainer: dropped });
-  }
-
-  /** @param {Part} whole @param {readonly string[]} path @param {{ is: "value", value: any }} part @param {Owned} owned */
-  function exchanged(whole, path, part, owned) {
-    return changed(whole, path, () => part, {
-      inValue: (value, rest) => known(replaced(value, rest, part.value, owned)),
-      inContainer: (holder, token) => {
-        if (child(holder, token).is === "absent") throw new Misfit("nothing to replace");
-        return { ...holder, children: new Map(holder.children).set(token, part) };
-      },
-    });
-  }
-
-  /**
-   * Goes along a path to where a value is known, or to the container that holds the last token, and changes that.
-   * @param {Part} whole
-   * @param {readonly string[]} path
-   * @param {() => Part} atRoot
-   * @param {{ inValue: (value: any, rest: readonly string[]) => Part, inContainer: (holder: Container, token: string) => Part }} change
-   * @returns {Part}
-   */
-  function changed(whole, path, atRoot, change) {
-    if (path.length === 0) return atRoot();
-    if (whole.is === "absent") throw new Misfit("nothing there");
-    if (whole.is === "value") return change.inValue(whole.value, path);
-    const [token, ...rest] = path;
-    const holder = container(whole);
-    if (rest.length === 0) return change.inContainer(holder, token);
-    const part = changed(child(holder, token), rest, atRoot, change);
-    return { ...holder, children: new Map(holder.children).set(token, part) };
-  }
-
-  // In a container that may be a list, what stands behind an insertion or a removal may have moved, and is not known any more.
-
-  /** @param {Container} holder @param {string} token @returns {Map<string, Part>} */
-  function unmoved({ children }, token) {
-    const from = index(token);
-    const stays = (/** @type {string} */ name, /** @type {Part} */ part) => {
-      const at = index(name);
-      return at === null || (from === null ? isThere(part) : at < from);
-    };
-    return new Map([...children].filter(([name, part]) => name !== "-" && stays(name, part)));
-  }
-
-  /** @param {Container} holder @param {string} token @param {Part} part @returns {Part} */
-  function inserted(holder, token, part) {
-    const { list } = placeOf(holder, [token]);
-    if (list !== false) {
-      const children = unmoved(holder, token);
-      return { is: "container", children: token === "-" ? children : children.set(token, part), size: null };
-    }
-    const before = child(holder, token);
-    const isKnown = before.is === "absent" || isThere(before);
-    const size = holder.size === null || !isKnown ? null : holder.size + Number(before.is === "absent");
-    return { is: "container", children: new Map(holder.children).set(token, part), size };
-  }
-
-  /** @param {Container} holder @param {string} token @returns {Part} */
-  function dropped(holder, token) {
-    if (child(holder, token).is === "absent") throw new Misfit("nothing to remove");
-    const size = holder.size === null ? null : holder.size - 1;
-    const { list } = placeOf(holder, [token]);
-    // Nothing is removed at the end of a list: `-` is a member here.
-    const children = list === false || token === "-" ? new Map(holder.children).set(token, ABSENT) : unmoved(holder, token);
-    return { is: "container", children, size };
-  }
-
-  /**
-   * The slots of a view, each as it was where it is not known what it shows.
-   * @template {Slot} S
-   * @param {Part} whole
-   * @param {readonly Shown[]} view
-   * @param {readonly S[]} before
-   * @returns {S[]}
-   */
-  function slotsOf(whole, view, before) {
-    return view.map((shown, k) => {
-      const slot = slotOf(whole, shown);
-      return /** @type {any} */ (slot === null || equal(slot, before[k]) ? before[k] : slot);
-    });
-  }
-
-  /** @param {Slot} one @param {Slot} other */
-  function equal(one, other) {
-    return one.length === other.length && one[0] === other[0];
-  }
-
-  /**
-   * What one slot shows; null where that is not known.
-   * @param {Part} whole
-   * @param {Shown} shown
-   * @returns {Slot | null}
-   */
-  function slotOf(whole, shown) {
-    const part = read(whole, pathOf(shown));
-    if (part.is === "absent") return [];
-    if (part.is === "value") return typeof shown === "string" ? [part.value] : sizeOf(part.value);
-    if (part.is === "container" && typeof shown !== "string" && part.size !== null) return [part.size];
-    return null;
-  }
-
-  /** @param {any} value @returns {Slot} */
-  function sizeOf(value) {
-    if (typeof value !== "object" || value === null) return [];
-    return [Array.isArray(value) ? value.length : Object.keys(value).length];
-  }
-
-  return { Draft, after, afterAll, child, goesOn, knownBy, pathOf, placeOf, read, slotOf, slotsOf };
-})();
-
 const inverseModule = (() => {
   // What takes a patch back, as far as the slots tell: each operation backwards, behind tests that nobody changed since what it did.
   const { spelled, startsWith, tokens } = pointerModule;
   const { Draft, placeOf, read } = knownModule;
+  const { Misfit } = patchModule;
 
   /**
    * @typedef {import("./known.mjs").Part} Part
@@ -1100,9 +1093,6 @@ const inverseModule = (() => {
 
   // An edit has no more operations.
   const LONGEST = 64;
-
-  /** What takes it back needs what the slots do not show. */
-  class NotKnown extends Error {}
 
   /**
    * @param {Part} whole What is known before the patch.
@@ -1180,14 +1170,14 @@ const inverseModule = (() => {
       case "remove":
         return removedBack(draft, path);
       default:
-        throw new NotKnown();
+        throw new Misfit();
     }
   }
 
   /** @param {Draft} draft @param {readonly string[]} path */
   function valueAt(draft, path) {
     const value = draft.kept(path);
-    if (value === undefined) throw new NotKnown();
+    if (value === undefined) throw new Misfit();
     return value;
   }
 
@@ -1200,7 +1190,7 @@ const inverseModule = (() => {
   /** @param {Draft} draft @param {readonly string[]} path @param {any} value @returns {Operation[]} */
   function addedBack(draft, path, value) {
     const place = placeOf(draft.whole, path);
-    if (place.list === null || (place.list && place.at === null)) throw new NotKnown();
+    if (place.list === null || (place.list && place.at === null)) throw new Misfit();
     if (!place.list && read(draft.whole, path).is !== "absent") return exchange(path, value, valueAt(draft, path));
     const there = spelled(place.path);
     return [{ op: "test", path: there, value }, { op: "remove", path: there }];
@@ -1209,7 +1199,7 @@ const inverseModule = (() => {
   /** @param {Draft} draft @param {readonly string[]} path @returns {Operation[]} */
   function removedBack(draft, path) {
     const place = placeOf(draft.whole, path);
-    if (place.list === null) throw new NotKnown();
+    if (place.list === null) throw new Misfit();
     /** @type {Operation} */
     const add = { op: "add", path: spelled(place.path), value: valueAt(draft, path) };
     return place.list ? [...neighbours(draft, place), add] : [add];
@@ -1218,7 +1208,7 @@ const inverseModule = (() => {
   // Where an element was removed from a list: between the same two, or in a list that is empty.
   /** @param {Draft} draft @param {{ path: readonly string[], holder: Part | null, at: number | null }} place @returns {Operation[]} */
   function neighbours(draft, { path, holder, at }) {
-    if (holder?.is !== "value" || at === null) throw new NotKnown();
+    if (holder?.is !== "value" || at === null) throw new Misfit();
     const list = path.slice(0, -1);
     const { length } = holder.value;
     if (length === 1) return [{ op: "test", path: spelled(list), value: [] }];
@@ -1236,7 +1226,7 @@ const inverseModule = (() => {
     const [from, path] = [tokens(operation.from), tokens(operation.path)];
     const moved = valueAt(draft, from);
     const origin = placeOf(draft.whole, from);
-    if (origin.list === null) throw new NotKnown();
+    if (origin.list === null) throw new Misfit();
     // It came in the place of what it was taken from.
     if (startsWith(from, path) && placeOf(draft.whole, path).list === false) {
       const back = exchange(path, moved, valueAt(draft, path));
@@ -1453,6 +1443,7 @@ const linkModule = (() => {
   const { HandshakeFailed } = errorsModule;
   const { endsConnection } = lengthModule;
   const { failure } = handshakeModule;
+  const { overlap } = pointerModule;
   const { WAITS } = onceModule;
 
   // With one more on the way 32 replies could wait, and the relay would read nothing from this client until it drew one.
@@ -1472,7 +1463,7 @@ const linkModule = (() => {
 
   /**
    * A request: what is sent, the id with which it was, and what becomes of it. Only an edit has the
-   * last five; others end with their connection.
+   * last seven; others end with their connection.
    *
    * @typedef {{ epoch: number, rev: number }} Welcome
    * @typedef {{
@@ -1484,6 +1475,8 @@ const linkModule = (() => {
    *   lost?: () => boolean,
    *   dropped?: () => void,
    *   kept?: import("./queue.mjs").Kept,
+   *   sets?: string,
+   *   exchange?: (later: import("./overlay.mjs").Unconfirmed) => Promise<number>,
    * }} Asked
    * @typedef {{
    *   entered: (welcome: Welcome) => void,
@@ -1572,6 +1565,23 @@ const linkModule = (() => {
       this.#unsent.unshift(asked);
     }
 
+    /**
+     * A value of a place is sent for one that was not sent yet, where all that was asked for since
+     * sets places apart. Gives what becomes of it; undefined where there is no such one.
+     * @param {string | undefined} sets
+     * @param {import("./overlay.mjs").Unconfirmed} later
+     */
+    exchange(sets, later) {
+      if (sets === undefined) return undefined;
+      const isNear = (/** @type {Asked} */ asked) =>
+        asked.sets === undefined || overlap(asked.sets, sets);
+      const earlier = [...this.#unsent].reverse().find(isNear);
+      if (earlier?.sets !== sets) return undefined;
+      const done = earlier.exchange?.(later);
+      this.#send();
+      return done;
+    }
+
     /** Leaves this connection for another one. */
     renew() {
       this.#abandon(null);
@@ -1579,6 +1589,7 @@ const linkModule = (() => {
 
     close() {
       this.#closed = true;
+      this.#send();
       const socket = this.#socket;
       this.#detach();
       socket?.close();
@@ -1662,8 +1673,17 @@ const linkModule = (() => {
       this.#timer = setTimeout(() => this.ask({ request: {}, answered: () => {} }), this.#options.quiet);
     }
 
+    // One value of a place is on its way at a time. The next one waits until that is answered, or
+    // something else is asked for: until then a newer one is sent for it.
+    get #isHeld() {
+      const waits = (/** @type {Asked} */ { sets }) =>
+        sets !== undefined && this.#sent.some((asked) => asked.sets === sets);
+      return !this.#closed && this.#unsent.every(waits);
+    }
+
     #send() {
       while (this.#welcome !== null && this.#sent.length < ON_THE_WAY && this.#unsent.length > 0) {
+        if (this.#isHeld) break;
         const ahead = this.#unsent[0].ahead?.(this.#welcome) ?? null;
         if (ahead === WAITS) break;
         if (ahead !== null) this.#unsent.unshift(ahead);
@@ -2218,8 +2238,9 @@ const placeModule = (() => {
       if (slots === null) throw new Error("the slots are not there yet");
       const missing = parents ? this.#missing(slots) : 0;
       if (missing > 0) return this.#setWithParents(value, { optimistic: true, ...options });
-      const patch = [this.#write(this.#slot(slots), value)];
-      return this.#board.edit(patch, { optimistic: true, ...options });
+      const operation = this.#write(this.#slot(slots), value);
+      const sets = operation.op === "replace" ? operation.path : undefined;
+      return this.#board.edit([operation], { optimistic: true, ...options, sets });
     }
 
     // No operation tests that nothing stands in a place: so it is done on what was seen.
@@ -2330,7 +2351,7 @@ const placeModule = (() => {
     // The slot that shows it, and where in that slot's value. A size is a slot of its own or nothing.
     #cover() {
       const { view } = this.#source;
-      const at = view.findIndex((shown) => isSame(shown, this.#shown));
+      const at = view.findIndex((shown) => same(shown, this.#shown));
       if (at >= 0 || typeof this.#shown !== "string") return { at, rest: [] };
       const outer = view.findIndex((shown) => typeof shown === "string" && startsWith(this.#path, tokens(shown)));
       return outer < 0 ? null : { at: outer, rest: this.#path.slice(tokens(/** @type {string} */ (view[outer])).length) };
@@ -2355,12 +2376,6 @@ const placeModule = (() => {
   /** @param {readonly any[]} slot @param {string} token @returns {readonly any[]} */
   function part(slot, token) {
     return slot.length > 0 && has(slot[0], token) ? [slot[0][token]] : [];
-  }
-
-  /** @param {Shown} one @param {Shown} other */
-  function isSame(one, other) {
-    if (typeof one === "string" || typeof other === "string") return one === other;
-    return one.size === other.size;
   }
 
   /**
@@ -2407,7 +2422,7 @@ const placeModule = (() => {
     return new Promise((resolve) => setTimeout(resolve, Math.random() * longest));
   }
 
-  return { Place, anew, compareAndSet, isSame };
+  return { Place, anew, compareAndSet };
 })();
 
 const placesModule = (() => {
@@ -2434,7 +2449,7 @@ const placesModule = (() => {
 
     /** @param {Shown} shown */
     at(shown) {
-      const key = typeof shown === "string" ? `value ${shown}` : `size ${shown.size}`;
+      const key = JSON.stringify(shown);
       const made = this.#made.get(key)?.deref();
       if (made !== undefined) return made;
       const place = this.#make(shown);
@@ -2535,7 +2550,7 @@ const nodeModule = (() => {
   // The parts of a draft: what was seen, each part by where it stood, and what is made of it. A part
   // keeps what it is when it is moved, so that the patch can be a move. Containers are opened when
   // they are looked into.
-  const { checked, isObject } = jsonModule;
+  const { DEEPEST, checked, isObject } = jsonModule;
   const { child } = knownModule;
   const { index, spelled } = pointerModule;
 
@@ -2543,9 +2558,6 @@ const nodeModule = (() => {
    * @typedef {import("./known.mjs").Part} Part
    * @typedef {Node[] | Map<string, Node>} Kids
    */
-
-  // A value past this is deeper than any document, or in a cycle.
-  const DEEPEST = 128;
 
   class Node {
     /** @type {Kids | null} */
@@ -2772,18 +2784,18 @@ const listModule = (() => {
   /** @param {Draft} draft @param {Node} node */
   function orders(draft, node) {
     return {
-      reverse: () => (draft.see(node), reordered(draft, node, (kids) => kids.reverse())),
-      sort(/** @type {(a: any, b: any) => number} */ compare) {
-        draft.see(node);
-        const order = node.list.map((kid) => draft.of(kid)).sort(compare);
-        const left = [...node.list];
-        const taken = (/** @type {any} */ value) => {
-          const at = left.findIndex((kid) => draft.of(kid) === value);
-          return left.splice(at, 1)[0];
-        };
-        return reordered(draft, node, () => order.map(taken));
+      reverse: () => reordered(draft, node, (kids) => kids.reverse()),
+      sort(/** @type {(one: any, other: any) => number} */ compare = byText) {
+        const order = (/** @type {Node} */ one, /** @type {Node} */ other) =>
+          compare(draft.of(one), draft.of(other));
+        return reordered(draft, node, (kids) => kids.sort(order));
       },
     };
+  }
+
+  /** @param {any} one @param {any} other */
+  function byText(one, other) {
+    return String(one) < String(other) ? -1 : Number(String(one) > String(other));
   }
 
   // These end where they find something, and hang on nothing behind it.
@@ -2847,6 +2859,7 @@ const listModule = (() => {
 
   /** @param {Draft} draft @param {Node} node @param {(kids: Node[]) => Node[]} order */
   function reordered(draft, node, order) {
+    draft.see(node);
     draft.change(node);
     node.kids = order([...node.list]);
     return draft.of(node);
@@ -4027,19 +4040,26 @@ const boardModule = (() => {
      * @returns {Promise<number>}
      */
     #edit(patch, options, role) {
-      const { base, epoch = this.epoch, optimistic = false, silent = false, once = false } = options;
+      const { base, epoch = this.epoch, optimistic = false, silent = false } = options;
+      const { once = false, sets } = options;
       /** @type {Unconfirmed["left"]} */
       const left = (inverse) => void (inverse && role && this.#history.record(role, inverse));
       const done = new Promise((resolve, reject) => {
-        const own = checked(patch);
         /** @type {Unconfirmed} */
-        const unconfirmed = { patch: own, optimistic, silent, rev: null, epoch: null, left };
+        const own = { patch: checked(patch), optimistic, silent, rev: null, epoch: null, left };
         const counter = once ? this.#counterOf(base) : null;
-        const asked = { patch: own, base: revision(base), epoch, counter };
-        const edit = new Edit(asked, this.#outcome(unconfirmed, resolve, reject));
+        const exchange = (/** @type {Unconfirmed} */ later) => {
+          Object.assign(own, later, { laid: undefined });
+          this.#tell(null);
+          return done;
+        };
+        const asked = { own, base: revision(base), epoch, counter, sets, exchange };
+        const edit = new Edit(asked, this.#outcome(own, resolve, reject));
         if (this.#state === "closed") throw new Closed();
         if (this.#isAway && !this.#queue.takes(edit)) throw new Refused({ fault: "away" });
-        this.#overlay.add(unconfirmed);
+        const earlier = this.#link.exchange(edit.sets, own);
+        if (earlier !== undefined) return resolve(earlier);
+        this.#overlay.add(own);
         if (optimistic) this.#tell(null);
         this.#link.ask(edit);
       });
@@ -4235,9 +4255,10 @@ const boardModule = (() => {
 const roomModule = (() => {
   // Several views of one room over as few connections as they need: each part of a page watches what it shows, and knows of no other part.
   const { Board } = boardModule;
-  const { Place, isSame } = placeModule;
+  const { Place } = placeModule;
   const { Places } = placesModule;
   const { pathOf } = knownModule;
+  const { same } = jsonModule;
 
   /** @typedef {import("../relay.js").Shown} Shown */
   /** @typedef {import("../relay.js").State} State */
@@ -4310,7 +4331,7 @@ const roomModule = (() => {
     join(view, pointers) {
       const wanted = this.#with(pointers);
       this.#views.set(view, pointers);
-      if (wanted.length !== this.#wanted.length || !wanted.every((shown, k) => isSame(shown, this.#wanted[k]))) {
+      if (wanted.length !== this.#wanted.length || !wanted.every((shown, k) => same(shown, this.#wanted[k]))) {
         this.#shown = this.board.watch(wanted);
       }
       this.#wanted = wanted;
@@ -4333,7 +4354,7 @@ const roomModule = (() => {
 
   /** @param {readonly Shown[]} all */
   function distinct(all) {
-    return all.filter((shown, k) => all.findIndex((other) => isSame(other, shown)) === k);
+    return all.filter((shown, k) => all.findIndex((other) => same(other, shown)) === k);
   }
 
   // What one part of a page shows. Its edits, and what of them waits or is undone, are those of its
@@ -4402,7 +4423,7 @@ const roomModule = (() => {
     /** @param {any} slots @returns {any} */
     #own(slots) {
       const { view } = this.#shared.board;
-      const own = slots && this.#pointers.map((shown) => slots[view.findIndex((/** @type {Shown} */ other) => isSame(other, shown))]);
+      const own = slots && this.#pointers.map((shown) => slots[view.findIndex((/** @type {Shown} */ other) => same(other, shown))]);
       return own === null || own.includes(undefined) ? null : own;
     }
 

@@ -2,9 +2,9 @@
 import assert from "node:assert/strict";
 import { test } from "node:test";
 import { Draft } from "../../clients/javascript/src/draft.mjs";
-import { applied, Misfit } from "../../clients/javascript/src/patch.mjs";
+import { Misfit } from "../../clients/javascript/src/patch.mjs";
 import { guarded } from "../../clients/javascript/src/guard.mjs";
-import { knownBy } from "../../clients/javascript/src/known.mjs";
+import { applied, knownBy } from "../../clients/javascript/src/known.mjs";
 import { chance, randomChange, randomDocument, randomOther } from "./changes.mjs";
 
 const ROUNDS = 3000;

@@ -68,9 +68,7 @@ class Play:
         views = [*self.chance.sample(WHOLE, 2), self.chance.choice(PARTS)]
         self.players = [await InNode.begin(self.node, url, view) for view in views]
         self.players += [ShowingInPython(url, self.chance.choice(kind)) for kind in (WHOLE, WHOLE, PARTS)]
-        # Only when asked for: on a busy machine Go had another number of edits waiting than expected.
-        # Whether its client or its player is wrong is open.
-        if (go := os.environ.get("GO_PLAYER")) and os.environ.get("GO_SHOWS"):
+        if go := os.environ.get("GO_PLAYER"):
             shown = [self.chance.choice(kind) for kind in (WHOLE, WHOLE, PARTS)]
             self.players += [await InGo.begin(go, url, view) for view in shown]
         if java := os.environ.get("JAVA_PLAYER"):

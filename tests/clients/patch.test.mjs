@@ -1,9 +1,9 @@
 // JSON Patch in the JavaScript client: on values that are never written to, and with one copy of each container that a patch changes.
 import assert from "node:assert/strict";
 import { test } from "node:test";
-import { applied, Misfit } from "../../clients/javascript/src/patch.mjs";
+import { Misfit } from "../../clients/javascript/src/patch.mjs";
 import { inverse } from "../../clients/javascript/src/inverse.mjs";
-import { knownBy } from "../../clients/javascript/src/known.mjs";
+import { applied, knownBy } from "../../clients/javascript/src/known.mjs";
 import { touches } from "../../clients/javascript/src/touch.mjs";
 import { overlaid } from "../../clients/javascript/src/relay.mjs";
 

@@ -10,6 +10,7 @@ from support.ports import free_port
 from support.relay import Relay
 from support.room import Room
 from tutorial import tutorial_in
+from whiteboard import SEEN
 from window import Window, element, text_of
 
 VALUE = f"{element('input')}.value"
@@ -79,6 +80,7 @@ PAGES = {
     "board": ["", "/todo", "/doing", "/away", "/here"],
     "form": ["", "/place", "/notes"],
     "lobby": ["", "/here", "/tables", "/tables/north", "/tables/north/players"],
+    "whiteboard": ["", "/shapes", "/shapes/a"],
 }
 PROPER = {
     "board": {"todo": ["milk", None, 5], "doing": 7, "done": [], "away": [], "here": None},
@@ -89,6 +91,13 @@ PROPER = {
         "notes": {"text": [], "by": {}},
     },
     "lobby": {"here": 5, "tables": {"north": {"players": {"a": 1}}, "east": None}},
+    "whiteboard": {
+        "shapes": {
+            "a": {"kind": "note", "at": {"x": 20, "y": 30}, "text": "milk"},
+            "b": None,
+            "c": {"kind": 5, "at": {"x": "7", "y": -3}, "text": ["bread"]},
+        }
+    },
 }
 FIELDS = "[...document.querySelectorAll('input, textarea')].map(({ value }) => value).join()"
 TEXTS = "['#people', '#tables p'].map((each) => document.querySelector(each).textContent).join()"
@@ -96,6 +105,7 @@ SHOWN = {
     "board": (f"JSON.stringify([{LISTS}, {PEOPLE}])", '[[["milk","",""],[],[]],1]'),
     "form": (FIELDS, "The hall,,,"),
     "lobby": (TEXTS, "1 here: Ann,1 of 2 players"),
+    "whiteboard": (f"{SEEN}.join()", "note 20 30,rectangle 0 0,rectangle 0 0"),
 }
 
 
@@ -117,7 +127,7 @@ async def a_page_goes_on_beside_a_client_that_writes_other_shapes(place):
 
 
 @shows
-async def a_card_or_a_text_takes_the_place_of_something_else(place):
+async def a_card_a_text_or_a_shape_takes_the_place_of_something_else(place):
     lists = {"todo": 5, "doing": [None], "done": [], "away": [], "here": {}}
     await Room(place.relay, "mend-board").set(lists)
     await Room(place.relay, "mend-form").set({"place": None})
@@ -133,6 +143,12 @@ async def a_card_or_a_text_takes_the_place_of_something_else(place):
     await form.evaluate(write("The hall"))
     await form.until(CONFIRMED, HALL)
     await form.leave()
+    await Room(place.relay, "mend-whiteboard").set({"shapes": 5})
+    white = await place.window("whiteboard", "mend-whiteboard")
+    await white.until(text_of("#state"), "connected")
+    await white.press("[data-kind='ellipse']")
+    await white.until("document.querySelector('.shape')?.dataset.kind", "ellipse")
+    await white.leave()
 
 
 @shows

@@ -240,19 +240,26 @@ export class Board {
    * @returns {Promise<number>}
    */
   #edit(patch, options, role) {
-    const { base, epoch = this.epoch, optimistic = false, silent = false, once = false } = options;
+    const { base, epoch = this.epoch, optimistic = false, silent = false } = options;
+    const { once = false, sets } = options;
     /** @type {Unconfirmed["left"]} */
     const left = (inverse) => void (inverse && role && this.#history.record(role, inverse));
     const done = new Promise((resolve, reject) => {
-      const own = checked(patch);
       /** @type {Unconfirmed} */
-      const unconfirmed = { patch: own, optimistic, silent, rev: null, epoch: null, left };
+      const own = { patch: checked(patch), optimistic, silent, rev: null, epoch: null, left };
       const counter = once ? this.#counterOf(base) : null;
-      const asked = { patch: own, base: revision(base), epoch, counter };
-      const edit = new Edit(asked, this.#outcome(unconfirmed, resolve, reject));
+      const exchange = (/** @type {Unconfirmed} */ later) => {
+        Object.assign(own, later, { laid: undefined });
+        this.#tell(null);
+        return done;
+      };
+      const asked = { own, base: revision(base), epoch, counter, sets, exchange };
+      const edit = new Edit(asked, this.#outcome(own, resolve, reject));
       if (this.#state === "closed") throw new Closed();
       if (this.#isAway && !this.#queue.takes(edit)) throw new Refused({ fault: "away" });
-      this.#overlay.add(unconfirmed);
+      const earlier = this.#link.exchange(edit.sets, own);
+      if (earlier !== undefined) return resolve(earlier);
+      this.#overlay.add(own);
       if (optimistic) this.#tell(null);
       this.#link.ask(edit);
     });

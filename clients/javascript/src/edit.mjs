@@ -10,8 +10,15 @@ const SENDINGS = 5;
  * @typedef {import("../relay.js").Operation} Operation
  * @typedef {import("./once.mjs").Counter} Counter
  * @typedef {{ epoch: number, rev: number }} Welcome
- * @typedef {{ patch: Operation[], base?: number, epoch: number | null }} Kept
- * @typedef {Kept & { counter: Counter | null }} Asked
+ * @typedef {import("./overlay.mjs").Unconfirmed} Unconfirmed
+ * @typedef {{
+ *   own: Unconfirmed,
+ *   base?: number,
+ *   epoch: number | null,
+ *   counter: Counter | null,
+ *   sets?: string,
+ *   exchange: (later: Unconfirmed) => Promise<number>,
+ * }} Asked
  * @typedef {{
  *   done: (rev: number, epoch: number) => void,
  *   doneBefore: (edit: Edit, epoch: number) => void,
@@ -23,7 +30,7 @@ const SENDINGS = 5;
  */
 
 export class Edit {
-  #patch;
+  #own;
   #base;
   #counter;
   #epoch; // the run to which it belongs; null where the first connection decides
@@ -34,8 +41,12 @@ export class Edit {
   #on;
 
   /** @param {Asked} asked @param {Outcome} on */
-  constructor({ patch, base, epoch, counter }, on) {
-    this.#patch = patch;
+  constructor({ own, base, epoch, counter, sets, exchange }, on) {
+    /** The place whose value it replaces, if it does no more and is sent once. */
+    this.sets = base === undefined && counter === null ? sets : undefined;
+    /** Has a later one that sets the same place be sent for it. Gives what becomes of that. */
+    this.exchange = exchange;
+    this.#own = own;
     this.#base = base;
     this.#epoch = epoch;
     this.#counter = counter;
@@ -44,7 +55,7 @@ export class Edit {
 
   /** What is sent. */
   get request() {
-    const own = this.#refusal === null ? this.#patch : [];
+    const own = this.#refusal === null ? this.#own.patch : [];
     const patch = this.#counter === null ? own : [...this.#counter.raise, ...own];
     return this.#hasBase ? { do: "edit", base: this.#base, patch } : { do: "edit", patch };
   }
@@ -52,7 +63,7 @@ export class Edit {
   /** What is kept of it while it waits, so that another board can send it. */
   get kept() {
     const once = this.#counter === null ? undefined : true;
-    return { patch: this.#patch, base: this.#base, epoch: this.#epoch, once };
+    return { patch: this.#own.patch, base: this.#base, epoch: this.#epoch, once };
   }
 
   get #hasBase() {
@@ -61,7 +72,7 @@ export class Edit {
 
   /** Whether it does no harm when it is late: it has a base, or tests something first. */
   get isGuarded() {
-    return this.#hasBase || this.#patch[0]?.op === "test";
+    return this.#hasBase || this.#own.patch[0]?.op === "test";
   }
 
   /**

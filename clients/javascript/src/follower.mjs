@@ -1,6 +1,6 @@
 // The slots of a view as the relay shows them, kept right over lost connections and restarts (docs/PROTOCOL.md, "What a client does").
 import { Closed, Refused } from "./errors.mjs";
-import { applied } from "./patch.mjs";
+import { applied } from "./known.mjs";
 import { checked } from "./json.mjs";
 
 /**

@@ -1,6 +1,7 @@
 // What takes a patch back, as far as the slots tell: each operation backwards, behind tests that nobody changed since what it did.
 import { spelled, startsWith, tokens } from "./pointer.mjs";
 import { Draft, placeOf, read } from "./known.mjs";
+import { Misfit } from "./patch.mjs";
 
 /**
  * @typedef {import("./known.mjs").Part} Part
@@ -11,9 +12,6 @@ import { Draft, placeOf, read } from "./known.mjs";
 
 // An edit has no more operations.
 const LONGEST = 64;
-
-/** What takes it back needs what the slots do not show. */
-class NotKnown extends Error {}
 
 /**
  * @param {Part} whole What is known before the patch.
@@ -91,14 +89,14 @@ function unmovedBack(draft, operation) {
     case "remove":
       return removedBack(draft, path);
     default:
-      throw new NotKnown();
+      throw new Misfit();
   }
 }
 
 /** @param {Draft} draft @param {readonly string[]} path */
 function valueAt(draft, path) {
   const value = draft.kept(path);
-  if (value === undefined) throw new NotKnown();
+  if (value === undefined) throw new Misfit();
   return value;
 }
 
@@ -111,7 +109,7 @@ function exchange(path, value, old) {
 /** @param {Draft} draft @param {readonly string[]} path @param {any} value @returns {Operation[]} */
 function addedBack(draft, path, value) {
   const place = placeOf(draft.whole, path);
-  if (place.list === null || (place.list && place.at === null)) throw new NotKnown();
+  if (place.list === null || (place.list && place.at === null)) throw new Misfit();
   if (!place.list && read(draft.whole, path).is !== "absent") return exchange(path, value, valueAt(draft, path));
   const there = spelled(place.path);
   return [{ op: "test", path: there, value }, { op: "remove", path: there }];
@@ -120,7 +118,7 @@ function addedBack(draft, path, value) {
 /** @param {Draft} draft @param {readonly string[]} path @returns {Operation[]} */
 function removedBack(draft, path) {
   const place = placeOf(draft.whole, path);
-  if (place.list === null) throw new NotKnown();
+  if (place.list === null) throw new Misfit();
   /** @type {Operation} */
   const add = { op: "add", path: spelled(place.path), value: valueAt(draft, path) };
   return place.list ? [...neighbours(draft, place), add] : [add];
@@ -129,7 +127,7 @@ function removedBack(draft, path) {
 // Where an element was removed from a list: between the same two, or in a list that is empty.
 /** @param {Draft} draft @param {{ path: readonly string[], holder: Part | null, at: number | null }} place @returns {Operation[]} */
 function neighbours(draft, { path, holder, at }) {
-  if (holder?.is !== "value" || at === null) throw new NotKnown();
+  if (holder?.is !== "value" || at === null) throw new Misfit();
   const list = path.slice(0, -1);
   const { length } = holder.value;
   if (length === 1) return [{ op: "test", path: spelled(list), value: [] }];
@@ -147,7 +145,7 @@ function movedBack(draft, operation) {
   const [from, path] = [tokens(operation.from), tokens(operation.path)];
   const moved = valueAt(draft, from);
   const origin = placeOf(draft.whole, from);
-  if (origin.list === null) throw new NotKnown();
+  if (origin.list === null) throw new Misfit();
   // It came in the place of what it was taken from.
   if (startsWith(from, path) && placeOf(draft.whole, path).list === false) {
     const back = exchange(path, moved, valueAt(draft, path));

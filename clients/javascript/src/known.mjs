@@ -143,6 +143,16 @@ export function afterAll(whole, patch) {
   return draft.whole;
 }
 
+/**
+ * A value after a patch. Fails with `Misfit` where an operation does not fit.
+ * @param {any} value
+ * @param {readonly Operation[]} patch
+ * @returns {any}
+ */
+export function applied(value, patch) {
+  return /** @type {any} */ (afterAll(known(value), patch)).value;
+}
+
 /** What is known while a patch is done, operation by operation, on values that the draft alone has: so it copies each container once. */
 export class Draft {
   #owned = new Owned();
@@ -221,14 +231,14 @@ export class Draft {
 /** @param {Part} whole @param {readonly string[]} from */
 function source(whole, from) {
   const part = read(whole, from);
-  if (part.is === "absent") throw new Misfit("nothing to take");
+  if (part.is === "absent") throw new Misfit();
   return part;
 }
 
 /** @param {Part} whole @param {readonly string[]} path @param {any} value */
 function tested(whole, path, value) {
   const part = read(whole, path);
-  if (part.is === "absent" || (part.is === "value" && !same(part.value, value))) throw new Misfit("another value");
+  if (part.is === "absent" || (part.is === "value" && !same(part.value, value))) throw new Misfit();
 }
 
 /** @param {Part} whole @param {readonly string[]} path @param {Part} part @param {Owned} owned */
@@ -242,7 +252,7 @@ function put(whole, path, part, owned) {
 /** @param {Part} whole @param {readonly string[]} path @param {Owned} owned */
 function taken(whole, path, owned) {
   const atRoot = () => {
-    throw new Misfit("the whole cannot be removed");
+    throw new Misfit();
   };
   return changed(whole, path, atRoot, { inValue: (value, rest) => known(removed(value, rest, owned)), inContainer: dropped });
 }
@@ -252,7 +262,7 @@ function exchanged(whole, path, part, owned) {
   return changed(whole, path, () => part, {
     inValue: (value, rest) => known(replaced(value, rest, part.value, owned)),
     inContainer: (holder, token) => {
-      if (child(holder, token).is === "absent") throw new Misfit("nothing to replace");
+      if (child(holder, token).is === "absent") throw new Misfit();
       return { ...holder, children: new Map(holder.children).set(token, part) };
     },
   });
@@ -268,7 +278,7 @@ function exchanged(whole, path, part, owned) {
  */
 function changed(whole, path, atRoot, change) {
   if (path.length === 0) return atRoot();
-  if (whole.is === "absent") throw new Misfit("nothing there");
+  if (whole.is === "absent") throw new Misfit();
   if (whole.is === "value") return change.inValue(whole.value, path);
   const [token, ...rest] = path;
   const holder = container(whole);
@@ -304,7 +314,7 @@ function inserted(holder, token, part) {
 
 /** @param {Container} holder @param {string} token @returns {Part} */
 function dropped(holder, token) {
-  if (child(holder, token).is === "absent") throw new Misfit("nothing to remove");
+  if (child(holder, token).is === "absent") throw new Misfit();
   const size = holder.size === null ? null : holder.size - 1;
   const { list } = placeOf(holder, [token]);
   // Nothing is removed at the end of a list: `-` is a member here.

@@ -2,6 +2,7 @@
 import { HandshakeFailed } from "./errors.mjs";
 import { endsConnection } from "./length.mjs";
 import { failure } from "./handshake.mjs";
+import { overlap } from "./pointer.mjs";
 import { WAITS } from "./once.mjs";
 
 // With one more on the way 32 replies could wait, and the relay would read nothing from this client until it drew one.
@@ -21,7 +22,7 @@ const REPLIES = ["done", "refused", "watching", "resumed", "unwatched"];
 
 /**
  * A request: what is sent, the id with which it was, and what becomes of it. Only an edit has the
- * last five; others end with their connection.
+ * last seven; others end with their connection.
  *
  * @typedef {{ epoch: number, rev: number }} Welcome
  * @typedef {{
@@ -33,6 +34,8 @@ const REPLIES = ["done", "refused", "watching", "resumed", "unwatched"];
  *   lost?: () => boolean,
  *   dropped?: () => void,
  *   kept?: import("./queue.mjs").Kept,
+ *   sets?: string,
+ *   exchange?: (later: import("./overlay.mjs").Unconfirmed) => Promise<number>,
  * }} Asked
  * @typedef {{
  *   entered: (welcome: Welcome) => void,
@@ -121,6 +124,23 @@ export class Link {
     this.#unsent.unshift(asked);
   }
 
+  /**
+   * A value of a place is sent for one that was not sent yet, where all that was asked for since
+   * sets places apart. Gives what becomes of it; undefined where there is no such one.
+   * @param {string | undefined} sets
+   * @param {import("./overlay.mjs").Unconfirmed} later
+   */
+  exchange(sets, later) {
+    if (sets === undefined) return undefined;
+    const isNear = (/** @type {Asked} */ asked) =>
+      asked.sets === undefined || overlap(asked.sets, sets);
+    const earlier = [...this.#unsent].reverse().find(isNear);
+    if (earlier?.sets !== sets) return undefined;
+    const done = earlier.exchange?.(later);
+    this.#send();
+    return done;
+  }
+
   /** Leaves this connection for another one. */
   renew() {
     this.#abandon(null);
@@ -128,6 +148,7 @@ export class Link {
 
   close() {
     this.#closed = true;
+    this.#send();
     const socket = this.#socket;
     this.#detach();
     socket?.close();
@@ -211,8 +232,17 @@ export class Link {
     this.#timer = setTimeout(() => this.ask({ request: {}, answered: () => {} }), this.#options.quiet);
   }
 
+  // One value of a place is on its way at a time. The next one waits until that is answered, or
+  // something else is asked for: until then a newer one is sent for it.
+  get #isHeld() {
+    const waits = (/** @type {Asked} */ { sets }) =>
+      sets !== undefined && this.#sent.some((asked) => asked.sets === sets);
+    return !this.#closed && this.#unsent.every(waits);
+  }
+
   #send() {
     while (this.#welcome !== null && this.#sent.length < ON_THE_WAY && this.#unsent.length > 0) {
+      if (this.#isHeld) break;
       const ahead = this.#unsent[0].ahead?.(this.#welcome) ?? null;
       if (ahead === WAITS) break;
       if (ahead !== null) this.#unsent.unshift(ahead);

@@ -61,18 +61,18 @@ export function methods(draft, node) {
 /** @param {Draft} draft @param {Node} node */
 function orders(draft, node) {
   return {
-    reverse: () => (draft.see(node), reordered(draft, node, (kids) => kids.reverse())),
-    sort(/** @type {(a: any, b: any) => number} */ compare) {
-      draft.see(node);
-      const order = node.list.map((kid) => draft.of(kid)).sort(compare);
-      const left = [...node.list];
-      const taken = (/** @type {any} */ value) => {
-        const at = left.findIndex((kid) => draft.of(kid) === value);
-        return left.splice(at, 1)[0];
-      };
-      return reordered(draft, node, () => order.map(taken));
+    reverse: () => reordered(draft, node, (kids) => kids.reverse()),
+    sort(/** @type {(one: any, other: any) => number} */ compare = byText) {
+      const order = (/** @type {Node} */ one, /** @type {Node} */ other) =>
+        compare(draft.of(one), draft.of(other));
+      return reordered(draft, node, (kids) => kids.sort(order));
     },
   };
+}
+
+/** @param {any} one @param {any} other */
+function byText(one, other) {
+  return String(one) < String(other) ? -1 : Number(String(one) > String(other));
 }
 
 // These end where they find something, and hang on nothing behind it.
@@ -136,6 +136,7 @@ function neighbour(draft, node, start, end) {
 
 /** @param {Draft} draft @param {Node} node @param {(kids: Node[]) => Node[]} order */
 function reordered(draft, node, order) {
+  draft.see(node);
   draft.change(node);
   node.kids = order([...node.list]);
   return draft.of(node);

@@ -1,7 +1,7 @@
 // The parts of a draft: what was seen, each part by where it stood, and what is made of it. A part
 // keeps what it is when it is moved, so that the patch can be a move. Containers are opened when
 // they are looked into.
-import { checked, isObject } from "./json.mjs";
+import { DEEPEST, checked, isObject } from "./json.mjs";
 import { child } from "./known.mjs";
 import { index, spelled } from "./pointer.mjs";
 
@@ -9,9 +9,6 @@ import { index, spelled } from "./pointer.mjs";
  * @typedef {import("./known.mjs").Part} Part
  * @typedef {Node[] | Map<string, Node>} Kids
  */
-
-// A value past this is deeper than any document, or in a cycle.
-const DEEPEST = 128;
 
 export class Node {
   /** @type {Kids | null} */

@@ -1,12 +1,11 @@
 // JSON Patch (RFC 6902) on values that are never written to: what a patch leads to has new parts where it differs, so a value that was
 // handed out stays what it was. A patch copies each container once, however many of its operations change it.
-import { index, startsWith, tokens } from "./pointer.mjs";
-import { same } from "./json.mjs";
-
-/** @typedef {import("../relay.js").Operation} Operation */
+import { index, startsWith } from "./pointer.mjs";
 
 /** An operation does not fit the value. */
-export class Misfit extends Error {}
+export class Misfit extends Error {
+  message = "the patch does not fit";
+}
 
 /** The containers that one patch made. Nobody else has them, and each stands in one place, so the patch may write to them. */
 export class Owned {
@@ -18,7 +17,7 @@ export class Owned {
    * @param {any} part
    */
   writable(part) {
-    if (typeof part !== "object" || part === null) throw new Misfit("no list and no object");
+    if (typeof part !== "object" || part === null) throw new Misfit();
     if (this.#made.has(part)) return part;
     const copy = Array.isArray(part) ? part.slice() : { ...part };
     this.#made.add(copy);
@@ -36,46 +35,9 @@ export class Owned {
   }
 }
 
-/**
- * @param {any} whole
- * @param {readonly Operation[]} patch
- */
-export function applied(whole, patch) {
-  const owned = new Owned();
-  return patch.reduce((present, operation) => step(present, operation, owned), whole);
-}
-
-/** @param {any} whole @param {any} operation @param {Owned} owned */
-function step(whole, { op, path, from, value }, owned) {
-  switch (op) {
-    case "add":
-      return added(whole, tokens(path), value, owned);
-    case "remove":
-      return removed(whole, tokens(path), owned);
-    case "replace":
-      return replaced(whole, tokens(path), value, owned);
-    case "move": {
-      const moved = found(whole, tokens(from));
-      if (path === from) return whole;
-      checkMove(tokens(from), tokens(path));
-      return added(removed(whole, tokens(from), owned), tokens(path), moved, owned);
-    }
-    case "copy": {
-      const copied = found(whole, tokens(from));
-      owned.share(copied);
-      return added(whole, tokens(path), copied, owned);
-    }
-    case "test":
-      if (!same(found(whole, tokens(path)), value)) throw new Misfit(`another value at ${path}`);
-      return whole;
-    default:
-      throw new TypeError(`no operation: ${op}`);
-  }
-}
-
 /** @param {readonly string[]} from @param {readonly string[]} path */
 export function checkMove(from, path) {
-  if (path.length > from.length && startsWith(path, from)) throw new Misfit("into itself");
+  if (path.length > from.length && startsWith(path, from)) throw new Misfit();
 }
 
 /** @param {any} part @param {string} token */
@@ -87,7 +49,7 @@ export function has(part, token) {
 /** @param {any} whole @param {readonly string[]} path */
 export function found(whole, path) {
   return path.reduce((part, token) => {
-    if (!has(part, token)) throw new Misfit(`nothing at ${token}`);
+    if (!has(part, token)) throw new Misfit();
     return part[token];
   }, whole);
 }
@@ -97,7 +59,7 @@ export function added(whole, path, value, owned) {
   return changed(whole, path, owned, () => value, (part, token) => {
     if (!Array.isArray(part)) return put(part, token, value);
     const place = token === "-" ? part.length : index(token) ?? Infinity;
-    if (place > part.length) throw new Misfit(`no place ${token}`);
+    if (place > part.length) throw new Misfit();
     part.splice(place, 0, value);
   });
 }
@@ -106,7 +68,7 @@ export function added(whole, path, value, owned) {
 export function removed(whole, path, owned) {
   found(whole, path);
   const atRoot = () => {
-    throw new Misfit("the whole cannot be removed");
+    throw new Misfit();
   };
   return changed(whole, path, owned, atRoot, (part, token) => {
     if (Array.isArray(part)) part.splice(Number(token), 1);

@@ -70,8 +70,9 @@ export class Place {
     if (slots === null) throw new Error("the slots are not there yet");
     const missing = parents ? this.#missing(slots) : 0;
     if (missing > 0) return this.#setWithParents(value, { optimistic: true, ...options });
-    const patch = [this.#write(this.#slot(slots), value)];
-    return this.#board.edit(patch, { optimistic: true, ...options });
+    const operation = this.#write(this.#slot(slots), value);
+    const sets = operation.op === "replace" ? operation.path : undefined;
+    return this.#board.edit([operation], { optimistic: true, ...options, sets });
   }
 
   // No operation tests that nothing stands in a place: so it is done on what was seen.
@@ -182,7 +183,7 @@ export class Place {
   // The slot that shows it, and where in that slot's value. A size is a slot of its own or nothing.
   #cover() {
     const { view } = this.#source;
-    const at = view.findIndex((shown) => isSame(shown, this.#shown));
+    const at = view.findIndex((shown) => same(shown, this.#shown));
     if (at >= 0 || typeof this.#shown !== "string") return { at, rest: [] };
     const outer = view.findIndex((shown) => typeof shown === "string" && startsWith(this.#path, tokens(shown)));
     return outer < 0 ? null : { at: outer, rest: this.#path.slice(tokens(/** @type {string} */ (view[outer])).length) };
@@ -207,12 +208,6 @@ function nested(value, name) {
 /** @param {readonly any[]} slot @param {string} token @returns {readonly any[]} */
 function part(slot, token) {
   return slot.length > 0 && has(slot[0], token) ? [slot[0][token]] : [];
-}
-
-/** @param {Shown} one @param {Shown} other */
-export function isSame(one, other) {
-  if (typeof one === "string" || typeof other === "string") return one === other;
-  return one.size === other.size;
 }
 
 /**

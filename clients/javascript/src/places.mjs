@@ -21,7 +21,7 @@ export class Places {
 
   /** @param {Shown} shown */
   at(shown) {
-    const key = typeof shown === "string" ? `value ${shown}` : `size ${shown.size}`;
+    const key = JSON.stringify(shown);
     const made = this.#made.get(key)?.deref();
     if (made !== undefined) return made;
     const place = this.#make(shown);

@@ -36,6 +36,15 @@ export function index(token) {
 }
 
 /**
+ * Whether one of two pointers leads to the other's value or into it.
+ * @param {string} one
+ * @param {string} other
+ */
+export function overlap(one, other) {
+  return `${one}/`.startsWith(`${other}/`) || `${other}/`.startsWith(`${one}/`);
+}
+
+/**
  * Whether a path is another one, or leads into its value.
  * @param {readonly string[]} path
  * @param {readonly string[]} start

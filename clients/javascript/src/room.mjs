@@ -1,8 +1,9 @@
 // Several views of one room over as few connections as they need: each part of a page watches what it shows, and knows of no other part.
 import { Board } from "./board.mjs";
-import { Place, isSame } from "./place.mjs";
+import { Place } from "./place.mjs";
 import { Places } from "./places.mjs";
 import { pathOf } from "./known.mjs";
+import { same } from "./json.mjs";
 
 /** @typedef {import("../relay.js").Shown} Shown */
 /** @typedef {import("../relay.js").State} State */
@@ -75,7 +76,7 @@ class Shared {
   join(view, pointers) {
     const wanted = this.#with(pointers);
     this.#views.set(view, pointers);
-    if (wanted.length !== this.#wanted.length || !wanted.every((shown, k) => isSame(shown, this.#wanted[k]))) {
+    if (wanted.length !== this.#wanted.length || !wanted.every((shown, k) => same(shown, this.#wanted[k]))) {
       this.#shown = this.board.watch(wanted);
     }
     this.#wanted = wanted;
@@ -98,7 +99,7 @@ class Shared {
 
 /** @param {readonly Shown[]} all */
 function distinct(all) {
-  return all.filter((shown, k) => all.findIndex((other) => isSame(other, shown)) === k);
+  return all.filter((shown, k) => all.findIndex((other) => same(other, shown)) === k);
 }
 
 // What one part of a page shows. Its edits, and what of them waits or is undone, are those of its
@@ -167,7 +168,7 @@ class SharedBoard {
   /** @param {any} slots @returns {any} */
   #own(slots) {
     const { view } = this.#shared.board;
-    const own = slots && this.#pointers.map((shown) => slots[view.findIndex((/** @type {Shown} */ other) => isSame(other, shown))]);
+    const own = slots && this.#pointers.map((shown) => slots[view.findIndex((/** @type {Shown} */ other) => same(other, shown))]);
     return own === null || own.includes(undefined) ? null : own;
   }
 

@@ -19,11 +19,11 @@ from .once import Counter
 from .pending import Pending, laid_over
 from .place import Place
 from .pointers import check_room
-from .requests import Edit, beginning
+from .requests import Edit, Setting, beginning
 from .said import Said
 from .transport import OpenLink, websocket
 from .undo import History, Inverse, OwnEdit, fits
-from .values import Json, Patch, Slots, State, View, as_json
+from .values import Json, Operation, Patch, Slots, State, View, as_json
 from .warning import warning
 
 TRIES = 20
@@ -249,6 +249,23 @@ class Board:
             self._history.edited(own)
         return answer
 
+    def replace(
+        self, operation: Operation, optimistic: bool, undo: bool
+    ) -> "asyncio.Future[int]":
+        """Replaces the value of a place; `Place.set` is made of it."""
+        setting = Setting(operation["path"], optimistic, undo)
+        earlier = self._link.unsent(setting)
+        if earlier is None:
+            own = OwnEdit(_checked([operation]))
+            answer = self._edit(own, _NO_BASE, None, optimistic, setting=setting)
+            if undo:
+                self._history.edited(own)
+            return answer
+        later = earlier.exchange(_checked([operation]))
+        self._waiting = []  # what was laid over is to be laid anew
+        self._lay_over()
+        return later
+
     def change(
         self,
         make: Callable[[Any], Any],
@@ -388,6 +405,7 @@ class Board:
         optimistic: bool,
         counter: Optional[Counter] = None,
         silent: bool = False,
+        setting: Optional[Setting] = None,
     ) -> "asyncio.Future[int]":
         """Of a silent one that is taken back the application is told nothing: it is made anew."""
         has_base = base is not _NO_BASE
@@ -400,6 +418,7 @@ class Board:
 
         told = (ended, self._link.ask_first, self._done_before)
         edit = Edit(own, base if has_base else None, has_base, epoch, optimistic, counter, *told)
+        edit.setting = setting
         self._pending.add(edit)
         self._link.edit(edit)
         self._lay_over()

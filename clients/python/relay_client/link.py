@@ -12,7 +12,8 @@ from typing import Any, Callable, Deque, Literal, Optional
 from .faults import Closed, HandshakeFailed, Refused
 from .length import ends_connection
 from .patience import Patience
-from .requests import Asked, Edit, Message
+from .pointers import overlap
+from .requests import Asked, Edit, Message, Setting
 from .transport import Link, LinkLost, OpenLink
 from .values import State
 
@@ -97,6 +98,16 @@ class RoomLink:
             edit.fail(Refused("away", None))
         else:
             self.ask(edit)
+
+    def unsent(self, setting: Setting) -> Optional[Edit]:
+        """The edit that sets the same place and was not sent yet, if all that was asked for since
+        sets places apart."""
+        for asked in reversed(self._unsent):
+            if isinstance(asked, Edit) and asked.setting == setting:
+                return asked
+            if asked.setting is None or overlap(asked.setting.pointer, setting.pointer):
+                return None
+        return None
 
     def close(self) -> None:
         self.is_closed = True
@@ -228,10 +239,20 @@ class RoomLink:
     def _next(self, welcome: Message) -> Optional[Asked]:
         """Takes the request that has waited longest, or one that has to be sent before it. None if
         there is none, or if it has to wait."""
+        if self._holds():
+            return None
         ahead = self._unsent[0].ahead(welcome) if self._unsent else None
         if not self._unsent or (ahead is not None and ahead is self._unsent[0]):
             return None
         return ahead or self._unsent.popleft()
+
+    def _holds(self) -> bool:
+        """Whether nothing waits but values of places of which another one is on its way. The next
+        one waits until that is answered, or something else is asked for: until then a newer one is
+        sent for it."""
+        settings = [asked.setting for asked in self._unsent]
+        sent = {asked.setting.pointer for asked in self._sent if asked.setting is not None}
+        return all(setting is not None and setting.pointer in sent for setting in settings)
 
     def _text(self, asked: Asked, welcome: Message) -> Optional[str]:
         """What is sent of a request. None if it is not sent, and has ended."""

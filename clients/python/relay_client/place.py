@@ -73,7 +73,8 @@ class Place:
         parents: bool = False,
     ) -> "asyncio.Future[int]":
         """Puts a value there, whatever stands there now; it shows at once. Gives a future, as
-        `Board.edit` does. With `parents` the objects that are missing around it are made, in the
+        `Board.edit` does. One value of a place is on its way at a time: of those that are set
+        meanwhile the newest is sent, unless something else is asked for in between. With `parents` the objects that are missing around it are made, in the
         same patch. Then the edit has a base, and is made anew if others were faster."""
         slots = self._board.slots
         if slots is None:
@@ -83,8 +84,10 @@ class Place:
         if parents and self._missing(view, slots):
             made = self._board.update_place(self._with_parents(value), 20, optimistic, undo)
             return asyncio.ensure_future(made)
-        patch = [self._setting(slot, value)]
-        return self._board.edit(patch, optimistic=optimistic, undo=undo, once=once)
+        operation = self._setting(slot, value)
+        if once or operation["op"] == "add":
+            return self._board.edit([operation], optimistic=optimistic, undo=undo, once=once)
+        return self._board.replace(operation, optimistic, undo)
 
     async def update(
         self,

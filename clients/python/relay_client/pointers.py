@@ -35,6 +35,11 @@ def spelled(path: Path) -> str:
     return "".join("/" + token.replace("~", "~0").replace("/", "~1") for token in path)
 
 
+def overlap(one: str, other: str) -> bool:
+    """Whether one of two pointers leads to the other's value, or into it."""
+    return f"{one}/".startswith(f"{other}/") or f"{other}/".startswith(f"{one}/")
+
+
 def index(token: str) -> Optional[int]:
     """The index that a token names in a list, if it names one."""
     if not _INDEX.fullmatch(token):

@@ -2,7 +2,7 @@
 from __future__ import annotations
 
 import asyncio
-from typing import Any, Callable, Dict, Optional
+from typing import Any, Callable, Dict, NamedTuple, Optional
 
 from .faults import Closed, Refused, Unknown
 from .once import Counter
@@ -16,8 +16,18 @@ SENDINGS = 5
 end."""
 
 
+class Setting(NamedTuple):
+    """What an edit does that replaces the value of a place, and no more."""
+
+    pointer: str
+    optimistic: bool
+    undo: bool
+
+
 class Asked:
     """A request that is of one connection."""
+
+    setting: Optional[Setting] = None
 
     def __init__(self, request: Message, answered: Callable[[Message], None] = lambda reply: None):
         self._request, self.answered = request, answered
@@ -70,6 +80,7 @@ class Edit(Asked):
         self.patch: Patch = own.patch
         self.own, self.optimistic = own, optimistic
         self.answer: "asyncio.Future[int]" = asyncio.get_running_loop().create_future()
+        self._answers = [self.answer]
         self.rev: Optional[int] = None
         """The revision that it made; None if it was not done yet."""
         self.run: Optional[int] = None
@@ -90,6 +101,12 @@ class Edit(Asked):
             patch = [*self._counter.raising, *patch]
         request: Message = {"do": "edit", "patch": patch}
         return {**request, "base": self._base} if self._has_base else request
+
+    def exchange(self, patch: Patch) -> "asyncio.Future[int]":
+        """A later one that sets the same place is sent for it. Gives a future of that."""
+        self.patch = self.own.patch = patch
+        self._answers.append(asyncio.get_running_loop().create_future())
+        return self._answers[-1]
 
     @property
     def guarded(self) -> bool:
@@ -138,10 +155,11 @@ class Edit(Asked):
         self.cause = cause
         if self._counter is not None:
             self._counter.left(self, is_known=not isinstance(cause, Unknown))
-        if not self.answer.done():
-            self.answer.set_exception(cause)
-            if self.optimistic:
-                self.answer.exception()  # nobody has to look at it: `on_taken_back` is told
+        for answer in self._answers:
+            if not answer.done():
+                answer.set_exception(cause)
+                if self.optimistic:
+                    answer.exception()  # nobody has to look at it: `on_taken_back` is told
         self._ended(self)
 
     def done_at(self, rev: int) -> None:
@@ -149,8 +167,9 @@ class Edit(Asked):
         if self.has_ended:
             return
         self.rev = rev
-        if not self.answer.done():
-            self.answer.set_result(rev)
+        for answer in self._answers:
+            if not answer.done():
+                answer.set_result(rev)
         self._ended(self)
 
     @property

@@ -34,7 +34,8 @@ func showIn(url string, view []relay.Shown, options relay.Options) (*showing, er
 	return s, err
 }
 
-// line is told of each change in order. More edits wait than before only if one was asked for.
+// line is told of each change in order. Each edit has a change of its own in which it waits, so
+// more wait than before exactly if one was asked for.
 func (s *showing) line(change relay.Change) {
 	s.lock.Lock()
 	defer s.lock.Unlock()
