@@ -57,9 +57,11 @@ class Relay:
 
 
 async def begin(*words, stdout=PIPE):
+    """Hears interrupts also where the caller ignores them, as a shell's background job does."""
     command = [sys.executable, "-m", "relay_client", *words]
-    pipes = {"stdin": PIPE, "stdout": stdout, "stderr": PIPE}
-    return await asyncio.create_subprocess_exec(*command, env=ENVIRONMENT, **pipes)
+    how = {"stdin": PIPE, "stdout": stdout, "stderr": PIPE, "env": ENVIRONMENT}
+    how["preexec_fn"] = lambda: signal.signal(signal.SIGINT, signal.SIG_DFL)
+    return await asyncio.create_subprocess_exec(*command, **how)
 
 
 async def ended(program, typed=b""):
