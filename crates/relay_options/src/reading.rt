@@ -1,5 +1,19 @@
 //! The parser of the command line, by `clap`.
-ghost use Rattle.std.specs.Prelude.{IfOk, ◌≤◌};
+ghost use Rattle.std.specs.Prelude.{[], ◌∷◌, ◌≡◌, ◌≤◌, IfOk, Some, codes, map, option_map};
+ghost use Rattle.std.specs.Prelude.{string_bytes};
+ghost use Rattle.std.specs.Option.{option_or};
+ghost use Rattle.clap.specs.Words.{app_of, found_of, new_app, rows_of, rule_of};
+ghost use Rattle.clap.specs.Words.{subcommand_of, subcommand_rows_of};
+ghost use Rattle.relay_options.specs.CommandLine.{AreSettingsOf, AskFor, IsChosenBy, IsFlagIn};
+ghost use Rattle.relay_options.specs.CommandLine.{IsJobOf, admin_option, epoch_option};
+ghost use Rattle.relay_options.specs.CommandLine.{history_option, history_weight_option};
+ghost use Rattle.relay_options.specs.CommandLine.{log_option, number_in, number_option};
+ghost use Rattle.relay_options.specs.CommandLine.{outbox_option, port_option, relay_command};
+ghost use Rattle.relay_options.specs.CommandLine.{rooms_option, scripted, served};
+ghost use Rattle.relay_options.specs.CommandLine.{sessions_option, telling_weight_option};
+ghost use Rattle.relay_options.specs.CommandLine.{turns_option, waiting_weight_option};
+ghost use Rattle.relay_options.specs.CommandLine.{with_script_options, with_server_options};
+ghost use Rattle.relay_options.specs.CommandLine.{with_settings, with_version};
 ghost use Rattle.relay_options.specs.Ranges.{AreSettings, IsAdmin, IsLimit, IsPossible};
 ghost use Rattle.relay_options.specs.declared.settings.TheConstants.{MAX_EPOCH};
 
@@ -66,14 +80,16 @@ const WAITING_WEIGHT: &str = "65536";
 /// The default of `--max-telling-weight` for a server: the weight of four largest documents.
 const TELLING_WEIGHT: &str = "1048576";
 
-/// Parses the arguments `words`, of which the first is the program's name. Each number of the job is
-/// in range. Otherwise the reason is help or the version that was asked for, words that name no job
-/// or a number out of range, or that memory ran out ([`Stop`]).
+/// Parses the arguments `words`, of which the first is the program's name. The job is the one that
+/// the words ask for, and each number of it is in range. Otherwise the reason is help or the
+/// version that was asked for, words that name no job or a number out of range, or that memory ran
+/// out ([`Stop`]).
 ///
 /// `now` is the number of seconds since 1970, if the clock can be read. It is the epoch of a server
 /// without `--epoch`, so that each run has another one. Without both, the job is refused.
 pub fn job_of(alloc: Global, words: &[String], now: Option<u64>) -> Result<Job, Stop>
-    ensures { IfOk result IsPossible }
+    ensures range { IfOk result IsPossible }
+    ensures asked { IfOk result (AskFor (map string_bytes words.now) now) }
 {
     match parsed(alloc, words) {
         Ok(matches) => chosen(alloc, &matches, now),
@@ -81,45 +97,87 @@ pub fn job_of(alloc: Global, words: &[String], now: Option<u64>) -> Result<Job, 
     }
 }
 
-fn parsed<'a>(alloc: Global, words: &'a [String]) -> Result<ArgMatches<'a>, Error> {
-    let relay = Command::new(alloc, "relay")
-        .version(VERSION)
-        .about(ABOUT)
-        .after_help(EXAMPLE)
+/// What the words are to the commands and options of the program.
+fn parsed<'a>(alloc: Global, words: &'a [String]) -> Result<ArgMatches<'a>, Error>
+    ensures { IfOk result (λ matches. subcommand_rows_of matches
+        ≡ subcommand_of relay_command (map string_bytes words.now)) }
+{
+    relay(alloc)?.try_get_matches_from(words)
+}
+
+fn relay<'a>(alloc: Global) -> Result<Command<'a>, AllocError>
+    ensures { IfOk result (λ r. app_of r ≡ relay_command) }
+{
+    let relay = program(alloc)
         .subcommand(script(alloc)?)?
         .subcommand(looped(alloc)?)?
         .subcommand(follow(alloc))?
         .subcommand(serve(alloc)?)?;
-    relay.try_get_matches_from(words)
+    Ok(relay)
 }
 
-fn script<'a>(alloc: Global) -> Result<Command<'a>, AllocError> {
+/// The command without its subcommands.
+fn program<'a>(alloc: Global) -> Command<'a>
+    ensures { app_of result ≡ with_version (new_app (codes "relay")) }
+{
+    Command::new(alloc, "relay")
+        .version(VERSION)
+        .about(ABOUT)
+        .after_help(EXAMPLE)
+}
+
+fn script<'a>(alloc: Global) -> Result<Command<'a>, AllocError>
+    ensures { IfOk result (λ r. app_of r ≡ scripted (codes "script")) }
+{
     let script = Command::new(alloc, "script")
         .about(SCRIPT_ABOUT)
         .after_help(SCRIPT_EXAMPLE);
-    with_settings(alloc, script)?
-        .arg(script_epoch(alloc))?
-        .arg(history_weight(alloc))?
-        .arg(waiting_weight(alloc))?
-        .arg(telling_weight(alloc))
+    with_script_options(alloc, script)
 }
 
-fn looped<'a>(alloc: Global) -> Result<Command<'a>, AllocError> {
+fn looped<'a>(alloc: Global) -> Result<Command<'a>, AllocError>
+    ensures { IfOk result (λ r. app_of r ≡ scripted (codes "loop")) }
+{
     let looped = Command::new(alloc, "loop")
         .about(LOOP_ABOUT)
         .after_help(LOOP_EXAMPLE);
-    with_settings(alloc, looped)?
-        .arg(script_epoch(alloc))?
-        .arg(history_weight(alloc))?
-        .arg(waiting_weight(alloc))?
-        .arg(telling_weight(alloc))
+    with_script_options(alloc, looped)
 }
 
-fn serve<'a>(alloc: Global) -> Result<Command<'a>, AllocError> {
+fn serve<'a>(alloc: Global) -> Result<Command<'a>, AllocError>
+    ensures { IfOk result (λ r. app_of r ≡ served (codes "serve")) }
+{
     let serve = Command::new(alloc, "serve")
         .about(SERVE_ABOUT)
         .after_help(SERVE_EXAMPLE);
-    with_settings(alloc, serve)?
+    with_server_options(alloc, serve)
+}
+
+fn follow<'a>(alloc: Global) -> Command<'a>
+    ensures { app_of result ≡ new_app (codes "follow") }
+{
+    Command::new(alloc, "follow")
+        .about(FOLLOW_ABOUT)
+        .after_help(FOLLOW_EXAMPLE)
+}
+
+/// The command with the options of a job that runs a script.
+fn with_script_options<'a>(alloc: Global, command: Command<'a>) -> Result<Command<'a>, AllocError>
+    ensures { IfOk result (λ r. app_of r ≡ with_script_options (app_of command.entry)) }
+{
+    let command = with_settings(alloc, command)?
+        .arg(script_epoch(alloc))?
+        .arg(history_weight(alloc))?
+        .arg(waiting_weight(alloc))?
+        .arg(telling_weight(alloc))?;
+    Ok(command)
+}
+
+/// The command with the options of a server.
+fn with_server_options<'a>(alloc: Global, command: Command<'a>) -> Result<Command<'a>, AllocError>
+    ensures { IfOk result (λ r. app_of r ≡ with_server_options (app_of command.entry)) }
+{
+    let command = with_settings(alloc, command)?
         .arg(server_epoch(alloc))?
         .arg(history_weight(alloc).default_value(HISTORY_WEIGHT))?
         .arg(waiting_weight(alloc).default_value(WAITING_WEIGHT))?
@@ -127,141 +185,152 @@ fn serve<'a>(alloc: Global) -> Result<Command<'a>, AllocError> {
         .arg(port(alloc))?
         .arg(admin(alloc))?
         .arg(turns(alloc))?
-        .arg(log(alloc))
+        .arg(log(alloc))?;
+    Ok(command)
 }
 
-fn follow<'a>(alloc: Global) -> Command<'a> {
-    Command::new(alloc, "follow")
-        .about(FOLLOW_ABOUT)
-        .after_help(FOLLOW_EXAMPLE)
-}
-
-fn with_settings<'a>(alloc: Global, command: Command<'a>) -> Result<Command<'a>, AllocError> {
-    command
+/// The command with the options of each job that has a hub.
+fn with_settings<'a>(alloc: Global, command: Command<'a>) -> Result<Command<'a>, AllocError>
+    ensures { IfOk result (λ r. app_of r ≡ with_settings (app_of command.entry)) }
+{
+    let command = command
         .arg(history(alloc))?
         .arg(max_waiting_patches(alloc))?
         .arg(rooms(alloc))?
-        .arg(sessions(alloc))
+        .arg(sessions(alloc))?;
+    Ok(command)
 }
 
-fn history<'a>(alloc: Global) -> Arg<'a> {
-    number(alloc, "history", ValueParser::unsigned(1, MAX_HISTORY))
+fn history<'a>(alloc: Global) -> Arg<'a>
+    ensures { rule_of result ≡ history_option }
+{
+    number(alloc, "history", 1, MAX_HISTORY)
         .help("How many revisions each room holds, 1 to 1024")
         .default_value(HISTORY)
 }
 
-fn max_waiting_patches<'a>(alloc: Global) -> Arg<'a> {
-    number(
-        alloc,
-        "outbox",
-        ValueParser::unsigned(1, MAX_WAITING_PATCHES),
-    )
-    .help("How many patches wait for a session at most, 1 to 256")
-    .default_value(OUTBOX)
+fn max_waiting_patches<'a>(alloc: Global) -> Arg<'a>
+    ensures { rule_of result ≡ outbox_option }
+{
+    number(alloc, "outbox", 1, MAX_WAITING_PATCHES)
+        .help("How many patches wait for a session at most, 1 to 256")
+        .default_value(OUTBOX)
 }
 
-fn rooms<'a>(alloc: Global) -> Arg<'a> {
-    number(alloc, "rooms", ValueParser::unsigned(1, MAX_ROOMS))
+fn rooms<'a>(alloc: Global) -> Arg<'a>
+    ensures { rule_of result ≡ rooms_option }
+{
+    number(alloc, "rooms", 1, MAX_ROOMS)
         .help("How many rooms there are at most, 1 to 65536; an idle room takes about 1.5 KiB")
         .default_value(ROOMS)
 }
 
-fn sessions<'a>(alloc: Global) -> Arg<'a> {
-    number(alloc, "sessions", ValueParser::unsigned(1, MAX_SESSIONS))
+fn sessions<'a>(alloc: Global) -> Arg<'a>
+    ensures { rule_of result ≡ sessions_option }
+{
+    number(alloc, "sessions", 1, MAX_SESSIONS)
         .help(
             "How many sessions are open at most, 1 to 65536; an idle one takes about 6 KiB with its connection",
         )
         .default_value(SESSIONS)
 }
 
-fn script_epoch<'a>(alloc: Global) -> Arg<'a> {
+fn script_epoch<'a>(alloc: Global) -> Arg<'a>
+    ensures { rule_of result ≡ epoch_option (codes "1" ∷ []) }
+{
     epoch(alloc)
         .help("Which run of the relay this is, 0 to 9007199254740991")
         .default_value(EPOCH)
 }
 
-fn server_epoch<'a>(alloc: Global) -> Arg<'a> {
+fn server_epoch<'a>(alloc: Global) -> Arg<'a>
+    ensures { rule_of result ≡ epoch_option [] }
+{
     epoch(alloc).help(
         "Which run of the relay this is, 0 to 9007199254740991; without it, the seconds since 1970",
     )
 }
 
-fn epoch<'a>(alloc: Global) -> Arg<'a> {
-    number(alloc, "epoch", ValueParser::unsigned(0, MAX_EPOCH))
+fn epoch<'a>(alloc: Global) -> Arg<'a>
+    ensures { rule_of result ≡ epoch_option [] }
+{
+    number(alloc, "epoch", 0, MAX_EPOCH)
 }
 
-fn history_weight<'a>(alloc: Global) -> Arg<'a> {
-    number(
-        alloc,
-        "max-history-weight",
-        ValueParser::unsigned(0, MAX_WEIGHT_LIMIT),
-    )
-    .help(
+fn history_weight<'a>(alloc: Global) -> Arg<'a>
+    ensures { rule_of result ≡ history_weight_option [] }
+{
+    number(alloc, "max-history-weight", 0, MAX_WEIGHT_LIMIT).help(
         "How much the changes that each room holds weigh together at most; a script's may weigh any",
     )
 }
 
-fn waiting_weight<'a>(alloc: Global) -> Arg<'a> {
-    number(
-        alloc,
-        "max-waiting-weight",
-        ValueParser::unsigned(0, MAX_WEIGHT_LIMIT),
-    )
-    .help(
+fn waiting_weight<'a>(alloc: Global) -> Arg<'a>
+    ensures { rule_of result ≡ waiting_weight_option [] }
+{
+    number(alloc, "max-waiting-weight", 0, MAX_WEIGHT_LIMIT).help(
         "How much the patches that wait for a session weigh together at most; a script's may weigh any",
     )
 }
 
-fn telling_weight<'a>(alloc: Global) -> Arg<'a> {
-    number(
-        alloc,
-        "max-telling-weight",
-        ValueParser::unsigned(0, MAX_WEIGHT_LIMIT),
-    )
-    .help(
+fn telling_weight<'a>(alloc: Global) -> Arg<'a>
+    ensures { rule_of result ≡ telling_weight_option [] }
+{
+    number(alloc, "max-telling-weight", 0, MAX_WEIGHT_LIMIT).help(
         "How much the patches that are made for one edit weigh together at most; a script's may weigh any",
     )
 }
 
-fn port<'a>(alloc: Global) -> Arg<'a> {
-    number(alloc, "port", ValueParser::unsigned(0, MAX_PORT))
+fn port<'a>(alloc: Global) -> Arg<'a>
+    ensures { rule_of result ≡ port_option }
+{
+    number(alloc, "port", 0, MAX_PORT)
         .help("The port, 0 to 65535; 0 lets the system choose")
         .required(true)
 }
 
-fn admin<'a>(alloc: Global) -> Arg<'a> {
-    number(alloc, "admin", ValueParser::unsigned(1, MAX_PORT)).help(
+fn admin<'a>(alloc: Global) -> Arg<'a>
+    ensures { rule_of result ≡ admin_option }
+{
+    number(alloc, "admin", 1, MAX_PORT).help(
         "The port for an operator on this machine, 1 to 65535: health, metrics, rooms, and the stop; none without it",
     )
 }
 
-fn turns<'a>(alloc: Global) -> Arg<'a> {
-    number(alloc, "turns", ValueParser::unsigned(1, MAX_TURNS))
+fn turns<'a>(alloc: Global) -> Arg<'a>
+    ensures { rule_of result ≡ turns_option }
+{
+    number(alloc, "turns", 1, MAX_TURNS)
         .help("How many rounds to make, 1 to 1000000000000; a round sleeps while nothing happens")
         .default_value(TURNS)
 }
 
-fn log<'a>(alloc: Global) -> Arg<'a> {
+fn log<'a>(alloc: Global) -> Arg<'a>
+    ensures { rule_of result ≡ log_option }
+{
     Arg::new(alloc, "log")
         .long("log")
         .help("Tells of each connection that is opened, refused or ended, a line on standard error")
         .action(ArgAction::SetTrue)
 }
 
-/// An option that takes a number.
-fn number<'a>(alloc: Global, name: &'a str, parser: ValueParser<'a>) -> Arg<'a> {
+/// An option that takes a number from `least` to `most`.
+fn number<'a>(alloc: Global, name: &'a str, least: u64, most: u64) -> Arg<'a>
+    ensures { rule_of result ≡ number_option name.entry.now least most [] }
+{
     Arg::new(alloc, name)
         .long(name)
         .value_name("N")
         .action(ArgAction::Set)
-        .value_parser(parser)
+        .value_parser(ValueParser::unsigned(least, most))
 }
 
 /// The job of the given subcommand.
 fn chosen(alloc: Global, matches: &ArgMatches<'_>, now: Option<u64>) -> Result<Job, Stop>
-    ensures { IfOk result IsPossible }
+    ensures range { IfOk result IsPossible }
+    ensures asked { IfOk result (IsChosenBy (subcommand_rows_of matches.now) now) }
 {
-    match matches.subcommand() {
+    match named(matches) {
         None => Ok(Job::Script(Settings::DEFAULT)),
         Some(("script", given)) => Ok(Job::Script(settings_of(alloc, given, None)?)),
         Some(("loop", given)) => Ok(Job::Loop(settings_of(alloc, given, None)?)),
@@ -273,25 +342,36 @@ fn chosen(alloc: Global, matches: &ArgMatches<'_>, now: Option<u64>) -> Result<J
     }
 }
 
+/// The subcommand that the words name, and what they give it.
+fn named<'m, 'a>(matches: &'m ArgMatches<'a>) -> Option<(&'a str, &'m ArgMatches<'a>)>
+    ensures { option_map (λ p. (p.0.now, rows_of (found_of p.1.now))) result
+        ≡ subcommand_rows_of matches.now }
+{
+    matches.subcommand()
+}
+
 /// The job of `relay serve`.
 fn serve_of(alloc: Global, given: &ArgMatches<'_>, now: Option<u64>) -> Result<Job, Stop>
-    ensures { IfOk result IsPossible }
+    ensures range { IfOk result IsPossible }
+    ensures asked { IfOk result (IsJobOf (codes "serve") (rows_of (found_of given.now)) now) }
 {
     let port = number_of(alloc, given, "port", 0, MAX_PORT)? as u16;
     Ok(Job::Serve {
         port,
         admin: admin_of(alloc, given, port)?,
         turns: number_of(alloc, given, "turns", 1, MAX_TURNS)?,
-        log: given.get_flag("log"),
+        log: is_set(given, "log"),
         settings: settings_of(alloc, given, now)?,
     })
 }
 
 /// The port of the operator, if one is given. It is refused if it is the port of the clients.
 fn admin_of(alloc: Global, given: &ArgMatches<'_>, port: u16) -> Result<Option<u16>, Stop>
-    ensures { IfOk result (IsAdmin port) }
+    ensures range { IfOk result (IsAdmin port) }
+    ensures given { IfOk result (λ admin. number_in (codes "admin") (rows_of (found_of given.now))
+        ≡ admin) }
 {
-    match given.get_one::<u64>("admin") {
+    match given_number(given, "admin") {
         None => Ok(None),
         Some(admin) if 1 <= admin && admin <= MAX_PORT && admin != u64::from(port) => {
             Ok(Some(admin as u16))
@@ -304,7 +384,8 @@ fn admin_of(alloc: Global, given: &ArgMatches<'_>, port: u16) -> Result<Option<u
 
 /// The settings of a job. `epoch` is the one that it has without `--epoch`, if it may go without.
 fn settings_of(alloc: Global, given: &ArgMatches<'_>, epoch: Option<u64>) -> Result<Settings, Stop>
-    ensures { IfOk result AreSettings }
+    ensures range { IfOk result AreSettings }
+    ensures given { IfOk result (AreSettingsOf (rows_of (found_of given.now)) epoch) }
 {
     Ok(Settings {
         history: number_of(alloc, given, "history", 1, MAX_HISTORY)?,
@@ -318,11 +399,14 @@ fn settings_of(alloc: Global, given: &ArgMatches<'_>, epoch: Option<u64>) -> Res
     })
 }
 
-/// The epoch that is given, or else the other one, if there is one; checked again as in [`number_of`].
+/// The epoch that is given, or else the other one, if there is one; checked again as in
+/// [`number_of`].
 fn epoch_of(alloc: Global, given: &ArgMatches<'_>, other: Option<u64>) -> Result<u64, Stop>
-    ensures { IfOk result (λ epoch. epoch ≤ MAX_EPOCH) }
+    ensures range { IfOk result (λ epoch. epoch ≤ MAX_EPOCH) }
+    ensures given { IfOk result (λ epoch.
+        option_or (number_in (codes "epoch") (rows_of (found_of given.now))) other ≡ Some epoch) }
 {
-    match given.get_one::<u64>("epoch").or(other) {
+    match given_number(given, "epoch").or(other) {
         Some(epoch) if epoch <= MAX_EPOCH => Ok(epoch),
         Some(_) => Err(Stop::Misuse(format!(in alloc;
             "error: --epoch takes a number from 0 to {MAX_EPOCH}\n"
@@ -333,8 +417,9 @@ fn epoch_of(alloc: Global, given: &ArgMatches<'_>, other: Option<u64>) -> Result
     }
 }
 
-/// The number of an option. `clap` already refuses a number that is out of range, with a message of its own. It is checked again,
-/// since the contract of `clap` says nothing about the values of a subcommand's options.
+/// The number of an option. `clap` already refuses a number that is out of range, with a message of
+/// its own. It is checked again, since the contract of `clap` says of a subcommand's options what
+/// they hold, and not that it is in range.
 fn number_of(
     alloc: Global,
     given: &ArgMatches<'_>,
@@ -342,9 +427,11 @@ fn number_of(
     least: u64,
     most: u64,
 ) -> Result<u64, Stop>
-    ensures { IfOk result (λ number. (least ≤ number) × (number ≤ most)) }
+    ensures range { IfOk result (λ number. (least ≤ number) × (number ≤ most)) }
+    ensures given { IfOk result (λ number. number_in name.now (rows_of (found_of given.now))
+        ≡ Some number) }
 {
-    match given.get_one::<u64>(name) {
+    match given_number(given, name) {
         Some(number) if least <= number && number <= most => Ok(number),
         Some(_) | None => Err(Stop::Misuse(format!(in alloc;
             "error: --{name} takes a number from {least} to {most}\n"
@@ -354,15 +441,31 @@ fn number_of(
 
 /// The weight of an option, if it is given; checked again as in [`number_of`].
 fn weight_of(alloc: Global, given: &ArgMatches<'_>, name: &str) -> Result<Option<u64>, Stop>
-    ensures { IfOk result IsLimit }
+    ensures range { IfOk result IsLimit }
+    ensures given { IfOk result (λ weight. number_in name.now (rows_of (found_of given.now))
+        ≡ weight) }
 {
-    match given.get_one::<u64>(name) {
+    match given_number(given, name) {
         None => Ok(None),
         Some(weight) if weight <= MAX_WEIGHT_LIMIT => Ok(Some(weight)),
         Some(_) => Err(Stop::Misuse(format!(in alloc;
             "error: --{name} takes a number from 0 to {MAX_WEIGHT_LIMIT}\n"
         )?)),
     }
+}
+
+/// The number of an option, if it has one.
+fn given_number(given: &ArgMatches<'_>, name: &str) -> Option<u64>
+    ensures { number_in name.now (rows_of (found_of given.now)) ≡ result }
+{
+    given.get_one::<u64>(name)
+}
+
+/// Whether the words name a flag.
+fn is_set(given: &ArgMatches<'_>, name: &str) -> bool
+    ensures { IsFlagIn name.now (rows_of (found_of given.now)) result }
+{
+    given.get_flag(name)
 }
 
 fn stop_of(alloc: Global, error: &Error) -> Stop {

@@ -9,6 +9,7 @@ use Rattle.relay_options.specs.declared.job.Job.TheVariants as job
 use Rattle.relay_options.specs.declared.job.Stop.{Stop}
 use Rattle.relay_options.specs.declared.job.Stop.TheVariants as stop
 use Rattle.relay_options.specs.declared.settings.Settings.{Settings}
+use Rattle.relay_options.specs.CommandLine.{AskFor}
 use Rattle.relay_options.specs.Ranges.{IsPossible}
 use Rattle.relay_lines.specs.Follow as follow
 use Rattle.relay_lines.specs.Lines.{AppendsPart}
@@ -114,9 +115,12 @@ StopEnds (stop.Help text) status old new = Shows (string_bytes text) status old 
 StopEnds (stop.Misuse text) status old new = (status ≡ is.Misused) × (new ≡ old)
 StopEnds stop.NoMemory status old new = (status ≡ is.NoMemory) × (new ≡ old)
 
--- How the program ends: with a job whose numbers are all in range; or without a job, and nothing was read.
-abbrev pub WordsEnd : Status → Option (List ℕ) → Option (List ℕ) → Option (List ℕ) → Option (List ℕ) → Type 0
-WordsEnd status input left old new = ((job : Job) × IsPossible job × JobEnds job status input left old new)
+-- How the program ends: with the job that the words ask for, at some time, whose numbers are all
+-- in range; or without a job, and nothing was read.
+abbrev pub WordsEnd : List (List ℕ) → Status → Option (List ℕ) → Option (List ℕ) → Option (List ℕ)
+    → Option (List ℕ) → Type 0
+WordsEnd words status input left old new = ((now : Option ℕ) × (job : Job) × IsPossible job
+    × AskFor words now job × JobEnds job status input left old new)
     ⊎ ((why : Stop) × (left ≡ input) × StopEnds why status old new)
 
 -- The status if the arguments could not be read: one of them is not UTF-8, which is a fault of the arguments; out of memory; or
@@ -127,5 +131,7 @@ unread_status kind.OutOfMemory = is.NoMemory
 unread_status _ = is.Failed
 
 -- the process ends with the exit code of such a status
-abbrev pub Starts : ℕ → Option (List ℕ) → Option (List ℕ) → Option (List ℕ) → Option (List ℕ) → Type 0
-Starts code input left old new = (status : Status) × (code ≡ code_of status) × WordsEnd status input left old new
+abbrev pub Starts : List (List ℕ) → ℕ → Option (List ℕ) → Option (List ℕ) → Option (List ℕ)
+    → Option (List ℕ) → Type 0
+Starts words code input left old new = (status : Status) × (code ≡ code_of status)
+    × WordsEnd words status input left old new

@@ -78,10 +78,10 @@ fn serve_logged<N: Clock + Net, W: Write, J: ConnectionLog>(
     ensures bad_limit { IsErrOf result (Ended BadLimit) ↔ BadLimits (config_of settings) }
 {
     let hub = Hub::with_config(alloc, config_of(settings))?;
-    serve_hub(alloc, net, writer, log, hub, served)
+    serve_hub(alloc, net, writer, log, hub, served, settings)
 }
 
-/// Serves a hub.
+/// Serves a hub, which has the configuration of these settings.
 #[tactic(auto, using(crate::proofs::ServeLemmas::ends_unheard, crate::proofs::ServeLemmas::unheard_unlimited))]
 fn serve_hub<N: Clock + Net, W: Write, J: ConnectionLog>(
     alloc: Global,
@@ -90,7 +90,9 @@ fn serve_hub<N: Clock + Net, W: Write, J: ConnectionLog>(
     log: &mut J,
     hub: Hub,
     served: Served,
+    settings: Settings,
 ) -> Result<(), ServeFault>
+    requires { hub.made ≡ config_of settings }
     ensures ends { ServesUpTo served.admin served.turns result (W.contents writer.old) (W.contents writer.new) }
     ensures limits { IfErr result (λ fault. fault ≢ Ended BadLimit) }
 {

@@ -1,0 +1,3 @@
+-- Lemmas on what the command line means.
+pub mod NumbersRead
+pub mod CommandsMade

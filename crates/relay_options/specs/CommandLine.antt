@@ -1,0 +1,170 @@
+-- What the command line means: its commands and options, their defaults, and the job that the
+-- words ask for.
+use Rattle.std.specs.Prelude.{ℕ, ◌≡◌, ◌&&◌, ◌^◌, Bool, true, false, List, [], ◌∷◌, length, nat_lt}
+use Rattle.std.specs.Prelude.{Option, Some, None, option_and_then, if◌then◌else◌, codes}
+use Rattle.std.specs.Option.{option_or}
+use Rattle.std.specs.List.{list_all}
+use Rattle.std.specs.Char.{digit_value}
+use Rattle.std.specs.Str.Parse.{digits_value, without_leading_plus}
+use Rattle.clap.specs.Words.{App, Row, Rule, Text, new_app, new_rule, one_of, subcommand_of}
+use Rattle.clap.specs.Words.{with_rule, with_subcommand}
+use Rattle.clap.specs.declared.builder.ArgAction.TheVariants.{Set, SetTrue}
+use Rattle.clap.specs.declared.builder.ValueParser.TheVariants.{Unsigned}
+use Rattle.relay_options.specs.declared.job.Job.{Job}
+use Rattle.relay_options.specs.declared.job.Job.TheVariants.{Script, Loop, Follow, Serve}
+use Rattle.relay_options.specs.declared.settings.Settings.{Settings}
+use Rattle.relay_options.specs.declared.settings.TheConstants.{MAX_EPOCH, MAX_HISTORY, MAX_PORT}
+use Rattle.relay_options.specs.declared.settings.TheConstants.{MAX_ROOMS, MAX_SESSIONS, MAX_TURNS}
+use Rattle.relay_options.specs.declared.settings.TheConstants.{MAX_WAITING_PATCHES}
+use Rattle.relay_options.specs.declared.settings.TheConstants.{MAX_WEIGHT_LIMIT}
+
+-- ---- the options, by name, least and most number, and default
+
+-- an option that takes a number
+abbrev pub number_option : Text → ℕ → ℕ → List Text → Rule
+number_option name least most default = record (new_rule name) {
+  long = Some name;
+  action = Some Set;
+  value_names = 1;
+  parser = Some (Unsigned least most);
+  defaults = default;
+}
+
+abbrev pub history_option : Rule
+history_option = number_option (codes "history") 1 MAX_HISTORY (codes "64" ∷ [])
+
+abbrev pub outbox_option : Rule
+outbox_option = number_option (codes "outbox") 1 MAX_WAITING_PATCHES (codes "32" ∷ [])
+
+abbrev pub rooms_option : Rule
+rooms_option = number_option (codes "rooms") 1 MAX_ROOMS (codes "64" ∷ [])
+
+abbrev pub sessions_option : Rule
+sessions_option = number_option (codes "sessions") 1 MAX_SESSIONS (codes "256" ∷ [])
+
+abbrev pub epoch_option : List Text → Rule
+epoch_option = number_option (codes "epoch") 0 MAX_EPOCH
+
+abbrev pub history_weight_option : List Text → Rule
+history_weight_option = number_option (codes "max-history-weight") 0 MAX_WEIGHT_LIMIT
+
+abbrev pub waiting_weight_option : List Text → Rule
+waiting_weight_option = number_option (codes "max-waiting-weight") 0 MAX_WEIGHT_LIMIT
+
+abbrev pub telling_weight_option : List Text → Rule
+telling_weight_option = number_option (codes "max-telling-weight") 0 MAX_WEIGHT_LIMIT
+
+abbrev pub port_option : Rule
+port_option = record (number_option (codes "port") 0 MAX_PORT []) { required = true }
+
+abbrev pub admin_option : Rule
+admin_option = number_option (codes "admin") 1 MAX_PORT []
+
+abbrev pub turns_option : Rule
+turns_option = number_option (codes "turns") 1 MAX_TURNS (codes "1000000000000" ∷ [])
+
+-- a flag: it takes no value
+abbrev pub log_option : Rule
+log_option = record (new_rule (codes "log")) { long = Some (codes "log"); action = Some SetTrue }
+
+-- ---- the commands
+
+abbrev pub with_settings : App → App
+with_settings command = with_rule (with_rule (with_rule (with_rule command history_option)
+    outbox_option) rooms_option) sessions_option
+
+abbrev pub with_weights : List Text → List Text → List Text → App → App
+with_weights history waiting telling command = with_rule (with_rule (with_rule command
+    (history_weight_option history)) (waiting_weight_option waiting))
+    (telling_weight_option telling)
+
+-- a job that runs a script: its epoch is 1, and its weights have no bounds
+abbrev pub with_script_options : App → App
+with_script_options command = with_weights [] [] [] (with_rule (with_settings command)
+    (epoch_option (codes "1" ∷ [])))
+
+abbrev pub scripted : Text → App
+scripted name = with_script_options (new_app name)
+
+-- a server: its epoch has no default, and its weights have bounds
+abbrev pub with_server_options : App → App
+with_server_options command = with_rule (with_rule (with_rule (with_rule (with_weights
+    (codes "262144" ∷ []) (codes "65536" ∷ []) (codes "1048576" ∷ [])
+    (with_rule (with_settings command) (epoch_option [])))
+    port_option) admin_option) turns_option) log_option
+
+abbrev pub served : Text → App
+served name = with_server_options (new_app name)
+
+-- `--version` shows a version
+abbrev pub with_version : App → App
+with_version command = record command { top = record command.top { has_version = true } }
+
+abbrev pub relay_command : App
+relay_command = with_subcommand (with_subcommand (with_subcommand (with_subcommand
+    (with_version (new_app (codes "relay"))) (scripted (codes "script")).top)
+    (scripted (codes "loop")).top) (new_app (codes "follow")).top) (served (codes "serve")).top
+
+-- ---- what the matches of a command hold
+
+-- the number that a text writes: decimal digits, a plus before them or not, below 2^64
+unfoldable pub number_of_text : Text → Option ℕ
+number_of_text text =
+    let digits = without_leading_plus text in
+    if nat_lt 0 (length digits) && list_all (λ d. nat_lt (digit_value d) 10) digits
+    && nat_lt (digits_value 10 digits) (2 ^ 64) then Some (digits_value 10 digits) else None
+
+-- the number under an option's name, from the words or from its default
+unfoldable pub number_in : Text → List Row → Option ℕ
+number_in name rows = option_and_then number_of_text (one_of name rows)
+
+-- a flag is set where `true` stands under its name, as it does if the words name it
+pub record IsFlagIn (name : Text) (rows : List Row) (set : Bool) : Type 0 where
+  pub named : one_of name rows ≡ Some (codes "true") → set ≡ true
+  pub not_named : one_of name rows ≡ Some (codes "false") → set ≡ false
+  pub unknown : one_of name rows ≡ None → set ≡ false
+
+-- ---- the job
+
+-- The settings that the options give. `other` is the epoch without `--epoch`, if there is one.
+pub record AreSettingsOf (rows : List Row) (other : Option ℕ) (settings : Settings) : Type 0 where
+  pub history : number_in (codes "history") rows ≡ Some settings.history
+  pub outbox : number_in (codes "outbox") rows ≡ Some settings.max_waiting_patches
+  pub rooms : number_in (codes "rooms") rows ≡ Some settings.rooms
+  pub sessions : number_in (codes "sessions") rows ≡ Some settings.sessions
+  pub epoch : option_or (number_in (codes "epoch") rows) other ≡ Some settings.epoch
+  pub history_weight : number_in (codes "max-history-weight") rows ≡ settings.history_weight
+  pub waiting_weight : number_in (codes "max-waiting-weight") rows ≡ settings.waiting_weight
+  pub telling_weight : number_in (codes "max-telling-weight") rows ≡ settings.telling_weight
+
+-- the settings without a subcommand: those of `relay script` without options
+abbrev pub plain_settings : Settings
+plain_settings = record {
+  history = 64;
+  max_waiting_patches = 32;
+  rooms = 64;
+  sessions = 256;
+  epoch = 1;
+  history_weight = None;
+  waiting_weight = None;
+  telling_weight = None;
+}
+
+-- the job that a subcommand and its options ask for; `now` is the time, if the clock can be read
+abbrev pub IsJobOf : Text → List Row → Option ℕ → Job → Type 0
+IsJobOf name rows now (Script settings) = (name ≡ codes "script") × AreSettingsOf rows None settings
+IsJobOf name rows now (Loop settings) = (name ≡ codes "loop") × AreSettingsOf rows None settings
+IsJobOf name rows now Follow = name ≡ codes "follow"
+IsJobOf name rows now (Serve port admin turns log settings) = (name ≡ codes "serve")
+    × (number_in (codes "port") rows ≡ Some port) × (number_in (codes "admin") rows ≡ admin)
+    × (number_in (codes "turns") rows ≡ Some turns) × IsFlagIn (codes "log") rows log
+    × AreSettingsOf rows now settings
+
+-- the same for what the words name, if they name a subcommand
+abbrev pub IsChosenBy : Option (Text × List Row) → Option ℕ → Job → Type 0
+IsChosenBy None now job = job ≡ Script plain_settings
+IsChosenBy (Some named) now job = IsJobOf named.0 named.1 now job
+
+-- the words, of which the first is the program's name, ask for this job
+abbrev pub AskFor : List Text → Option ℕ → Job → Type 0
+AskFor words now job = IsChosenBy (subcommand_of relay_command words) now job
