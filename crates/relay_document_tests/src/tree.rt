@@ -47,10 +47,10 @@ items => Some(2)
 parts => (Some(7), Some("x"))
 item => null
 
-# Lends parts for writing: an item of the list is set to null, and another member is removed.
+# Lends parts for writing: an item of the list is set to null, and the value of another member is taken.
 clear
-drop b => 7
-text => {"a":[null,null],"c":"x"}
+take-out b => 7
+text => {"a":[null,null],"b":null,"c":"x"}
 
 # Builds objects, of members that are inserted in order.
 object
@@ -88,7 +88,7 @@ pub(crate) fn done(alloc: Global, stage: &mut Stage, verb: &str, rest: &str) -> 
         "items" => shown(alloc, tree.member("a")?.node.list_len()),
         "parts" => shown(alloc, (tree.count_at("b"), tree.text_at("c"))),
         "item" => part_text(alloc, tree.member("a")?.item(1)),
-        "drop" => taken_text(alloc, tree.take_member(rest)),
+        "take-out" => taken_text(alloc, tree.take_member(rest)),
         _ => pointer::done(alloc, stage, verb, rest),
     }
 }

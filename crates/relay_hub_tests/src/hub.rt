@@ -37,7 +37,7 @@ open q => Ok(2)
 open r => Ok(3)
 say 3 {"do":"edit","id":2,"patch":[{"op":"add","path":"","value":{"x":1}}]} => Ok(Answered { short: 0 })
 close 1 => Ok(())
-room-at 0 => Some(RoomSummary { name: "r", revision: 1, sessions: 1, weight: 17, history: 17 })
+room-at 0 => Some(RoomSummary { name: "r", revision: 1, sessions: 1, weight: 17, history: 81 })
 room-at 1 => Some(RoomSummary { name: "q", revision: 0, sessions: 1, weight: 8, history: 0 })
 room-at 2 => None
 
