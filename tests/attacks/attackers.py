@@ -6,12 +6,24 @@ import time
 from support import wire
 
 ATTACKS = {}
+# How many megabytes the relay may hold in an attack, if that is part of what it shows.
+BOUNDS = {}
 
 
 def attack(play):
     """Marks a function of `Attackers` as an attack, by its name with dashes."""
     ATTACKS[play.__name__.replace("_", "-")] = play
     return play
+
+
+def bounded(megabytes):
+    """Marks an attack: the relay holds no more than that at its peak."""
+
+    def bound(play):
+        BOUNDS[play.__name__.replace("_", "-")] = megabytes
+        return play
+
+    return bound
 
 
 class Wrong(Exception):

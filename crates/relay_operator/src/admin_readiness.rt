@@ -1,5 +1,5 @@
-//! Readiness for a server with an admin port. The admin port's events are kept from the server's
-//! rounds, and each round's work is timed.
+//! Readiness by a clock, for a server with or without an admin port. The port's events are kept
+//! from the server's rounds, each round's work is timed, and an event tells of each second.
 use crate::longest_round::LongestRound;
 use crate::readiness::{Readiness, ReadyEvent};
 use std::io;
@@ -17,10 +17,13 @@ pub(crate) const ADMIN_STREAM: usize = usize::MAX - 2;
 pub struct AdminReadiness<'c, R, C> {
     inner: R,
     clock: &'c C,
-    /// Whether the admin port may have work.
+    /// Whether there is an admin port, and whether it may have work.
+    has_port: bool,
     is_ready: bool,
     /// When the last wait ended, by the clock.
     began: Duration,
+    /// The second of the clock that the last event told.
+    second: u64,
     longest: LongestRound,
 }
 
@@ -33,10 +36,23 @@ impl<'c, R, C: Clock> AdminReadiness<'c, R, C> {
         AdminReadiness {
             inner,
             clock,
+            has_port: true,
             is_ready: true,
             began: now(clock),
+            second: now(clock).as_secs(),
             longest: LongestRound::new(),
         }
+    }
+
+    /// The same without an admin port.
+    pub fn without_port(inner: R, clock: &'c C) -> AdminReadiness<'c, R, C>
+    where
+        R: Drop,
+    {
+        let mut readiness = AdminReadiness::new(inner, clock);
+        readiness.has_port = false;
+        readiness.is_ready = false;
+        readiness
     }
 
     /// Whether the admin port may have work. It has none afterwards, until the next event.
@@ -80,7 +96,12 @@ impl<S, R: Readiness<S>, C: Clock> Readiness<S> for AdminReadiness<'_, R, C> {
         self.began = self.now();
         let all = events.len();
         events.retain(|event| !is_admin(event));
-        self.is_ready = self.is_ready || told.is_err() || events.len() != all;
+        let may_be_ready = self.is_ready || told.is_err() || events.len() != all;
+        self.is_ready = self.has_port && may_be_ready;
+        let second = self.began.as_secs();
+        if second != self.second && events.push(ReadyEvent::Second).is_ok() {
+            self.second = second;
+        }
         told
     }
 }

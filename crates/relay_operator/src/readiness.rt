@@ -35,6 +35,8 @@ impl StreamReady {
 pub enum ReadyEvent {
     /// A connection waits to be accepted.
     Incoming,
+    /// A second has passed since the last such event, or more.
+    Second,
     /// The stream with this key may be read or written. A stream that failed or was closed is both.
     Stream { key: usize, ready: StreamReady },
 }

@@ -15,7 +15,7 @@ use Rattle.relay_options.specs.declared.job.Job.TheVariants.{Script, Loop, Follo
 use Rattle.relay_options.specs.declared.settings.Settings.{Settings}
 use Rattle.relay_options.specs.declared.settings.TheConstants.{MAX_EPOCH, MAX_HISTORY, MAX_PORT}
 use Rattle.relay_options.specs.declared.settings.TheConstants.{MAX_ROOMS, MAX_SESSIONS, MAX_TURNS}
-use Rattle.relay_options.specs.declared.settings.TheConstants.{MAX_WAITING_PATCHES}
+use Rattle.relay_options.specs.declared.settings.TheConstants.{MAX_OUTPUT_MIB, MAX_WAITING_PATCHES}
 use Rattle.relay_options.specs.declared.settings.TheConstants.{MAX_WEIGHT_LIMIT}
 
 -- ---- the options, by name, least and most number, and default
@@ -63,6 +63,9 @@ admin_option = number_option (codes "admin") 1 MAX_PORT []
 abbrev pub turns_option : Rule
 turns_option = number_option (codes "turns") 1 MAX_TURNS (codes "1000000000000" ∷ [])
 
+abbrev pub output_option : Rule
+output_option = number_option (codes "max-output-mib") 1 MAX_OUTPUT_MIB (codes "256" ∷ [])
+
 -- a flag: it takes no value
 abbrev pub log_option : Rule
 log_option = record (new_rule (codes "log")) { long = Some (codes "log"); action = Some SetTrue }
@@ -88,10 +91,10 @@ scripted name = with_script_options (new_app name)
 
 -- a server: its epoch has no default, and its weights have bounds
 abbrev pub with_server_options : App → App
-with_server_options command = with_rule (with_rule (with_rule (with_rule (with_weights
+with_server_options command = with_rule (with_rule (with_rule (with_rule (with_rule (with_weights
     (codes "262144" ∷ []) (codes "65536" ∷ []) (codes "1048576" ∷ [])
     (with_rule (with_settings command) (epoch_option [])))
-    port_option) admin_option) turns_option) log_option
+    port_option) admin_option) turns_option) log_option) output_option
 
 abbrev pub served : Text → App
 served name = with_server_options (new_app name)
@@ -155,10 +158,10 @@ abbrev pub IsJobOf : Text → List Row → Option ℕ → Job → Type 0
 IsJobOf name rows now (Script settings) = (name ≡ codes "script") × AreSettingsOf rows None settings
 IsJobOf name rows now (Loop settings) = (name ≡ codes "loop") × AreSettingsOf rows None settings
 IsJobOf name rows now Follow = name ≡ codes "follow"
-IsJobOf name rows now (Serve port admin turns log settings) = (name ≡ codes "serve")
+IsJobOf name rows now (Serve port admin turns log output_mib settings) = (name ≡ codes "serve")
     × (number_in (codes "port") rows ≡ Some port) × (number_in (codes "admin") rows ≡ admin)
     × (number_in (codes "turns") rows ≡ Some turns) × IsFlagIn (codes "log") rows log
-    × AreSettingsOf rows now settings
+    × (number_in (codes "max-output-mib") rows ≡ Some output_mib) × AreSettingsOf rows now settings
 
 -- the same for what the words name, if they name a subcommand
 abbrev pub IsChosenBy : Option (Text × List Row) → Option ℕ → Job → Type 0

@@ -3,7 +3,7 @@ use Rattle.std.specs.Prelude.{ℕ, ◌≤◌, ◌≢◌, ⊤, Option, Some, None
 use Rattle.relay_options.specs.declared.job.Job.{Job}
 use Rattle.relay_options.specs.declared.job.Job.TheVariants.{Script, Loop, Follow, Serve}
 use Rattle.relay_options.specs.declared.settings.Settings.{Settings}
-use Rattle.relay_options.specs.declared.settings.TheConstants.{MAX_HISTORY, MAX_WAITING_PATCHES, MAX_ROOMS, MAX_SESSIONS, MAX_EPOCH, MAX_WEIGHT_LIMIT, MAX_TURNS, MAX_PORT}
+use Rattle.relay_options.specs.declared.settings.TheConstants.{MAX_HISTORY, MAX_WAITING_PATCHES, MAX_ROOMS, MAX_SESSIONS, MAX_EPOCH, MAX_WEIGHT_LIMIT, MAX_OUTPUT_MIB, MAX_TURNS, MAX_PORT}
 
 -- a limit of a weight, if there is one, is in range
 abbrev pub IsLimit : Option ℕ → Type 0
@@ -35,4 +35,4 @@ abbrev pub IsPossible : Job → Type 0
 IsPossible (Script settings) = AreSettings settings
 IsPossible (Loop settings) = AreSettings settings
 IsPossible Follow = ⊤
-IsPossible (Serve port admin turns log settings) = (port ≤ MAX_PORT) × IsAdmin port admin × (1 ≤ turns) × (turns ≤ MAX_TURNS) × AreSettings settings
+IsPossible (Serve port admin turns log output_mib settings) = (port ≤ MAX_PORT) × IsAdmin port admin × (1 ≤ turns) × (turns ≤ MAX_TURNS) × (1 ≤ output_mib) × (output_mib ≤ MAX_OUTPUT_MIB) × AreSettings settings

@@ -8,7 +8,8 @@ ghost use Rattle.relay_options.specs.CommandLine.{AreSettingsOf, AskFor, IsChose
 ghost use Rattle.relay_options.specs.CommandLine.{IsJobOf, admin_option, epoch_option};
 ghost use Rattle.relay_options.specs.CommandLine.{history_option, history_weight_option};
 ghost use Rattle.relay_options.specs.CommandLine.{log_option, number_in, number_option};
-ghost use Rattle.relay_options.specs.CommandLine.{outbox_option, port_option, relay_command};
+ghost use Rattle.relay_options.specs.CommandLine.{outbox_option, output_option, port_option};
+ghost use Rattle.relay_options.specs.CommandLine.{relay_command};
 ghost use Rattle.relay_options.specs.CommandLine.{rooms_option, scripted, served};
 ghost use Rattle.relay_options.specs.CommandLine.{sessions_option, telling_weight_option};
 ghost use Rattle.relay_options.specs.CommandLine.{turns_option, waiting_weight_option};
@@ -19,8 +20,8 @@ ghost use Rattle.relay_options.specs.declared.settings.TheConstants.{MAX_EPOCH};
 
 use crate::job::{Job, Stop};
 use crate::settings::{
-    MAX_EPOCH, MAX_HISTORY, MAX_PORT, MAX_ROOMS, MAX_SESSIONS, MAX_TURNS, MAX_WAITING_PATCHES,
-    MAX_WEIGHT_LIMIT, Settings,
+    MAX_EPOCH, MAX_HISTORY, MAX_OUTPUT_MIB, MAX_PORT, MAX_ROOMS, MAX_SESSIONS, MAX_TURNS,
+    MAX_WAITING_PATCHES, MAX_WEIGHT_LIMIT, Settings,
 };
 use clap::builder::ValueParser;
 use clap::error::ErrorKind;
@@ -70,6 +71,8 @@ const SESSIONS: &str = "256";
 const EPOCH: &str = "1";
 
 const TURNS: &str = "1000000000000";
+
+const OUTPUT_MIB: &str = "256";
 
 /// The default of `--max-history-weight` for a server: the weight of a largest document.
 const HISTORY_WEIGHT: &str = "262144";
@@ -185,7 +188,8 @@ fn with_server_options<'a>(alloc: Global, command: Command<'a>) -> Result<Comman
         .arg(port(alloc))?
         .arg(admin(alloc))?
         .arg(turns(alloc))?
-        .arg(log(alloc))?;
+        .arg(log(alloc))?
+        .arg(output(alloc))?;
     Ok(command)
 }
 
@@ -314,6 +318,16 @@ fn log<'a>(alloc: Global) -> Arg<'a>
         .action(ArgAction::SetTrue)
 }
 
+fn output<'a>(alloc: Global) -> Arg<'a>
+    ensures { rule_of result ≡ output_option }
+{
+    number(alloc, "max-output-mib", 1, MAX_OUTPUT_MIB)
+        .help(
+            "How many MiB of output are held for all sessions together, 1 to 1048576; beyond, those that hold the most and take nothing are ended",
+        )
+        .default_value(OUTPUT_MIB)
+}
+
 /// An option that takes a number from `least` to `most`.
 fn number<'a>(alloc: Global, name: &'a str, least: u64, most: u64) -> Arg<'a>
     ensures { rule_of result ≡ number_option name.entry.now least most [] }
@@ -361,6 +375,7 @@ fn serve_of(alloc: Global, given: &ArgMatches<'_>, now: Option<u64>) -> Result<J
         admin: admin_of(alloc, given, port)?,
         turns: number_of(alloc, given, "turns", 1, MAX_TURNS)?,
         log: is_set(given, "log"),
+        output_mib: number_of(alloc, given, "max-output-mib", 1, MAX_OUTPUT_MIB)?,
         settings: settings_of(alloc, given, now)?,
     })
 }

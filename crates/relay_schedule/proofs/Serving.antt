@@ -1,5 +1,5 @@
 -- Each that waits is served once before any is served twice: as many turns as wait serve them in their order.
-use Rattle.std.proofs.Common.{◌≡◌, ℕ, List, [], ◌∷◌, ◌++◌, length, refl, ap, ◌∙◌, sym, zero, suc}
+use Rattle.std.proofs.Common.{◌≡◌, ℕ, List, [], ◌∷◌, ◌++◌, length, refl, ap, ◌∙◌, sym}
 use Rattle.relay_schedule.specs.Queue.{served}
 
 -- those in front are served before whoever is behind them

@@ -1,3 +1,4 @@
 pub mod Credit
+pub mod Output
 pub mod Queue
 pub mod Share

@@ -1,5 +1,5 @@
 -- What a room was said since its watchers were written to.
-use Rattle.std.specs.Prelude.{ℕ, nat_lt, ◌&&◌, ◌||◌, ◌==◌, Bool}
+use Rattle.std.specs.Prelude.{nat_lt, ◌&&◌, ◌||◌, ◌==◌, Bool}
 use Rattle.relay_schedule.specs.declared.room_share.RoomShare.{RoomShare}
 use Rattle.relay_schedule.specs.declared.room_share.ShareLimits.{ShareLimits}
 

@@ -5,21 +5,27 @@
 //! turns first, in order ([`ReadyQueue`]). Those who have none have theirs behind them, in order too:
 //! one of them at least in each round. A room is read no further ahead than may wait for a watcher
 //! that keeps up ([`RoomShares`]), and a round ends once it has cost as much as it may
-//! ([`Spending`]).
+//! ([`Spending`]). Output that is not sent is counted, link by link ([`LinkOutput`],
+//! [`OutputTotal`]).
 //!
 //! The promise: a credit never exceeds a round's; a queue serves each that waits once before it
 //! serves any twice (`proofs/Serving`); and a round begins no turn once it has cost its bound, so
-//! all its turns but the last cost less together.
+//! all its turns but the last cost less together. What one link holds of output is counted anew
+//! without what the others hold.
 #![tactic(auto)]
 
 mod credit;
 mod key_queue;
+mod output;
+mod queues;
 mod ready_queue;
 mod room_share;
 mod spending;
 
 pub use credit::{Credit, ENTRY_DEBT, ROUND_CREDIT};
 pub use key_queue::KeyQueue;
+pub use output::{LinkOutput, OutputTotal, PATIENCE};
+pub use queues::{Output, Queues, Wants};
 pub use ready_queue::ReadyQueue;
 pub use room_share::{RoomShare, RoomShares, ShareLimits};
 pub use spending::Spending;

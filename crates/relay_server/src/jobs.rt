@@ -88,6 +88,7 @@ pub fn carry_out<N: Clock + Net, R: Read, W: Write, E: Write>(
             admin,
             turns,
             log,
+            output_mib,
             settings,
         } => {
             let served = Served {
@@ -95,6 +96,7 @@ pub fn carry_out<N: Clock + Net, R: Read, W: Write, E: Write>(
                 admin,
                 turns,
                 log,
+                output_mib,
             };
             let ended = serve(alloc, net, writer, errors, served, settings);
             report_sockets(ended, errors)

@@ -24,7 +24,10 @@ use std::io::{Read, Write};
 use std::net::{Net, OpenListener, OpenStream};
 use std::time::Clock;
 
-/// Where a server listens, how long it runs, and whether it logs.
+/// How many bytes a MiB has.
+const MIB: u64 = 1_048_576;
+
+/// Where a server listens, how long it runs, whether it logs, and how much output it holds.
 #[derive(Clone, Copy, Debug, PartialEq, Eq)]
 pub struct Served {
     /// The port. For 0 the system chooses one.
@@ -35,6 +38,8 @@ pub struct Served {
     pub turns: u64,
     /// Whether it logs its connections.
     pub log: bool,
+    /// How much output its links hold together, in MiB.
+    pub output_mib: u64,
 }
 
 /// Listens on 127.0.0.1, prints `listening PORT`, runs the rounds, ends every connection, and prints `turns N` with how many rounds were
@@ -98,12 +103,15 @@ fn serve_hub<N: Clock + Net, W: Write, J: ConnectionLog>(
 {
     let entrance = entrance::open(net, served.port)?;
     let polling = entrance::poll(alloc, net, &entrance.listener)?;
+    let most_output = served.output_mib.saturating_mul(MIB);
     let Some(admin) = served.admin else {
-        let mut server = Server::new(alloc, hub, polling);
+        let readiness = AdminReadiness::without_port(polling, net);
+        let mut server = Server::new(alloc, hub, readiness, most_output);
         return host(alloc, writer, log, &mut server, &entrance, served.turns);
     };
     let admin = entrance::open_admin(net, admin, &polling)?;
-    let mut server = Server::new(alloc, hub, AdminReadiness::new(polling, net));
+    let readiness = AdminReadiness::new(polling, net);
+    let mut server = Server::new(alloc, hub, readiness, most_output);
     host_administered(
         alloc,
         writer,

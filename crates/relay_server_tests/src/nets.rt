@@ -48,6 +48,7 @@ const SERVE: Job = Job::Serve {
     admin: None,
     turns: 1,
     log: false,
+    output_mib: 256,
     settings: Settings {
         epoch: 2,
         ..Settings::DEFAULT

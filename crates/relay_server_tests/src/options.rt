@@ -28,17 +28,19 @@ relay loop --rooms 2 => Loop(Settings { history: 64, max_waiting_patches: 32, ro
 relay loop --sessions 3 => Loop(Settings { history: 64, max_waiting_patches: 32, rooms: 64, sessions: 3, epoch: 1, history_weight: None, waiting_weight: None, telling_weight: None })
 
 # Reads the jobs of servers, which have defaults of their own for weights.
-relay serve --port 0 --turns 1 => Serve { port: 0, admin: None, turns: 1, log: false, settings: Settings { history: 64, max_waiting_patches: 32, rooms: 64, sessions: 256, epoch: 1764000000, history_weight: Some(262144), waiting_weight: Some(65536), telling_weight: Some(1048576) } }
-relay serve --port 7 => Serve { port: 7, admin: None, turns: 1000000000000, log: false, settings: Settings { history: 64, max_waiting_patches: 32, rooms: 64, sessions: 256, epoch: 1764000000, history_weight: Some(262144), waiting_weight: Some(65536), telling_weight: Some(1048576) } }
-relay serve --port 7 --log => Serve { port: 7, admin: None, turns: 1000000000000, log: true, settings: Settings { history: 64, max_waiting_patches: 32, rooms: 64, sessions: 256, epoch: 1764000000, history_weight: Some(262144), waiting_weight: Some(65536), telling_weight: Some(1048576) } }
-relay serve --turns 1000000000000 --port 65535 => Serve { port: 65535, admin: None, turns: 1000000000000, log: false, settings: Settings { history: 64, max_waiting_patches: 32, rooms: 64, sessions: 256, epoch: 1764000000, history_weight: Some(262144), waiting_weight: Some(65536), telling_weight: Some(1048576) } }
-relay serve --port 7 --turns 1 --rooms 1000 --sessions 2000 => Serve { port: 7, admin: None, turns: 1, log: false, settings: Settings { history: 64, max_waiting_patches: 32, rooms: 1000, sessions: 2000, epoch: 1764000000, history_weight: Some(262144), waiting_weight: Some(65536), telling_weight: Some(1048576) } }
-relay serve --port 7 --admin 65535 --turns 1 => Serve { port: 7, admin: Some(65535), turns: 1, log: false, settings: Settings { history: 64, max_waiting_patches: 32, rooms: 64, sessions: 256, epoch: 1764000000, history_weight: Some(262144), waiting_weight: Some(65536), telling_weight: Some(1048576) } }
-relay serve --port 0 --admin 1 --turns 1 => Serve { port: 0, admin: Some(1), turns: 1, log: false, settings: Settings { history: 64, max_waiting_patches: 32, rooms: 64, sessions: 256, epoch: 1764000000, history_weight: Some(262144), waiting_weight: Some(65536), telling_weight: Some(1048576) } }
+relay serve --port 0 --turns 1 => Serve { port: 0, admin: None, turns: 1, log: false, output_mib: 256, settings: Settings { history: 64, max_waiting_patches: 32, rooms: 64, sessions: 256, epoch: 1764000000, history_weight: Some(262144), waiting_weight: Some(65536), telling_weight: Some(1048576) } }
+relay serve --port 7 => Serve { port: 7, admin: None, turns: 1000000000000, log: false, output_mib: 256, settings: Settings { history: 64, max_waiting_patches: 32, rooms: 64, sessions: 256, epoch: 1764000000, history_weight: Some(262144), waiting_weight: Some(65536), telling_weight: Some(1048576) } }
+relay serve --port 7 --log => Serve { port: 7, admin: None, turns: 1000000000000, log: true, output_mib: 256, settings: Settings { history: 64, max_waiting_patches: 32, rooms: 64, sessions: 256, epoch: 1764000000, history_weight: Some(262144), waiting_weight: Some(65536), telling_weight: Some(1048576) } }
+relay serve --turns 1000000000000 --port 65535 => Serve { port: 65535, admin: None, turns: 1000000000000, log: false, output_mib: 256, settings: Settings { history: 64, max_waiting_patches: 32, rooms: 64, sessions: 256, epoch: 1764000000, history_weight: Some(262144), waiting_weight: Some(65536), telling_weight: Some(1048576) } }
+relay serve --port 7 --turns 1 --rooms 1000 --sessions 2000 => Serve { port: 7, admin: None, turns: 1, log: false, output_mib: 256, settings: Settings { history: 64, max_waiting_patches: 32, rooms: 1000, sessions: 2000, epoch: 1764000000, history_weight: Some(262144), waiting_weight: Some(65536), telling_weight: Some(1048576) } }
+relay serve --port 7 --admin 65535 --turns 1 => Serve { port: 7, admin: Some(65535), turns: 1, log: false, output_mib: 256, settings: Settings { history: 64, max_waiting_patches: 32, rooms: 64, sessions: 256, epoch: 1764000000, history_weight: Some(262144), waiting_weight: Some(65536), telling_weight: Some(1048576) } }
+relay serve --port 0 --admin 1 --turns 1 => Serve { port: 0, admin: Some(1), turns: 1, log: false, output_mib: 256, settings: Settings { history: 64, max_waiting_patches: 32, rooms: 64, sessions: 256, epoch: 1764000000, history_weight: Some(262144), waiting_weight: Some(65536), telling_weight: Some(1048576) } }
+relay serve --port 7 --max-output-mib 1 => Serve { port: 7, admin: None, turns: 1000000000000, log: false, output_mib: 1, settings: Settings { history: 64, max_waiting_patches: 32, rooms: 64, sessions: 256, epoch: 1764000000, history_weight: Some(262144), waiting_weight: Some(65536), telling_weight: Some(1048576) } }
+relay serve --port 7 --max-output-mib 1048576 => Serve { port: 7, admin: None, turns: 1000000000000, log: false, output_mib: 1048576, settings: Settings { history: 64, max_waiting_patches: 32, rooms: 64, sessions: 256, epoch: 1764000000, history_weight: Some(262144), waiting_weight: Some(65536), telling_weight: Some(1048576) } }
 
 # A server's epoch is the seconds since 1970, or the one that it is given; without a clock it has to be given one.
-relay serve --port 7 --epoch 3 => Serve { port: 7, admin: None, turns: 1000000000000, log: false, settings: Settings { history: 64, max_waiting_patches: 32, rooms: 64, sessions: 256, epoch: 3, history_weight: Some(262144), waiting_weight: Some(65536), telling_weight: Some(1048576) } }
-timeless relay serve --port 7 --epoch 3 => Serve { port: 7, admin: None, turns: 1000000000000, log: false, settings: Settings { history: 64, max_waiting_patches: 32, rooms: 64, sessions: 256, epoch: 3, history_weight: Some(262144), waiting_weight: Some(65536), telling_weight: Some(1048576) } }
+relay serve --port 7 --epoch 3 => Serve { port: 7, admin: None, turns: 1000000000000, log: false, output_mib: 256, settings: Settings { history: 64, max_waiting_patches: 32, rooms: 64, sessions: 256, epoch: 3, history_weight: Some(262144), waiting_weight: Some(65536), telling_weight: Some(1048576) } }
+timeless relay serve --port 7 --epoch 3 => Serve { port: 7, admin: None, turns: 1000000000000, log: false, output_mib: 256, settings: Settings { history: 64, max_waiting_patches: 32, rooms: 64, sessions: 256, epoch: 3, history_weight: Some(262144), waiting_weight: Some(65536), telling_weight: Some(1048576) } }
 timeless relay serve --port 7 => misuse
 timeless relay script --epoch 7 => Script(Settings { history: 64, max_waiting_patches: 32, rooms: 64, sessions: 256, epoch: 7, history_weight: None, waiting_weight: None, telling_weight: None })
 timeless relay loop => Loop(Settings { history: 64, max_waiting_patches: 32, rooms: 64, sessions: 256, epoch: 1, history_weight: None, waiting_weight: None, telling_weight: None })
@@ -67,6 +69,9 @@ relay serve --port 0 --turns 1000000000001 => misuse
 relay serve --port 0 --turns 1 --admin 0 => misuse
 relay serve --port 0 --turns 1 --admin 65536 => misuse
 relay serve --port 7 --turns 1 --admin 7 => misuse
+relay serve --port 7 --max-output-mib 0 => misuse
+relay serve --port 7 --max-output-mib 1048577 => misuse
+relay script --max-output-mib 7 => misuse
 relay script --admin 7 => misuse
 relay frob => misuse
 relay follow --epoch 1 => misuse

@@ -8,10 +8,10 @@ ghost use Rattle.relay_serving.specs.Connections.{has_room};
 
 use crate::connection_log::{ConnectionId, Refusal, RoomSession};
 use crate::ready::{Known, Watched};
-use relay_hub::{Hub, OpenFault};
-use relay_link::{Link, Stage};
+use relay_hub::{Event, Hub, OpenFault};
+use relay_link::{Link, Stage, Turn};
 use relay_operator::StreamReady;
-use relay_schedule::Credit;
+use relay_schedule::{Credit, LinkOutput, Output, Wants};
 use std::alloc::{AllocError, Global};
 use std::cell::Cell;
 use std::io::{Read, Write};
@@ -20,34 +20,15 @@ use std::net::SocketAddr;
 /// The most bytes of a room's name.
 const MAX_NAME: usize = 64;
 
-/// The output of a link.
-#[derive(Clone, Copy, Debug, PartialEq, Eq)]
-pub(crate) enum Output {
-    /// What was framed in a read turn, and corked.
-    Corked,
-    /// That, or messages that wait for the session.
-    Waiting,
-}
-
-/// The turns that would do something for a connection.
-#[derive(Clone, Copy, Debug, PartialEq, Eq)]
-pub(crate) struct Wants {
-    /// A read turn.
-    pub read: bool,
-    /// A write turn for corked output, and one for that or for messages that wait.
-    pub corked: bool,
-    pub waiting: bool,
-    /// A read turn, also if nothing happens, so that a link does not wait for ever for the other
-    /// side's close.
-    pub closing: bool,
-}
-
 /// What rounds know of a connection. It is kept in a cell: no contract speaks of it.
 #[derive(Clone, Copy)]
-struct Standing {
+pub(crate) struct Standing {
     credit: Credit,
     /// Whether its room counts it among those that wait to be written to.
     is_counted: bool,
+    /// How many of the messages that wait are replies. They leave before all others.
+    pub replies: u64,
+    pub output: LinkOutput,
 }
 
 /// A link, and what the server knows about it.
@@ -98,6 +79,8 @@ impl<S: Read + Write + Drop> Connection<S> {
             standing: Cell::new(Standing {
                 credit,
                 is_counted: false,
+                replies: 0,
+                output: LinkOutput::NONE,
             }),
             peer,
             opened: None,
@@ -181,6 +164,31 @@ impl<S: Read + Write + Drop> Connection<S> {
         was_counted
     }
 
+    /// Notes what a turn did to its output, in a second of the server. Returns the output before.
+    pub(crate) fn note_turn(&self, turn: &Turn, second: u64) -> LinkOutput {
+        let mut standing = self.standing.get();
+        let before = standing.output;
+        let taken = self.known.take_written();
+        standing.output.note(turn.drawn, taken, second);
+        standing.replies = replies_after(standing.replies, turn);
+        self.standing.set(standing);
+        before
+    }
+
+    /// What rounds know of it.
+    pub(crate) fn standing(&self) -> Standing {
+        self.standing.get()
+    }
+
+    /// Whether a snapshot may wait for it: one message besides the replies. Several are patches.
+    pub(crate) fn may_be_due(&self, hub: &Hub) -> bool {
+        let waiting = self.standing().replies.saturating_add(1);
+        match self.link.session() {
+            Some(session) => hub.waiting(session) == Some(waiting),
+            None => false,
+        }
+    }
+
     /// Records what became ready.
     pub(crate) fn wake(&mut self, ready: StreamReady)
         ensures { self.new.link ≡ self.old.link }
@@ -259,4 +267,18 @@ impl<S: Read + Write + Drop> Connection<S> {
     {
         self.link.session().is_none()
     }
+}
+
+/// How many replies wait after a turn. A session begins with one.
+fn replies_after(before: u64, turn: &Turn) -> u64 {
+    let mut replies = before;
+    for event in turn.made.iter() {
+        replies = match event {
+            Event::Open { .. } => 1,
+            Event::Receive { .. } => replies.saturating_add(1),
+            Event::Draw { .. } => replies.saturating_sub(1),
+            Event::Close { .. } => 0,
+        };
+    }
+    replies
 }

@@ -5,7 +5,6 @@ mod connection;
 mod connection_log;
 mod counted;
 mod eviction_log;
-mod queues;
 mod ready;
 mod server;
 

@@ -1,5 +1,5 @@
 //! A stream, together with its readiness as the system last reported it, and with how much was read
-//! of it.
+//! of it and written to it.
 ghost use Rattle.relay_serving.specs.Ready.{left_of};
 
 use relay_operator::StreamReady;
@@ -18,8 +18,9 @@ pub(crate) struct Known {
 #[derive(Clone, Copy, Debug, PartialEq, Eq)]
 struct StreamState {
     ready: StreamReady,
-    /// How many bytes were read since that was last asked.
+    /// How many bytes were read since that was last asked, and how many were written.
     read: u64,
+    written: u64,
 }
 
 /// A stream that returns `WouldBlock` without a system call while it is known not to be ready. It
@@ -44,19 +45,19 @@ impl Known {
         self.state.set(state);
     }
 
-    /// Whether a read may give bytes in this turn.
-    fn is_readable(&self) -> bool {
-        self.state.get().ready.readable
+    /// What the stream is ready for.
+    pub(crate) fn ready(&self) -> StreamReady {
+        self.state.get().ready
     }
 
     /// Whether another read turn may read bytes, or the end, without a new event: a turn that has
     /// output pending reads nothing.
     pub(crate) fn may_go_on(&self) -> bool {
-        self.is_readable() && self.is_writable()
+        self.ready().readable && self.is_writable()
     }
 
     pub(crate) fn is_writable(&self) -> bool {
-        self.state.get().ready.writable
+        self.ready().writable
     }
 
     /// How many bytes were read since this was last asked.
@@ -66,6 +67,15 @@ impl Known {
         state.read = 0;
         self.state.set(state);
         read
+    }
+
+    /// How many bytes were written since this was last asked.
+    pub(crate) fn take_written(&self) -> u64 {
+        let mut state = self.state.get();
+        let written = state.written;
+        state.written = 0;
+        self.state.set(state);
+        written
     }
 
     /// Notes what a read of at most `most` bytes returned.
@@ -84,10 +94,13 @@ impl Known {
     /// Notes what a write returned.
     fn end_write(&self, written: &io::Result<usize>) {
         let mut state = self.state.get();
-        state.ready.writable = match written {
-            Ok(_) => true,
-            Err(error) => error.kind() != ErrorKind::WouldBlock,
-        };
+        match written {
+            Ok(len) => {
+                state.ready.writable = true;
+                state.written = state.written.saturating_add(*len as u64);
+            }
+            Err(error) => state.ready.writable = error.kind() != ErrorKind::WouldBlock,
+        }
         self.state.set(state);
     }
 }
@@ -107,6 +120,7 @@ impl<S> Watched<S> {
                     is_over: false,
                 },
                 read: 0,
+                written: 0,
             }),
         )?;
         let known = Known {
@@ -120,7 +134,7 @@ impl<S: Read> Read for Watched<S> {
     ghost remaining = { left_of S.remaining };
 
     fn read(&mut self, buf: &mut [u8]) -> io::Result<usize> {
-        if !self.known.is_readable() {
+        if !self.known.ready().readable {
             return Err(nothing_now());
         }
         let read = self.stream.read(buf);

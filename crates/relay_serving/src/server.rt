@@ -15,11 +15,10 @@ mod writing;
 
 use crate::connection::Connection;
 use crate::connection_log::ConnectionLog;
-use crate::queues::Queues;
 use indexmap::IndexMap;
 use relay_hub::{Hub, HubConfig};
 use relay_operator::{Readiness, ReadyEvent};
-use relay_schedule::{RoomShares, ShareLimits};
+use relay_schedule::{OutputTotal, Queues, RoomShares, ShareLimits};
 use relay_tree::Budget;
 use slab::Slab;
 use std::alloc::Global;
@@ -51,11 +50,15 @@ pub struct Server<S: Write + Drop, R> {
     queues: Queues,
     /// How far each room is read ahead.
     rooms: RoomShares,
+    /// What all links hold of output.
+    output: OutputTotal,
     /// How many texts were passed to the hub.
     texts: u64,
     /// The key of the connection that has a session, by the session's number.
     sessions: IndexMap<u64, usize>,
     rounds: u64,
+    /// How many seconds the source of readiness has told.
+    seconds: u64,
     /// The first round in which the log may say again that memory was refused.
     next_shed_entry: u64,
     /// The `place` of the next connection.
@@ -64,9 +67,10 @@ pub struct Server<S: Write + Drop, R> {
 
 impl<S: Read + Write + OpenStream + Drop, R: Readiness<S>> Server<S, R> {
     /// A server of a hub, with no connection. A room is read ahead by half as many texts as patches
-    /// may wait for a session of the hub, and by half as many bytes as these may weigh.
+    /// may wait for a session of the hub, and by half as many bytes as these may weigh. Its links
+    /// hold as many bytes of output as given, and what one turn draws beyond.
     #[tactic(auto, using(crate::proofs::Owners::none_connected))]
-    pub fn new(alloc: Global, hub: Hub, readiness: R) -> Server<S, R>
+    pub fn new(alloc: Global, hub: Hub, readiness: R, most_output: u64) -> Server<S, R>
         ensures empty { connections_of result ≡ 0 }
         ensures limit { limit_of result ≡ connection_limit hub.made.sessions }
         ensures hub { hub_of result ≡ hub }
@@ -83,9 +87,11 @@ impl<S: Read + Write + OpenStream + Drop, R: Readiness<S>> Server<S, R> {
             failed: false,
             queues: Queues::new(alloc),
             rooms: RoomShares::new(alloc, share_limits(config)),
+            output: OutputTotal::within(most_output),
             texts: 0,
             sessions: IndexMap::new(alloc),
             rounds: 0,
+            seconds: 0,
             next_shed_entry: 0,
             accepted: 0,
         }
@@ -122,6 +128,9 @@ impl<S: Read + Write + OpenStream + Drop, R: Readiness<S>> Server<S, R> {
     /// owe. A turn that is out of memory is left for the next round, and the hub gives memory back
     /// ([`relay_hub::Hub::shed`]), so that resumes and waiting patches become snapshots. Links that
     /// are gone are dropped. If it is unknown what is ready, everything counts as ready.
+    ///
+    /// Once the links hold as much output as they may, no long snapshot is drawn, and each second
+    /// those that hold the most and take no more are ended: nothing waits, or for 30 seconds.
     #[tactic(auto, using(crate::proofs::Rules::rounds))]
     pub fn round<L: OpenListener<Stream = S>, J: ConnectionLog>(
         &mut self,
@@ -134,7 +143,9 @@ impl<S: Read + Write + OpenStream + Drop, R: Readiness<S>> Server<S, R> {
         ensures within { connections_of self.old ≤ limit_of self.old → connections_of self.new ≤ limit_of self.old }
     {
         self.rounds = self.rounds.saturating_add(1);
+        let before = self.seconds;
         self.poll();
+        self.relieve(alloc, before, log);
         self.accept(alloc, listener, log);
         let spending = self.read(alloc, log);
         self.write(alloc, log);

@@ -172,7 +172,7 @@ fn server<'a, 's>(
 ) -> Option<Administered<'a, 's>> {
     let hub = Hub::with_config(alloc, HubConfig::new(1, 1, 64, 32)).ok()?;
     let readiness = AdminReadiness::new(ScriptedReadiness::of(script), &Still);
-    Some(Server::new(alloc, hub, readiness))
+    Some(Server::new(alloc, hub, readiness, u64::MAX))
 }
 
 fn body(alloc: Global, wire: &RefCell<Wire>) -> Option<String> {

@@ -107,7 +107,7 @@ impl<R: AllocGlobal> Subject<R> for Clients<'_> {
     /// - `wire K ACT` does an act of the wire, and `send K ACT` announces that it is readable, too; `each N ACT` does an act of each of the
     ///   first wires;
     /// - `readable K` and `writable K` announce that a stream is ready, `over K` that it is readable, and over; `capacity N` that the next
-    ///   wait has space for so many events, and `wait-fails` that it fails;
+    ///   wait has space for so many events, and `wait-fails` that it fails; `second` that a second has passed;
     /// - `round` runs a round, and `rounds N` so many, which are not told; `sleep` runs rounds until one could have slept;
     /// - `connections` tells how many there are; `done K`, `count K PART` and `writes K` tell how many edits were accepted, how often a part
     ///   was written, and how many writes there were, each since the last such question about the wire; `clear K` is such a question;
@@ -219,6 +219,7 @@ impl<'a> Clients<'a> {
             "over" => self.announce(rest, OVER),
             "capacity" => self.server.limit_next_wait(key_of(rest)?),
             "wait-fails" => self.server.fail_next_wait(),
+            "second" => self.server.add(ReadyEvent::Second),
             _ => None,
         }
     }

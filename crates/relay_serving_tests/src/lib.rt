@@ -20,6 +20,8 @@ mod memory_server;
 #[cfg(test)]
 mod numbers;
 #[cfg(test)]
+mod outputs;
+#[cfg(test)]
 mod rounds;
 #[cfg(test)]
 mod schedules;

@@ -75,7 +75,7 @@ impl<N: AllocGlobal + Net> Loopback<N> {
         let hub = Hub::new(rt.alloc(), 1, 1, 64, 32).ok()?;
         Some(Loopback {
             listener,
-            serving: Server::new(rt.alloc(), hub, polling),
+            serving: Server::new(rt.alloc(), hub, polling, u64::MAX),
             a: None,
             b: None,
         })

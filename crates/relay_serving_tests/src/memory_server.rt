@@ -10,6 +10,9 @@ use std::net::{Ipv4Addr, OpenListener, SocketAddr};
 use std::time::Duration;
 use std::{io, mem};
 
+/// How many bytes of output the links of a server hold.
+const MOST_OUTPUT: u64 = 1_000_000;
+
 fn busy() -> io::Error {
     io::Error::from(ErrorKind::Other)
 }
@@ -153,7 +156,7 @@ impl<'a> MemoryServer<'a> {
         Some(MemoryServer {
             listener: MemoryListener::new(alloc),
             script,
-            server: Server::new(alloc, hub, ScriptedReadiness::of(script)),
+            server: Server::new(alloc, hub, ScriptedReadiness::of(script), MOST_OUTPUT),
             log: FieldLines {
                 text: String::new(alloc),
             },

@@ -6,6 +6,7 @@ use crate::connection::Connection;
 use crate::connection_log::ConnectionLog;
 use crate::eviction_log::EvictionLog;
 use indexmap::IndexMap;
+use relay_link::Cause;
 use relay_operator::Readiness;
 use relay_schedule::Credit;
 use std::alloc::{AllocError, Global};
@@ -52,7 +53,7 @@ impl<S: Read + Write + OpenStream + Drop, R: Readiness<S>> Server<S, R> {
             return;
         }
         if let Some(key) = self.first_unserved() {
-            self.end_link(alloc, key, &mut EvictionLog::to(log));
+            self.end_link(alloc, key, Cause::Ended, &mut EvictionLog::to(log));
         }
     }
 

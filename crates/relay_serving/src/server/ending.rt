@@ -10,9 +10,13 @@ use crate::connection_log::{ConnectionLog, LogEntry};
 use relay_hub::{Event, OpenFault};
 use relay_link::{Cause, Stage, Turn};
 use relay_operator::Readiness;
+use relay_schedule::LinkOutput;
 use std::alloc::Global;
 use std::io::{Read, Write};
 use std::net::OpenStream;
+
+/// How many links are ended in a second at most, so that the others have room for their output.
+const MAX_ENDS: u32 = 64;
 
 /// The log says that memory was refused at most once in so many rounds.
 const SHED_ROUNDS: u64 = 1_024;
@@ -27,23 +31,30 @@ impl<S: Read + Write + OpenStream + Drop, R: Readiness<S>> Server<S, R> {
         ensures fewer { connections_of self.new ≤ connections_of self.old }
     {
         for key in 0..self.keys() {
-            self.end_link(alloc, key, log);
+            self.end_link(alloc, key, Cause::Ended, log);
         }
     }
 
-    /// Ends a link. Out of memory leaves it as it is, with its session.
+    /// Ends a link for a cause. Out of memory leaves it as it is, with its session.
     #[tactic(auto, using(crate::proofs::Rules::advances))]
-    pub(super) fn end_link<J: ConnectionLog>(&mut self, alloc: Global, key: usize, log: &mut J)
+    pub(super) fn end_link<J: ConnectionLog>(
+        &mut self,
+        alloc: Global,
+        key: usize,
+        cause: Cause,
+        log: &mut J,
+    )
         ensures { KeepsFewer S.remaining self.old self.new }
     {
         let Some(connection) = self.connections.get_mut(key) else {
             return;
         };
         let before = connection.link.stage();
-        let Ok(turn) = connection.link.end(alloc, &mut self.hub) else {
+        let Ok(mut turn) = connection.link.end(alloc, &mut self.hub) else {
             self.shed(log);
             return;
         };
+        turn.cause = turn.cause.and(Some(cause));
         self.settle(key, before, &turn, log);
     }
 
@@ -59,6 +70,7 @@ impl<S: Read + Write + OpenStream + Drop, R: Readiness<S>> Server<S, R> {
     )
         ensures { KeepsFewer S.remaining self.old self.new }
     {
+        self.count_output(key, turn);
         self.note_events(key, turn, log);
         if turn.has_received() {
             self.queue_told(key, turn);
@@ -68,6 +80,54 @@ impl<S: Read + Write + OpenStream + Drop, R: Readiness<S>> Server<S, R> {
             self.shed(log);
         }
         self.remove_gone(key);
+    }
+
+    /// Counts what a connection holds of output after a turn.
+    #[tactic(auto, using(crate::proofs::Rules::advances))]
+    fn count_output(&mut self, key: usize, turn: &Turn)
+        ensures { KeepsFewer S.remaining self.old self.new }
+    {
+        let Some(connection) = self.connections.get(key) else {
+            return;
+        };
+        let before = connection.note_turn(turn, self.seconds);
+        self.output.change(before, connection.standing().output);
+    }
+
+    /// Once a second, if links hold as much output as they may, ends those that hold the most of it
+    /// and take no more, until the others hold half.
+    #[tactic(auto, using(crate::proofs::Rules::advances))]
+    pub(super) fn relieve<J: ConnectionLog>(&mut self, alloc: Global, before: u64, log: &mut J)
+        ensures { KeepsFewer S.remaining self.old self.new }
+    {
+        if self.seconds == before || !self.output.is_full() {
+            return;
+        }
+        for _ in 0..MAX_ENDS {
+            match self.first_to_end() {
+                Some(key) if !self.output.is_relieved() => {
+                    self.end_link(alloc, key, Cause::Full, log)
+                }
+                _ => return,
+            }
+        }
+    }
+
+    /// The key of the connection that holds the most output, at least an equal share, of those of
+    /// which nothing waits or nothing was taken for long.
+    fn first_to_end(&self) -> Option<usize> {
+        let mut first = None;
+        let mut most = self.output.share(self.connections.len()).saturating_sub(1);
+        for key in 0..self.keys() {
+            if let Some(connection) = self.connections.get(key) {
+                let output = connection.standing().output;
+                if output.held > most && output.is_over_due(self.seconds) {
+                    first = Some(key);
+                    most = output.held;
+                }
+            }
+        }
+        first
     }
 
     /// Notes the session that a turn opened or closed, or why the hub opened none.
@@ -80,7 +140,9 @@ impl<S: Read + Write + OpenStream + Drop, R: Readiness<S>> Server<S, R> {
             (Some(Event::Open { room }), None) => {
                 let place = self.place_of(key);
                 self.note_opened(key, room.as_str(), place);
-                self.index_opened(key);
+                if !self.index_opened(key) {
+                    self.shed(log);
+                }
                 self.log_opened(key, log);
             }
             (Some(Event::Close { session }), None) => {
@@ -111,19 +173,20 @@ impl<S: Read + Write + OpenStream + Drop, R: Readiness<S>> Server<S, R> {
     }
 
     /// Puts the session of a connection into the map, if it has one, for which there is memory.
-    /// Takes the memory for its room's share.
+    /// Takes the memory for its room's share; returns whether there was some.
     #[tactic(auto, using(crate::proofs::Rules::advances))]
-    fn index_opened(&mut self, key: usize)
+    fn index_opened(&mut self, key: usize) -> bool
         ensures { KeepsFewer S.remaining self.old self.new }
     {
         let Some(connection) = self.connections.get(key) else {
-            return;
+            return true;
         };
         if let Some(session) = connection.link.session() {
             let _ = self.sessions.insert(session, key);
         }
-        if let Some(place) = connection.room_place() {
-            let _ = self.rooms.admit(place);
+        match connection.room_place() {
+            Some(place) => self.rooms.admit(place).is_ok(),
+            None => true,
         }
     }
 
@@ -189,6 +252,8 @@ impl<S: Read + Write + OpenStream + Drop, R: Readiness<S>> Server<S, R> {
         };
         if connection.link.stage() == Stage::Gone {
             uncount_writer(&mut self.rooms, connection);
+            self.output
+                .change(connection.standing().output, LinkOutput::NONE);
             let _ = self.connections.try_remove(key);
         }
     }

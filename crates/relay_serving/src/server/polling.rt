@@ -40,7 +40,9 @@ impl<S: Read + Write + OpenStream + Drop, R: Readiness<S>> Server<S, R> {
 
     /// Whether there is work without further events.
     fn has_work(&self) -> bool {
-        self.accept_ready || !self.queues.is_empty()
+        self.accept_ready
+            || !self.queues.is_empty()
+            || (self.queues.held_back() > 0 && !self.output.is_full())
     }
 
     /// The event at an index.
@@ -55,6 +57,7 @@ impl<S: Read + Write + OpenStream + Drop, R: Readiness<S>> Server<S, R> {
     {
         match event {
             ReadyEvent::Incoming => self.accept_ready = true,
+            ReadyEvent::Second => self.seconds = self.seconds.saturating_add(1),
             ReadyEvent::Stream { key, ready } => self.announce(key, ready),
         }
     }

@@ -5,7 +5,7 @@ use super::Server;
 use crate::connection_log::ConnectionLog;
 use relay_link::Turn;
 use relay_operator::Readiness;
-use relay_schedule::Spending;
+use relay_schedule::{Output, Spending};
 use std::alloc::Global;
 use std::io::{Read, Write};
 use std::net::OpenStream;
@@ -21,7 +21,7 @@ pub(super) const TURN_COST: u64 = 2;
 const BYTES_READ: u64 = 100;
 
 /// How many messages a read turn draws: the reply to its text. Whatever else it comes to is drawn
-/// by a write turn.
+/// by a write turn, since it may be long.
 const READ_DRAWS: u64 = 1;
 
 impl<S: Read + Write + OpenStream + Drop, R: Readiness<S>> Server<S, R> {
@@ -137,39 +137,49 @@ impl<S: Read + Write + OpenStream + Drop, R: Readiness<S>> Server<S, R> {
     fn read_at<J: ConnectionLog>(&mut self, alloc: Global, key: usize, log: &mut J) -> u64
         ensures { KeepsFewer S.remaining self.old self.new }
     {
-        let cost = if self.may_read(key) {
-            self.read_link(alloc, key, log)
-        } else {
-            0
+        let cost = match self.read_draws(key) {
+            Some(draws) => self.read_link(alloc, key, draws, log),
+            None => 0,
         };
         self.queue(key);
         cost
     }
 
-    /// Whether a connection is held that may be read, and whose room has place.
-    fn may_read(&self, key: usize) -> bool {
-        match self.connections.get(key) {
-            Some(connection) => {
-                connection.may_read(&self.hub)
-                    && match connection.room_place() {
-                        Some(place) => self.rooms.has_place(place),
-                        None => true,
-                    }
-            }
-            None => false,
+    /// How many messages a read turn of a connection draws, if it may be read and its room has
+    /// place: none if a long snapshot may wait. Whoever is owed a reply is written to before.
+    fn read_draws(&self, key: usize) -> Option<u64> {
+        let connection = self.connections.get(key)?;
+        let has_place = match connection.room_place() {
+            Some(place) => self.rooms.has_place(place),
+            None => true,
+        };
+        let is_owed = connection.standing().replies > 0
+            && connection.has_output(&self.hub, Output::Waiting);
+        if is_owed || !has_place || !connection.may_read(&self.hub) {
+            return None;
         }
+        if self.is_short(connection) {
+            return Some(READ_DRAWS);
+        }
+        Some(0)
     }
 
     /// Gives a link a read turn. Returns what it cost.
     #[tactic(auto, using(crate::proofs::Rules::advances))]
-    fn read_link<J: ConnectionLog>(&mut self, alloc: Global, key: usize, log: &mut J) -> u64
+    fn read_link<J: ConnectionLog>(
+        &mut self,
+        alloc: Global,
+        key: usize,
+        draws: u64,
+        log: &mut J,
+    ) -> u64
         ensures { KeepsFewer S.remaining self.old self.new }
     {
         let Some(connection) = self.connections.get_mut(key) else {
             return 0;
         };
         let before = connection.link.stage();
-        let Ok(turn) = connection.link.read_turn(alloc, &mut self.hub, READ_DRAWS) else {
+        let Ok(turn) = connection.link.read_turn(alloc, &mut self.hub, draws) else {
             self.shed(log);
             return TURN_COST;
         };

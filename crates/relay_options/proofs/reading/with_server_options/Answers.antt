@@ -23,4 +23,5 @@ returns c =
     let five = option_added _ _ _ _ _ four c.port.ensures refl c.in_ok-arg-5.ensures in
     let six = option_added _ _ _ _ _ five c.admin.ensures refl c.in_ok-arg-6.ensures in
     let seven = option_added _ _ _ _ _ six c.turns.ensures refl c.in_ok-arg-7.ensures in
-    option_added _ _ _ _ _ seven c.log.ensures refl c.in_ok-command.ensures
+    let eight = option_added _ _ _ _ _ seven c.log.ensures refl c.in_ok-arg-8.ensures in
+    option_added _ _ _ _ _ eight c.output.ensures refl c.in_ok-command.ensures

@@ -1,40 +1,66 @@
 //! The queues of a server's connections that may have a turn.
-use crate::connection::{Output, Wants};
-use relay_schedule::{Credit, KeyQueue, ReadyQueue};
+use crate::credit::Credit;
+use crate::key_queue::KeyQueue;
+use crate::ready_queue::ReadyQueue;
 use std::alloc::{AllocError, Global};
 
+/// The output of a link.
+#[derive(Clone, Copy, Debug, PartialEq, Eq)]
+pub enum Output {
+    /// What was framed in a read turn, and corked.
+    Corked,
+    /// That, or messages that wait for the session.
+    Waiting,
+}
+
+/// The turns that would do something for a connection.
+#[derive(Clone, Copy, Debug, PartialEq, Eq)]
+pub struct Wants {
+    /// A read turn.
+    pub read: bool,
+    /// A write turn for corked output, and one for that or for messages that wait.
+    pub corked: bool,
+    pub waiting: bool,
+    /// A read turn, also if nothing happens, so that a link does not wait for ever for the other
+    /// side's close.
+    pub closing: bool,
+}
+
 /// The keys of the connections that may be read, of those that may be written to, for corked output
-/// and for any, and of those that are closing. A key stays where it is if its connection is dropped
-/// or no longer wants the turn, so whoever takes it out looks first.
+/// and for any, of those that are held back, and of those that are closing. A key stays where it is
+/// if its connection is dropped or no longer wants the turn, so whoever takes it out looks first.
 #[derive(Drop)]
-pub(crate) struct Queues {
+pub struct Queues {
     pub ready: ReadyQueue,
     corked: KeyQueue,
     waiting: KeyQueue,
+    held_back: KeyQueue,
     closing: KeyQueue,
 }
 
 impl Queues {
-    pub(crate) fn new(alloc: Global) -> Queues {
+    pub fn new(alloc: Global) -> Queues {
         Queues {
             ready: ReadyQueue::new(alloc),
             corked: KeyQueue::new(alloc),
             waiting: KeyQueue::new(alloc),
+            held_back: KeyQueue::new(alloc),
             closing: KeyQueue::new(alloc),
         }
     }
 
     /// Takes the memory for a key in each queue. `AllocError` leaves the keys that are queued.
-    pub(crate) fn admit(&mut self, key: usize) -> Result<(), AllocError> {
+    pub fn admit(&mut self, key: usize) -> Result<(), AllocError> {
         self.ready.admit(key)?;
         self.corked.admit(key)?;
         self.waiting.admit(key)?;
+        self.held_back.admit(key)?;
         self.closing.admit(key)
     }
 
     /// Queues a key behind the others for each turn that its connection wants. Whoever owes is
     /// written to among all others, also for corked output. Allocates nothing.
-    pub(crate) fn push(&mut self, key: usize, wants: Wants, credit: Credit) {
+    pub fn push(&mut self, key: usize, wants: Wants, credit: Credit) {
         if wants.read {
             self.ready.push(key, credit);
         }
@@ -50,46 +76,61 @@ impl Queues {
     }
 
     /// Queues a key for a write turn, for messages that wait. Allocates nothing.
-    pub(crate) fn push_writer(&mut self, key: usize) {
+    pub fn push_writer(&mut self, key: usize) {
         self.waiting.push(key);
     }
 
     /// Takes out the first key of the connections that may be written to, for such output.
-    pub(crate) fn pop_writer(&mut self, output: Output) -> Option<usize> {
+    pub fn pop_writer(&mut self, output: Output) -> Option<usize> {
         match output {
             Output::Corked => self.corked.pop(),
             Output::Waiting => self.waiting.pop(),
         }
     }
 
+    /// Puts a key aside whose messages have to wait. Allocates nothing.
+    pub fn hold_back(&mut self, key: usize) {
+        self.held_back.push(key);
+    }
+
+    /// Takes out the first key that was put aside.
+    pub fn pop_held_back(&mut self) -> Option<usize> {
+        self.held_back.pop()
+    }
+
+    /// How many keys were put aside.
+    pub fn held_back(&self) -> usize {
+        self.held_back.len()
+    }
+
     /// Takes out the first key of the connections that are closing.
-    pub(crate) fn pop_closing(&mut self) -> Option<usize> {
+    pub fn pop_closing(&mut self) -> Option<usize> {
         self.closing.pop()
     }
 
     /// How many keys there are of connections that are closing.
-    pub(crate) fn closing(&self) -> usize {
+    pub fn closing(&self) -> usize {
         self.closing.len()
     }
 
     /// How many keys wait for a write turn.
-    pub(crate) fn writers(&self, output: Output) -> usize {
+    pub fn writers(&self, output: Output) -> usize {
         match output {
             Output::Corked => self.corked.len(),
             Output::Waiting => self.waiting.len(),
         }
     }
 
-    /// Whether no key waits for a turn.
-    pub(crate) fn is_empty(&self) -> bool {
+    /// Whether no key waits for a turn, but for those that are held back or closing.
+    pub fn is_empty(&self) -> bool {
         self.ready.is_empty() && self.corked.is_empty() && self.waiting.is_empty()
     }
 
     /// Whether a key waits for each turn that its connection wants.
-    pub(crate) fn has(&self, key: usize, wants: Wants) -> bool {
+    pub fn has(&self, key: usize, wants: Wants) -> bool {
         (!wants.read || self.ready.contains(key))
             && (!wants.corked || self.corked.contains(key) || self.waiting.contains(key))
-            && (!wants.waiting || self.waiting.contains(key))
+            && (!wants.waiting || self.waiting.contains(key) || self.held_back.contains(key))
             && (!wants.closing || self.closing.contains(key))
     }
 }
