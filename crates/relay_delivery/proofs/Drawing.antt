@@ -3,7 +3,8 @@ use Rattle.std.proofs.Common.{◌≡◌, ◌≢◌, ◌⊎◌, inl, inr, ℕ, �
 use Rattle.std.specs.Prelude.{option_map}
 use Rattle.std.proofs.lemmas.Bool.Decides.{nat_tests}
 use Rattle.relay_follow.specs.Hearing.{told}
-use Rattle.relay_hub.specs.Log.{Log, Watching, begun, entry, home, documents, watching, hearing, resumes_from, asked, asked_at_home}
+use Rattle.relay_hub.specs.Admitted.{affordable, unless_unpaid, unpaid_slot}
+use Rattle.relay_hub.specs.Log.{Log, Place, Watching, begun, entry, home, documents, watching, hearing, resumes_from, asked, asked_at_home}
 use Rattle.relay_hub.specs.Session.{Session, later}
 use Rattle.relay_hub.specs.Stands.{HoldsPresent}
 use Rattle.relay_hub.specs.State.{State, RoomSessions, home_of, session_in}
@@ -22,6 +23,7 @@ use Rattle.relay_proto.specs.declared.refusal.Refusal.{Refusal}
 use Rattle.relay_proto.specs.declared.request.Request.{Request}
 use Rattle.relay_proto.specs.declared.request.Request.TheVariants.{Edit, Watch, Resume, Unwatch}
 use Rattle.relay_tree.specs.Document.{Document}
+use Rattle.relay_tree.specs.declared.budget.Budget.{Budget}
 use Rattle.relay_view.specs.View.{View, view}
 use Rattle.relay_delivery.specs.Texts.{told_all}
 use Rattle.relay_delivery.specs.Turn.{Tracks, KeepsUp, StartsAsHeld, Resumes, Delivered}
@@ -76,20 +78,41 @@ tracks_asked c epoch ds was (Ok (Resume id e rev pointers)) starts before =
     starts id rev pointers d (ap (λ n. Ok (Resume id n rev pointers)) present) there)
     before
 
-tracks_at_home : (c : Client) (epoch : ℕ) (ds : List ℕ → List Document) (was : Option Watching) (there : Option (List ℕ)) (text : List ℕ)
-    → ((id rev : ℕ) (pointers : View) (name : List ℕ) (d : Document) → there ≡ Some name → request_of_text text ≡ Ok (Resume id epoch rev pointers) → slice_get (ds name) rev ≡ Some d → c ≡ holds rev (view pointers d))
-    → Tracks c was → Tracks c (asked_at_home epoch ds was there text)
-tracks_at_home c epoch ds was (Some name) text starts before =
-    tracks_asked c epoch (ds name) was (request_of_text text) (λ id rev pointers d is there. starts id rev pointers name d refl is there) before
-tracks_at_home c epoch ds was None text starts before = before
+-- a request that is not refused for its weight is the one that was read
+unless_ok : (o : Option ℕ) (id : ℕ) (request asked : Request)
+    → unless_unpaid o id request ≡ Ok asked → request ≡ asked
+unless_ok None id request asked is = cc is
+unless_ok (Some at) id request asked is = absurd (cc is)
 
-module _ (b : HubConfig) (E : Log) (s : ℕ) (c : Client) (before : Tracks c (watching b.epoch E s)) where
-  after_request : (text : List ℕ) (answer : Answer) → StartsAsHeld b E s c (Receive s text) → Tracks c (watching b.epoch (entry (Receive s text) answer ∷ E) s)
+affordable_ok : (budget : Budget) (request : Result Request Refusal) (asked : Request)
+    → affordable budget request ≡ Ok asked → request ≡ Ok asked
+affordable_ok budget (Err r) asked is = is
+affordable_ok budget (Ok (Edit id base patch)) asked is = is
+affordable_ok budget (Ok (Unwatch id)) asked is = is
+affordable_ok budget (Ok (Watch id pointers)) asked is =
+    ap Ok (unless_ok (unpaid_slot 0 budget pointers) id (Watch id pointers) asked is)
+affordable_ok budget (Ok (Resume id epoch rev pointers)) asked is =
+    ap Ok (unless_ok (unpaid_slot 0 budget pointers) id (Resume id epoch rev pointers) asked is)
+
+tracks_at_home : (c : Client) (b : HubConfig) (ds : List ℕ → List Document) (was : Option Watching) (there : Option Place) (text : List ℕ)
+    → ((id rev : ℕ) (pointers : View) (home : Place) (d : Document) → there ≡ Some home → request_of_text text ≡ Ok (Resume id b.epoch rev pointers) → slice_get (ds home.room) rev ≡ Some d → c ≡ holds rev (view pointers d))
+    → Tracks c was → Tracks c (asked_at_home b ds was there text)
+tracks_at_home c b ds was (Some home) text starts before =
+    tracks_asked c b.epoch (ds home.room) was (affordable b.view_weight (request_of_text text))
+    (λ id rev pointers d is there.
+    let resume = Resume id b.epoch rev pointers in
+    let read = affordable_ok b.view_weight (request_of_text text) resume is in
+    starts id rev pointers home d refl read there)
+    before
+tracks_at_home c b ds was None text starts before = before
+
+module _ (b : HubConfig) (E : Log) (s : ℕ) (c : Client) (before : Tracks c (watching b E s)) where
+  after_request : (text : List ℕ) (answer : Answer) → StartsAsHeld b E s c (Receive s text) → Tracks c (watching b (entry (Receive s text) answer ∷ E) s)
   after_request text (Heard (Answered short)) starts =
       let mine : (s == s) ≡ true = grind (arith, nat_tests) in
-      rw mine (tracks_at_home c b.epoch (documents E) (watching b.epoch E s) (home E s) text starts before)
+      rw mine (tracks_at_home c b (documents E) (watching b E s) (home E s) text starts before)
   after_request text (Heard Busy) starts = before
-  after_request text (Opened n) starts = before
+  after_request text (Opened o) starts = before
   after_request text (NotOpened fault) starts = before
   after_request text (Drawn drew) starts = before
   after_request text Closed starts = before
@@ -98,13 +121,13 @@ module _ (b : HubConfig) (E : Log) (s : ℕ) (c : Client) (before : Tracks c (wa
 -- ---- a draw
 
 module _ (b : HubConfig) (E : Log) (hub new : State) (s : ℕ) (c : Client) (before : KeepsUp b E hub s c) (found : c ≢ lost) where
-  drew_own : (text : Option (List ℕ)) → watching b.epoch (entry (Draw s) (Drawn text) ∷ E) s ≡ hearing text (watching b.epoch E s)
+  drew_own : (text : Option (List ℕ)) → watching b (entry (Draw s) (Drawn text) ∷ E) s ≡ hearing text (watching b E s)
   drew_own text =
       let mine : (s == s) ≡ true = grind (arith, nat_tests) in
       rw mine refl
 
   -- no text came
-  quiet : (answer : Answer) → drawn_by (Draw s) answer ≡ [] → Step hub (Draw s) answer new → watching b.epoch (entry (Draw s) answer ∷ E) s ≡ watching b.epoch E s
+  quiet : (answer : Answer) → drawn_by (Draw s) answer ≡ [] → Step hub (Draw s) answer new → watching b (entry (Draw s) answer ∷ E) s ≡ watching b E s
       → Stays b (entry (Draw s) answer ∷ E) new s c (drawn_by (Draw s) answer)
   quiet answer none step watches = record {
     client_is = c;
@@ -128,7 +151,7 @@ module _ (b : HubConfig) (E : Log) (hub new : State) (s : ℕ) (c : Client) (bef
         found = leads.found;
       }
   stays_draw (Drawn None) step = quiet (Drawn None) refl step (drew_own None)
-  stays_draw (Opened n) step = quiet (Opened n) refl step refl
+  stays_draw (Opened o) step = quiet (Opened o) refl step refl
   stays_draw (NotOpened fault) step = quiet (NotOpened fault) refl step refl
   stays_draw (Heard heard) step = quiet (Heard heard) refl step refl
   stays_draw Closed step = quiet Closed refl step refl
@@ -139,7 +162,7 @@ module _ (b : HubConfig) (E : Log) (hub new : State) (s : ℕ) (c : Client) (bef
 -- a link that opens no room has its session or none
 own_session : {p q : Point} (s : ℕ) → Follows no_room p q → p.session ≡ Some s → (q.session ≡ Some s) ⊎ (q.session ≡ None)
 own_session s stays is = inl is
-own_session s (makes (Open room) answer before own step) is = absurd own.1
+own_session s (makes (Open room access) answer before own step) is = absurd own.1
 own_session s (makes (Receive t text) answer before own step) is = own_session s before is
 own_session s (makes (Draw t) answer before own step) is = own_session s before is
 own_session s (makes (Close t) answer before own step) is = inr refl
@@ -155,7 +178,7 @@ its_own q s t held is =
 pub stays_turn : (b : HubConfig) (E : Log) (s t : ℕ) (c : Client) {p q : Point} (follows : Follows no_room p q) → p.session ≡ Some s → q.session ≡ Some t → Resumes b E s c follows
     → KeepsUp b E p.hub s c → c ≢ lost → Stays b (with_events follows E) q.hub s c (drawn follows)
 stays_turn b E s t c stays is still resumes before found = record { client_is = c; survives = same; keeps = before; found = found }
-stays_turn b E s t c (makes (Open room) answer follows own step) is still resumes before found = absurd own.1
+stays_turn b E s t c (makes (Open room access) answer follows own step) is still resumes before found = absurd own.1
 stays_turn b E s t c (makes {q = q} {hub = hub} (Receive u text) answer follows own step) is still resumes before found =
     let mine : u ≡ s = its_own q.session s u (own_session s follows is) own in
     let until = stays_turn b E s u c follows is own resumes.0 before found in
@@ -186,7 +209,7 @@ stays_turn b E s t c (makes (Close u) answer follows own step) is still resumes 
 -- ---- what it holds when nothing waits
 
 present : (b : HubConfig) (E : Log) (hub : State) (s : ℕ) (c : Client) → KeepsUp b E hub s c → (name : List ℕ) (g : RoomSessions) (x : Session) (w : Watching)
-    → home_of hub s ≡ Some (name, g) → session_in g.sessions s ≡ Some x → watching b.epoch E s ≡ Some w → later g.room w.view x.outbox ≡ [] → HoldsPresent (documents E name) w.view c
+    → home_of hub s ≡ Some (name, g) → session_in g.sessions s ≡ Some x → watching b E s ≡ Some w → later g.room w.view x.outbox ≡ [] → HoldsPresent (documents E name) w.view c
 present b E hub s c keeps name g x w there is watches none =
     let whole : w.heard ++ later g.room w.view x.outbox ≡ w.heard = ap (λ l. w.heard ++ l) none ∙ append-nil w.heard in
     let now : HoldsPresent (documents E name) w.view (client_after w.start w.heard) = rw whole at (exactly_held b E hub s name g x w keeps.stands there is watches) in

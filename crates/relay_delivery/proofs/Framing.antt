@@ -36,7 +36,7 @@ one_more made event = sum_by-append (λ e. cond (is_receive e) 1 0) made (event 
 
 nobody_resumes : (b : HubConfig) (E : Log) (s : ℕ) (c : Client) {p q : Point} (follows : Follows no_room p q) → receives q.made ≡ 0 → Resumes b E s c follows
 nobody_resumes b E s c stays none = tt
-nobody_resumes b E s c (makes (OpenEvent room) answer follows own step) none = absurd own.1
+nobody_resumes b E s c (makes (OpenEvent room access) answer follows own step) none = absurd own.1
 nobody_resumes b E s c (makes {q = q} (Receive t text) answer follows own step) none = absurd (omega (arith, none, one_more q.made (Receive t text)))
 nobody_resumes b E s c (makes {q = q} (Draw t) answer follows own step) none =
     let before : receives q.made ≡ 0 = omega (arith, none, one_more q.made (Draw t)) in

@@ -125,32 +125,32 @@ front_of_session ds room x most c None m is outbox watched tracks found front ba
 
 -- ---- a draw of the session
 
-module _ (b : HubConfig) (E : Log) (hub new : State) (s : ℕ) (c : Client) (text : List ℕ) (stands : StandsFor b E hub) (tracks : Tracks c (watching b.epoch E s)) (found : c ≢ lost) where
+module _ (b : HubConfig) (E : Log) (hub new : State) (s : ℕ) (c : Client) (text : List ℕ) (stands : StandsFor b E hub) (tracks : Tracks c (watching b E s)) (found : c ≢ lost) where
   of_front : (mine : Home hub s) (o : Option Message) → front_message mine.room.room_sessions.room mine.session ≡ o → Some text ≡ option_map message_text o → ReadsBack o
-      → Leads c text (watching b.epoch E s)
+      → Leads c text (watching b E s)
   of_front mine None front is back = absurd (cc is)
   of_front mine (Some m) front is back =
       let r = mine.room in
       let at_home = here b E hub s mine stands in
       let same : text ≡ message_text m = cc is in
       rw same
-      (front_of_session (documents E r.name) r.room_sessions.room mine.session b.max_waiting_patches c (watching b.epoch E s) m (stands.rooms r.place r.name r.room_sessions r.there).is
+      (front_of_session (documents E r.name) r.room_sessions.room mine.session b.max_waiting_patches c (watching b E s) m (stands.rooms r.place r.name r.room_sessions r.there).is
       at_home.1 at_home.2 tracks found front back)
 
   of_session : (place : ℕ) (name : List ℕ) (g h : RoomSessions) (o : Option Session) → slice_get hub.rooms place ≡ Some (name, g) → place_of hub s ≡ Some place → session_in g.sessions s ≡ o
-      → Draws s o (Drawn (Some text)) g h → Leads c text (watching b.epoch E s)
+      → Draws s o (Drawn (Some text)) g h → Leads c text (watching b E s)
   of_session place name g h None there at is draws = absurd draws
   of_session place name g h (Some x) there at is draws =
       of_front (record { room = record { place = place; name = name; room_sessions = g; there = there }; session = x; at = at; is = is }) (front_message g.room x) refl draws.0 draws.2
 
   of_room : (place : ℕ) (o : Option (List ℕ × RoomSessions)) → slice_get hub.rooms place ≡ o → place_of hub s ≡ Some place
-      → InRoom place o hub (Drawn (Some text)) (λ g h. Draws s (session_in g.sessions s) (Drawn (Some text)) g h) new → Leads c text (watching b.epoch E s)
+      → InRoom place o hub (Drawn (Some text)) (λ g h. Draws s (session_in g.sessions s) (Drawn (Some text)) g h) new → Leads c text (watching b E s)
   of_room place None there at step = absurd (cc step.0)
   of_room place (Some home) there at step = of_session place home.0 home.1 step.0 (session_in home.1.sessions s) there at refl step.1
 
-  of_place : (o : Option ℕ) → place_of hub s ≡ o → AtPlace o hub (Drawn (Some text)) (λ g h. Draws s (session_in g.sessions s) (Drawn (Some text)) g h) new → Leads c text (watching b.epoch E s)
+  of_place : (o : Option ℕ) → place_of hub s ≡ o → AtPlace o hub (Drawn (Some text)) (λ g h. Draws s (session_in g.sessions s) (Drawn (Some text)) g h) new → Leads c text (watching b E s)
   of_place None at step = absurd (cc step.0)
   of_place (Some place) at step = of_room place (slice_get hub.rooms place) refl at step
 
-  pub drawn_leads : Step hub (Draw s) (Drawn (Some text)) new → Leads c text (watching b.epoch E s)
+  pub drawn_leads : Step hub (Draw s) (Drawn (Some text)) new → Leads c text (watching b E s)
   drawn_leads step = of_place (place_of hub s) refl step

@@ -18,9 +18,9 @@ tracks_unless : (c : Client) (ends : Bool) (o : Option Watching) → Tracks c o 
 tracks_unless c true o before = tt
 tracks_unless c false o before = before
 
-tracks_on : (b : HubConfig) (E : Log) (s : ℕ) (c : Client) (event : Event) (answer : Answer) → IsOthers s event → Tracks c (watching b.epoch E s) → Tracks c (watching b.epoch (entry event answer ∷ E) s)
-tracks_on b E s c (Open name) (Opened t) others before = tracks_unless c (t == s) (watching b.epoch E s) before
-tracks_on b E s c (Close t) Closed others before = tracks_unless c (t == s) (watching b.epoch E s) before
+tracks_on : (b : HubConfig) (E : Log) (s : ℕ) (c : Client) (event : Event) (answer : Answer) → IsOthers s event → Tracks c (watching b E s) → Tracks c (watching b (entry event answer ∷ E) s)
+tracks_on b E s c (Open name access) (Opened o) others before = tracks_unless c (o.session == s) (watching b E s) before
+tracks_on b E s c (Close t) Closed others before = tracks_unless c (t == s) (watching b E s) before
 tracks_on b E s c (Receive t text) (Heard (Answered short)) others before =
     let apart : (t == s) ≡ false = grind (arith, nat_tests, others) in
     rw apart before

@@ -2,7 +2,7 @@
 use Rattle.std.specs.Prelude.{◌≡◌, ◌≢◌, ◌⊎◌, ⊤, ℕ, List, [], Option, None, Some, Ok, slice_get, IsUtf8}
 use Rattle.std.specs.List.{AllByRecursion}
 use Rattle.relay_delivery.specs.Texts.{told_all}
-use Rattle.relay_hub.specs.Log.{Log, Watching, home, documents, watching}
+use Rattle.relay_hub.specs.Log.{Log, Place, Watching, home, documents, watching}
 use Rattle.relay_hub.specs.Session.{Session, later}
 use Rattle.relay_hub.specs.Stands.{StandsFor, HoldsPresent}
 use Rattle.relay_hub.specs.State.{State, RoomSessions, home_of, session_in}
@@ -34,12 +34,12 @@ Tracks c (Some w) = (c ≡ client_after w.start w.heard) ⊎ ((w.start ≡ nothi
 -- The hub stands for the log, and the client of session s has heard what was drawn for it.
 pub record KeepsUp (b : HubConfig) (E : Log) (hub : State) (s : ℕ) (c : Client) : Type 0 where
   pub stands : StandsFor b E hub
-  pub tracks : Tracks c (watching b.epoch E s)
+  pub tracks : Tracks c (watching b E s)
 
 -- if an event is a request to resume from a revision of this run, the client of session s holds its view of that revision
 abbrev pub StartsAsHeld : HubConfig → Log → ℕ → Client → Event → Type 0
-StartsAsHeld b E s c (Receive t text) = (id rev : ℕ) (pointers : View) (name : List ℕ) (d : Document) → home E s ≡ Some name
-    → request_of_text text ≡ Ok (Resume id b.epoch rev pointers) → slice_get (documents E name) rev ≡ Some d → c ≡ holds rev (view pointers d)
+StartsAsHeld b E s c (Receive t text) = (id rev : ℕ) (pointers : View) (there : Place) (d : Document) → home E s ≡ Some there
+    → request_of_text text ≡ Ok (Resume id b.epoch rev pointers) → slice_get (documents E there.room) rev ≡ Some d → c ≡ holds rev (view pointers d)
 StartsAsHeld b E s c _ = ⊤
 
 -- the same of all events of a turn, each time of what the client holds by then
@@ -64,4 +64,4 @@ pub record FramedWriteTurn (s : ℕ) (hub next : State) (made : List Event) (fra
 pub record Delivered (b : HubConfig) (E : Log) (hub : State) (s : ℕ) (c : Client) : Type 0 where
   pub keeps_up : KeepsUp b E hub s c
   pub exactly : (name : List ℕ) (g : RoomSessions) (x : Session) (w : Watching) → home_of hub s ≡ Some (name, g) → session_in g.sessions s ≡ Some x
-      → watching b.epoch E s ≡ Some w → later g.room w.view x.outbox ≡ [] → HoldsPresent (documents E name) w.view c
+      → watching b E s ≡ Some w → later g.room w.view x.outbox ≡ [] → HoldsPresent (documents E name) w.view c

@@ -39,7 +39,7 @@ slice_get-present ds r h =
     rw (e, slice_get-get_or ds r null within) refl
 
 -- the changes since each revision that is still kept lead to the newest document
-goes_on_led : (most : HubConfig) (ds : List Document) (room next : Room) (changes : List Change) (d : Document) → RoomStands most ds room → next.document ≡ d
+goes_on_led : {from : ℕ} (most : HubConfig) (ds : List Document) (room next : Room) (changes : List Change) (d : Document) → RoomStands most from ds room → next.document ≡ d
     → next.history ≡ with_revision changes room.history → Leads room.document changes d
     → (rev : ℕ) (before : Document) → slice_get (ds ++ d ∷ []) rev ≡ Some before → Reaches next.history rev → Leads before (changes_since rev next.history) next.document
 goes_on_led most ds room next changes d h document history leads rev before at reaches =
@@ -71,7 +71,7 @@ slice_get-taken (suc n) (y ∷ ys) (suc i) x h = slice_get-taken n ys i x h
 slice_get-taken _ _ i x h = absurd (cc h)
 
 -- the changes of each revision that is still kept lead from the document before it to its own
-goes_on_steps : (most : HubConfig) (ds : List Document) (room next : Room) (changes : List Change) (d : Document) → RoomStands most ds room
+goes_on_steps : {from : ℕ} (most : HubConfig) (ds : List Document) (room next : Room) (changes : List Change) (d : Document) → RoomStands most from ds room
     → next.history ≡ with_revision changes room.history → Leads room.document changes d
     → (rev : ℕ) (before after : Document) (cs : List Change) → slice_get (ds ++ d ∷ []) rev ≡ Some before → slice_get (ds ++ d ∷ []) (rev + 1) ≡ Some after
     → slice_get next.history.changes (revision next - (rev + 1)) ≡ Some cs → Leads before cs after
@@ -102,7 +102,7 @@ goes_on_steps most ds room next changes d h history leads rev before after cs at
         h.steps rev before after cs (older (omega (arith, within))) earlier.1 (held_with (suc (past.newest - (rev + 1))) (omega (arith, within, h.made)))
 
 -- a room after a revision has one document more
-pub goes_on_stands : (most : HubConfig) (ds : List Document) (room next : Room) (patch : List Op) (d : Document) → RoomStands most ds room → GoesOn room patch d next → RoomStands most (ds ++ d ∷ []) next
+pub goes_on_stands : {from : ℕ} (most : HubConfig) (ds : List Document) (room next : Room) (patch : List Op) (d : Document) → RoomStands most from ds room → GoesOn room patch d next → RoomStands most from (ds ++ d ∷ []) next
 goes_on_stands most ds room next patch d h goes =
     let changes = all_changes room.document patch in
     let newest : revision next ≡ revision room + 1 = ap (λ (p : Past). p.newest) goes.history in
@@ -113,7 +113,8 @@ goes_on_stands most ds room next patch d h goes =
       made = omega (arith, newest, h.made, length-append ds (d ∷ []));
       is = goes.is;
       limit = limit ∙ h.limit;
-      held = λ free. let was = h.held free in omega (arith, count, newest, h.limit, was);
+      began = omega (arith, newest, h.began);
+      held = λ free. let was = h.held free in omega (arith, count, newest, h.limit, h.began, was);
       led = goes_on_led most ds room next changes d h goes.document goes.history goes.leads;
       steps = goes_on_steps most ds room next changes d h goes.history goes.leads;
     }
@@ -136,13 +137,14 @@ newest_changes old new changes is same =
     rw before (sym (ap (λ p. changes_since old.newest p) same ∙ (since ∙ ap (λ cs. cs ++ changes) (changes_since-newest old))))
 
 -- a room that drops what its history may not hold still has its documents
-pub trimmed_stands : (b : HubConfig) (ds : List Document) (room : Room) (budget : Budget) → (b.history_weight ≡ Unbounded → budget ≡ Unbounded) → RoomStands b ds room
-    → RoomStands b ds (trimmed budget room)
+pub trimmed_stands : {from : ℕ} (b : HubConfig) (ds : List Document) (room : Room) (budget : Budget) → (b.history_weight ≡ Unbounded → budget ≡ Unbounded) → RoomStands b from ds room
+    → RoomStands b from ds (trimmed budget room)
 trimmed_stands b ds room budget all h =
     let past = room.history in
     record {
       document = h.document;
       made = h.made;
+      began = h.began;
       is = trimmed_is_room budget room h.is;
       limit = h.limit;
       held = λ free. ap (λ (p : Past). length p.changes) (ap (λ w. trim.trimmed w past) (all free) ∙ trimmed_unbounded past) ∙ h.held free;

@@ -8,7 +8,7 @@ use Rattle.relay_room.specs.Edit.{edited_at, edited}
 use Rattle.relay_room.specs.Room.{State as Room, revision}
 use Rattle.relay_tree.specs.Document.{Document}
 use Rattle.relay_hub.specs.Allowance.{Allowance}
-use Rattle.relay_hub.specs.Log.{Watching, present_of, next_document}
+use Rattle.relay_hub.specs.Log.{Watching, Place, present_of, next_document}
 use Rattle.relay_hub.specs.Session.{Session}
 use Rattle.relay_hub.specs.Stands.{RoomStands, OutboxStands, WatchStands, SessionStands}
 use Rattle.relay_hub.specs.Step.{telling_within, NotifiedView, NotifiedAs}
@@ -18,7 +18,7 @@ use Rattle.relay_hub.proofs.Notified.{IsNotified}
 use Rattle.relay_hub.proofs.Waiting.{outbox_folded, outbox_notified}
 
 -- the log and the room agree on a patch
-pub same_edit : (most : HubConfig) (ds : List Document) (room : Room) (base : Option ℕ) (patch : List Op) → RoomStands most ds room → next_document ds base patch ≡ result_ok (edited room base patch)
+pub same_edit : {from : ℕ} (most : HubConfig) (ds : List Document) (room : Room) (base : Option ℕ) (patch : List Op) → RoomStands most from ds room → next_document ds base patch ≡ result_ok (edited room base patch)
 same_edit most ds room base patch h =
     let last : length ds - 1 ≡ revision room = omega (arith, h.made) in
     ap (λ n. result_ok (edited_at n (present_of ds) base patch)) last ∙ ap (λ now. result_ok (edited_at (revision room) now base patch)) (sym h.document)
@@ -26,24 +26,24 @@ same_edit most ds room base patch h =
 -- Notifying.
 
 -- the room had some documents and has one more, of which its watchers are notified
-module _ (most : HubConfig) (k : ℕ) (ds : List Document) (d : Document) (room next : Room) (changes : List Change) (was : RoomStands most ds room) (is : RoomStands most (ds ++ d ∷ []) next) where
+module _ {from : ℕ} (most : HubConfig) (k : ℕ) (ds : List Document) (d : Document) (room next : Room) (changes : List Change) (was : RoomStands most from ds room) (is : RoomStands most from (ds ++ d ∷ []) next) where
   notified_view : (allowance : Allowance) (short : Bool) (x y : Session) (w : Watching) → NotifiedView room.document changes next allowance w.view short x y → OutboxStands k x
-      → WatchStands ds room x (Some w) → OutboxStands k y × WatchStands (ds ++ d ∷ []) next y (Some w)
-  notified_view allowance true x y w notified contents watch = rw notified.1 (outbox_folded k x x.view contents, (watch.0, folded_follows most ds d w room next was is x.outbox watch.1))
+      → WatchStands ds room x (Some w) → (y.access ≡ x.access) × OutboxStands k y × WatchStands (ds ++ d ∷ []) next y (Some w)
+  notified_view allowance true x y w notified contents watch = rw notified.1 (refl, outbox_folded k x x.view contents, (watch.0, folded_follows most ds d w room next was is x.outbox watch.1))
   notified_view allowance false x y w notified contents watch =
       let up = telling_within allowance x.budget changes next w.view in
-      rw notified.0 (outbox_notified k (revision next) up x is.is.history.last notified.2 contents, (watch.0, notified_follows most ds d w room next was is x.budget x.outbox up notified.1 watch.1))
+      rw notified.0 (refl, outbox_notified k (revision next) up x is.is.history.last notified.2 contents, (watch.0, notified_follows most ds d w room next was is x.budget x.outbox up notified.1 watch.1))
 
   notified_stands : (allowance : Allowance) (v : Option View) (short : Bool) (x y : Session) (w : Option Watching) → x.view ≡ v → NotifiedAs room.document changes next allowance v short x y
-      → OutboxStands k x → WatchStands ds room x w → OutboxStands k y × WatchStands (ds ++ d ∷ []) next y w
+      → OutboxStands k x → WatchStands ds room x w → (y.access ≡ x.access) × OutboxStands k y × WatchStands (ds ++ d ∷ []) next y w
   notified_stands allowance (Some v) short x y (Some w) e notified contents watch = let same : v ≡ w.view = cc in notified_view allowance short x y w (rw same at notified) contents watch
-  notified_stands allowance None short x y None e notified contents watch = rw notified.0 (contents, watch)
+  notified_stands allowance None short x y None e notified contents watch = rw notified.0 (refl, contents, watch)
   notified_stands allowance _ short x y _ e notified contents watch = absurd (cc (e, watch.0))
 
-  pub notified_session : (before later : List ℕ → List Document) (name : List ℕ) (o p : Option Session) (there : Option (List ℕ)) (w : Option Watching) → before name ≡ ds → later name ≡ ds ++ d ∷ []
+  pub notified_session : (before later : List ℕ → List Document) (name : List ℕ) (o p : Option Session) (there : Option Place) (w : Option Watching) → before name ≡ ds → later name ≡ ds ++ d ∷ []
       → IsNotified room.document changes next o p → SessionStands k before name room o there w → SessionStands k later name next p there w
   notified_session before later name (Some x) (Some y) there w had has notified h =
       let s = notified_stands notified.0 x.view notified.1 x y w refl notified.2 h.1 (rw had at h.2) in
-      (h.0, s.0, rw has s.1)
+      (rw s.0 h.0, s.1, rw has s.2)
   notified_session before later name None None there w had has notified h = h
   notified_session before later name _ _ there w had has notified h = absurd notified

@@ -63,16 +63,16 @@ EachLeads-newer ds d v c (m ∷ ms) h = (IsAtNamed-newer ds d v m (client c m) h
 -- Snapshots.
 
 -- a snapshot brings any client to the present document
-snapshot_leads : (most : HubConfig) (ds : List Document) (v : View) (room : Room) → RoomStands most ds room
+snapshot_leads : {from : ℕ} (most : HubConfig) (ds : List Document) (v : View) (room : Room) → RoomStands most from ds room
     → HoldsRevision ds v (revision room) (holds (revision room) (view v room.document))
 snapshot_leads most ds v room h = (refl, rw (slice_get-present ds (revision room) h.made, h.document) refl)
 
-snapshot_present : (most : HubConfig) (ds : List Document) (v : View) (room : Room) → RoomStands most ds room
+snapshot_present : {from : ℕ} (most : HubConfig) (ds : List Document) (v : View) (room : Room) → RoomStands most from ds room
     → HoldsPresent ds v (holds (revision room) (view v room.document))
 snapshot_present most ds v room h = (omega (arith, h.made), ap (view v) h.document)
 
 -- after messages that each bring the client where they say, a snapshot does the rest
-Follows-due : (most : HubConfig) (ds : List Document) (w : Watching) (room : Room) → RoomStands most ds room → (before : List Message)
+Follows-due : {from : ℕ} (most : HubConfig) (ds : List Document) (w : Watching) (room : Room) → RoomStands most from ds room → (before : List Message)
     → EachLeads ds w.view w.start (w.heard ++ before) → Follows ds w (before ++ snapshot_of room w.view ∷ [])
 Follows-due most ds w room h before each =
     let e = append_assoc w.heard before (snapshot_of room w.view ∷ []) in
@@ -81,13 +81,13 @@ Follows-due most ds w room h before each =
       exactly = rw (← e, client_after-append w.start (w.heard ++ before) (snapshot_of room w.view ∷ [])) (snapshot_present most ds w.view room h);
     }
 
-pub Follows-snapshot : (most : HubConfig) (ds : List Document) (w : Watching) (room : Room) → RoomStands most ds room
+pub Follows-snapshot : {from : ℕ} (most : HubConfig) (ds : List Document) (w : Watching) (room : Room) → RoomStands most from ds room
     → EachLeads ds w.view w.start w.heard → Follows ds w (snapshot_of room w.view ∷ [])
 Follows-snapshot most ds w room h each = Follows-due most ds w room h [] (subst (λ ms. EachLeads ds w.view w.start ms) (sym (append-nil w.heard)) each)
 
 -- One more document, of which a view is notified.
 
-module _ (most : HubConfig) (ds : List Document) (d : Document) (w : Watching) (room next : Room) (h : RoomStands most ds room) (k : RoomStands most (ds ++ d ∷ []) next) where
+module _ {from : ℕ} (most : HubConfig) (ds : List Document) (d : Document) (w : Watching) (room next : Room) (h : RoomStands most from ds room) (k : RoomStands most from (ds ++ d ∷ []) next) where
   -- a client that holds the present view, and a patch that leads from it to the view of the next document
   patch_leads : (c : Client) (ops : List Op) → HoldsPresent ds w.view c → after (view w.view room.document) ops free ≡ Ok (view w.view next.document)
       → client c (Patch (revision next) ops) ≡ holds (revision next) (view w.view next.document)
@@ -177,11 +177,11 @@ module _ (most : HubConfig) (ds : List Document) (d : Document) (w : Watching) (
 
 -- A client that resumes from an earlier document.
 
-pub level_follows : (most : HubConfig) (ds : List Document) (v : View) (room : Room) (rev : ℕ) (d : Document) → RoomStands most ds room → slice_get ds rev ≡ Some d
+pub level_follows : {from : ℕ} (most : HubConfig) (ds : List Document) (v : View) (room : Room) (rev : ℕ) (d : Document) → RoomStands most from ds room → slice_get ds rev ≡ Some d
     → view v d ≡ view v room.document → Follows ds (begun v (holds rev (view v d))) []
 level_follows most ds v room rev d h at same = record { each = tt; exactly = (slice_get_within ds rev d at, same ∙ ap (view v) h.document) }
 
-patch_follows : (most : HubConfig) (ds : List Document) (v : View) (room : Room) (rev : ℕ) (d : Document) (ops : List Op) → RoomStands most ds room → rev < revision room
+patch_follows : {from : ℕ} (most : HubConfig) (ds : List Document) (v : View) (room : Room) (rev : ℕ) (d : Document) (ops : List Op) → RoomStands most from ds room → rev < revision room
     → after (view v d) ops free ≡ Ok (view v room.document) → Follows ds (begun v (holds rev (view v d))) (Patch (revision room) ops ∷ [])
 patch_follows most ds v room rev d ops h earlier leads =
     let above : nat_lt rev (revision room) ≡ true = grind (arith, nat_tests, earlier) in
@@ -189,7 +189,7 @@ patch_follows most ds v room rev d ops h earlier leads =
     record { each = (rw is (snapshot_leads most ds v room h), tt); exactly = rw is (snapshot_present most ds v room h) }
 
 -- an outbox in which no patch waits, and to which one is added that makes the present view
-pub resumed_follows : (most : HubConfig) (ds : List Document) (v : View) (room : Room) (rev : ℕ) (d : Document) (ops : List Op) (budget : Budget) (o : Contents AnyReply (ℕ × List Op)) → RoomStands most ds room → rev < revision room
+pub resumed_follows : {from : ℕ} (most : HubConfig) (ds : List Document) (v : View) (room : Room) (rev : ℕ) (d : Document) (ops : List Op) (budget : Budget) (o : Contents AnyReply (ℕ × List Op)) → RoomStands most from ds room → rev < revision room
     → after (view v d) ops free ≡ Ok (view v room.document) → o.patches ≡ [] → o.due ≡ false
     → Follows ds (begun v (holds rev (view v d))) (later room v (with_patch_within budget (revision room, ops) o))
 resumed_follows most ds v room rev d ops budget o h earlier leads none not_due =

@@ -11,7 +11,7 @@ use Rattle.relay_room.specs.Room.{State as Room}
 use Rattle.relay_hub.specs.Representation.{named, rooms_of}
 use Rattle.relay_hub.specs.Session.{Session}
 use Rattle.relay_hub.specs.State.{RoomSessions, room_sessions, place_named}
-use Rattle.relay_hub.proofs.Opening.{absent}
+use Rattle.relay_hub.proofs.OpenFaults.{absent}
 
 -- the room that an entry is, by what made its key, its room and its session
 pub entry_is : {A : Type 0} (key : String A) (name : List ℕ) (g : RoomSessions) (room begun : Room) (x first : Session) → string_bytes key ≡ name → room ≡ begun → x ≡ first

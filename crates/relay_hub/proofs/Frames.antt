@@ -3,9 +3,9 @@ use Rattle.std.proofs.Common.{◌≡◌, ◌≢◌, ℕ, ◌==◌, true, List, [
 use Rattle.std.proofs.lemmas.Bool.Decides.{eqb_tells}
 use Rattle.relay_room.specs.Room.{State as Room}
 use Rattle.relay_tree.specs.Document.{Document, null}
-use Rattle.relay_hub.specs.Log.{Log, Entry, Watching, home, is_opened, documents, watching, opened, open_count}
+use Rattle.relay_hub.specs.Log.{Log, Entry, Watching, Place, place, home, is_opened, documents, beginning, watching, opened, open_count}
 use Rattle.relay_hub.specs.Session.{Session}
-use Rattle.relay_hub.specs.Stands.{RoomStands, OutboxStands, WatchStands, SessionStands, RoomSessionsStand, HomeStands, StandsFor}
+use Rattle.relay_hub.specs.Stands.{RoomStands, OutboxStands, WatchStands, SessionStands, RoomSessionsStand, HomeStands, MayBegin, StandsFor}
 use Rattle.relay_hub.specs.State.{RoomSessions, State, RoomOf, Home, place_of, place_named, session_in}
 use Rattle.relay_hub.specs.Step.{ChangesOnly, with_room}
 use Rattle.relay_hub.specs.declared.config.HubConfig.{HubConfig}
@@ -19,15 +19,16 @@ pub record Quiet (E : Log) (e : Entry) : Type 0 where
   pub count : open_count (e ∷ E) ≡ open_count E
   pub rooms : (name : List ℕ) → is_opened (e ∷ E) name ≡ is_opened E name
   pub home : (t : ℕ) → home (e ∷ E) t ≡ home E t
+  pub begins : (name : List ℕ) → beginning (e ∷ E) name ≡ beginning E name
 
 -- a session of a room
 pub session_stands : (b : HubConfig) (E : Log) (hub : State) (t : ℕ) (r : RoomOf hub) → StandsFor b E hub → place_of hub t ≡ Some r.place
-    → SessionStands b.max_waiting_patches (documents E) r.name r.room_sessions.room (session_in r.room_sessions.sessions t) (home E t) (watching b.epoch E t)
+    → SessionStands b.max_waiting_patches (documents E) r.name r.room_sessions.room (session_in r.room_sessions.sessions t) (home E t) (watching b E t)
 session_stands b E hub t r h at = rw (at, r.there) at (h.sessions t)
 
 -- a session that is open
 pub here : (b : HubConfig) (E : Log) (hub : State) (s : ℕ) (mine : Home hub s) → StandsFor b E hub
-    → (home E s ≡ Some mine.room.name) × OutboxStands b.max_waiting_patches mine.session × WatchStands (documents E mine.room.name) mine.room.room_sessions.room mine.session (watching b.epoch E s)
+    → (home E s ≡ Some (place mine.room.name mine.session.access)) × OutboxStands b.max_waiting_patches mine.session × WatchStands (documents E mine.room.name) mine.room.room_sessions.room mine.session (watching b E s)
 here b E hub s mine h = let found = session_stands b E hub s mine.room h mine.at in rw mine.is at found
 
 -- two rooms have different names
@@ -40,49 +41,53 @@ names_apart b E hub place p name known g k h at there apart same =
     apart cc
 
 -- a session needs only the same documents of its room, the same home and the same watching
-session_stays : (most : ℕ) (ds es : List ℕ → List Document) (name : List ℕ) (room : Room) (o : Option Session) (there : Option (List ℕ)) (w : Option Watching) → es name ≡ ds name
+pub session_stays : (most : ℕ) (ds es : List ℕ → List Document) (name : List ℕ) (room : Room) (o : Option Session) (there : Option Place) (w : Option Watching) → es name ≡ ds name
     → SessionStands most ds name room o there w → SessionStands most es name room o there w
 session_stays most ds es name room (Some x) there w same h = (h.0, h.1, subst (λ l. WatchStands l room x w) (sym same) h.2)
 session_stays most ds es name room None there w same h = h
 
-room_sessions_stay : (most : ℕ) (ds es : List ℕ → List Document) (t : ℕ) (o : Option (List ℕ × RoomSessions)) (there : Option (List ℕ)) (w : Option Watching)
+pub room_sessions_stay : (most : ℕ) (ds es : List ℕ → List Document) (t : ℕ) (o : Option (List ℕ × RoomSessions)) (there : Option Place) (w : Option Watching)
     → ((name : List ℕ) (g : RoomSessions) → o ≡ Some (name, g) → es name ≡ ds name) → RoomSessionsStand most ds t o there w → RoomSessionsStand most es t o there w
 room_sessions_stay most ds es t (Some r) there w same h = session_stays most ds es r.0 r.1.room (session_in r.1.sessions t) there w (same r.0 r.1 refl) h
 room_sessions_stay most ds es t None there w same h = h
 
-home_stays : (most : ℕ) (ds es : List ℕ → List Document) (rooms : List (List ℕ × RoomSessions)) (t : ℕ) (o : Option ℕ) (there : Option (List ℕ)) (w : Option Watching)
+home_stays : (most : ℕ) (ds es : List ℕ → List Document) (rooms : List (List ℕ × RoomSessions)) (t : ℕ) (o : Option ℕ) (there : Option Place) (w : Option Watching)
     → ((name : List ℕ) → es name ≡ ds name) → HomeStands most ds rooms t o there w → HomeStands most es rooms t o there w
 home_stays most ds es rooms t (Some p) there w same h = room_sessions_stay most ds es t (slice_get rooms p) there w (λ name g e. same name) h
 home_stays most ds es rooms t None there w same h = h
 
 -- an entry that changes nothing
 pub unaffected : (b : HubConfig) (E : Log) (e : Entry) (hub : State) → StandsFor b E hub → Quiet E e
-    → ((name : List ℕ) → documents (e ∷ E) name ≡ documents E name) → ((t : ℕ) → watching b.epoch (e ∷ E) t ≡ watching b.epoch E t) → StandsFor b (e ∷ E) hub
+    → ((name : List ℕ) → documents (e ∷ E) name ≡ documents E name) → ((t : ℕ) → watching b (e ∷ E) t ≡ watching b E t) → StandsFor b (e ∷ E) hub
 unaffected b E e hub h quiet same watches = record {
   made = h.made;
+  floor = h.floor;
   is = h.is;
   next = rw quiet.opened h.next;
   count = h.count ∙ sym quiet.count;
-  rooms = λ place name g at. subst (λ ds. RoomStands b ds g.room) (sym (same name)) (h.rooms place name g at);
+  rooms = λ place name g at. rw (same name, quiet.begins name) (h.rooms place name g at);
   names = h.names;
   known = λ name place there. quiet.rooms name ∙ h.known name place there;
-  others = λ name none. same name ∙ h.others name none;
+  others = λ name none. subst (MayBegin hub.floor) (sym (same name)) (h.others name none);
   sessions = λ t. rw (quiet.home t, watches t)
-      (home_stays b.max_waiting_patches (documents E) (documents (e ∷ E)) hub.rooms t (place_of hub t) (home E t) (watching b.epoch E t) same (h.sessions t));
+      (home_stays b.max_waiting_patches (documents E) (documents (e ∷ E)) hub.rooms t (place_of hub t) (home E t) (watching b E t) same (h.sessions t));
 }
 
 -- an entry after which the room at a place differs, and no documents of other names do
 module _ (b : HubConfig) (E : Log) (e : Entry) (old : State) (r : RoomOf old) (h : RoomSessions) (stands : StandsFor b E old)
-    (elsewhere : (other : List ℕ) → other ≢ r.name → documents (e ∷ E) other ≡ documents E other) where
-  pub set_rooms : RoomStands b (documents (e ∷ E) r.name) h.room
-      → (p : ℕ) (known : List ℕ) (k : RoomSessions) → slice_get (slice_set old.rooms r.place (r.name, h)) p ≡ Some (known, k) → RoomStands b (documents (e ∷ E) known) k.room
+    (elsewhere : (other : List ℕ) → other ≢ r.name → documents (e ∷ E) other ≡ documents E other)
+    (begins : (other : List ℕ) → other ≢ r.name → beginning (e ∷ E) other ≡ beginning E other) where
+  pub set_rooms : RoomStands b (beginning (e ∷ E) r.name) (documents (e ∷ E) r.name) h.room
+      → (p : ℕ) (known : List ℕ) (k : RoomSessions) → slice_get (slice_set old.rooms r.place (r.name, h)) p ≡ Some (known, k) → RoomStands b (beginning (e ∷ E) known) (documents (e ∷ E) known) k.room
   set_rooms room p known k is =
       elim (slice_set_cases old.rooms r.place p (r.name, h) (known, k) is) [
         | inl same ↦
             let named : known ≡ r.name = ap (λ (n : List ℕ × RoomSessions). n.0) same.1 in
             let is : k ≡ h = ap (λ (n : List ℕ × RoomSessions). n.1) same.1 in
             rw (named, is) room
-        | inr other ↦ subst (λ ds. RoomStands b ds k.room) (sym (elsewhere known (names_apart b E old r.place p r.name known r.room_sessions k stands r.there other.1 other.0))) (stands.rooms p known k other.1)
+        | inr other ↦
+            let apart = names_apart b E old r.place p r.name known r.room_sessions k stands r.there other.1 other.0 in
+            rw (elsewhere known apart, begins known apart) (stands.rooms p known k other.1)
       ]
 
   pub set_names : (p : ℕ) (known : List ℕ) (k : RoomSessions) → slice_get (slice_set old.rooms r.place (r.name, h)) p ≡ Some (known, k) → place_named known (slice_set old.rooms r.place (r.name, h)) ≡ Some p
@@ -96,21 +101,22 @@ module _ (b : HubConfig) (E : Log) (e : Entry) (old : State) (r : RoomOf old) (h
   pub set_known : (other : List ℕ) (p : ℕ) → place_named other (slice_set old.rooms r.place (r.name, h)) ≡ Some p → is_opened E other ≡ true
   set_known other p there = stands.known other p (sym (named_set old.rooms r.place r.name other r.room_sessions h r.there) ∙ there)
 
-  pub set_others : (other : List ℕ) → place_named other (slice_set old.rooms r.place (r.name, h)) ≡ None → documents (e ∷ E) other ≡ null ∷ []
+  pub set_others : (other : List ℕ) → place_named other (slice_set old.rooms r.place (r.name, h)) ≡ None → MayBegin old.floor (documents (e ∷ E) other)
   set_others other none =
       let absent : place_named other old.rooms ≡ None = sym (named_set old.rooms r.place r.name other r.room_sessions h r.there) ∙ none in
-      elsewhere other (λ same. let found = stands.names r.place r.name r.room_sessions r.there in absurd (cc (ap (λ n. place_named n old.rooms) same, absent, found))) ∙ stands.others other absent
+      let apart : other ≢ r.name = λ same. let found = stands.names r.place r.name r.room_sessions r.there in absurd (cc (ap (λ n. place_named n old.rooms) same, absent, found)) in
+      subst (MayBegin old.floor) (sym (elsewhere other apart)) (stands.others other absent)
 
   -- a session in another room is unchanged, and one in this room is notified
-  pub set_home : (t : ℕ) (there : Option (List ℕ)) (w : Option Watching) → there ≡ home E t → (place_of old t ≢ Some r.place → w ≡ watching b.epoch E t)
+  pub set_home : (t : ℕ) (there : Option Place) (w : Option Watching) → there ≡ home E t → (place_of old t ≢ Some r.place → w ≡ watching b E t)
       → (place_of old t ≡ Some r.place → SessionStands b.max_waiting_patches (documents (e ∷ E)) r.name h.room (session_in h.sessions t) there w)
       → HomeStands b.max_waiting_patches (documents (e ∷ E)) (slice_set old.rooms r.place (r.name, h)) t (place_of old t) there w
   set_home t there w known watches here = go (place_of old t) refl
     where
-      away : (p : ℕ) → place_of old t ≡ Some p → p ≢ r.place → w ≡ watching b.epoch E t → RoomSessionsStand b.max_waiting_patches (documents (e ∷ E)) t (slice_get old.rooms p) there w
+      away : (p : ℕ) → place_of old t ≡ Some p → p ≢ r.place → w ≡ watching b E t → RoomSessionsStand b.max_waiting_patches (documents (e ∷ E)) t (slice_get old.rooms p) there w
       away p home_at apart watched =
           rw (known, watched)
-          (room_sessions_stay b.max_waiting_patches (documents E) (documents (e ∷ E)) t (slice_get old.rooms p) (home E t) (watching b.epoch E t)
+          (room_sessions_stay b.max_waiting_patches (documents E) (documents (e ∷ E)) t (slice_get old.rooms p) (home E t) (watching b E t)
           (λ other k is. elsewhere other (names_apart b E old r.place p r.name other r.room_sessions k stands r.there is apart))
           (rw home_at at (stands.sessions t)))
 
@@ -124,12 +130,13 @@ module _ (b : HubConfig) (E : Log) (e : Entry) (old : State) (r : RoomOf old) (h
           ]
 
   -- if no session is opened or closed
-  pub room_changes : Quiet E e → RoomStands b (documents (e ∷ E) r.name) h.room
-      → ((t : ℕ) → place_of old t ≢ Some r.place → watching b.epoch (e ∷ E) t ≡ watching b.epoch E t)
-      → ((t : ℕ) → place_of old t ≡ Some r.place → SessionStands b.max_waiting_patches (documents (e ∷ E)) r.name h.room (session_in h.sessions t) (home (e ∷ E) t) (watching b.epoch (e ∷ E) t))
+  pub room_changes : Quiet E e → RoomStands b (beginning (e ∷ E) r.name) (documents (e ∷ E) r.name) h.room
+      → ((t : ℕ) → place_of old t ≢ Some r.place → watching b (e ∷ E) t ≡ watching b E t)
+      → ((t : ℕ) → place_of old t ≡ Some r.place → SessionStands b.max_waiting_patches (documents (e ∷ E)) r.name h.room (session_in h.sessions t) (home (e ∷ E) t) (watching b (e ∷ E) t))
       → StandsFor b (e ∷ E) (with_room r.place r.name h old)
   room_changes quiet room watches here = record {
     made = stands.made;
+    floor = stands.floor;
     is = stands.is;
     next = rw quiet.opened stands.next;
     count = stands.count ∙ sym quiet.count;
@@ -137,19 +144,19 @@ module _ (b : HubConfig) (E : Log) (e : Entry) (old : State) (r : RoomOf old) (h
     names = set_names;
     known = λ other p there. quiet.rooms other ∙ set_known other p there;
     others = set_others;
-    sessions = λ t. set_home t (home (e ∷ E) t) (watching b.epoch (e ∷ E) t) (quiet.home t) (watches t) (here t);
+    sessions = λ t. set_home t (home (e ∷ E) t) (watching b (e ∷ E) t) (quiet.home t) (watches t) (here t);
   }
 
   -- if only one session differs, and no documents do
-  pub session_changes : Quiet E e → ((other : List ℕ) → documents (e ∷ E) other ≡ documents E other) → (s : ℕ) (y : Session) → place_of old s ≡ Some r.place → home E s ≡ Some r.name
-      → ChangesOnly s (Some y) r.room_sessions h → ((t : ℕ) → s ≢ t → watching b.epoch (e ∷ E) t ≡ watching b.epoch E t)
-      → OutboxStands b.max_waiting_patches y → WatchStands (documents E r.name) r.room_sessions.room y (watching b.epoch (e ∷ E) s) → StandsFor b (e ∷ E) (with_room r.place r.name h old)
+  pub session_changes : Quiet E e → ((other : List ℕ) → documents (e ∷ E) other ≡ documents E other) → (s : ℕ) (y : Session) → place_of old s ≡ Some r.place → home E s ≡ Some (place r.name y.access)
+      → ChangesOnly s (Some y) r.room_sessions h → ((t : ℕ) → s ≢ t → watching b (e ∷ E) t ≡ watching b E t)
+      → OutboxStands b.max_waiting_patches y → WatchStands (documents E r.name) r.room_sessions.room y (watching b (e ∷ E) s) → StandsFor b (e ∷ E) (with_room r.place r.name h old)
   session_changes quiet same s y s_at s_home changes others contents watch =
       room_changes quiet
-      (rw (same r.name, changes.0) (stands.rooms r.place r.name r.room_sessions r.there))
+      (rw (same r.name, quiet.begins r.name, changes.0) (stands.rooms r.place r.name r.room_sessions r.there))
       (λ t apart. others t (λ is. apart (subst (λ u. place_of old u ≡ Some r.place) is s_at)))
       (λ t t_at. rw (changes.0, changes.1.found t, quiet.home t)
-      (session_stays b.max_waiting_patches (documents E) (documents (e ∷ E)) r.name r.room_sessions.room (if s == t then Some y else session_in r.room_sessions.sessions t) (home E t) (watching b.epoch (e ∷ E) t) (same r.name)
-      (by_number (λ t c. SessionStands b.max_waiting_patches (documents E) r.name r.room_sessions.room (if c then Some y else session_in r.room_sessions.sessions t) (home E t) (watching b.epoch (e ∷ E) t)) s t
+      (session_stays b.max_waiting_patches (documents E) (documents (e ∷ E)) r.name r.room_sessions.room (if s == t then Some y else session_in r.room_sessions.sessions t) (home E t) (watching b (e ∷ E) t) (same r.name)
+      (by_number (λ t c. SessionStands b.max_waiting_patches (documents E) r.name r.room_sessions.room (if c then Some y else session_in r.room_sessions.sessions t) (home E t) (watching b (e ∷ E) t)) s t
       (s_home, contents, watch)
       (λ apart. rw (others t apart) (session_stands b E old t r stands t_at)))))

@@ -18,7 +18,9 @@ pub mod Loads
 pub mod Waiting
 pub mod Follow
 pub mod Counts
+pub mod Admissions
 pub mod Rooms
+pub mod Floors
 pub mod Frames
 pub mod Edits
 pub mod Served
@@ -28,7 +30,7 @@ pub mod Stands
 pub mod Watchers
 pub mod Members
 pub mod Representation
-pub mod Opening
+pub mod OpenFaults
 pub mod Runs
 pub mod Promises
 pub mod Shedding

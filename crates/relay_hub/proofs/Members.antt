@@ -5,6 +5,7 @@ use Rattle.relay_patch.specs.Change.{all_changes}
 use Rattle.relay_patch.specs.declared.op.Op.{Op}
 use Rattle.relay_view.specs.View.{View}
 use Rattle.relay_proto.specs.Request.{request_of_text}
+use Rattle.relay_proto.specs.declared.access.Access.{Access}
 use Rattle.relay_proto.specs.declared.refusal.Refusal.{Refusal}
 use Rattle.relay_proto.specs.declared.reply.Reply.TheVariants.{Done}
 use Rattle.relay_proto.specs.declared.request.Request.{Request}
@@ -15,6 +16,7 @@ use Rattle.relay_room.specs.Room.{begun, revision}
 use Rattle.relay_room.specs.declared.catch_up.CatchUp.TheVariants.{Snapshot}
 use Rattle.relay_room.specs.declared.fault.EditFault.{EditFault}
 use Rattle.relay_tree.specs.Document.{Document, null}
+use Rattle.relay_hub.specs.Admitted.{admitted}
 use Rattle.relay_hub.specs.Refusal.{refused, future_refusal}
 use Rattle.relay_hub.specs.Session.{Session, replied, newcomer, watches, unwatches, resumes, drawn}
 use Rattle.relay_hub.specs.State.{RoomSessions, room_sessions, State, EachOnce, Home, RoomOf, IsHub, place_of, place_named, vacant_place, session_in}
@@ -24,9 +26,11 @@ use Rattle.relay_hub.specs.declared.event.Answer.{Answer}
 use Rattle.relay_hub.specs.declared.event.Answer.TheVariants.{Opened, NotOpened, Heard, Drawn, Closed, NoSession}
 use Rattle.relay_hub.specs.declared.event.Event.{Event}
 use Rattle.relay_hub.specs.declared.event.Event.TheVariants.{Open, Receive, Draw, Close}
+use Rattle.relay_hub.specs.declared.event.Opening.{Opening}
 use Rattle.relay_hub.specs.declared.event.Heard.TheVariants.{Answered, Busy}
 use Rattle.relay_hub.proofs.Cases.{by_number, by_finding}
 use Rattle.relay_hub.proofs.Lists.{slice_set_cases, append_cases, slice_get-set, slice_get-set_other, slice_get-earlier, slice_get-last}
+use Rattle.relay_hub.proofs.Floors.{floor_count}
 use Rattle.relay_hub.proofs.Rooms.{Vacant, vacant}
 use Rattle.relay_hub.proofs.Notified.{each_notified, none_notified, some_notified, once_notified}
 
@@ -113,6 +117,7 @@ in_room_is_hub old new place answer Does (Some there) h keeps at step =
     let kept = keeps there.1 step.0 step.1 in
     subst IsHub (sym step.2) (record {
       made = h.made;
+      floor = h.floor;
       below = h.below;
       homes = λ t p t_at.
           let home = h.homes t p t_at in
@@ -172,7 +177,7 @@ receive_keeps : (made : HubConfig) (s : ℕ) (o : Option Session) (text : List �
     → Receives made s o text answer old new → Keeps old new
 receive_keeps made s None text NoSession old new e h = keeps_same old new h
 receive_keeps made s (Some x) text (Heard Busy) old new e h = keeps_same old new h.1
-receive_keeps made s (Some x) text (Heard (Answered short)) old new e h = serve_keeps made s short x (request_of_text text) old new e h.1
+receive_keeps made s (Some x) text (Heard (Answered short)) old new e h = serve_keeps made s short x (admitted made.view_weight x.access (request_of_text text)) old new e h.1
 receive_keeps made s o text answer old new e h = absurd h
 
 draw_keeps : (s : ℕ) (o : Option Session) (answer : Answer) (old new : RoomSessions) → session_in old.sessions s ≡ o → Draws s o answer old new → Keeps old new
@@ -192,29 +197,29 @@ opens_stays old new n place t p h number home at =
     let test : (n == t) ≡ false = grind (arith, nat_tests, not_new old n t p h number at) in
     rw (home t, test) at
 
-opens_below : (old new : State) (name : List ℕ) (n : ℕ) → IsHub old → Opens old name n new → (t : ℕ) → new.next ≤ t → place_of new t ≡ None
-opens_below old new name n h step t late =
-    let test : (n == t) ≡ false = grind (arith, nat_tests, late, step.next) in
+opens_below : (old new : State) (name : List ℕ) (access : Access) (o : Opening) → IsHub old → Opens old name access o new → (t : ℕ) → new.next ≤ t → place_of new t ≡ None
+opens_below old new name access o h step t late =
+    let test : (o.session == t) ≡ false = grind (arith, nat_tests, late, step.next) in
     rw (step.home t, test) (h.below t (omega (arith, late, step.next, step.number)))
 
-joins_alone : (old new : State) (name : List ℕ) (n place i : ℕ) → IsHub old → n ≡ old.next
-    → ((t : ℕ) → place_of new t ≡ (if n == t then Some place else place_of old t)) → Enters n name (Some i) old place new → StandAlone new
-joins_alone old new name n place i h number home step =
+joins_alone : (old new : State) (name : List ℕ) (access : Access) (o : Opening) (place i : ℕ) → IsHub old → o.session ≡ old.next
+    → ((t : ℕ) → place_of new t ≡ (if o.session == t then Some place else place_of old t)) → Enters o name access (Some i) old place new → StandAlone new
+joins_alone old new name access o place i h number home step =
     let g = step.2 in
-    set_alone old new i step.1 step.3 h step.5 (λ t p at other. opens_stays old new n place t p h number home at)
+    set_alone old new i step.1 step.3 h step.5 (λ t p at other. opens_stays old new o.session place t p h number home at)
     (λ t x is. rw (home t) (by_number
-    (λ t b. (if b then Some (newcomer old.made (revision g.room) n) else session_in g.sessions t) ≡ Some x → (if b then Some place else place_of old t) ≡ Some i) n t
-    (λ here. ap Some step.0) (λ other there. h.members i step.1 g step.4 t x there) (sym (step.6.1.found t) ∙ is)))
+    (λ t b. (if b then Some (newcomer old.made access (revision g.room) o.session) else session_in g.sessions t) ≡ Some x → (if b then Some place else place_of old t) ≡ Some i) o.session t
+    (λ here. ap Some step.0) (λ other there. h.members i step.1 g step.4 t x there) (sym (step.7.1.found t) ∙ is)))
 
 -- the room that an opening makes
-abbrev founded : State → List ℕ → ℕ → List ℕ × RoomSessions
-founded old name n = (name, room_sessions (begun null 0 old.made.history) (newcomer old.made 0 n ∷ []))
+abbrev founded : State → List ℕ → Access → ℕ → ℕ → List ℕ × RoomSessions
+founded old name access floor n = (name, room_sessions (begun null floor old.made.history) (newcomer old.made access floor n ∷ []))
 
 -- the newcomer alone stands in it
-founded_alone : (old new : State) (n place t : ℕ) (x : Session) → ((t : ℕ) → place_of new t ≡ (if n == t then Some place else place_of old t))
-    → session_in (newcomer old.made 0 n ∷ []) t ≡ Some x → place_of new t ≡ Some place
-founded_alone old new n place t x home is =
-    let first = newcomer old.made 0 n in
+founded_alone : (old new : State) (access : Access) (floor n place t : ℕ) (x : Session) → ((t : ℕ) → place_of new t ≡ (if n == t then Some place else place_of old t))
+    → session_in (newcomer old.made access floor n ∷ []) t ≡ Some x → place_of new t ≡ Some place
+founded_alone old new access floor n place t x home is =
+    let first = newcomer old.made access floor n in
     rw (home t) (by_number (λ t b. (if b then Some first else None) ≡ Some x → (if b then Some place else place_of old t) ≡ Some place) n t
     (λ here. refl) (λ other none. absurd (cc none)) is)
 
@@ -225,36 +230,36 @@ not_vacant old i t v home same =
     let none : session_in v.room_sessions.sessions t ≡ None = rw v.empty refl in
     absurd (cc (is, none))
 
-founds_alone : (old new : State) (name : List ℕ) (n place : ℕ) (o : Option ℕ) → IsHub old → n ≡ old.next
-    → ((t : ℕ) → place_of new t ≡ (if n == t then Some place else place_of old t)) → Founds o (founded old name n) old.rooms place new.rooms → StandAlone new
-founds_alone old new name n place (Some i) h number home step p known g at t x is =
-    set_alone old new i name (founded old name n).1 h step.1 (λ t p at other. opens_stays old new n place t p h number home at)
-    (λ t x is. founded_alone old new n place t x home is ∙ ap Some step.0) p known g at t x is
-founds_alone old new name n place None h number home step p known g at t x is =
-    let room = founded old name n in
+founds_alone : (old new : State) (name : List ℕ) (access : Access) (floor n place : ℕ) (o : Option ℕ) → IsHub old → n ≡ old.next
+    → ((t : ℕ) → place_of new t ≡ (if n == t then Some place else place_of old t)) → Founds o (founded old name access floor n) old.rooms place new.rooms → StandAlone new
+founds_alone old new name access floor n place (Some i) h number home step p known g at t x is =
+    set_alone old new i name (founded old name access floor n).1 h step.1 (λ t p at other. opens_stays old new n place t p h number home at)
+    (λ t x is. founded_alone old new access floor n place t x home is ∙ ap Some step.0) p known g at t x is
+founds_alone old new name access floor n place None h number home step p known g at t x is =
+    let room = founded old name access floor n in
     elim (append_cases old.rooms p room (known, g) (ap (λ rooms. slice_get rooms p) (sym step.1) ∙ at)) [
       | inl k ↦
           let there : session_in room.1.sessions t ≡ Some x = ap (λ (r : List ℕ × RoomSessions). session_in r.1.sessions t) (sym k.1) ∙ is in
-          founded_alone old new n place t x home there ∙ ap Some (step.0 ∙ sym k.0)
+          founded_alone old new access floor n place t x home there ∙ ap Some (step.0 ∙ sym k.0)
       | inr k ↦ opens_stays old new n place t p h number home (h.members p known g k.1 t x is)
     ]
 
-enters_alone : (old new : State) (name : List ℕ) (n place : ℕ) (o : Option ℕ) → IsHub old → n ≡ old.next
-    → ((t : ℕ) → place_of new t ≡ (if n == t then Some place else place_of old t)) → Enters n name o old place new → StandAlone new
-enters_alone old new name n place (Some i) h number home step = joins_alone old new name n place i h number home step
-enters_alone old new name n place None h number home step = founds_alone old new name n place (vacant_place old.made.rooms old.rooms) h number home step
+enters_alone : (old new : State) (name : List ℕ) (access : Access) (o : Opening) (place : ℕ) (at : Option ℕ) → IsHub old → o.session ≡ old.next
+    → ((t : ℕ) → place_of new t ≡ (if o.session == t then Some place else place_of old t)) → Enters o name access at old place new → StandAlone new
+enters_alone old new name access o place (Some i) h number home step = joins_alone old new name access o place i h number home step
+enters_alone old new name access o place None h number home step = founds_alone old new name access new.floor o.session place (vacant_place old.made.rooms old.rooms) h number home step.1
 
-founds_once : (old new : State) (name : List ℕ) (n place : ℕ) (o : Option ℕ) → IsHub old → Founds o (founded old name n) old.rooms place new.rooms → StandOnce new
-founds_once old new name n place (Some i) h step = set_once old new i name (founded old name n).1 h step.1 (refl, tt)
-founds_once old new name n place None h step = λ p known g at.
-    elim (append_cases old.rooms p (founded old name n) (known, g) (ap (λ rooms. slice_get rooms p) (sym step.1) ∙ at)) [
+founds_once : (old new : State) (name : List ℕ) (access : Access) (floor n place : ℕ) (o : Option ℕ) → IsHub old → Founds o (founded old name access floor n) old.rooms place new.rooms → StandOnce new
+founds_once old new name access floor n place (Some i) h step = set_once old new i name (founded old name access floor n).1 h step.1 (refl, tt)
+founds_once old new name access floor n place None h step = λ p known g at.
+    elim (append_cases old.rooms p (founded old name access floor n) (known, g) (ap (λ rooms. slice_get rooms p) (sym step.1) ∙ at)) [
       | inl k ↦ rw (ap (λ (r : List ℕ × RoomSessions). r.1) k.1) (refl, tt)
       | inr k ↦ h.once p known g k.1
     ]
 
-enters_once : (old new : State) (name : List ℕ) (n place : ℕ) (o : Option ℕ) → IsHub old → Enters n name o old place new → StandOnce new
-enters_once old new name n place (Some i) h step = set_once old new i step.1 step.3 h step.5 (step.6.1.once (h.once i step.1 step.2 step.4))
-enters_once old new name n place None h step = founds_once old new name n place (vacant_place old.made.rooms old.rooms) h step
+enters_once : (old new : State) (name : List ℕ) (access : Access) (o : Opening) (place : ℕ) (at : Option ℕ) → IsHub old → Enters o name access at old place new → StandOnce new
+enters_once old new name access o place (Some i) h step = set_once old new i step.1 step.3 h step.5 (step.7.1.once (h.once i step.1 step.2 step.4))
+enters_once old new name access o place None h step = founds_once old new name access new.floor o.session place (vacant_place old.made.rooms old.rooms) h step.1
 
 -- a session that has a room after an opening is the new one, or had it before
 home_cases : (old new : State) (n place t p : ℕ) → ((t : ℕ) → place_of new t ≡ (if n == t then Some place else place_of old t)) → place_of new t ≡ Some p
@@ -267,12 +272,12 @@ home_cases old new n place t p home at =
     ]
 
 -- the home of the new session, if the opening made its room
-newcomer_home : (old new : State) (name : List ℕ) (n t p : ℕ) → n ≡ t → place_of new t ≡ Some p → slice_get new.rooms p ≡ Some (founded old name n) → Home new t
-newcomer_home old new name n t p same at there =
+newcomer_home : (old new : State) (name : List ℕ) (access : Access) (floor n t p : ℕ) → n ≡ t → place_of new t ≡ Some p → slice_get new.rooms p ≡ Some (founded old name access floor n) → Home new t
+newcomer_home old new name access floor n t p same at there =
     let test : (n == t) ≡ true = grind (arith, nat_tests, same) in
     record {
-      room = record { place = p; name = name; room_sessions = (founded old name n).1; there = there };
-      session = newcomer old.made 0 n;
+      room = record { place = p; name = name; room_sessions = (founded old name access floor n).1; there = there };
+      session = newcomer old.made access floor n;
       at = at;
       is = rw test refl;
     }
@@ -289,28 +294,28 @@ unchanged_home old new t was at there =
       is = was.is;
     }
 
-founds_homes : (old new : State) (name : List ℕ) (n place : ℕ) (o : Option ℕ) → vacant_place old.made.rooms old.rooms ≡ o → IsHub old → n ≡ old.next
-    → ((t : ℕ) → place_of new t ≡ (if n == t then Some place else place_of old t)) → Founds o (founded old name n) old.rooms place new.rooms
+founds_homes : (old new : State) (name : List ℕ) (access : Access) (floor n place : ℕ) (o : Option ℕ) → vacant_place old.made.rooms old.rooms ≡ o → IsHub old → n ≡ old.next
+    → ((t : ℕ) → place_of new t ≡ (if n == t then Some place else place_of old t)) → Founds o (founded old name access floor n) old.rooms place new.rooms
     → (t p : ℕ) → place_of new t ≡ Some p → Home new t
-founds_homes old new name n place (Some i) is_vacant h number home step t p at =
-    let room = founded old name n in
+founds_homes old new name access floor n place (Some i) is_vacant h number home step t p at =
+    let room = founded old name access floor n in
     let v = vacant old.made.rooms old.rooms i is_vacant in
     elim (home_cases old new n place t p home at) [
       | inl mine ↦
           let here : p ≡ i = mine.1 ∙ step.0 in
-          newcomer_home old new name n t p mine.0 at (rw (here, step.1) (slice_get-set old.rooms i (v.name, v.room_sessions) room v.there))
+          newcomer_home old new name access floor n t p mine.0 at (rw (here, step.1) (slice_get-set old.rooms i (v.name, v.room_sessions) room v.there))
       | inr other ↦
           let was = h.homes t p other.1 in
           let r = was.room in
           unchanged_home old new t was (opens_stays old new n place t r.place h number home was.at)
           (rw (step.1, slice_get-set_other old.rooms i r.place room (not_vacant old i t v was)) r.there)
     ]
-founds_homes old new name n place None is_vacant h number home step t p at =
-    let room = founded old name n in
+founds_homes old new name access floor n place None is_vacant h number home step t p at =
+    let room = founded old name access floor n in
     elim (home_cases old new n place t p home at) [
       | inl mine ↦
           let here : p ≡ length old.rooms = mine.1 ∙ step.0 in
-          newcomer_home old new name n t p mine.0 at (rw (here, step.1) (slice_get-last old.rooms room))
+          newcomer_home old new name access floor n t p mine.0 at (rw (here, step.1) (slice_get-last old.rooms room))
       | inr other ↦
           let was = h.homes t p other.1 in
           let r = was.room in
@@ -318,40 +323,41 @@ founds_homes old new name n place None is_vacant h number home step t p at =
           (rw step.1 (slice_get-earlier old.rooms room (r.name, r.room_sessions) r.place r.there))
     ]
 
-enters_homes : (old new : State) (name : List ℕ) (n place : ℕ) (o : Option ℕ) → IsHub old → n ≡ old.next
-    → ((t : ℕ) → place_of new t ≡ (if n == t then Some place else place_of old t)) → Enters n name o old place new
+enters_homes : (old new : State) (name : List ℕ) (access : Access) (o : Opening) (place : ℕ) (at : Option ℕ) → IsHub old → o.session ≡ old.next
+    → ((t : ℕ) → place_of new t ≡ (if o.session == t then Some place else place_of old t)) → Enters o name access at old place new
     → (t p : ℕ) → place_of new t ≡ Some p → Home new t
-enters_homes old new name n place (Some i) h number home step t p at =
+enters_homes old new name access o place (Some i) h number home step t p at =
     let g = step.2 in
     let k = step.3 in
-    let x = newcomer old.made (revision g.room) n in
-    elim (home_cases old new n place t p home at) [
+    let x = newcomer old.made access (revision g.room) o.session in
+    elim (home_cases old new o.session place t p home at) [
       | inl mine ↦
           let here : p ≡ i = mine.1 ∙ step.0 in
-          let test : (n == t) ≡ true = grind (arith, nat_tests, mine.0) in
+          let test : (o.session == t) ≡ true = grind (arith, nat_tests, mine.0) in
           record {
             room = record { place = p; name = step.1; room_sessions = k; there = rw (here, step.5) (slice_get-set old.rooms i (step.1, g) (step.1, k) step.4) };
             session = x;
             at = at;
-            is = rw (step.6.1.found t, test) refl;
+            is = rw (step.7.1.found t, test) refl;
           }
       | inr other ↦
           let was = h.homes t p other.1 in
-          let still : place_of new t ≡ Some was.room.place = opens_stays old new n place t was.room.place h number home was.at in
+          let still : place_of new t ≡ Some was.room.place = opens_stays old new o.session place t was.room.place h number home was.at in
           set_homes old new i step.1 g k step.4 step.5 t was still
           (λ same.
-          let test : (n == t) ≡ false = grind (arith, nat_tests, other.0) in
-          (was.session, rw (step.6.1.found t, test) (same_home old t i step.1 g was step.4 same)))
+          let test : (o.session == t) ≡ false = grind (arith, nat_tests, other.0) in
+          (was.session, rw (step.7.1.found t, test) (same_home old t i step.1 g was step.4 same)))
     ]
-enters_homes old new name n place None h number home step t p at = founds_homes old new name n place (vacant_place old.made.rooms old.rooms) refl h number home step t p at
+enters_homes old new name access o place None h number home step t p at = founds_homes old new name access new.floor o.session place (vacant_place old.made.rooms old.rooms) refl h number home step.1 t p at
 
-open_is_hub : (old new : State) (name : List ℕ) (n : ℕ) → IsHub old → Opens old name n new → IsHub new
-open_is_hub old new name n h step = record {
+open_is_hub : (old new : State) (name : List ℕ) (access : Access) (o : Opening) → IsHub old → Opens old name access o new → IsHub new
+open_is_hub old new name access o h step = record {
   made = rw step.made h.made;
-  below = opens_below old new name n h step;
-  homes = enters_homes old new name n step.place (place_named name old.rooms) h step.number step.home step.enters;
-  members = enters_alone old new name n step.place (place_named name old.rooms) h step.number step.home step.enters;
-  once = enters_once old new name n step.place (place_named name old.rooms) h step.enters;
+  floor = rw step.floor (floor_count old (place_named name old.rooms) h.floor);
+  below = opens_below old new name access o h step;
+  homes = enters_homes old new name access o step.place (place_named name old.rooms) h step.number step.home step.enters;
+  members = enters_alone old new name access o step.place (place_named name old.rooms) h step.number step.home step.enters;
+  once = enters_once old new name access o step.place (place_named name old.rooms) h step.enters;
 }
 
 -- a session that is closed
@@ -363,6 +369,7 @@ otherwise false u v w other is = is
 closes_is_hub : (old new : State) (s : ℕ) (r : RoomOf old) → IsHub old → place_of old s ≡ Some r.place → Closes s r.place r.name r.room_sessions old new → IsHub new
 closes_is_hub old new s r h home step = record {
   made = rw step.made h.made;
+  floor = rw step.floor h.floor;
   homes = λ t p t_at.
       let found : (if s == t then None else place_of old t) ≡ Some p = sym (step.home t) ∙ t_at in
       elim (eqb_tells s t) [
@@ -403,8 +410,8 @@ close_is_hub old new s (Some place) answer h home step = close_in_room_is_hub ol
 
 -- a step keeps `IsHub`
 pub step_is_hub : (old new : State) (event : Event) (answer : Answer) → IsHub old → Step old event answer new → IsHub new
-step_is_hub old new (Open name) (Opened n) h step = open_is_hub old new name n h step.1
-step_is_hub old new (Open name) (NotOpened fault) h step = rw step.1 h
+step_is_hub old new (Open name access) (Opened o) h step = open_is_hub old new name access o h step.1
+step_is_hub old new (Open name access) (NotOpened fault) h step = rw step.1 h
 step_is_hub old new (Receive s text) answer h step =
     at_home_is_hub old new answer (λ g k. Receives old.made s (session_in g.sessions s) text answer g k) (place_of old s) h
     (λ g k does. receive_keeps old.made s (session_in g.sessions s) text answer g k refl does) step
@@ -412,4 +419,4 @@ step_is_hub old new (Draw s) answer h step =
     at_home_is_hub old new answer (λ g k. Draws s (session_in g.sessions s) answer g k) (place_of old s) h
     (λ g k does. draw_keeps s (session_in g.sessions s) answer g k refl does) step
 step_is_hub old new (Close s) answer h step = close_is_hub old new s (place_of old s) answer h refl step
-step_is_hub old new (Open name) answer h step = absurd step
+step_is_hub old new (Open name access) answer h step = absurd step

@@ -114,15 +114,15 @@ hub_with h i g = hub_of (record h { rooms = with_value_at h.rooms i g })
 
 -- the same, with another list of homes
 abbrev pub hub_closed : Inside → ℕ → RoomSessions → List (ℕ × ℕ) → State
-hub_closed h i g homes = record { made = h.made; next = h.next; rooms = map named (set_value_at h.rooms.entries i g); homes = homes }
+hub_closed h i g homes = record { made = h.made; next = h.next; floor = h.floor; rooms = map named (set_value_at h.rooms.entries i g); homes = homes }
 
 hub_with-is : (h : Inside) (i : ℕ) (old new : RoomSessions) (w : Written h.rooms.entries i old new) → hub_with h i new ≡ with_room i w.name new (hub_of h)
 hub_with-is h i old new w =
-    ap (λ rooms. record { made = h.made; next = h.next; rooms = rooms; homes = h.homes.entries }) w.is
+    ap (λ rooms. record { made = h.made; next = h.next; floor = h.floor; rooms = rooms; homes = h.homes.entries }) w.is
 
 with_room_same : (hub : State) (i : ℕ) (name : List ℕ) (g : RoomSessions) → slice_get hub.rooms i ≡ Some (name, g) → with_room i name g hub ≡ hub
 with_room_same hub i name g h =
-    ap (λ rooms. record { made = hub.made; next = hub.next; rooms = rooms; homes = hub.homes }) (slice_set_same hub.rooms i (name, g) h)
+    ap (λ rooms. record { made = hub.made; next = hub.next; floor = hub.floor; rooms = rooms; homes = hub.homes }) (slice_set_same hub.rooms i (name, g) h)
 
 -- what is done in a session's room, or nothing, is a step if it is one in the room
 module _ (h : Inside) (s i : ℕ) (old new : RoomSessions) (home : place_of (hub_of h) s ≡ Some i) (there : slice_get (values h.rooms) i ≡ Some old) where
@@ -153,6 +153,7 @@ module _ (h : Inside) (s i : ℕ) (old new : RoomSessions) (home : place_of (hub
       rw (home, w.was, is) (record {
         next = refl;
         made = refl;
+        floor = refl;
         left = new;
         leaves = leaves;
         rooms = w.is;

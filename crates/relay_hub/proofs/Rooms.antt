@@ -1,19 +1,25 @@
 -- Rooms and their documents, distinguished by name.
-use Rattle.std.proofs.Common.{◌≡◌, ◌≢◌, ℕ, zero, suc, ◌<◌, ◌==◌, ◌&&◌, nat_le, position, arith, Bool, true, false, List, [], ◌∷◌, ◌++◌, length, get_or, Option, Some, None, refl, sym, ◌∙◌, ap, subst, slice_get, slice_set, bytes_eq, if◌then◌else◌}
+use Rattle.std.proofs.Common.{◌≡◌, ◌≢◌, ℕ, zero, suc, ◌+◌, ◌-◌, ◌<◌, ◌≤◌, ◌==◌, ◌&&◌, ◌⊎◌, inl, inr, nat_le, nat_lt, position, arith, Bool, true, false, List, [], ◌∷◌, ◌++◌, length, length-append, replicate, get_or, Option, Some, None, refl, sym, ◌∙◌, ap, subst, slice_get, slice_set, bytes_eq, if◌then◌else◌}
 use Rattle.std.proofs.lemmas.Bool.Decides.{nat_tests}
+use Rattle.std.proofs.lemmas.List.{append-nil, length-replicate}
 use Rattle.std.proofs.lemmas.List.Quantifiers.{position-Some}
 use Rattle.std.proofs.lemmas.Option.{get_or_from_slice_get}
 use Rattle.std.proofs.lemmas.Slice.Eq.{bytes_eq-Decides}
 use Rattle.relay_proto.specs.Request.{request_of_text}
+use Rattle.relay_proto.specs.declared.access.Access.{Access}
 use Rattle.relay_room.specs.Room.{revision}
 use Rattle.relay_tree.specs.Document.{Document, null}
-use Rattle.relay_hub.specs.Log.{Log, entry, home, documents, documents_after, document_added, extended, requested}
+use Rattle.relay_tree.specs.declared.count.TheConstants.{MAX_COUNT}
+use Rattle.relay_hub.specs.Admitted.{permitted}
+use Rattle.relay_hub.specs.Log.{Log, Place, place, entry, home, documents, documents_after, document_added, extended, requested, reaching, beginning, beginning_after}
+use Rattle.relay_hub.specs.Stands.{MayBegin}
 use Rattle.relay_hub.specs.Session.{Session}
-use Rattle.relay_hub.specs.State.{RoomSessions, place_named, is_untouched, vacant_place}
+use Rattle.relay_hub.specs.State.{RoomSessions, place_named, is_null, makes_place, above, vacant_place}
 use Rattle.relay_hub.specs.declared.event.Answer.{Answer}
-use Rattle.relay_hub.specs.declared.event.Answer.TheVariants.{Heard}
+use Rattle.relay_hub.specs.declared.event.Answer.TheVariants.{Opened, Heard}
 use Rattle.relay_hub.specs.declared.event.Event.{Event}
-use Rattle.relay_hub.specs.declared.event.Event.TheVariants.{Receive}
+use Rattle.relay_hub.specs.declared.event.Event.TheVariants.{Open, Receive}
+use Rattle.relay_hub.specs.declared.event.Opening.{Opening}
 use Rattle.relay_hub.specs.declared.event.Heard.TheVariants.{Answered}
 use Rattle.relay_hub.proofs.Lists.{position_set, position_within, position_apart, position_earlier, position_last, position_written, slice_get-earlier}
 
@@ -81,15 +87,21 @@ pub record Vacant (rooms : List (List ℕ × RoomSessions)) (i : ℕ) : Type 0 w
   pub room_sessions : RoomSessions
   pub within : i < length rooms
   pub there : slice_get rooms i ≡ Some (name, room_sessions)
-  pub begins : revision room_sessions.room ≡ 0
+  pub null : room_sessions.room.document ≡ null
   pub empty : room_sessions.sessions ≡ []
+  pub left : revision room_sessions.room < MAX_COUNT
 
 pub vacant : (most : ℕ) (rooms : List (List ℕ × RoomSessions)) (i : ℕ) → vacant_place most rooms ≡ Some i → Vacant rooms i
 vacant most rooms i is = taken (nat_le most (length rooms)) is
   where
-    both : (a b : Bool) → (a && b) ≡ true → (a ≡ true) × (b ≡ true)
-    both true b h = (refl, h)
-    both false b h = absurd (cc h)
+    all : (a b c : Bool) → (a && b && c) ≡ true → (a ≡ true) × (b ≡ true) × (c ≡ true)
+    all true true c h = (refl, refl, h)
+    all true false c h = absurd (cc h)
+    all false b c h = absurd (cc h)
+
+    is_the_null : (d : Document) → is_null d ≡ true → d ≡ null
+    is_the_null null h = refl
+    is_the_null d h = absurd (cc h)
 
     none : (xs : List Session) → (length xs == 0) ≡ true → xs ≡ []
     none [] h = refl
@@ -100,44 +112,75 @@ vacant most rooms i is = taken (nat_le most (length rooms)) is
     there (r ∷ rs) zero h = (r, refl)
     there (r ∷ rs) (suc i) h = there rs i (omega (arith, h))
 
-    taken : (b : Bool) → (if b then position (λ room. is_untouched room.1) rooms else None) ≡ Some i → Vacant rooms i
+    taken : (b : Bool) → (if b then position (λ room. makes_place room.1) rooms else None) ≡ Some i → Vacant rooms i
     taken false h = absurd (cc h)
     taken true h =
-        let within = position_within (λ (room : List ℕ × RoomSessions). is_untouched room.1) rooms i h in
+        let within = position_within (λ (room : List ℕ × RoomSessions). makes_place room.1) rooms i h in
         let r = there rooms i within in
-        let p = position-Some (λ (room : List ℕ × RoomSessions). is_untouched room.1) rooms i r.0 h in
+        let p = position-Some (λ (room : List ℕ × RoomSessions). makes_place room.1) rooms i r.0 h in
         let here : get_or rooms i r.0 ≡ r.0 = get_or_from_slice_get rooms i r.0 r.0 r.1 in
-        let untouched : is_untouched r.0.1 ≡ true = ap (λ (room : List ℕ × RoomSessions). is_untouched room.1) (sym here) ∙ p.1 in
-        let t = both (revision r.0.1.room == 0) (length r.0.1.sessions == 0) untouched in
+        let makes : makes_place r.0.1 ≡ true = ap (λ (room : List ℕ × RoomSessions). makes_place room.1) (sym here) ∙ p.1 in
+        let t = all (is_null r.0.1.room.document) (length r.0.1.sessions == 0) (nat_lt (revision r.0.1.room) MAX_COUNT) makes in
         record {
           name = r.0.0;
           room_sessions = r.0.1;
           within = within;
           there = r.1;
-          begins = grind (arith, nat_tests, t.0);
+          null = is_the_null r.0.1.room.document t.0;
           empty = none r.0.1.sessions t.1;
+          left = grind (arith, nat_tests, t.2);
         }
+
+-- it does, as a test
+pub vacant_makes : (rooms : List (List ℕ × RoomSessions)) (i : ℕ) (v : Vacant rooms i) → makes_place v.room_sessions ≡ true
+vacant_makes rooms i v =
+    let more : nat_lt (revision v.room_sessions.room) MAX_COUNT ≡ true = grind (arith, nat_tests, v.left) in
+    rw (v.null, v.empty, more) refl
+
+-- a revision above those of a room that has one left
+pub above_count : (g : RoomSessions) → revision g.room < MAX_COUNT → above g ≤ MAX_COUNT
+above_count g left = go (revision g.room) left
+  where
+    go : (rev : ℕ) → rev < MAX_COUNT → (if rev == 0 then 0 else rev + 1) ≤ MAX_COUNT
+    go zero h = omega (arith, h)
+    go (suc rev) h = let test : (suc rev == 0) ≡ false = grind (arith, nat_tests) in rw test (omega (arith, h))
+
+-- a room that made place lets a room of its name begin above it
+pub may_begin_again : (floor : ℕ) (g : RoomSessions) (ds : List Document) → revision g.room + 1 ≡ length ds → slice_get ds 0 ≡ Some null → above g ≤ floor → MayBegin floor ds
+may_begin_again floor g ds made first over = go (revision g.room) made over
+  where
+    one : (ds : List Document) → 1 ≡ length ds → slice_get ds 0 ≡ Some null → ds ≡ null ∷ []
+    one (d ∷ []) h first = let same : d ≡ null = cc in ap (λ d. d ∷ []) same
+    one [] h first = absurd (cc first)
+    one (d ∷ e ∷ es) h first = absurd (omega (arith, h))
+
+    go : (rev : ℕ) → rev + 1 ≡ length ds → (if rev == 0 then 0 else rev + 1) ≤ floor → MayBegin floor ds
+    go zero h over = inr (one ds h first)
+    go (suc rev) h over =
+        let test : (suc rev == 0) ≡ false = grind (arith, nat_tests) in
+        let higher : suc rev + 1 ≤ floor = rw test at over in
+        inl (omega (arith, h, higher))
 
 -- Documents.
 
 -- a text that asks for no edit, or for a refused one, adds no document anywhere
-pub none_added : (E : Log) (s short : ℕ) (text name : List ℕ) → home E s ≡ Some name → requested (documents E name) (request_of_text text) ≡ None
+pub none_added : (E : Log) (s short : ℕ) (text name : List ℕ) (access : Access) → home E s ≡ Some (place name access) → requested (documents E name) (permitted access (request_of_text text)) ≡ None
     → (other : List ℕ) → documents (entry (Receive s text) (Heard (Answered short)) ∷ E) other ≡ documents E other
-none_added E s short text name at none other =
-    rw at (by_name (λ b. extended (documents E other) (if b then requested (documents E other) (request_of_text text) else None) ≡ documents E other) name other
-    (λ same. subst (λ n. extended (documents E n) (requested (documents E n) (request_of_text text)) ≡ documents E n) same (rw none refl))
+none_added E s short text name access at none other =
+    rw at (by_name (λ b. extended (documents E other) (if b then requested (documents E other) (permitted access (request_of_text text)) else None) ≡ documents E other) name other
+    (λ same. subst (λ n. extended (documents E n) (requested (documents E n) (permitted access (request_of_text text))) ≡ documents E n) same (rw none refl))
     (λ apart. refl))
 
-pub one_added : (E : Log) (s short : ℕ) (text name : List ℕ) (d : Document) → home E s ≡ Some name → requested (documents E name) (request_of_text text) ≡ Some d
+pub one_added : (E : Log) (s short : ℕ) (text name : List ℕ) (access : Access) (d : Document) → home E s ≡ Some (place name access) → requested (documents E name) (permitted access (request_of_text text)) ≡ Some d
     → documents (entry (Receive s text) (Heard (Answered short)) ∷ E) name ≡ documents E name ++ d ∷ []
-one_added E s short text name d at adds =
+one_added E s short text name access d at adds =
     let same : bytes_eq name name ≡ true = (bytes_eq-Decides name name).1 refl in
     rw (at, same, adds) refl
 
-pub others_stay : (E : Log) (s short : ℕ) (text name : List ℕ) → home E s ≡ Some name
+pub others_stay : (E : Log) (s short : ℕ) (text name : List ℕ) (access : Access) → home E s ≡ Some (place name access)
     → (other : List ℕ) → other ≢ name → documents (entry (Receive s text) (Heard (Answered short)) ∷ E) other ≡ documents E other
-others_stay E s short text name at other apart =
-    rw at (by_name (λ b. extended (documents E other) (if b then requested (documents E other) (request_of_text text) else None) ≡ documents E other) name other
+others_stay E s short text name access at other apart =
+    rw at (by_name (λ b. extended (documents E other) (if b then requested (documents E other) (permitted access (request_of_text text)) else None) ≡ documents E other) name other
     (λ same. absurd (apart (sym same)))
     (λ differ. refl))
 
@@ -151,16 +194,85 @@ first_document (e ∷ E) name = after (home E) (documents E name) e.event e.answ
     more ds None h = h
     more ds (Some d) h = slice_get-earlier ds d null 0 h
 
-    after : (homes : ℕ → Option (List ℕ)) (ds : List Document) (event : Event) (answer : Answer) → slice_get ds 0 ≡ Some null
+    append : (ds es : List Document) → slice_get ds 0 ≡ Some null → slice_get (ds ++ es) 0 ≡ Some null
+    append [] es h = absurd (cc h)
+    append (d ∷ ds) es h = h
+
+    reached : (here : Bool) (ds : List Document) (rev : ℕ) → slice_get ds 0 ≡ Some null → slice_get (if here then reaching rev ds else ds) 0 ≡ Some null
+    reached true ds rev h = append ds (replicate (rev + 1 - length ds) null) h
+    reached false ds rev h = h
+
+    after : (homes : ℕ → Option Place) (ds : List Document) (event : Event) (answer : Answer) → slice_get ds 0 ≡ Some null
         → slice_get (documents_after homes ds name event answer) 0 ≡ Some null
+    after homes ds (Open room access) (Opened o) h = reached (bytes_eq room name) ds o.rev h
     after homes ds (Receive s text) (Heard (Answered short)) h = more ds (document_added ds name (homes s) text) h
     after homes ds _ _ h = h
 
--- a room at revision 0 has no other one
-pub one_document : (E : Log) (name : List ℕ) → length (documents E name) ≡ 1 → documents E name ≡ null ∷ []
-one_document E name one = go (documents E name) one (first_document E name)
+-- An opening.
+
+-- all documents up to the present revision are there
+pub reaching_present : (ds : List Document) (rev : ℕ) → rev + 1 ≡ length ds → reaching rev ds ≡ ds
+reaching_present ds rev made =
+    let none : rev + 1 - length ds ≡ 0 = omega (arith, made) in
+    rw none (append-nil ds)
+
+-- a session that enters a room that is there adds no document
+pub joined : (E : Log) (name : List ℕ) (access : Access) (o : Opening) → o.rev + 1 ≡ length (documents E name)
+    → (other : List ℕ) → documents (entry (Open name access) (Opened o) ∷ E) other ≡ documents E other
+joined E name access o made other =
+    by_name (λ b. (if b then reaching o.rev (documents E other) else documents E other) ≡ documents E other) name other
+    (λ same. reaching_present (documents E other) o.rev (subst (λ n. o.rev + 1 ≡ length (documents E n)) same made))
+    (λ apart. refl)
+
+-- one that begins a room adds none to others
+pub begun_elsewhere : (E : Log) (name : List ℕ) (access : Access) (o : Opening) (other : List ℕ) → other ≢ name
+    → documents (entry (Open name access) (Opened o) ∷ E) other ≡ documents E other
+begun_elsewhere E name access o other apart =
+    by_name (λ b. (if b then reaching o.rev (documents E other) else documents E other) ≡ documents E other) name other
+    (λ same. absurd (apart (sym same))) (λ differ. refl)
+
+pub begun_here : (E : Log) (name : List ℕ) (access : Access) (o : Opening) → documents (entry (Open name access) (Opened o) ∷ E) name ≡ reaching o.rev (documents E name)
+begun_here E name access o = let same : bytes_eq name name ≡ true = (bytes_eq-Decides name name).1 refl in rw same refl
+
+-- The revision at which a room began.
+
+-- it is one of the revisions of its documents
+pub beginning_within : (E : Log) (name : List ℕ) → beginning E name < length (documents E name)
+beginning_within [] name = omega arith
+beginning_within (e ∷ E) name = after (home E) (beginning E name) (documents E name) e.event e.answer (beginning_within E name)
   where
-    go : (ds : List Document) → length ds ≡ 1 → slice_get ds 0 ≡ Some null → ds ≡ null ∷ []
-    go (d ∷ []) one h = let same : d ≡ null = cc in ap (λ d. d ∷ []) same
-    go [] one h = absurd (cc h)
-    go (d ∷ e ∷ ds) one h = absurd (omega (arith, one))
+    more : (ds : List Document) (o : Option Document) (was : ℕ) → was < length ds → was < length (extended ds o)
+    more ds None was h = h
+    more ds (Some d) was h = omega (arith, h, length-append ds (d ∷ []))
+
+    reached : (here later : Bool) (ds : List Document) (rev was : ℕ) → was < length ds → (if here && later then rev else was) < length (if here then reaching rev ds else ds)
+    reached true true ds rev was h = omega (arith, h, length-append ds (replicate (rev + 1 - length ds) null), length-replicate (rev + 1 - length ds) null)
+    reached true false ds rev was h = omega (arith, h, length-append ds (replicate (rev + 1 - length ds) null))
+    reached false later ds rev was h = h
+
+    after : (homes : ℕ → Option Place) (was : ℕ) (ds : List Document) (event : Event) (answer : Answer) → was < length ds
+        → beginning_after was ds name event answer < length (documents_after homes ds name event answer)
+    after homes was ds (Open room access) (Opened o) h = reached (bytes_eq room name) (nat_le (length ds) o.rev) ds o.rev was h
+    after homes was ds (Receive s text) (Heard (Answered short)) h = more ds (document_added ds name (homes s) text) was h
+    after homes was ds _ _ h = h
+
+-- a session that enters a room that is there does not change it
+pub joined_beginning : (E : Log) (name : List ℕ) (access : Access) (o : Opening) → o.rev + 1 ≡ length (documents E name)
+    → (other : List ℕ) → beginning (entry (Open name access) (Opened o) ∷ E) other ≡ beginning E other
+joined_beginning E name access o made other =
+    by_name (λ b. (if b && nat_le (length (documents E other)) o.rev then o.rev else beginning E other) ≡ beginning E other) name other
+    (λ same.
+    let within = subst (λ n. o.rev + 1 ≡ length (documents E n)) same made in
+    let no : nat_le (length (documents E other)) o.rev ≡ false = grind (arith, nat_tests, within) in
+    rw no refl)
+    (λ apart. refl)
+
+pub begun_beginning_elsewhere : (E : Log) (name : List ℕ) (access : Access) (o : Opening) (other : List ℕ) → other ≢ name
+    → beginning (entry (Open name access) (Opened o) ∷ E) other ≡ beginning E other
+begun_beginning_elsewhere E name access o other apart =
+    by_name (λ b. (if b && nat_le (length (documents E other)) o.rev then o.rev else beginning E other) ≡ beginning E other) name other
+    (λ same. absurd (apart (sym same))) (λ differ. refl)
+
+pub begun_beginning_here : (E : Log) (name : List ℕ) (access : Access) (o : Opening)
+    → beginning (entry (Open name access) (Opened o) ∷ E) name ≡ (if nat_le (length (documents E name)) o.rev then o.rev else beginning E name)
+begun_beginning_here E name access o = let same : bytes_eq name name ≡ true = (bytes_eq-Decides name name).1 refl in rw same refl

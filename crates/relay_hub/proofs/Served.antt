@@ -28,7 +28,8 @@ use Rattle.relay_room.proofs.Missed.{caught_up_present}
 use Rattle.relay_tree.specs.Document.{Document, null}
 use Rattle.relay_tree.specs.declared.budget.Budget.{Budget}
 use Rattle.relay_view.specs.View.{View, view}
-use Rattle.relay_hub.specs.Log.{Log, Watching as Watched, begun, entry, home, documents, requested, asked, asked_at_home, watching}
+use Rattle.relay_hub.specs.Admitted.{permitted, affordable, admitted}
+use Rattle.relay_hub.specs.Log.{Log, Watching as Watched, place, begun, entry, home, documents, beginning, requested, asked, asked_at_home, watching}
 use Rattle.relay_hub.specs.Refusal.{refused, edit_refusal, future_refusal}
 use Rattle.relay_hub.specs.Session.{Session, session_with, replied, watches, unwatches, resumes}
 use Rattle.relay_hub.specs.Stands.{RoomStands, OutboxStands, WatchStands, SessionStands, StandsFor}
@@ -38,6 +39,8 @@ use Rattle.relay_hub.specs.declared.config.HubConfig.{HubConfig}
 use Rattle.relay_hub.specs.declared.event.Answer.TheVariants.{Heard}
 use Rattle.relay_hub.specs.declared.event.Event.TheVariants.{Receive}
 use Rattle.relay_hub.specs.declared.event.Heard.TheVariants.{Answered}
+use Rattle.relay_proto.proofs.Counts.{request_counts}
+use Rattle.relay_hub.proofs.Admissions.{other_sent, refused_adds, refused_asks, refused_counts}
 use Rattle.relay_hub.proofs.Cases.{by_number}
 use Rattle.relay_hub.proofs.Documents.{goes_on_stands, trimmed_stands}
 use Rattle.relay_hub.proofs.Edits.{same_edit, notified_session}
@@ -53,7 +56,7 @@ watch_replied ds room x r (Some w) h = h
 watch_replied ds room x r None h = h
 
 -- a session that watches from now on, with a snapshot due
-watch_begun : (most : HubConfig) (ds : List Document) (room : Room) (v : View) → RoomStands most ds room → (id : ℕ) (x : Session)
+watch_begun : {from : ℕ} (most : HubConfig) (ds : List Document) (room : Room) (v : View) → RoomStands most from ds room → (id : ℕ) (x : Session)
     → WatchStands ds room (watches id v x) (Some (begun v nothing))
 watch_begun most ds room v h id x = (refl, Follows-snapshot most ds (begun v nothing) room h tt)
 
@@ -67,7 +70,7 @@ reached budget room rev v other past = go (nat_lt rev (oldest room.history)) ref
     go true e = absurd (other (rw e refl))
     go false e = record { back = grind (arith, nat_tests, e); made = past }
 
-watch_resumed : (most : HubConfig) (ds : List Document) (room : Room) (rev id : ℕ) (v : View) (d : Document) (up : CatchUp) (x : Session) → RoomStands most ds room → slice_get ds rev ≡ Some d
+watch_resumed : {from : ℕ} (most : HubConfig) (ds : List Document) (room : Room) (rev id : ℕ) (v : View) (d : Document) (up : CatchUp) (x : Session) → RoomStands most from ds room → slice_get ds rev ≡ Some d
     → rev ≤ revision room → caught_up_within x.budget room rev v ≡ up → LeadsOn room rev v up → WatchStands ds room (resumes (revision room) id v up x) (Some (begun v (holds rev (view v d))))
 watch_resumed most ds room rev id v d Nothing x h at past is leads =
     let reach = reached x.budget room rev v (λ e. absurd (cc (is, e))) past in
@@ -88,6 +91,11 @@ outbox_resumed most rev id v (Patch ops) x i r fits h =
     outbox_patched most rev ops (session_with (Some v) (cleared (with_reply (Resumed id how.Patch) x.outbox)) x) (Some v) (r, fits) (outbox_cleared most (replied (Resumed id how.Patch) x) (Some v) (outbox_replied most x (Resumed id how.Patch) i h))
 outbox_resumed most rev id v Snapshot x i r fits h = outbox_folded most (replied (Resumed id how.Snapshot) x) (Some v) (outbox_replied most x (Resumed id how.Snapshot) i h)
 
+resumes_access : (rev id : ℕ) (v : View) (up : CatchUp) (x : Session) → (resumes rev id v up x).access ≡ x.access
+resumes_access rev id v Nothing x = refl
+resumes_access rev id v (Patch ops) x = refl
+resumes_access rev id v Snapshot x = refl
+
 -- A request of session s, which is open.
 
 module _ (b : HubConfig) (E : Log) (old : State) (s : ℕ) (mine : Home old s) (h : RoomSessions) (short : ℕ) (text : List ℕ) (stands : StandsFor b E old) where
@@ -104,104 +112,119 @@ module _ (b : HubConfig) (E : Log) (old : State) (s : ℕ) (mine : Home old s) (
   abbrev next : State
   next = with_room mine.room.place mine.room.name h old
 
-  was : RoomStands b ds g.room
+  was : RoomStands b (beginning E mine.room.name) ds g.room
   was = stands.rooms mine.room.place mine.room.name g mine.room.there
 
-  at_home : (home E s ≡ Some mine.room.name) × OutboxStands b.max_waiting_patches x × WatchStands ds g.room x (watching b.epoch E s)
+  at_home : (home E s ≡ Some (place mine.room.name x.access)) × OutboxStands b.max_waiting_patches x × WatchStands ds g.room x (watching b E s)
   at_home = here b E old s mine stands
 
+  -- what the session sent
+  abbrev sent : Result Request Refusal
+  sent = request_of_text text
+
   -- a request that adds no document, and that changes the session alone
-  pub served : (r : Result Request Refusal) (y : Session) → request_of_text text ≡ r → requested ds r ≡ None → ChangesOnly s (Some y) g h → OutboxStands b.max_waiting_patches y
-      → WatchStands ds g.room y (asked b.epoch ds (watching b.epoch E s) r)
+  pub served : (y : Session) → y.access ≡ x.access → requested ds (permitted x.access sent) ≡ None → ChangesOnly s (Some y) g h → OutboxStands b.max_waiting_patches y
+      → WatchStands ds g.room y (asked b.epoch ds (watching b E s) (affordable b.view_weight sent))
       → StandsFor b (entry (Receive s text) (Heard (Answered short)) ∷ E) next
-  served r y read none changes contents watch =
+  served y may none changes contents watch =
       let e = entry (Receive s text) (Heard (Answered short)) in
       let same : (s == s) ≡ true = grind (arith, nat_tests) in
-      session_changes b E e old mine.room h stands (others_stay E s short text mine.room.name at_home.0)
-      (record { opened = refl; count = refl; rooms = λ name. refl; home = λ t. refl })
-      (none_added E s short text mine.room.name at_home.0 (rw read none))
-      s y mine.at at_home.0 changes
+      session_changes b E e old mine.room h stands (others_stay E s short text mine.room.name x.access at_home.0) (λ other apart. refl)
+      (record { opened = refl; count = refl; rooms = λ name. refl; home = λ t. refl; begins = λ name. refl })
+      (none_added E s short text mine.room.name x.access at_home.0 none)
+      s y mine.at (rw may at_home.0) changes
       (λ t apart. let other : (s == t) ≡ false = grind (arith, nat_tests, apart) in rw other refl)
       contents
-      (rw (same, at_home.0, read) watch)
+      (rw (same, at_home.0) watch)
 
-  pub served_reply : (r : Result Request Refusal) (why : Reply) → request_of_text text ≡ r → requested ds r ≡ None
-      → asked b.epoch ds (watching b.epoch E s) r ≡ watching b.epoch E s → ChangesOnly s (Some (replied why x)) g h → HasCounts why
+  pub served_reply : (why : Reply) → requested ds (permitted x.access sent) ≡ None
+      → asked b.epoch ds (watching b E s) (affordable b.view_weight sent) ≡ watching b E s → ChangesOnly s (Some (replied why x)) g h → HasCounts why
       → StandsFor b (entry (Receive s text) (Heard (Answered short)) ∷ E) next
-  served_reply r why read none same changes counts =
-      served r (replied why x) read none changes (outbox_replied b.max_waiting_patches x why counts at_home.1)
-      (rw same (watch_replied ds g.room x why (watching b.epoch E s) at_home.2))
+  served_reply why none same changes counts =
+      served (replied why x) refl none changes (outbox_replied b.max_waiting_patches x why counts at_home.1)
+      (rw same (watch_replied ds g.room x why (watching b E s) at_home.2))
 
-  pub served_watch : (id : ℕ) (v : View) → request_of_text text ≡ Ok (Watch id v) → ChangesOnly s (Some (watches id v x)) g h → IsCount id
+  -- a request that is not admitted
+  pub served_refusal : (why : Refusal) → admitted b.view_weight x.access sent ≡ Err why → ChangesOnly s (Some (replied (refused why) x)) g h
       → StandsFor b (entry (Receive s text) (Heard (Answered short)) ∷ E) next
-  served_watch id v read changes i =
-      served (Ok (Watch id v)) (watches id v x) read refl changes
-      (outbox_folded b.max_waiting_patches (replied (Watching id) x) (Some v) (outbox_replied b.max_waiting_patches x (Watching id) i at_home.1))
-      (watch_begun b ds g.room v was id x)
+  served_refusal why read changes =
+      served_reply (refused why) (refused_adds b.view_weight x.access ds sent why read) (refused_asks b.view_weight x.access b.epoch ds (watching b E s) sent why read) changes
+      (refused_counts b.view_weight x.access text why read)
 
-  pub served_unwatch : (id : ℕ) → request_of_text text ≡ Ok (Unwatch id) → ChangesOnly s (Some (unwatches id x)) g h → IsCount id
+  pub served_watch : (id : ℕ) (v : View) → admitted b.view_weight x.access sent ≡ Ok (Watch id v) → ChangesOnly s (Some (watches id v x)) g h
       → StandsFor b (entry (Receive s text) (Heard (Answered short)) ∷ E) next
-  served_unwatch id read changes i =
-      served (Ok (Unwatch id)) (unwatches id x) read refl changes
-      (outbox_cleared b.max_waiting_patches (replied (Unwatched id) x) None (outbox_replied b.max_waiting_patches x (Unwatched id) i at_home.1))
-      (refl, refl, refl)
+  served_watch id v read changes =
+      let is = other_sent b.view_weight x.access sent (Watch id v) tt read in
+      let count = (request_counts text (Watch id v) is.0).0 in
+      served (watches id v x) refl (rw is.0 refl) changes
+      (outbox_folded b.max_waiting_patches (replied (Watching id) x) (Some v) (outbox_replied b.max_waiting_patches x (Watching id) count at_home.1))
+      (rw is.1 (watch_begun b ds g.room v was id x))
 
-  pub served_resume : (id e rev : ℕ) (v : View) (present past : Bool) → request_of_text text ≡ Ok (Resume id e rev v) → (e == b.epoch) ≡ present → nat_le rev (revision g.room) ≡ past
-      → ResumeServed present past id rev v s x g h → IsCount id → StandsFor b (entry (Receive s text) (Heard (Answered short)) ∷ E) next
-  served_resume id e rev v false past read p q step i =
-      served (Ok (Resume id e rev v)) (resumes (revision g.room) id v Snapshot x) read refl step
+  pub served_unwatch : (id : ℕ) → admitted b.view_weight x.access sent ≡ Ok (Unwatch id) → ChangesOnly s (Some (unwatches id x)) g h
+      → StandsFor b (entry (Receive s text) (Heard (Answered short)) ∷ E) next
+  served_unwatch id read changes =
+      let is = other_sent b.view_weight x.access sent (Unwatch id) tt read in
+      let count = request_counts text (Unwatch id) is.0 in
+      served (unwatches id x) refl (rw is.0 refl) changes
+      (outbox_cleared b.max_waiting_patches (replied (Unwatched id) x) None (outbox_replied b.max_waiting_patches x (Unwatched id) count at_home.1))
+      (rw is.1 (refl, refl, refl))
+
+  pub served_resume : (id e rev : ℕ) (v : View) (present past : Bool) → sent ≡ Ok (Resume id e rev v) → affordable b.view_weight sent ≡ Ok (Resume id e rev v)
+      → (e == b.epoch) ≡ present → nat_le rev (revision g.room) ≡ past → ResumeServed present past id rev v s x g h → IsCount id → StandsFor b (entry (Receive s text) (Heard (Answered short)) ∷ E) next
+  served_resume id e rev v false past read kept p q step i =
+      served (resumes (revision g.room) id v Snapshot x) refl (rw read refl) step
       (outbox_folded b.max_waiting_patches (replied (Resumed id how.Snapshot) x) (Some v) (outbox_replied b.max_waiting_patches x (Resumed id how.Snapshot) i at_home.1))
-      (rw p (refl, Follows-snapshot b ds (begun v nothing) g.room was tt))
-  served_resume id e rev v true false read p q step i =
+      (rw (kept, p) (refl, Follows-snapshot b ds (begun v nothing) g.room was tt))
+  served_resume id e rev v true false read kept p q step i =
       let room = was in
       let beyond : length ds ≤ rev = grind (arith, nat_tests, q, room.made) in
-      served_reply (Ok (Resume id e rev v)) (refused (future_refusal id)) read refl (rw (p, slice_get_past ds rev beyond) refl) step (i, tt, tt)
-  served_resume id e rev v true true read p q step i =
+      served_reply (refused (future_refusal id)) (rw read refl) (rw (kept, p, slice_get_past ds rev beyond) refl) step (i, tt, tt)
+  served_resume id e rev v true true read kept p q step i =
       let room = was in
       let past : rev ≤ revision g.room = grind (arith, nat_tests, q) in
       let within : rev < length ds = omega (arith, past, room.made) in
       let found = slice_get-get_or ds rev null within in
-      served (Ok (Resume id e rev v)) (resumes (revision g.room) id v (caught_up_within x.budget g.room rev v) x) read refl step.2
+      let up = caught_up_within x.budget g.room rev v in
+      served (resumes (revision g.room) id v up x) (resumes_access (revision g.room) id v up x) (rw read refl) step.2
       (outbox_resumed b.max_waiting_patches (revision g.room) id v (caught_up_within x.budget g.room rev v) x i room.is.history.last step.1 at_home.1)
-      (rw (p, found) (watch_resumed b ds g.room rev id v (get_or ds rev null) (caught_up_within x.budget g.room rev v) x room found past refl step.0))
+      (rw (kept, p, found) (watch_resumed b ds g.room rev id v (get_or ds rev null) (caught_up_within x.budget g.room rev v) x room found past refl step.0))
 
   -- An edit.
 
-  module _ (id : ℕ) (base : Option ℕ) (patch : List Op) (read : request_of_text text ≡ Ok (Edit id base patch)) (i : IsCount id) where
+  module _ (id : ℕ) (base : Option ℕ) (patch : List Op) (read : permitted x.access sent ≡ Ok (Edit id base patch)) (sends : sent ≡ Ok (Edit id base patch)) (i : IsCount id) where
     -- an edit changes no session's watching
-    same_watching : home E s ≡ Some mine.room.name → (t : ℕ) → watching b.epoch (entry (Receive s text) (Heard (Answered short)) ∷ E) t ≡ watching b.epoch E t
+    same_watching : home E s ≡ Some (place mine.room.name x.access) → (t : ℕ) → watching b (entry (Receive s text) (Heard (Answered short)) ∷ E) t ≡ watching b E t
     same_watching s_home t =
-        by_number (λ t c. (if c then asked_at t else watching b.epoch E t) ≡ watching b.epoch E t) s t
-        (rw (s_home, read) refl)
+        by_number (λ t c. (if c then asked_at t else watching b E t) ≡ watching b E t) s t
+        (rw (s_home, sends) refl)
         (λ apart. refl)
       where
         asked_at : ℕ → Option Watched
-        asked_at t = asked_at_home b.epoch (documents E) (watching b.epoch E t) (home E t) text
+        asked_at t = asked_at_home b (documents E) (watching b E t) (home E t) text
 
     edit_stands : (d : Document) → edited g.room base patch ≡ Ok d → EditServed b s x id patch (Ok d) short g h → StandsFor b (entry (Receive s text) (Heard (Answered short)) ∷ E) next
     edit_stands d makes step =
         let e = entry (Receive s text) (Heard (Answered short)) in
-        let newer : documents (e ∷ E) mine.room.name ≡ ds ++ d ∷ [] = one_added E s short text mine.room.name d at_home.0 (rw read (same_edit b ds g.room base patch was ∙ ap result_ok makes)) in
+        let newer : documents (e ∷ E) mine.room.name ≡ ds ++ d ∷ [] = one_added E s short text mine.room.name x.access d at_home.0 (rw read (same_edit b ds g.room base patch was ∙ ap result_ok makes)) in
         let notified = step.0 in
-        let room : RoomStands b (ds ++ d ∷ []) notified = goes_on_stands b ds g.room notified patch d was step.1 in
+        let room : RoomStands b (beginning E mine.room.name) (ds ++ d ∷ []) notified = goes_on_stands b ds g.room notified patch d was step.1 in
         let answer = Done id (revision notified) in
         let changes = all_changes g.room.document patch in
-        room_changes b E e old mine.room h stands (others_stay E s short text mine.room.name at_home.0)
-        (record { opened = refl; count = refl; rooms = λ name. refl; home = λ t. refl })
+        room_changes b E e old mine.room h stands (others_stay E s short text mine.room.name x.access at_home.0) (λ other apart. refl)
+        (record { opened = refl; count = refl; rooms = λ name. refl; home = λ t. refl; begins = λ name. refl })
         (rw (newer, step.5) (trimmed_stands b (ds ++ d ∷ []) notified b.history_weight (λ all. all) room))
         (λ t apart. same_watching at_home.0 t)
         (λ t t_at.
-        let answered : SessionStands b.max_waiting_patches (documents E) mine.room.name g.room (session_in step.2 t) (home E t) (watching b.epoch E t) =
-        rw (step.3.found t) (by_number (λ t c. SessionStands b.max_waiting_patches (documents E) mine.room.name g.room (if c then Some (replied answer x) else session_in g.sessions t) (home E t) (watching b.epoch E t)) s t
-        (at_home.0, outbox_replied b.max_waiting_patches x answer (i, room.is.history.last) at_home.1, watch_replied ds g.room x answer (watching b.epoch E s) at_home.2)
+        let answered : SessionStands b.max_waiting_patches (documents E) mine.room.name g.room (session_in step.2 t) (home E t) (watching b E t) =
+        rw (step.3.found t) (by_number (λ t c. SessionStands b.max_waiting_patches (documents E) mine.room.name g.room (if c then Some (replied answer x) else session_in g.sessions t) (home E t) (watching b E t)) s t
+        (at_home.0, outbox_replied b.max_waiting_patches x answer (i, room.is.history.last) at_home.1, watch_replied ds g.room x answer (watching b E s) at_home.2)
         (λ apart. session_stands b E old t mine.room stands t_at)) in
         rw (same_watching at_home.0 t, step.5)
-        (notified_session b b.max_waiting_patches ds d g.room notified changes was room (documents E) (documents (e ∷ E)) mine.room.name (session_in step.2 t) (session_in h.sessions t) (home E t) (watching b.epoch E t)
+        (notified_session b b.max_waiting_patches ds d g.room notified changes was room (documents E) (documents (e ∷ E)) mine.room.name (session_in step.2 t) (session_in h.sessions t) (home E t) (watching b E t)
         refl newer (each_notified g.room.document changes notified b.telling_weight step.2 h.sessions short step.4 t) answered))
 
     pub served_edit : (o : Result Document EditFault) → edited g.room base patch ≡ o → ((fault : EditFault) (r : Reply) → o ≡ Err fault → edit_refusal id fault ≡ Some r → HasCounts r) → EditServed b s x id patch o short g h
         → StandsFor b (entry (Receive s text) (Heard (Answered short)) ∷ E) next
     served_edit (Ok d) makes counts step = edit_stands d makes step
     served_edit (Err fault) makes counts step =
-        served_reply (Ok (Edit id base patch)) step.1 read
-        (same_edit b ds g.room base patch was ∙ ap result_ok makes) refl step.3 (counts fault step.1 refl step.2)
+        served_reply step.1 (rw read (same_edit b ds g.room base patch was ∙ ap result_ok makes)) (rw sends refl) step.3 (counts fault step.1 refl step.2)

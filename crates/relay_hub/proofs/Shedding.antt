@@ -11,7 +11,7 @@ use Rattle.relay_translate.specs.Watches.{Watches}
 use Rattle.relay_tree.specs.Document.{Document}
 use Rattle.relay_tree.specs.declared.budget.Budget.{Budget}
 use Rattle.relay_tree.specs.declared.budget.Budget.TheVariants.{Unbounded}
-use Rattle.relay_hub.specs.Log.{Log, Watching, home, documents, watching}
+use Rattle.relay_hub.specs.Log.{Log, Watching, Place, home, documents, watching}
 use Rattle.relay_hub.specs.Session.{Session, with_outbox, later}
 use Rattle.relay_hub.specs.Shed.{shed_budget, fold_patches, shed_session, shed_room, shed_named, shed}
 use Rattle.relay_hub.specs.Stands.{RoomStands, OutboxStands, WatchStands, SessionStands, RoomSessionsStand, HomeStands, Follows, StandsFor}
@@ -83,6 +83,7 @@ some_shed None p y h is = absurd (cc (h, is))
 pub shed_is_hub : (hub : State) → IsHub hub → IsHub (shed hub)
 shed_is_hub hub h = record {
   made = h.made;
+  floor = h.floor;
   below = h.below;
   homes = λ t place at.
       let mine = h.homes t place at in
@@ -115,7 +116,7 @@ fold_stands most x h = go x.outbox.patches refl
     go [] is = h
     go (p ∷ ps) is = record { max_waiting_patches = h.max_waiting_patches; replies = h.replies; patches = tt }
 
-fold_follows : (b : HubConfig) (ds : List Document) (room : Room) (w : Watching) (contents : Contents Reply (ℕ × List Op)) → RoomStands b ds room
+fold_follows : {from : ℕ} (b : HubConfig) (ds : List Document) (room : Room) (w : Watching) (contents : Contents Reply (ℕ × List Op)) → RoomStands b from ds room
     → Follows ds w (later room w.view contents) → Follows ds w (later room w.view (fold_patches contents.patches contents))
 fold_follows b ds room w contents stands h = go contents.patches refl
   where
@@ -123,7 +124,7 @@ fold_follows b ds room w contents stands h = go contents.patches refl
     go [] is = h
     go (p ∷ ps) is = Follows-snapshot b ds w room stands (EachLeads-left ds w.view w.start w.heard (later room w.view contents) h.each)
 
-watch_stands : (b : HubConfig) (ds : List Document) (room : Room) (budget : Budget) (x : Session) (w : Option Watching) → RoomStands b ds room → WatchStands ds room x w
+watch_stands : {from : ℕ} (b : HubConfig) (ds : List Document) (room : Room) (budget : Budget) (x : Session) (w : Option Watching) → RoomStands b from ds room → WatchStands ds room x w
     → WatchStands ds (trimmed budget room) (shed_session x) w
 watch_stands b ds room budget x (Some w) stands h = (h.0, fold_follows b ds room w x.outbox stands h.1)
 watch_stands b ds room budget x None stands h = let i = idle x.outbox.patches h.1 in (h.0, i.0, i.1)
@@ -132,8 +133,8 @@ watch_stands b ds room budget x None stands h = let i = idle x.outbox.patches h.
     idle [] e = (h.1, h.2)
     idle (p ∷ ps) e = absurd (cc e)
 
-session_stands : (b : HubConfig) (docs : List ℕ → List Document) (name : List ℕ) (room : Room) (budget : Budget) (o : Option Session) (there : Option (List ℕ)) (w : Option Watching)
-    → RoomStands b (docs name) room → SessionStands b.max_waiting_patches docs name room o there w → SessionStands b.max_waiting_patches docs name (trimmed budget room) (option_map shed_session o) there w
+session_stands : {from : ℕ} (b : HubConfig) (docs : List ℕ → List Document) (name : List ℕ) (room : Room) (budget : Budget) (o : Option Session) (there : Option Place) (w : Option Watching)
+    → RoomStands b from (docs name) room → SessionStands b.max_waiting_patches docs name room o there w → SessionStands b.max_waiting_patches docs name (trimmed budget room) (option_map shed_session o) there w
 session_stands b docs name room budget (Some x) there w stands h = (h.0, fold_stands b.max_waiting_patches x h.1, watch_stands b (docs name) room budget x w stands h.2)
 session_stands b docs name room budget None there w stands h = h
 
@@ -144,20 +145,21 @@ module _ (b : HubConfig) (E : Log) (hub : State) (h : StandsFor b E hub) where
   free : b.history_weight ≡ Unbounded → budget ≡ Unbounded
   free is = let same : hub.made.history_weight ≡ Unbounded = ap (λ (made : HubConfig). made.history_weight) h.made ∙ is in ap shed_budget same
 
-  room_stands : (t : ℕ) (o : Option (List ℕ × RoomSessions)) (place : ℕ) → slice_get hub.rooms place ≡ o → RoomSessionsStand b.max_waiting_patches (documents E) t o (home E t) (watching b.epoch E t)
-      → RoomSessionsStand b.max_waiting_patches (documents E) t (option_map (shed_named budget) o) (home E t) (watching b.epoch E t)
+  room_stands : (t : ℕ) (o : Option (List ℕ × RoomSessions)) (place : ℕ) → slice_get hub.rooms place ≡ o → RoomSessionsStand b.max_waiting_patches (documents E) t o (home E t) (watching b E t)
+      → RoomSessionsStand b.max_waiting_patches (documents E) t (option_map (shed_named budget) o) (home E t) (watching b E t)
   room_stands t (Some r) place at k =
-      rw (shed_found r.1.sessions t) (session_stands b (documents E) r.0 r.1.room budget (session_in r.1.sessions t) (home E t) (watching b.epoch E t) (h.rooms place r.0 r.1 at) k)
+      rw (shed_found r.1.sessions t) (session_stands b (documents E) r.0 r.1.room budget (session_in r.1.sessions t) (home E t) (watching b E t) (h.rooms place r.0 r.1 at) k)
   room_stands t None place at k = k
 
-  home_stands : (t : ℕ) (o : Option ℕ) → HomeStands b.max_waiting_patches (documents E) hub.rooms t o (home E t) (watching b.epoch E t)
-      → HomeStands b.max_waiting_patches (documents E) (map (shed_named budget) hub.rooms) t o (home E t) (watching b.epoch E t)
+  home_stands : (t : ℕ) (o : Option ℕ) → HomeStands b.max_waiting_patches (documents E) hub.rooms t o (home E t) (watching b E t)
+      → HomeStands b.max_waiting_patches (documents E) (map (shed_named budget) hub.rooms) t o (home E t) (watching b E t)
   home_stands t (Some place) k = rw (slice_get-map (shed_named budget) hub.rooms place) (room_stands t (slice_get hub.rooms place) place refl k)
   home_stands t None k = k
 
   pub shed_stands : StandsFor b E (shed hub)
   shed_stands = record {
     made = h.made;
+    floor = h.floor;
     is = h.is;
     next = h.next;
     count = h.count;

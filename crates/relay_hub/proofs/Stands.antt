@@ -1,6 +1,6 @@
 -- Each step keeps a hub standing for its log.
 use Rattle.std.proofs.Common.{◌≡◌, ℕ, ◌==◌, List, [], ◌∷◌, Option, Some, None, Result, Ok, Err, refl, sym, ap, subst, slice_get, nat_le}
-use Rattle.relay_proto.proofs.Counts.{request_counts, refusal_counts}
+use Rattle.relay_proto.proofs.Counts.{request_counts}
 use Rattle.relay_proto.specs.Request.{request_of_text}
 use Rattle.relay_proto.specs.declared.refusal.Refusal.{Refusal}
 use Rattle.relay_proto.specs.declared.request.Request.{Request}
@@ -9,7 +9,7 @@ use Rattle.relay_room.specs.Edit.{edited}
 use Rattle.relay_room.specs.Room.{revision}
 use Rattle.relay_hub.specs.Call.{StepIf, logged, Runs, stops, steps, followed}
 use Rattle.relay_hub.specs.Log.{Log, entry}
-use Rattle.relay_hub.specs.Refusal.{refused}
+use Rattle.relay_hub.specs.Admitted.{admitted}
 use Rattle.relay_hub.specs.Session.{Session}
 use Rattle.relay_hub.specs.Stands.{StandsFor}
 use Rattle.relay_hub.specs.State.{RoomSessions, State, RoomOf, Home, place_of, session_in}
@@ -20,12 +20,13 @@ use Rattle.relay_hub.specs.declared.event.Answer.TheVariants.{Opened, NotOpened,
 use Rattle.relay_hub.specs.declared.event.Event.{Event}
 use Rattle.relay_hub.specs.declared.event.Event.TheVariants.{Open, Receive, Draw, Close}
 use Rattle.relay_hub.specs.declared.event.Heard.TheVariants.{Answered, Busy}
+use Rattle.relay_hub.proofs.Admissions.{edit_permitted, edit_sent, other_sent}
 use Rattle.relay_hub.proofs.Counts.{edit_refusal_counts}
 use Rattle.relay_hub.proofs.Doors.{open_stands, close_stands}
 use Rattle.relay_hub.proofs.Draws.{draw_stands}
 use Rattle.relay_hub.proofs.Frames.{Quiet, unaffected, session_stands}
 use Rattle.relay_hub.proofs.Lists.{slice_set_same}
-use Rattle.relay_hub.proofs.Served.{served_reply, served_watch, served_unwatch, served_resume, served_edit}
+use Rattle.relay_hub.proofs.Served.{served_refusal, served_watch, served_unwatch, served_resume, served_edit}
 
 -- What happens in the room of a session.
 
@@ -39,22 +40,22 @@ same_room_sessions hub r h same =
     rw same (ap (λ (rooms : List (List ℕ × RoomSessions)). record hub { rooms = rooms }) (slice_set_same hub.rooms r.place (r.name, r.room_sessions) r.there))
 
 serve_stands : (b : HubConfig) (E : Log) (old : State) (s : ℕ) (mine : Home old s) (h : RoomSessions) (short : ℕ) (text : List ℕ) (request : Result Request Refusal) → StandsFor b E old
-    → request_of_text text ≡ request → Serves b s mine.session request short mine.room.room_sessions h
+    → admitted b.view_weight mine.session.access (request_of_text text) ≡ request → Serves b s mine.session request short mine.room.room_sessions h
     → StandsFor b (entry (Receive s text) (Heard (Answered short)) ∷ E) (with_room mine.room.place mine.room.name h old)
-serve_stands b E old s mine h short text (Err r) stands read step =
-    served_reply b E old s mine h short text stands (Err r) (refused r) read refl refl step.1 (refusal_counts text r read)
-serve_stands b E old s mine h short text (Ok (Watch id v)) stands read step =
-    served_watch b E old s mine h short text stands id v read step.1 (request_counts text (Watch id v) read)
-serve_stands b E old s mine h short text (Ok (Unwatch id)) stands read step =
-    served_unwatch b E old s mine h short text stands id read step.1 (request_counts text (Unwatch id) read)
+serve_stands b E old s mine h short text (Err r) stands read step = served_refusal b E old s mine h short text stands r read step.1
+serve_stands b E old s mine h short text (Ok (Watch id v)) stands read step = served_watch b E old s mine h short text stands id v read step.1
+serve_stands b E old s mine h short text (Ok (Unwatch id)) stands read step = served_unwatch b E old s mine h short text stands id read step.1
 serve_stands b E old s mine h short text (Ok (Resume id e rev v)) stands read step =
-    served_resume b E old s mine h short text stands id e rev v (e == b.epoch) (nat_le rev (revision mine.room.room_sessions.room)) read refl refl step.1
-    (request_counts text (Resume id e rev v) read).0
+    let is = other_sent b.view_weight mine.session.access (request_of_text text) (Resume id e rev v) tt read in
+    served_resume b E old s mine h short text stands id e rev v (e == b.epoch) (nat_le rev (revision mine.room.room_sessions.room)) is.0 is.1 refl refl step.1
+    (request_counts text (Resume id e rev v) is.0).0
 serve_stands b E old s mine h short text (Ok (Edit id base patch)) stands read step =
-    let counts = request_counts text (Edit id base patch) read in
+    let may = edit_permitted b.view_weight mine.session.access (request_of_text text) id base patch read in
+    let sent = edit_sent mine.session.access (request_of_text text) id base patch may in
+    let counts = request_counts text (Edit id base patch) sent in
     let room = mine.room.room_sessions.room in
     let last = (stands.rooms mine.room.place mine.room.name mine.room.room_sessions mine.room.there).is.history.last in
-    served_edit b E old s mine h short text stands id base patch read counts.0 (edited room base patch) refl
+    served_edit b E old s mine h short text stands id base patch may sent counts.0 (edited room base patch) refl
     (λ fault r unmade is. edit_refusal_counts room id base patch fault r counts.0 last counts.2 unmade is) step
 
 receive_stands : (b : HubConfig) (E : Log) (old : State) (s : ℕ) (r : RoomOf old) (h : RoomSessions) (o : Option Session) (text : List ℕ) (answer : Answer) → StandsFor b E old
@@ -65,10 +66,10 @@ receive_stands b E old s r h (Some x) text (Heard Busy) stands at is step =
     rw (same_room_sessions old r h step.1) (unaffected b E (entry (Receive s text) (Heard Busy)) old stands quiet (λ other. refl) (λ t. refl))
   where
     quiet : Quiet E (entry (Receive s text) (Heard Busy))
-    quiet = record { opened = refl; count = refl; rooms = λ name. refl; home = λ t. refl }
+    quiet = record { opened = refl; count = refl; rooms = λ name. refl; home = λ t. refl; begins = λ name. refl }
 receive_stands b E old s r h (Some x) text (Heard (Answered short)) stands at is step =
-    serve_stands b E old s (record { room = r; session = x; at = at; is = is }) h short text (request_of_text text) stands refl
-    (subst (λ made. Serves made s x (request_of_text text) short r.room_sessions h) stands.made step.1)
+    serve_stands b E old s (record { room = r; session = x; at = at; is = is }) h short text (admitted b.view_weight x.access (request_of_text text)) stands refl
+    (subst (λ (made : HubConfig). Serves made s x (admitted made.view_weight x.access (request_of_text text)) short r.room_sessions h) stands.made step.1)
 receive_stands b E old s r h o text answer stands at is step = absurd step
 
 drawn_stands : (b : HubConfig) (E : Log) (old : State) (s : ℕ) (r : RoomOf old) (h : RoomSessions) (o : Option Session) (answer : Answer) → StandsFor b E old
@@ -117,24 +118,24 @@ closes_stands b E old new s None answer stands quiet at step = rw (step.0, step.
 
 -- a step keeps a hub standing for its log
 pub step_stands : (b : HubConfig) (E : Log) (old new : State) (event : Event) (answer : Answer) → StandsFor b E old → Step old event answer new → StandsFor b (entry event answer ∷ E) new
-step_stands b E old new (Open name) (Opened n) stands step = open_stands b E old new name n stands step.1 step.0
-step_stands b E old new (Open name) (NotOpened fault) stands step =
-    rw step.1 (unaffected b E (entry (Open name) (NotOpened fault)) old stands (record { opened = refl; count = refl; rooms = λ name. refl; home = λ t. refl }) (λ other. refl) (λ t. refl))
+step_stands b E old new (Open name access) (Opened o) stands step = open_stands b E old new name access o stands step.1 step.0
+step_stands b E old new (Open name access) (NotOpened fault) stands step =
+    rw step.1 (unaffected b E (entry (Open name access) (NotOpened fault)) old stands (record { opened = refl; count = refl; rooms = λ name. refl; home = λ t. refl; begins = λ name. refl }) (λ other. refl) (λ t. refl))
 step_stands b E old new (Receive s text) answer stands step =
     at_home_stands b E old new (Receive s text) answer (λ g h. Receives old.made s (session_in g.sessions s) text answer g h) (place_of old s)
-    (unaffected b E (entry (Receive s text) NoSession) old stands (record { opened = refl; count = refl; rooms = λ name. refl; home = λ t. refl }) (λ other. refl) (λ t. refl))
+    (unaffected b E (entry (Receive s text) NoSession) old stands (record { opened = refl; count = refl; rooms = λ name. refl; home = λ t. refl; begins = λ name. refl }) (λ other. refl) (λ t. refl))
     (λ r h at does. receive_stands b E old s r h (session_in r.room_sessions.sessions s) text answer stands at refl does)
     step
 step_stands b E old new (Draw s) answer stands step =
     at_home_stands b E old new (Draw s) answer (λ g h. Draws s (session_in g.sessions s) answer g h) (place_of old s)
-    (unaffected b E (entry (Draw s) NoSession) old stands (record { opened = refl; count = refl; rooms = λ name. refl; home = λ t. refl }) (λ other. refl) (λ t. refl))
+    (unaffected b E (entry (Draw s) NoSession) old stands (record { opened = refl; count = refl; rooms = λ name. refl; home = λ t. refl; begins = λ name. refl }) (λ other. refl) (λ t. refl))
     (λ r h at does. drawn_stands b E old s r h (session_in r.room_sessions.sessions s) answer stands at refl does)
     step
 step_stands b E old new (Close s) answer stands step =
     closes_stands b E old new s (place_of old s) answer stands
-    (unaffected b E (entry (Close s) NoSession) old stands (record { opened = refl; count = refl; rooms = λ name. refl; home = λ t. refl }) (λ other. refl) (λ t. refl))
+    (unaffected b E (entry (Close s) NoSession) old stands (record { opened = refl; count = refl; rooms = λ name. refl; home = λ t. refl; begins = λ name. refl }) (λ other. refl) (λ t. refl))
     refl step
-step_stands b E old new (Open name) answer stands step = absurd step
+step_stands b E old new (Open name access) answer stands step = absurd step
 
 pub call_stands : (b : HubConfig) (E : Log) (old new : State) (event : Event) (answer : Option Answer) → StandsFor b E old → StepIf old event answer new → StandsFor b (logged E event answer) new
 call_stands b E old new event (Some answer) stands step = step_stands b E old new event answer stands step

@@ -13,6 +13,7 @@ use Rattle.relay_room.specs.Edit.{edited}
 use Rattle.relay_room.specs.declared.fault.EditFault.{EditFault}
 use Rattle.relay_tree.specs.Document.{Document}
 use Rattle.relay_hub.specs.Log.{Log, Watching, documents, watching}
+use Rattle.relay_hub.specs.Admitted.{admitted}
 use Rattle.relay_hub.specs.Refusal.{refused, edit_refusal}
 use Rattle.relay_hub.specs.Session.{Session, replied, later}
 use Rattle.relay_hub.specs.Stands.{IsAtNamed, EachLeads, HoldsPresent, Follows, WatchStands, StandsFor}
@@ -38,7 +39,7 @@ at_place hub s home h = go (place_of hub s) refl h
 -- Watchers.
 
 module _ (b : HubConfig) (E : Log) (hub : State) (s : ℕ) (name : List ℕ) (g : RoomSessions) (x : Session) (w : Watching) (stands : StandsFor b E hub) (there : home_of hub s ≡ Some (name, g))
-    (is : session_in g.sessions s ≡ Some x) (watches : watching b.epoch E s ≡ Some w) where
+    (is : session_in g.sessions s ≡ Some x) (watches : watching b E s ≡ Some w) where
   watcher : Follows (documents E name) w (later g.room w.view x.outbox)
   watcher =
       let p = at_place hub s (name, g) there in
@@ -104,7 +105,7 @@ leaves_no_trace hub s r h y at changes =
 -- the effect of an answered text in the room of its sender, which is x
 module _ (old new : State) (s short : ℕ) (text : List ℕ) (name : List ℕ) (g : RoomSessions) (x : Session) (there : home_of old s ≡ Some (name, g)) (is : session_in g.sessions s ≡ Some x)
     (step : Step old (Receive s text) (Heard (Answered short)) new) where
-  done : (h : RoomSessions) × Serves old.made s x (request_of_text text) short g h × ((y : Session) → ChangesOnly s (Some y) g h → LeavesNoTrace s y old new)
+  done : (h : RoomSessions) × Serves old.made s x (admitted old.made.view_weight x.access (request_of_text text)) short g h × ((y : Session) → ChangesOnly s (Some y) g h → LeavesNoTrace s y old new)
   done =
       let p = at_place old s (name, g) there in
       let answer = Heard (Answered short) in
@@ -115,13 +116,13 @@ module _ (old new : State) (s short : ℕ) (text : List ℕ) (name : List ℕ) (
       (h, received.1, λ y changes. subst (λ hub. LeavesNoTrace s y old hub) (sym at_home.2) (leaves_no_trace old s (record { place = p.0; name = name; room_sessions = g; there = p.2 }) h y p.1 changes))
 
   -- a refused edit changes no room and no other session, and adds one reply to the sender's, if it is refused when it is read
-  pub unread_no_trace : (r : Refusal) → request_of_text text ≡ Err r → LeavesNoTrace s (replied (refused r) x) old new
+  pub unread_no_trace : (r : Refusal) → admitted old.made.view_weight x.access (request_of_text text) ≡ Err r → LeavesNoTrace s (replied (refused r) x) old new
   unread_no_trace r read =
       let served : (short ≡ 0) × ChangesOnly s (Some (replied (refused r) x)) g done.0 = rw read at done.1 in
       done.2 (replied (refused r) x) served.1
 
   -- and the same if the room refuses it
-  pub unmade_no_trace : (id : ℕ) (base : Option ℕ) (patch : List Op) (fault : EditFault) → request_of_text text ≡ Ok (Edit id base patch) → edited g.room base patch ≡ Err fault
+  pub unmade_no_trace : (id : ℕ) (base : Option ℕ) (patch : List Op) (fault : EditFault) → admitted old.made.view_weight x.access (request_of_text text) ≡ Ok (Edit id base patch) → edited g.room base patch ≡ Err fault
       → (r : Reply) × (edit_refusal id fault ≡ Some r) × LeavesNoTrace s (replied r x) old new
   unmade_no_trace id base patch fault read unmade =
       let served : EditServed old.made s x id patch (Err fault) short g done.0 = rw (read, unmade) at done.1 in

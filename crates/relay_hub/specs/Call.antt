@@ -12,6 +12,7 @@ use Rattle.relay_hub.specs.declared.event.Answer.{Answer}
 use Rattle.relay_hub.specs.declared.event.Answer.TheVariants as answer
 use Rattle.relay_hub.specs.declared.event.Event.{Event}
 use Rattle.relay_hub.specs.declared.event.Heard.{Heard}
+use Rattle.relay_hub.specs.declared.event.Opening.{Opening}
 use Rattle.relay_hub.specs.declared.fault.HubFault.{HubFault}
 use Rattle.relay_hub.specs.declared.fault.HubFault.TheVariants as hub
 use Rattle.relay_hub.specs.declared.fault.NoSession.{NoSession}
@@ -25,8 +26,8 @@ abbrev pub not_opened : OpenFault → Option Answer
 not_opened opening_fault.NoMemory = None
 not_opened fault = Some (answer.NotOpened fault)
 
-abbrev pub opening : Result ℕ OpenFault → Option Answer
-opening (Ok n) = Some (answer.Opened n)
+abbrev pub opening : Result Opening OpenFault → Option Answer
+opening (Ok o) = Some (answer.Opened o)
 opening (Err fault) = not_opened fault
 
 abbrev pub not_served : HubFault → Option Answer

@@ -1,4 +1,6 @@
 pub mod Config
+pub mod Refusal
+pub mod Admitted
 pub mod Text
 pub mod State
 pub mod Representation
@@ -8,7 +10,6 @@ pub mod Load
 pub mod Update
 pub mod Caller
 pub mod Log
-pub mod Refusal
 pub mod Allowance
 pub mod Step
 pub mod CachedUpdate

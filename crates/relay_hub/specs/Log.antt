@@ -1,9 +1,10 @@
--- What follows from a log: the documents of each room, which sessions are open in which room, what each session watches and which messages
--- it received. A log has its newest entry first, so each definition says what one more entry changes.
-use Rattle.std.specs.Prelude.{ℕ, ◌+◌, ◌-◌, ◌==◌, Bool, false, ◌||◌, List, [], ◌∷◌, ◌++◌, Option, Some, None, Result, Ok, length, slice_get, unwrap_or, bytes_eq, if◌then◌else◌}
+-- What follows from a log: the documents of each room, which sessions are open in which room and what they may do there, what each session
+-- watches and which messages it received. A log has its newest entry first, so each definition says what one more entry changes.
+use Rattle.std.specs.Prelude.{ℕ, ◌+◌, ◌-◌, ◌==◌, Bool, false, ◌||◌, List, [], ◌∷◌, ◌++◌, Option, Some, None, Result, Ok, length, replicate, nat_le, slice_get, unwrap_or, bytes_eq, ◌&&◌, if◌then◌else◌}
 use Rattle.std.specs.Result.{result_ok}
 use Rattle.relay_tree.specs.Document.{Document, null}
 use Rattle.relay_patch.specs.declared.op.Op.{Op}
+use Rattle.relay_proto.specs.declared.access.Access.{Access}
 use Rattle.relay_proto.specs.Client.{Client, nothing, holds}
 use Rattle.relay_proto.specs.MessageRead.{message_of_text}
 use Rattle.relay_proto.specs.Request.{request_of_text}
@@ -14,6 +15,8 @@ use Rattle.relay_proto.specs.declared.request.Request.{Request}
 use Rattle.relay_proto.specs.declared.request.Request.TheVariants.{Edit, Watch, Resume, Unwatch}
 use Rattle.relay_room.specs.Edit.{edited_at}
 use Rattle.relay_view.specs.View.{View, view}
+use Rattle.relay_hub.specs.Admitted.{permitted, affordable}
+use Rattle.relay_hub.specs.declared.config.HubConfig.{HubConfig}
 use Rattle.relay_hub.specs.declared.event.Answer.{Answer}
 use Rattle.relay_hub.specs.declared.event.Answer.TheVariants.{Opened, Heard, Drawn, Closed}
 use Rattle.relay_hub.specs.declared.event.Event.{Event}
@@ -33,20 +36,28 @@ Log = List Entry
 
 -- Which sessions are open, and in which room.
 
--- the room in which session s is open, if it is, after an event
-abbrev pub home_after : Option (List ℕ) → ℕ → Event → Answer → Option (List ℕ)
-home_after was s (Open name) (Opened t) = if t == s then Some name else was
+-- the name of the room in which a session is open, and what it may do there
+pub record Place : Type 0 where
+  pub room : List ℕ
+  pub access : Access
+
+abbrev pub place : List ℕ → Access → Place
+place name access = record { room = name; access = access }
+
+-- where session s is open, if it is, after an event
+abbrev pub home_after : Option Place → ℕ → Event → Answer → Option Place
+home_after was s (Open name access) (Opened o) = if o.session == s then Some (place name access) else was
 home_after was s (Close t) Closed = if t == s then None else was
 home_after was s _ _ = was
 
--- the name of the room in which a session is open
-abbrev pub home : Log → ℕ → Option (List ℕ)
+-- where a session is open
+abbrev pub home : Log → ℕ → Option Place
 home [] s = None
 home (e ∷ E) s = home_after (home E s) s e.event e.answer
 
 -- whether a room of that name was opened, after an event
 abbrev pub is_opened_after : Bool → List ℕ → Event → Answer → Bool
-is_opened_after was name (Open room) (Opened t) = bytes_eq name room || was
+is_opened_after was name (Open room access) (Opened o) = bytes_eq name room || was
 is_opened_after was name _ _ = was
 
 -- whether a session was opened in a room of that name
@@ -68,26 +79,43 @@ abbrev pub requested : List Document → Result Request Refusal → Option Docum
 requested documents (Ok (Edit id base patch)) = next_document documents base patch
 requested documents _ = None
 
--- the document that a text adds to the room of that name, if its sender is open there
-abbrev pub document_added : List Document → List ℕ → Option (List ℕ) → List ℕ → Option Document
-document_added documents name (Some room) text = if bytes_eq room name then requested documents (request_of_text text) else None
+-- the document that a text adds to the room of that name, if its sender is open there and may edit
+abbrev pub document_added : List Document → List ℕ → Option Place → List ℕ → Option Document
+document_added documents name (Some home) text =
+    if bytes_eq home.room name then requested documents (permitted home.access (request_of_text text)) else None
 document_added documents name None text = None
 
 abbrev pub extended : List Document → Option Document → List Document
 extended documents None = documents
 extended documents (Some d) = documents ++ d ∷ []
 
-abbrev pub documents_after : (ℕ → Option (List ℕ)) → List Document → List ℕ → Event → Answer → List Document
+-- the documents up to a revision, with null at each that they do not have. A session enters a room at its present revision, and all of
+-- these are there; or the room begins anew, above every revision that one of its name ever had
+abbrev pub reaching : ℕ → List Document → List Document
+reaching rev documents = documents ++ replicate (rev + 1 - length documents) null
+
+abbrev pub documents_after : (ℕ → Option Place) → List Document → List ℕ → Event → Answer → List Document
+documents_after homes documents name (Open room access) (Opened o) = if bytes_eq room name then reaching o.rev documents else documents
 documents_after homes documents name (Receive s text) (Heard (Answered short)) = extended documents (document_added documents name (homes s) text)
 documents_after homes documents name _ _ = documents
 
--- the documents of a room: null, and then one for each accepted edit
+-- the documents of the rooms of that name, one after another: null, and then one for each accepted edit, and null at each revision that was
+-- passed over where a room began anew
 abbrev pub documents : Log → List ℕ → List Document
 documents [] name = null ∷ []
 documents (e ∷ E) name = documents_after (home E) (documents E name) name e.event e.answer
 
 abbrev pub present : Log → List ℕ → Document
 present E name = present_of (documents E name)
+
+-- the revision at which the newest room of that name began
+abbrev pub beginning_after : ℕ → List Document → List ℕ → Event → Answer → ℕ
+beginning_after was documents name (Open room access) (Opened o) = if bytes_eq room name && nat_le (length documents) o.rev then o.rev else was
+beginning_after was documents name _ _ = was
+
+abbrev pub beginning : Log → List ℕ → ℕ
+beginning [] name = 0
+beginning (e ∷ E) name = beginning_after (beginning E name) (documents E name) name e.event e.answer
 
 -- What the sessions watch.
 
@@ -124,29 +152,29 @@ asked epoch documents was (Ok (Resume id e rev pointers)) =
     if e == epoch then resumes_from was rev pointers (slice_get documents rev) else Some (begun pointers nothing)
 asked epoch documents was _ = was
 
--- the same of a session that is open in a room
-abbrev pub asked_at_home : ℕ → (List ℕ → List Document) → Option Watching → Option (List ℕ) → List ℕ → Option Watching
-asked_at_home epoch documents was (Some name) text = asked epoch (documents name) was (request_of_text text)
-asked_at_home epoch documents was None text = was
+-- the same of a session that is open in a room, in a hub of that configuration
+abbrev pub asked_at_home : HubConfig → (List ℕ → List Document) → Option Watching → Option Place → List ℕ → Option Watching
+asked_at_home b documents was (Some home) text = asked b.epoch (documents home.room) was (affordable b.view_weight (request_of_text text))
+asked_at_home b documents was None text = was
 
 -- the watching of session s after an event
-abbrev pub watching_after : ℕ → (List ℕ → List Document) → Option (List ℕ) → Option Watching → ℕ → Event → Answer → Option Watching
-watching_after epoch documents home was s (Open name) (Opened t) = if t == s then None else was
-watching_after epoch documents home was s (Close t) Closed = if t == s then None else was
-watching_after epoch documents home was s (Receive t text) (Heard (Answered short)) = if t == s then asked_at_home epoch documents was home text else was
-watching_after epoch documents home was s (Draw t) (Drawn text) = if t == s then hearing text was else was
-watching_after epoch documents home was s _ _ = was
+abbrev pub watching_after : HubConfig → (List ℕ → List Document) → Option Place → Option Watching → ℕ → Event → Answer → Option Watching
+watching_after b documents home was s (Open name access) (Opened o) = if o.session == s then None else was
+watching_after b documents home was s (Close t) Closed = if t == s then None else was
+watching_after b documents home was s (Receive t text) (Heard (Answered short)) = if t == s then asked_at_home b documents was home text else was
+watching_after b documents home was s (Draw t) (Drawn text) = if t == s then hearing text was else was
+watching_after b documents home was s _ _ = was
 
--- what session s watches, if it does, in a hub of that epoch
-abbrev pub watching : ℕ → Log → ℕ → Option Watching
-watching epoch [] s = None
-watching epoch (e ∷ E) s = watching_after epoch (documents E) (home E s) (watching epoch E s) s e.event e.answer
+-- what session s watches, if it does, in a hub of that configuration
+abbrev pub watching : HubConfig → Log → ℕ → Option Watching
+watching b [] s = None
+watching b (e ∷ E) s = watching_after b (documents E) (home E s) (watching b E s) s e.event e.answer
 
 -- Numbers.
 
 -- how many sessions were opened, and how many are open
 abbrev pub opened_after : ℕ → Answer → ℕ
-opened_after n (Opened s) = n + 1
+opened_after n (Opened o) = n + 1
 opened_after n _ = n
 
 abbrev pub opened : Log → ℕ
@@ -154,7 +182,7 @@ opened [] = 0
 opened (e ∷ E) = opened_after (opened E) e.answer
 
 abbrev pub open_after : ℕ → Answer → ℕ
-open_after n (Opened s) = n + 1
+open_after n (Opened o) = n + 1
 open_after n Closed = n - 1
 open_after n _ = n
 

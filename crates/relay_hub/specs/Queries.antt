@@ -15,6 +15,7 @@ use Rattle.relay_tree.specs.declared.count.TheConstants.{MAX_COUNT}
 use Rattle.relay_view.specs.View.{view}
 use Rattle.relay_hub.specs.declared.config.HubConfig.{HubConfig}
 use Rattle.relay_hub.specs.declared.config.TheConstants.{MAX_ROOMS, MAX_SESSIONS}
+use Rattle.relay_hub.specs.Admitted.{admitted}
 use Rattle.relay_hub.specs.Refusal.{refused, edit_refusal}
 use Rattle.relay_hub.specs.Session.{Session, replied}
 use Rattle.relay_hub.specs.State.{RoomSessions, State, home_of, session_in, session_of, without_sessions}
@@ -53,12 +54,12 @@ pub record LeavesNoTrace (s : ℕ) (y : Session) (old new : State) : Type 0 wher
 
 -- a refused edit of session s changes no room and no other session, and adds one reply to its own
 pub record RefusesEdits (s : ℕ) (text : List ℕ) (old new : State) : Type 0 where
-  -- refused when it is read, like any text that is no request
+  -- refused when it is read, like any text that is no request, and like any edit of a session that only watches
   pub unread : (name : List ℕ) (g : RoomSessions) (x : Session) (r : Refusal)
-      → home_of old s ≡ Some (name, g) → session_in g.sessions s ≡ Some x → request_of_text text ≡ Err r
+      → home_of old s ≡ Some (name, g) → session_in g.sessions s ≡ Some x → admitted old.made.view_weight x.access (request_of_text text) ≡ Err r
       → LeavesNoTrace s (replied (refused r) x) old new
   -- refused by its room
   pub unmade : (name : List ℕ) (g : RoomSessions) (x : Session) (id : ℕ) (base : Option ℕ) (patch : List Op) (fault : EditFault)
       → home_of old s ≡ Some (name, g) → session_in g.sessions s ≡ Some x
-      → request_of_text text ≡ Ok (Edit id base patch) → edited g.room base patch ≡ Err fault
+      → admitted old.made.view_weight x.access (request_of_text text) ≡ Ok (Edit id base patch) → edited g.room base patch ≡ Err fault
       → (r : Reply) × (edit_refusal id fault ≡ Some r) × LeavesNoTrace s (replied r x) old new

@@ -15,6 +15,7 @@ abbrev pub hub_of : Inside → State
 hub_of h = record {
   made = h.made;
   next = h.next;
+  floor = h.floor;
   rooms = rooms_of h.rooms.entries;
   homes = h.homes.entries;
 }

@@ -1,9 +1,11 @@
 -- How one session changes: its view and its outbox.
-use Rattle.std.specs.Prelude.{ℕ, ◌≡◌, ◌+◌, false, length, List, [], ◌∷◌, ◌++◌, map, Option, Some, None, option_map, is_some, if◌then◌else◌, refl}
-use Rattle.std.specs.Coded.{Coded, code_by, coded×, coded_ℕ, coded_list, coded_option}
+use Rattle.std.specs.Prelude.{ℕ, ◌≡◌, ◌+◌, Bool, true, false, length, List, [], ◌∷◌, ◌++◌, map, Option, Some, None, option_map, is_some, if◌then◌else◌, refl}
+use Rattle.std.specs.Coded.{Coded, code_by, coded×, coded_bool, coded_ℕ, coded_list, coded_option}
 use Rattle.relay_outbox.specs.Outbox.{Contents, Foremost, reply, patch, snapshot, nothing, empty, with_reply, with_patch, folded, cleared, front_of, without_front, contents_code}
 use Rattle.relay_patch.specs.Weight.{ops_weight}
 use Rattle.relay_patch.specs.declared.op.Op.{Op}
+use Rattle.relay_proto.specs.declared.access.Access.{Access}
+use Rattle.relay_proto.specs.declared.access.Access.TheVariants.{ReadWrite, ReadOnly}
 use Rattle.relay_proto.specs.declared.message.Message.{Message}
 use Rattle.relay_proto.specs.declared.message.Message.TheVariants as message
 use Rattle.relay_proto.specs.declared.reply.ResumeOutcome.TheVariants as how
@@ -16,20 +18,22 @@ use Rattle.relay_tree.specs.Budget.{paid}
 use Rattle.relay_tree.specs.declared.budget.Budget.{Budget}
 use Rattle.relay_view.specs.View.{View, view}
 use Rattle.relay_view.specs.declared.slot.Slot.{Slot}
+use Rattle.relay_hub.specs.Admitted.{may_edit}
 use Rattle.relay_hub.specs.Config.{budget_code}
 use Rattle.relay_hub.specs.declared.config.HubConfig.{HubConfig}
 pub use Rattle.relay_hub.specs.EncodedPatch.{patch_message, message_text, ReadsBack}
 
--- a session: its number, the view that it watches, if it does, its outbox, and how much the waiting patches may weigh
+-- a session: its number, what it may do, the view that it watches, if it does, its outbox, and how much the waiting patches may weigh
 pub record Session : Type 0 where
   pub number : ℕ
+  pub access : Access
   pub view : Option View
   pub outbox : Contents Reply (ℕ × List Op)
   pub budget : Budget
 
 -- the session with another view and another outbox
 abbrev pub session_with : Option View → Contents Reply (ℕ × List Op) → Session → Session
-session_with pointers contents x = record { number = x.number; view = pointers; outbox = contents; budget = x.budget }
+session_with pointers contents x = record { number = x.number; access = x.access; view = pointers; outbox = contents; budget = x.budget }
 
 -- What holds of each session.
 pub record IsSession (x : Session) : Type 0 where
@@ -45,9 +49,10 @@ abbrev pub replied : Reply → Session → Session
 replied r x = with_outbox (with_reply r x.outbox) x
 
 -- a session that was just opened, in a room at that revision
-abbrev pub newcomer : HubConfig → ℕ → ℕ → Session
-newcomer made rev number = record {
+abbrev pub newcomer : HubConfig → Access → ℕ → ℕ → Session
+newcomer made access rev number = record {
   number = number;
+  access = access;
   view = None;
   outbox = with_reply (Welcome made.epoch rev number) (empty made.max_waiting_patches);
   budget = made.waiting_weight;
@@ -118,9 +123,20 @@ abbrev pub later : Room → View → Contents Reply (ℕ × List Op) → List Me
 later room pointers contents = map patch_message contents.patches ++ (if contents.due then snapshot_of room pointers ∷ [] else [])
 
 -- how the logic stores a session
+
+abbrev pub access_where : Bool → Access
+access_where may = if may then ReadWrite else ReadOnly
+
+pub access_kept : (a : Access) → access_where (may_edit a) ≡ a
+access_kept ReadWrite = refl
+access_kept ReadOnly = refl
+
+abbrev pub access_code : Coded Access
+access_code = code_by Bool coded_bool may_edit access_where access_kept
+
 abbrev pub session_code : Coded Slot → Coded Reply → Coded Op → Coded Session
-session_code slots replies ops = code_by (ℕ × (Option View × (Contents Reply (ℕ × List Op) × Budget)))
-    (coded× coded_ℕ (coded× (coded_option (coded_list slots)) (coded× (contents_code replies (coded× coded_ℕ (coded_list ops))) budget_code)))
-    (λ x. (x.number, (x.view, (x.outbox, x.budget))))
-    (λ p. record { number = p.0; view = p.1.0; outbox = p.1.1.0; budget = p.1.1.1 })
+session_code slots replies ops = code_by (ℕ × (Access × (Option View × (Contents Reply (ℕ × List Op) × Budget))))
+    (coded× coded_ℕ (coded× access_code (coded× (coded_option (coded_list slots)) (coded× (contents_code replies (coded× coded_ℕ (coded_list ops))) budget_code))))
+    (λ x. (x.number, (x.access, (x.view, (x.outbox, x.budget)))))
+    (λ p. record { number = p.0; access = p.1.0; view = p.1.1.0; outbox = p.1.1.1.0; budget = p.1.1.1.1 })
     (λ _. refl)

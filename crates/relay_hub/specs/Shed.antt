@@ -34,6 +34,7 @@ abbrev pub shed : State → State
 shed hub = record {
   made = hub.made;
   next = hub.next;
+  floor = hub.floor;
   rooms = map (shed_named (shed_budget hub.made.history_weight)) hub.rooms;
   homes = hub.homes;
 }

@@ -1,6 +1,6 @@
 -- When a hub stands for a log, that is, agrees with it: it has the documents, the sessions and the views of the log, and every watching
 -- client that applies what was drawn for it and what waits holds exactly its view of the present document.
-use Rattle.std.specs.Prelude.{ℕ, ◌≡◌, ⊤, ◌+◌, ◌-◌, ◌<◌, min, true, false, List, [], ◌∷◌, ◌++◌, Option, Some, None, length, slice_get, option_map}
+use Rattle.std.specs.Prelude.{ℕ, ◌≡◌, ⊤, ◌+◌, ◌-◌, ◌<◌, min, true, false, List, [], ◌∷◌, ◌++◌, Option, Some, None, length, slice_get, option_map, ◌≤◌, ◌⊎◌}
 use Rattle.std.specs.List.{AllByRecursion}
 use Rattle.relay_history.specs.History.{Reaches, changes_since}
 use Rattle.relay_patch.specs.Change.{Leads}
@@ -14,7 +14,7 @@ use Rattle.relay_room.specs.CatchUp.{IsSent}
 use Rattle.relay_room.specs.Room.{State as Room, IsRoom, revision}
 use Rattle.relay_tree.specs.Document.{Document, null}
 use Rattle.relay_view.specs.View.{View, view}
-use Rattle.relay_hub.specs.Log.{Log, Watching, home, is_opened, documents, present_of, watching, opened, open_count}
+use Rattle.relay_hub.specs.Log.{Log, Watching, Place, place, home, is_opened, documents, beginning, present_of, watching, opened, open_count}
 use Rattle.relay_hub.specs.Session.{Session, later}
 use Rattle.relay_hub.specs.State.{State, IsConfig, RoomSessions, place_of, home_of, place_named, session_in}
 use Rattle.relay_tree.specs.declared.budget.Budget.TheVariants.{Unbounded}
@@ -52,13 +52,15 @@ pub record Follows (documents : List Document) (w : Watching) (waiting : List Me
 
 -- What a hub holds.
 
--- a room has these documents, and keeps the changes of its last revisions: of as many as its limit allows, if nothing is bounded by weight
-pub record RoomStands (b : HubConfig) (documents : List Document) (room : Room) : Type 0 where
+-- a room that began at a revision has these documents, and keeps the changes of its last revisions: of as many as its limit allows, if
+-- nothing is bounded by weight
+pub record RoomStands (b : HubConfig) (beginning : ℕ) (documents : List Document) (room : Room) : Type 0 where
   pub document : room.document ≡ present_of documents
   pub made : revision room + 1 ≡ length documents
+  pub began : beginning ≤ revision room
   pub is : IsRoom room
   pub limit : room.history.limit ≡ b.history
-  pub held : b.history_weight ≡ Unbounded → length room.history.changes ≡ min b.history (revision room)
+  pub held : b.history_weight ≡ Unbounded → length room.history.changes ≡ min b.history (revision room - beginning)
   -- the changes since each revision that the history reaches back to lead from its document to the present one
   pub led : (rev : ℕ) (d : Document) → slice_get documents rev ≡ Some d → Reaches room.history rev → Leads d (changes_since rev room.history) room.document
   -- the changes of each revision that is kept lead from the document before it to its own
@@ -81,34 +83,39 @@ abbrev pub WatchStands : List Document → Room → Session → Option Watching 
 WatchStands documents room x (Some w) = (x.view ≡ Some w.view) × Follows documents w (later room w.view x.outbox)
 WatchStands documents room x None = (x.view ≡ None) × (x.outbox.patches ≡ []) × (x.outbox.due ≡ false)
 
-abbrev pub SessionStands : ℕ → (List ℕ → List Document) → List ℕ → Room → Option Session → Option (List ℕ) → Option Watching → Type 0
-SessionStands most documents name room (Some x) there w = (there ≡ Some name) × OutboxStands most x × WatchStands (documents name) room x w
+abbrev pub SessionStands : ℕ → (List ℕ → List Document) → List ℕ → Room → Option Session → Option Place → Option Watching → Type 0
+SessionStands most documents name room (Some x) there w = (there ≡ Some (place name x.access)) × OutboxStands most x × WatchStands (documents name) room x w
 SessionStands most documents name room None there w = ⊥
 
-abbrev pub RoomSessionsStand : ℕ → (List ℕ → List Document) → ℕ → Option (List ℕ × RoomSessions) → Option (List ℕ) → Option Watching → Type 0
+abbrev pub RoomSessionsStand : ℕ → (List ℕ → List Document) → ℕ → Option (List ℕ × RoomSessions) → Option Place → Option Watching → Type 0
 RoomSessionsStand most documents s (Some home) there w = SessionStands most documents home.0 home.1.room (session_in home.1.sessions s) there w
 RoomSessionsStand most documents s None there w = ⊥
 
 -- what holds of session s, whose room is at that place
-abbrev pub HomeStands : ℕ → (List ℕ → List Document) → List (List ℕ × RoomSessions) → ℕ → Option ℕ → Option (List ℕ) → Option Watching → Type 0
-HomeStands most documents rooms s (Some place) there w = RoomSessionsStand most documents s (slice_get rooms place) there w
+abbrev pub HomeStands : ℕ → (List ℕ → List Document) → List (List ℕ × RoomSessions) → ℕ → Option ℕ → Option Place → Option Watching → Type 0
+HomeStands most documents rooms s (Some at) there w = RoomSessionsStand most documents s (slice_get rooms at) there w
 HomeStands most documents rooms s None there w = there ≡ None
+
+-- a room that begins anew at the floor begins above the documents of its name, or there is only the first of them
+abbrev pub MayBegin : ℕ → List Document → Type 0
+MayBegin floor documents = (length documents ≤ floor) ⊎ (documents ≡ null ∷ [])
 
 pub record StandsFor (b : HubConfig) (E : Log) (hub : State) : Type 0 where
   pub made : hub.made ≡ b
+  pub floor : IsCount hub.floor
   pub is : IsConfig b
   pub next : hub.next ≡ b.first + opened E
   pub count : length hub.homes ≡ open_count E
   -- each room has the documents of its name
-  pub rooms : (place : ℕ) (name : List ℕ) (g : RoomSessions) → slice_get hub.rooms place ≡ Some (name, g) → RoomStands b (documents E name) g.room
+  pub rooms : (place : ℕ) (name : List ℕ) (g : RoomSessions) → slice_get hub.rooms place ≡ Some (name, g) → RoomStands b (beginning E name) (documents E name) g.room
   -- a room is found by its name
   pub names : (place : ℕ) (name : List ℕ) (g : RoomSessions) → slice_get hub.rooms place ≡ Some (name, g) → place_named name hub.rooms ≡ Some place
   -- there is no room of a name that was never opened
   pub known : (name : List ℕ) (place : ℕ) → place_named name hub.rooms ≡ Some place → is_opened E name ≡ true
-  -- no edit was accepted in a room that does not exist
-  pub others : (name : List ℕ) → place_named name hub.rooms ≡ None → documents E name ≡ null ∷ []
+  -- a room that does not exist may begin at the floor
+  pub others : (name : List ℕ) → place_named name hub.rooms ≡ None → MayBegin hub.floor (documents E name)
   -- the sessions that are open, with their views
-  pub sessions : (s : ℕ) → HomeStands b.max_waiting_patches (documents E) hub.rooms s (place_of hub s) (home E s) (watching b.epoch E s)
+  pub sessions : (s : ℕ) → HomeStands b.max_waiting_patches (documents E) hub.rooms s (place_of hub s) (home E s) (watching b E s)
 
 -- What follows for the clients of a hub that stands for a log.
 
@@ -116,12 +123,12 @@ pub record StandsFor (b : HubConfig) (E : Log) (hub : State) : Type 0 where
 -- document
 abbrev pub EachHoldsPresent : HubConfig → Log → State → Type 0
 EachHoldsPresent b E hub = (s : ℕ) (name : List ℕ) (g : RoomSessions) (x : Session) (w : Watching)
-    → home_of hub s ≡ Some (name, g) → session_in g.sessions s ≡ Some x → watching b.epoch E s ≡ Some w
+    → home_of hub s ≡ Some (name, g) → session_in g.sessions s ≡ Some x → watching b E s ≡ Some w
     → HoldsPresent (documents E name) w.view (client_after w.start (w.heard ++ later g.room w.view x.outbox))
 
 -- after each of these messages the client holds its view of the revision that the message names
 abbrev pub EachIsAtNamed : HubConfig → Log → State → Type 0
 EachIsAtNamed b E hub = (s : ℕ) (name : List ℕ) (g : RoomSessions) (x : Session) (w : Watching) (before after : List Message) (m : Message)
-    → home_of hub s ≡ Some (name, g) → session_in g.sessions s ≡ Some x → watching b.epoch E s ≡ Some w
+    → home_of hub s ≡ Some (name, g) → session_in g.sessions s ≡ Some x → watching b E s ≡ Some w
     → w.heard ++ later g.room w.view x.outbox ≡ before ++ m ∷ after
     → IsAtNamed (documents E name) w.view m (client_after w.start (before ++ m ∷ []))

@@ -1,5 +1,5 @@
 -- A hub as contracts see it: plain data, and how a session and a room are found in it.
-use Rattle.std.specs.Prelude.{◌≡◌, ⊤, ℕ, ◌≤◌, ◌==◌, nat_eq, nat_le, Bool, ◌&&◌, not, is_some, if◌then◌else◌, length, List, [], ◌∷◌, Option, Some, None, option_and_then, map, find, position, slice_get, bytes_eq, refl}
+use Rattle.std.specs.Prelude.{◌≡◌, ⊤, ℕ, ◌+◌, ◌≤◌, ◌==◌, max, nat_eq, nat_le, nat_lt, Bool, true, false, ◌&&◌, not, is_some, if◌then◌else◌, length, List, [], ◌∷◌, Option, Some, None, option_and_then, map, find, position, slice_get, bytes_eq, refl}
 use Rattle.std.specs.Coded.{Coded, code_by, coded×, coded_list, coded_ℕ}
 use Rattle.std.specs.List.Sorted.{IsStrictlyIncreasing}
 use Rattle.std.specs.Map.{lookup}
@@ -7,6 +7,7 @@ use Rattle.relay_history.specs.declared.history.TheConstants.{MAX_REVISIONS}
 use Rattle.relay_outbox.specs.declared.outbox.TheConstants.{MAX_PATCHES}
 use Rattle.relay_patch.specs.declared.change.Change.{Change}
 use Rattle.relay_room.specs.Room.{State as Room, state_code, revision}
+use Rattle.relay_tree.specs.Document.{Document, null}
 use Rattle.relay_tree.specs.declared.budget.Budget.TheVariants.{Unbounded}
 use Rattle.relay_tree.specs.declared.count.TheConstants.{MAX_COUNT}
 use Rattle.relay_hub.specs.Config.{config_code}
@@ -35,6 +36,7 @@ config epoch first history max_waiting_patches = record {
   history_weight = Unbounded;
   waiting_weight = Unbounded;
   telling_weight = Unbounded;
+  view_weight = Unbounded;
 }
 
 -- a valid configuration: epoch and first session number are counts, and the limits are in their ranges
@@ -45,17 +47,18 @@ pub record IsConfig (made : HubConfig) : Type 0 where
   pub history : (1 ≤ made.history) × (made.history ≤ MAX_REVISIONS)
   pub max_waiting_patches : (1 ≤ made.max_waiting_patches) × (made.max_waiting_patches ≤ MAX_PATCHES)
 
--- the configuration, the number of the next session, the rooms by name, each at its place (a new one comes last, or takes that of one that
--- is untouched), and for each open session the place of its room
+-- the configuration, the number of the next session, the revision at which a new room begins, the rooms by name, each at its place (a new
+-- one comes last, or takes that of one that makes place), and for each open session the place of its room
 pub record State : Type 0 where
   pub made : HubConfig
   pub next : ℕ
+  pub floor : ℕ
   pub rooms : List (List ℕ × RoomSessions)
   pub homes : List (ℕ × ℕ)
 
 -- a hub on which nothing was called yet
 abbrev pub made_with : HubConfig → State
-made_with c = record { made = c; next = c.first; rooms = []; homes = [] }
+made_with c = record { made = c; next = c.first; floor = 0; rooms = []; homes = [] }
 
 -- the same of a hub in which nothing is bounded by weight
 abbrev pub new_hub : ℕ → ℕ → ℕ → ℕ → State
@@ -96,13 +99,30 @@ session_of hub s = option_and_then (λ home. session_in home.1.sessions s) (home
 abbrev pub place_named : List ℕ → List (List ℕ × RoomSessions) → Option ℕ
 place_named name rooms = position (λ room. bytes_eq name room.0) rooms
 
--- nobody is in it, and no edit was ever accepted
-abbrev pub is_untouched : RoomSessions → Bool
-is_untouched g = (revision g.room == 0) && (length g.sessions == 0)
+abbrev pub is_null : Document → Bool
+is_null null = true
+is_null _ = false
 
--- the place that a new room takes from another: that of the first room that is untouched, if all places are taken
+-- a room that makes place for another one: nobody is in it, its document is null, and a revision above its own is left
+abbrev pub makes_place : RoomSessions → Bool
+makes_place g = is_null g.room.document && (length g.sessions == 0) && nat_lt (revision g.room) MAX_COUNT
+
+-- the place that a new room takes from another: that of the first room that makes place, if all places are taken
 abbrev pub vacant_place : ℕ → List (List ℕ × RoomSessions) → Option ℕ
-vacant_place most rooms = if nat_le most (length rooms) then position (λ room. is_untouched room.1) rooms else None
+vacant_place most rooms = if nat_le most (length rooms) then position (λ room. makes_place room.1) rooms else None
+
+-- a revision above all of a room that makes place; 0 for one in which no edit was ever accepted
+abbrev pub above : RoomSessions → ℕ
+above g = if revision g.room == 0 then 0 else revision g.room + 1
+
+-- the revision at which a new room begins that takes that place: no earlier one begins at a higher one, and every revision of a room that
+-- made place is lower
+abbrev pub floor_over : ℕ → Option (List ℕ × RoomSessions) → ℕ
+floor_over floor (Some room) = max floor (above room.1)
+floor_over floor None = floor
+
+abbrev pub floor_at : Option ℕ → State → ℕ
+floor_at place hub = floor_over hub.floor (option_and_then (slice_get hub.rooms) place)
 
 -- another room is wanted, all places are taken, and none is vacant
 abbrev pub is_crowded : Option ℕ → State → Bool
@@ -129,6 +149,8 @@ pub record Home (hub : State) (s : ℕ) : Type 0 where
 -- What holds of each hub.
 pub record IsHub (hub : State) : Type 0 where
   pub made : IsConfig hub.made
+  -- the revision at which a new room begins is a count
+  pub floor : hub.floor ≤ MAX_COUNT
   -- no session has the next number or a later one
   pub below : (t : ℕ) → hub.next ≤ t → place_of hub t ≡ None
   -- an open session is in its room
@@ -149,9 +171,9 @@ room_sessions_code change session = code_by (Room × List Session)
     (λ _. refl)
 
 abbrev pub hub_code : Coded Change → Coded Session → Coded State
-hub_code change session = code_by (HubConfig × (ℕ × (List (List ℕ × RoomSessions) × List (ℕ × ℕ))))
-    (coded× config_code (coded× coded_ℕ
-    (coded× (coded_list (coded× (coded_list coded_ℕ) (room_sessions_code change session))) (coded_list (coded× coded_ℕ coded_ℕ)))))
-    (λ h. (h.made, (h.next, (h.rooms, h.homes))))
-    (λ p. record { made = p.0; next = p.1.0; rooms = p.1.1.0; homes = p.1.1.1 })
+hub_code change session = code_by (HubConfig × (ℕ × (ℕ × (List (List ℕ × RoomSessions) × List (ℕ × ℕ)))))
+    (coded× config_code (coded× coded_ℕ (coded× coded_ℕ
+    (coded× (coded_list (coded× (coded_list coded_ℕ) (room_sessions_code change session))) (coded_list (coded× coded_ℕ coded_ℕ))))))
+    (λ h. (h.made, (h.next, (h.floor, (h.rooms, h.homes)))))
+    (λ p. record { made = p.0; next = p.1.0; floor = p.1.1.0; rooms = p.1.1.1.0; homes = p.1.1.1.1 })
     (λ _. refl)

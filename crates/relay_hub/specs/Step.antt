@@ -9,6 +9,7 @@ use Rattle.relay_patch.specs.declared.op.Op.{Op}
 use Rattle.relay_view.specs.View.{View}
 use Rattle.relay_proto.specs.Request.{request_of_text}
 use Rattle.relay_proto.specs.RoomName.{is_room_name}
+use Rattle.relay_proto.specs.declared.access.Access.{Access}
 use Rattle.relay_proto.specs.declared.refusal.Refusal.{Refusal}
 use Rattle.relay_proto.specs.declared.reply.Reply.{Reply}
 use Rattle.relay_proto.specs.declared.reply.Reply.TheVariants.{Done}
@@ -29,13 +30,15 @@ use Rattle.relay_hub.specs.declared.event.Answer.{Answer}
 use Rattle.relay_hub.specs.declared.event.Answer.TheVariants.{Opened, NotOpened, Heard, Drawn, Closed, NoSession}
 use Rattle.relay_hub.specs.declared.event.Event.{Event}
 use Rattle.relay_hub.specs.declared.event.Event.TheVariants.{Open, Receive, Draw, Close}
+use Rattle.relay_hub.specs.declared.event.Opening.{Opening}
 use Rattle.relay_hub.specs.declared.event.Heard.TheVariants.{Answered, Busy}
 use Rattle.relay_hub.specs.declared.fault.OpenFault.{OpenFault}
 use Rattle.relay_hub.specs.declared.fault.OpenFault.TheVariants.{RoomName, RoomsFull, SessionsFull, Exhausted}
+use Rattle.relay_hub.specs.Admitted.{admitted}
 use Rattle.relay_hub.specs.Allowance.{Allowance, whole, within, after_update}
 use Rattle.relay_hub.specs.Refusal.{refused, edit_refusal, future_refusal}
 use Rattle.relay_hub.specs.Session.{Session, with_outbox, replied, newcomer, watches, unwatches, resumes, notified_outbox, front_message, message_text, ReadsBack, drawn}
-use Rattle.relay_hub.specs.State.{RoomSessions, room_sessions, State, EachOnce, place_of, place_named, vacant_place, is_crowded, session_in}
+use Rattle.relay_hub.specs.State.{RoomSessions, room_sessions, State, EachOnce, place_of, place_named, vacant_place, floor_at, is_crowded, session_in}
 
 -- Within a room.
 
@@ -139,7 +142,7 @@ abbrev pub Receives : HubConfig → ℕ → Option Session → List ℕ → Answ
 Receives made s None text NoSession old new = new ≡ old
 Receives made s (Some x) text (Heard Busy) old new = (length x.outbox.replies ≡ MAX_REPLIES) × (new ≡ old)
 Receives made s (Some x) text (Heard (Answered short)) old new =
-    (length x.outbox.replies < MAX_REPLIES) × Serves made s x (request_of_text text) short old new
+    (length x.outbox.replies < MAX_REPLIES) × Serves made s x (admitted made.view_weight x.access (request_of_text text)) short old new
 Receives made s x text answer old new = ⊥
 
 abbrev pub Draws : ℕ → Option Session → Answer → RoomSessions → RoomSessions → Type 0
@@ -154,6 +157,7 @@ abbrev pub with_room : ℕ → List ℕ → RoomSessions → State → State
 with_room place name g hub = record {
   made = hub.made;
   next = hub.next;
+  floor = hub.floor;
   rooms = slice_set hub.rooms place (name, g);
   homes = hub.homes;
 }
@@ -179,39 +183,50 @@ open_fault hub name =
     if nat_le hub.made.sessions (length hub.homes) then Some SessionsFull else
     if nat_lt MAX_COUNT hub.next then Some Exhausted else None
 
--- a new room, with its first session, is the last one, or takes the place of one that is untouched
+-- a new room, with its first session, is the last one, or takes the place of one that makes place
 abbrev pub Founds : Option ℕ → List ℕ × RoomSessions → List (List ℕ × RoomSessions) → ℕ → List (List ℕ × RoomSessions) → Type 0
 Founds (Some i) room old place new = (place ≡ i) × (new ≡ slice_set old i room)
 Founds None room old place new = (place ≡ length old) × (new ≡ old ++ room ∷ [])
 
--- the new session n, which `made` gives for the room's revision, enters a room that is there, or a new one, whose document is null at
--- revision 0
-abbrev pub EntersRooms : ℕ → (ℕ → Session) → ℕ → ℕ → List ℕ → Option ℕ → List (List ℕ × RoomSessions) → ℕ → List (List ℕ × RoomSessions) → Type 0
-EntersRooms n made most history name (Some i) old place new = (place ≡ i)
+abbrev pub opening_of : ℕ → ℕ → Opening
+opening_of session rev = record { session = session; rev = rev }
+
+-- the new session, which `made` gives for the room's revision, enters a room that is there, or a new one, whose document is null at the
+-- floor
+abbrev pub EntersRooms : Opening → (ℕ → Session) → ℕ → ℕ → ℕ → List ℕ → Option ℕ → List (List ℕ × RoomSessions) → ℕ → List (List ℕ × RoomSessions) → Type 0
+EntersRooms o made most history floor name (Some i) old place new = (place ≡ i)
     × (known : List ℕ) × (g : RoomSessions) × (h : RoomSessions) × (slice_get old i ≡ Some (known, g))
     × (new ≡ slice_set old i (known, h))
-    × ChangesOnly n (Some (made (revision g.room))) g h
-EntersRooms n made most history name None old place new =
-    Founds (vacant_place most old) (name, room_sessions (begun null 0 history) (made 0 ∷ [])) old place new
+    × (o.rev ≡ revision g.room)
+    × ChangesOnly o.session (Some (made (revision g.room))) g h
+EntersRooms o made most history floor name None old place new =
+    (o.rev ≡ floor) × Founds (vacant_place most old) (name, room_sessions (begun null floor history) (made floor ∷ [])) old place new
 
--- the same in a hub, for its next session
-abbrev pub Enters : ℕ → List ℕ → Option ℕ → State → ℕ → State → Type 0
-Enters n name at old place new =
-    EntersRooms n (λ rev. newcomer old.made rev n) old.made.rooms old.made.history name at old.rooms place new.rooms
+-- the floor of a hub after a session entered a room that is there, or a new one
+abbrev pub floor_after : Option ℕ → State → ℕ
+floor_after (Some i) hub = hub.floor
+floor_after None hub = floor_at (vacant_place hub.made.rooms hub.rooms) hub
 
-pub record Opens (old : State) (name : List ℕ) (n : ℕ) (new : State) : Type 0 where
-  pub number : n ≡ old.next
-  pub next : new.next ≡ n + 1
+-- the same in a hub
+abbrev pub Enters : Opening → List ℕ → Access → Option ℕ → State → ℕ → State → Type 0
+Enters o name access at old place new =
+    EntersRooms o (λ rev. newcomer old.made access rev o.session) old.made.rooms old.made.history new.floor name at old.rooms place new.rooms
+
+pub record Opens (old : State) (name : List ℕ) (access : Access) (o : Opening) (new : State) : Type 0 where
+  pub number : o.session ≡ old.next
+  pub next : new.next ≡ o.session + 1
   pub made : new.made ≡ old.made
+  pub floor : new.floor ≡ floor_after (place_named name old.rooms) old
   pub place : ℕ
-  pub enters : Enters n name (place_named name old.rooms) old place new
-  pub home : (t : ℕ) → place_of new t ≡ (if n == t then Some place else place_of old t)
+  pub enters : Enters o name access (place_named name old.rooms) old place new
+  pub home : (t : ℕ) → place_of new t ≡ (if o.session == t then Some place else place_of old t)
   pub count : length new.homes ≡ length old.homes + 1
 
 -- session s is removed from its room, which stays, and is open nowhere
 pub record Closes (s place : ℕ) (name : List ℕ) (g : RoomSessions) (old : State) (new : State) : Type 0 where
   pub next : new.next ≡ old.next
   pub made : new.made ≡ old.made
+  pub floor : new.floor ≡ old.floor
   pub left : RoomSessions
   pub leaves : ChangesOnly s None g left
   pub rooms : new.rooms ≡ slice_set old.rooms place (name, left)
@@ -233,9 +248,9 @@ ClosesAt s None old answer new = (answer ≡ NoSession) × (new ≡ old)
 
 -- An event with its answer takes the hub from one state to the other.
 abbrev pub Step : State → Event → Answer → State → Type 0
-Step old (Open name) (Opened n) new = (open_fault old name ≡ None) × Opens old name n new
-Step old (Open name) (NotOpened fault) new = (open_fault old name ≡ Some fault) × (new ≡ old)
-Step old (Open name) answer new = ⊥
+Step old (Open name access) (Opened o) new = (open_fault old name ≡ None) × Opens old name access o new
+Step old (Open name access) (NotOpened fault) new = (open_fault old name ≡ Some fault) × (new ≡ old)
+Step old (Open name access) answer new = ⊥
 Step old (Receive s text) answer new = AtHome s old answer (λ g h. Receives old.made s (session_in g.sessions s) text answer g h) new
 Step old (Draw s) answer new = AtHome s old answer (λ g h. Draws s (session_in g.sessions s) answer g h) new
 Step old (Close s) answer new = ClosesAt s (place_of old s) old answer new

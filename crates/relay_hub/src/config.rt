@@ -44,6 +44,8 @@ pub struct HubConfig {
     pub waiting_weight: Budget,
     /// The most that the patches made for one edit may weigh together. A patch that several sessions share counts once.
     pub telling_weight: Budget,
+    /// The most that the pointers of a view may weigh together.
+    pub view_weight: Budget,
 }
 
 impl HubConfig {
@@ -61,6 +63,7 @@ impl HubConfig {
             history_weight: Budget::Unbounded,
             waiting_weight: Budget::Unbounded,
             telling_weight: Budget::Unbounded,
+            view_weight: Budget::Unbounded,
         }
     }
 

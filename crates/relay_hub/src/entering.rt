@@ -1,60 +1,70 @@
 //! Opening a session in a room. All memory is allocated before anything changes.
-ghost use Rattle.std.specs.Prelude.{◌≡◌, Some, None, [], ◌∷◌, ◌++◌, IfOk, OnOk, OnErr, length};
+ghost use Rattle.std.specs.Prelude.{◌≡◌, ◌≤◌, Some, None, [], ◌∷◌, ◌++◌, IfOk, OnOk, OnErr, length};
 ghost use Rattle.relay_room.specs.Room.{begun, revision};
 ghost use Rattle.relay_tree.specs.Document.{null};
+ghost use Rattle.relay_tree.specs.declared.count.TheConstants.{MAX_COUNT};
 ghost use Rattle.relay_hub.specs.Call.{IsAbove, IsFresh};
 ghost use Rattle.relay_hub.specs.Representation.{rooms_of};
 ghost use Rattle.relay_hub.specs.Session.{newcomer};
 ghost use Rattle.relay_hub.specs.State.{IsConfig, room_sessions, place_named, vacant_place};
-ghost use Rattle.relay_hub.specs.Step.{ChangesOnly, EntersRooms, Founds};
+ghost use Rattle.relay_hub.specs.Step.{ChangesOnly, EntersRooms, Founds, opening_of};
 
 use crate::config::HubConfig;
 use crate::room_sessions::RoomSessions;
 use crate::session::Session;
 use indexmap::IndexMap;
+use relay_proto::Access;
 use relay_room::{Room, RoomFault};
+use relay_tree::{Node, Tree};
 use std::alloc::{AllocError, Global};
 
-/// A session to be opened: its number, and the configuration of its hub.
+/// A session to be opened: its number, what it may do, the configuration of its hub, and the revision at which its room begins, if it is
+/// new.
 #[derive(Clone, Copy)]
 pub struct NewSession {
     pub number: u64,
+    pub access: Access,
     pub made: HubConfig,
+    pub floor: u64,
 }
 
 impl NewSession {
     /// Makes the session, for a room at revision `rev`.
     fn session(self, alloc: Global, rev: u64) -> Result<Session, AllocError>
         requires made { IsConfig self.made }
-        ensures { IfOk result (λ x. x ≡ newcomer self.made rev self.number) }
+        ensures { IfOk result (λ x. x ≡ newcomer self.made self.access rev self.number) }
     {
-        Session::new(alloc, self.made, rev, self.number)
+        Session::new(alloc, self.made, self.access, rev, self.number)
     }
 }
 
-/// Opens a session in the room at `place`, or in a new room if `place` is `None`. Returns the room's place. Out of memory changes nothing.
+/// Opens a session in the room at `place`, or in a new room if `place` is `None`. Returns the room's place, and its revision. Out of memory
+/// changes nothing.
 pub fn open_session(
     alloc: Global,
     rooms: &mut IndexMap<String, RoomSessions>,
     name: &str,
     place: Option<usize>,
     new_session: NewSession,
-) -> Result<usize, AllocError>
+) -> Result<(usize, u64), AllocError>
     requires place { place ≡ place_named name.now (rooms_of rooms.old.entries) }
     requires fresh { IsFresh new_session.number (rooms_of rooms.old.entries) }
     requires made { IsConfig new_session.made }
-    ensures ok { IfOk result (λ at. EntersRooms new_session.number (λ rev. newcomer new_session.made rev new_session.number) new_session.made.rooms new_session.made.history
-        name.now place (rooms_of rooms.old.entries) at (rooms_of rooms.new.entries)) }
+    requires floor { new_session.floor ≤ MAX_COUNT }
+    ensures ok { IfOk result (λ at. EntersRooms (opening_of new_session.number at.1) (λ rev. newcomer new_session.made new_session.access rev new_session.number)
+        new_session.made.rooms new_session.made.history new_session.floor name.now place (rooms_of rooms.old.entries) at.0 (rooms_of rooms.new.entries)) }
     ensures err { OnErr result (rooms_of rooms.new.entries ≡ rooms_of rooms.old.entries) }
 {
     let Some(place) = place else {
-        return begin_room(alloc, rooms, name, new_session);
+        let place = begin_room(alloc, rooms, name, new_session)?;
+        return Ok((place, new_session.floor));
     };
     let Some(room_sessions) = rooms.get_index_mut(place) else {
         unreachable!()
     };
+    let rev = room_sessions.room().revision();
     join_room(alloc, room_sessions, new_session)?;
-    Ok(place)
+    Ok((place, rev))
 }
 
 /// Opens a session in a room that is there.
@@ -65,7 +75,7 @@ fn join_room(
 ) -> Result<(), AllocError>
     requires fresh { IsAbove new_session.number room_sessions.old.sessions }
     requires made { IsConfig new_session.made }
-    ensures ok { OnOk result (ChangesOnly new_session.number (Some (newcomer new_session.made (revision room_sessions.old.room) new_session.number))
+    ensures ok { OnOk result (ChangesOnly new_session.number (Some (newcomer new_session.made new_session.access (revision room_sessions.old.room) new_session.number))
         room_sessions.old room_sessions.new) }
     ensures err { OnErr result (room_sessions.new ≡ room_sessions.old) }
 {
@@ -83,17 +93,27 @@ fn begin_room(
 ) -> Result<usize, AllocError>
     requires absent { place_named name.now (rooms_of rooms.old.entries) ≡ None }
     requires made { IsConfig new_session.made }
-    ensures ok { IfOk result (λ at. Founds (vacant_place new_session.made.rooms (rooms_of rooms.old.entries))
-        (name.now, room_sessions (begun null 0 new_session.made.history) (newcomer new_session.made 0 new_session.number ∷ []))
+    requires floor { new_session.floor ≤ MAX_COUNT }
+    ensures ok { IfOk result (λ at. Founds (vacant_place new_session.made.rooms (rooms_of rooms.old.entries)) (
+      name.now,
+      room_sessions (begun null new_session.floor new_session.made.history)
+          (newcomer new_session.made new_session.access new_session.floor new_session.number ∷ []),
+    )
         (rooms_of rooms.old.entries) at (rooms_of rooms.new.entries)) }
     ensures err { OnErr result (rooms_of rooms.new.entries ≡ rooms_of rooms.old.entries) }
 {
-    let room = match Room::new(alloc, new_session.made.history) {
+    let floor = new_session.floor;
+    let room = match Room::starting_at(
+        alloc,
+        Tree::from(Node::Null),
+        floor,
+        new_session.made.history,
+    ) {
         Ok(room) => room,
         Err(RoomFault::NoMemory) => return Err(AllocError),
         Err(_) => unreachable!(),
     };
-    let room_sessions = RoomSessions::begin(alloc, room, new_session.session(alloc, 0)?)?;
+    let room_sessions = RoomSessions::begin(alloc, room, new_session.session(alloc, floor)?)?;
     let vacant = vacant_place(new_session.made.rooms, rooms);
     let last = rooms.len();
     rooms.insert(String::from_str(alloc, name)?, room_sessions)?;
@@ -106,8 +126,7 @@ fn begin_room(
     }
 }
 
-/// The place of the first room that makes place for another one, if there are as many as there may be: nobody is in it, and no edit was
-/// ever accepted.
+/// The place of the first room that makes place for another one, if there are as many as there may be.
 pub fn vacant_place(most: u64, rooms: &IndexMap<String, RoomSessions>) -> Option<usize>
     ensures { result ≡ vacant_place most (rooms_of rooms.now.entries) }
 {
@@ -118,7 +137,7 @@ pub fn vacant_place(most: u64, rooms: &IndexMap<String, RoomSessions>) -> Option
         let Some((_, room_sessions)) = rooms.get_index(place) else {
             unreachable!()
         };
-        if room_sessions.is_untouched() {
+        if room_sessions.makes_place() {
             return Some(place);
         }
     }

@@ -1,14 +1,24 @@
 //! The events of a hub, and its answers.
 use crate::fault::OpenFault;
 use crate::text::Text;
+use relay_proto::Access;
 
 /// One event: one call of the hub.
 #[derive(Drop)]
 pub enum Event {
-    Open { room: Text },
+    Open { room: Text, access: Access },
     Receive { session: u64, text: Text },
     Draw { session: u64 },
     Close { session: u64 },
+}
+
+/// A session that was opened.
+#[derive(Clone, Copy, Debug, PartialEq, Eq)]
+pub struct Opening {
+    /// The number of the session, which is never used again.
+    pub session: u64,
+    /// The revision of its room, as `welcome` says it.
+    pub rev: u64,
 }
 
 /// The outcome of a received text.
@@ -24,8 +34,7 @@ pub enum Heard {
 /// The answer to an event.
 #[derive(Debug, Drop)]
 pub enum Answer {
-    /// The number of the new session.
-    Opened(u64),
+    Opened(Opening),
     NotOpened(OpenFault),
     Heard(Heard),
     /// The text at the front of the session's outbox; `None` if nothing waited.

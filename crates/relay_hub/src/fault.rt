@@ -18,7 +18,7 @@ pub enum OpenFault {
     /// The name is not 1 to 64 ASCII letters, digits, `-` and `_`.
     #[error("no name of a room")]
     RoomName,
-    /// No room has this name, there are as many rooms as the configuration allows, and none of them is untouched.
+    /// No room has this name, there are as many rooms as the configuration allows, and none of them makes place.
     #[error("too many rooms")]
     RoomsFull,
     /// As many sessions are open as the configuration allows.

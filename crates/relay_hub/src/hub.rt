@@ -3,14 +3,15 @@
 //! Each call is a step (`specs/Step`). A hub agrees with the log of the calls that it answered (`specs/Stands`): it has the documents,
 //! sessions and views of the log, and every client that watches, and applies what was drawn for it and what waits, in order, holds exactly
 //! its view of the present document. A call that returns `NoMemory` changes nothing.
-ghost use Rattle.std.specs.Prelude.{◌≡◌, ◌≢◌, ◌<◌, ◌⊎◌, ◌↔◌, [], ◌∷◌, ℕ, Some, None, Ok, IfOk, IfErr, IsErrOf, IsSomeAnd, IsTrue, OnOk, OnErr, length, option_map, slice_get};
+ghost use Rattle.std.specs.Prelude.{◌≡◌, ◌≢◌, ◌<◌, ◌≤◌, ◌⊎◌, ◌↔◌, [], ◌∷◌, ℕ, Some, None, Ok, IfOk, IfErr, IsErrOf, IsSomeAnd, IsTrue, OnOk, OnErr, length, option_map, slice_get};
 ghost use Rattle.relay_hub.specs.Call.{StepIf, opening, receiving, drawing, closing, logged, done, followed, Runs};
 ghost use Rattle.relay_hub.specs.Log.{Log, entry};
 ghost use Rattle.relay_hub.specs.State.{config, place_named, is_crowded, session_of, made_with, new_hub};
 ghost use Rattle.relay_hub.specs.Session.{waiting};
 ghost use Rattle.relay_hub.specs.Shed.{shed};
 ghost use Rattle.relay_hub.specs.Stands.{StandsFor, EachHoldsPresent, EachIsAtNamed};
-ghost use Rattle.relay_hub.specs.Step.{Step, open_fault};
+ghost use Rattle.relay_hub.specs.Step.{Step, open_fault, floor_after};
+ghost use Rattle.relay_tree.specs.declared.count.TheConstants.{MAX_COUNT};
 ghost use Rattle.relay_hub.specs.Summary.{shown_by, summary_of};
 ghost use Rattle.relay_hub.specs.Queries.{BadLimits, room_and_session, may_hear, truth, RefusesEdits};
 ghost use Rattle.relay_hub.specs.declared.config.HubConfig.{HubConfig};
@@ -20,7 +21,7 @@ ghost use Rattle.relay_hub.specs.declared.fault.HubNewFault.TheVariants.{BadLimi
 
 use crate::config::HubConfig;
 use crate::entering::{NewSession, open_session, vacant_place};
-use crate::event::{Answer, Event, Heard};
+use crate::event::{Answer, Event, Heard, Opening};
 use crate::fault::{HubFault, HubNewFault, NoSession, OpenFault, RunFault};
 use crate::message_counts::MessageCounts;
 use crate::room_sessions::RoomSessions;
@@ -30,7 +31,7 @@ use crate::summary::{RoomSummary, summary_of};
 use crate::text::Text;
 use crate::told::Told;
 use indexmap::IndexMap;
-use relay_proto::is_room_name;
+use relay_proto::{Access, is_room_name};
 use relay_room::Room;
 use relay_tree::{MAX_COUNT, Scratch, Tree};
 use std::alloc::{AllocError, Global};
@@ -42,7 +43,9 @@ pub struct Hub {
     made: HubConfig,
     /// The number of the next session. If it is above [`MAX_COUNT`], no number is left.
     next: u64,
-    /// The rooms by name, each at its place. A new one comes last, or takes the place of one that is untouched.
+    /// The revision at which a new room begins.
+    floor: u64,
+    /// The rooms by name, each at its place. A new one comes last, or takes the place of one that makes place.
     rooms: IndexMap<String, RoomSessions>,
     /// The place of each open session's room, by the session's number.
     homes: IndexMap<u64, usize>,
@@ -103,6 +106,7 @@ impl Hub {
         Ok(Hub {
             made,
             next: made.first,
+            floor: 0,
             rooms: IndexMap::new(alloc),
             homes: IndexMap::new(alloc),
             counts: MessageCounts::none(),
@@ -129,29 +133,53 @@ impl Hub {
         self.told.cost().saturating_add(self.counts.cost) / 1_000
     }
 
-    /// Opens a session in a room, and returns its number, which is never used again. If there is no room of that name, it is made, with the
-    /// document `null` at revision 0; if all places are taken, an untouched room makes place for it. A `Welcome` waits in the session's
-    /// outbox. An error leaves the hub unchanged. `NoMemory` comes only if no other error does.
-    pub fn open(&mut self, alloc: Global, room: &str) -> Result<u64, OpenFault>
-        ensures step { StepIf self.old (Open room.now) (opening result) self.new }
+    /// Opens a session in a room, which may edit there or only watch. If there is no room of that name, one begins, with the document
+    /// `null`; if all places are taken, it takes that of a room in which nobody is and whose document is `null`. It begins at a revision
+    /// above those of all rooms that made place, so that no client takes it for an earlier one; 0 as long as no edit was accepted in these.
+    /// A `Welcome` waits in the session's outbox. An error leaves the hub unchanged. `NoMemory` comes only if no other error does.
+    pub fn open(&mut self, alloc: Global, room: &str, access: Access) -> Result<Opening, OpenFault>
+        ensures step { StepIf self.old (Open room.now access) (opening result) self.new }
         ensures stands { (b : HubConfig) (E : Log) → StandsFor b E self.old →
-            StandsFor b (logged E (Open room.now) (opening result)) self.new }
+            StandsFor b (logged E (Open room.now access) (opening result)) self.new }
         ensures no_memory { IsErrOf result OpenFault.NoMemory → open_fault self.old room.now ≡ None }
     {
         let place = self.admit(room)?;
         let new_session = NewSession {
             number: self.next,
+            access,
             made: self.made,
+            floor: self.floor_after(place),
         };
         if self.homes.reserve(1).is_err() {
             return Err(OpenFault::NoMemory);
         }
-        let Ok(place) = open_session(alloc, &mut self.rooms, room, place, new_session) else {
+        let Ok((place, rev)) = open_session(alloc, &mut self.rooms, room, place, new_session) else {
             return Err(OpenFault::NoMemory);
         };
         let _ = self.homes.insert(new_session.number, place);
         self.next += 1;
-        Ok(new_session.number)
+        self.floor = new_session.floor;
+        Ok(Opening {
+            session: new_session.number,
+            rev,
+        })
+    }
+
+    /// The revision at which a new room begins once a session entered the room at `place`, or a new one.
+    fn floor_after(&self, place: Option<usize>) -> u64
+        ensures floor { result ≡ floor_after place self.now }
+        ensures count { result ≤ MAX_COUNT }
+    {
+        if place.is_some() {
+            return self.floor;
+        }
+        let Some(vacant) = vacant_place(self.made.rooms, &self.rooms) else {
+            return self.floor;
+        };
+        let Some((_, room_sessions)) = self.rooms.get_index(vacant) else {
+            unreachable!()
+        };
+        self.floor.max(room_sessions.above())
     }
 
     /// Returns the place of the room of that name, if there is one, or the first reason not to open a session there.
@@ -176,7 +204,7 @@ impl Hub {
         Ok(place)
     }
 
-    /// Whether another room is needed, there are as many as the configuration allows, and none of them is untouched.
+    /// Whether another room is needed, there are as many as the configuration allows, and none of them makes place.
     fn is_crowded(&self, place: Option<usize>) -> bool
         ensures { result ≡ is_crowded place self.now }
     {
@@ -368,8 +396,8 @@ impl Hub {
         ensures err { OnErr result (self.new ≡ self.old) }
     {
         match event {
-            Event::Open { room } => match self.open(alloc, room.as_str()) {
-                Ok(number) => Ok(Answer::Opened(number)),
+            Event::Open { room, access } => match self.open(alloc, room.as_str(), *access) {
+                Ok(opening) => Ok(Answer::Opened(opening)),
                 Err(OpenFault::NoMemory) => Err(AllocError),
                 Err(fault) => Ok(Answer::NotOpened(fault)),
             },

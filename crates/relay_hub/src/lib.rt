@@ -1,10 +1,11 @@
 //! The relay without sockets: rooms, sessions and events. One event is one call of [`Hub::open`], [`Hub::receive`], [`Hub::draw`] or
 //! [`Hub::close`]. A call ends before the next one starts, so concurrent clients are events in any order.
 //!
-//! Rooms are kept by name, and stay when their sessions are closed, until one in which no edit was ever accepted makes place for another. A
-//! session belongs to one room.
+//! Rooms are kept by name, and stay when their sessions are closed. One whose document is `null` and in which nobody is makes place for
+//! another when all places are taken. A session belongs to one room.
 #![tactic(auto)]
 
+mod admission;
 mod boxed_reply;
 mod broadcast;
 mod cached_update;
@@ -29,7 +30,7 @@ mod told;
 mod update;
 
 pub use config::{DEFAULT_ROOMS, DEFAULT_SESSIONS, HubConfig, MAX_ROOMS, MAX_SESSIONS};
-pub use event::{Answer, Event, Heard};
+pub use event::{Answer, Event, Heard, Opening};
 pub use fault::{HubFault, HubNewFault, NoSession, OpenFault, RunFault};
 pub use hub::Hub;
 pub use message_counts::{FaultCount, MessageCounts, SnapshotCounts};

@@ -2,7 +2,7 @@
 use relay_proto::{Reply, Word};
 
 /// How many words name the fault of a refusal.
-const FAULTS: usize = 19;
+const FAULTS: usize = 20;
 
 /// Why a snapshot is due.
 #[derive(Clone, Copy)]
@@ -84,6 +84,7 @@ impl MessageCounts {
                 zero(Word::Exhausted),
                 zero(Word::Stale),
                 zero(Word::Future),
+                zero(Word::ReadOnly),
             ],
             patches: 0,
             snapshots: SnapshotCounts {

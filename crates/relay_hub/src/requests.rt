@@ -13,6 +13,7 @@ ghost use Rattle.relay_hub.specs.Step.{EditServed, ResumeServed, Serves, OnlyAt}
 ghost use Rattle.relay_hub.specs.Told.{ChangesToldAnd};
 ghost use Rattle.relay_hub.specs.Watched.{IsIndexed};
 
+use crate::admission::read_admitted;
 use crate::boxed_reply::ReplySlot;
 use crate::broadcast::broadcast_and_trim;
 use crate::caller::{Caller, position_of, session_at, session_mut};
@@ -63,7 +64,8 @@ pub fn receive(
         return Err(HubFault::NoMemory);
     };
     told.count(cost::reading(text));
-    let served = match Request::read_with(alloc, text, scratch) {
+    let access = session_at(sessions, caller).access();
+    let served = match read_admitted(alloc, text, scratch, access, made.view_weight) {
         Ok(request) => perform(
             alloc, made, room, watches, sessions, caller, slot, request, told,
         ),

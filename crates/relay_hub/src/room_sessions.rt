@@ -1,4 +1,7 @@
 //! A room with its open sessions, and an index of the views that they watch, by which an edit finds the sessions that it touches.
+ghost use Rattle.std.specs.Prelude.{◌≡◌};
+ghost use Rattle.relay_hub.specs.State.{is_null};
+
 use crate::caller::{Caller, session_at};
 use crate::config::HubConfig;
 use crate::event::Heard;
@@ -10,7 +13,7 @@ use crate::shed::shed_sessions;
 use crate::told::Told;
 use relay_room::Room;
 use relay_translate::WatchIndex;
-use relay_tree::{Budget, Scratch};
+use relay_tree::{Budget, MAX_COUNT, Node, Scratch, Tree};
 use std::alloc::{AllocError, Global};
 use std::marker::Model;
 
@@ -39,11 +42,11 @@ impl Model for RoomSessions {
 }
 
 impl RoomSessions {
-    ghost use Rattle.std.specs.Prelude.{◌≡◌, ◌<◌, [], ◌∷◌, Some, None, IfOk, OnOk, OnErr, IsErrOf, IsSome, IsSomeAnd, length, option_map};
+    ghost use Rattle.std.specs.Prelude.{◌≡◌, ◌<◌, true, [], ◌∷◌, Some, None, IfOk, OnOk, OnErr, IsErrOf, IsSome, IsSomeAnd, length, option_map};
     ghost use Rattle.relay_hub.specs.Call.{receiving, drawing, ReceivesIf, DrawsIf, HasSpace, IsAbove};
     ghost use Rattle.relay_hub.specs.Session.{waiting};
     ghost use Rattle.relay_hub.specs.Shed.{shed_room};
-    ghost use Rattle.relay_hub.specs.State.{room_sessions, is_untouched, session_in};
+    ghost use Rattle.relay_hub.specs.State.{room_sessions, makes_place, above, session_in};
     ghost use Rattle.relay_hub.specs.Step.{ChangesOnly};
     ghost use Rattle.relay_hub.specs.Told.{ChangesToldAnd};
 
@@ -85,11 +88,25 @@ impl RoomSessions {
         load
     }
 
-    /// Whether it has no session and no edit was ever accepted, so that it is as if it had never been opened. Allocates nothing.
-    pub fn is_untouched(&self) -> bool
-        ensures { result ≡ is_untouched self.now }
+    /// Whether it makes place for another room: its document is `null`, nobody is in it, and a revision above its own is left. Allocates
+    /// nothing.
+    pub fn makes_place(&self) -> bool
+        ensures { result ≡ makes_place self.now }
     {
-        self.room.revision() == 0 && self.sessions.is_empty()
+        is_null(self.room.document())
+            && self.sessions.is_empty()
+            && self.room.revision() < MAX_COUNT
+    }
+
+    /// A revision above all of its own, if it makes place; 0 if no edit was ever accepted. Allocates nothing.
+    pub fn above(&self) -> u64
+        requires { makes_place self.now ≡ true }
+        ensures { result ≡ above self.now }
+    {
+        match self.room.revision() {
+            0 => 0,
+            rev => rev + 1,
+        }
     }
 
     /// The session with that number, which is there. Allocates nothing.
@@ -174,4 +191,10 @@ impl RoomSessions {
             counts,
         )
     }
+}
+
+fn is_null(tree: &Tree) -> bool
+    ensures { result ≡ is_null tree.now }
+{
+    matches!(tree.node, Node::Null)
 }

@@ -7,17 +7,18 @@ use crate::shared_view::SharedView;
 use crate::update::Update;
 use crate::{cost, load};
 use relay_outbox::{Front, Outbox, OutboxFault};
-use relay_proto::{Reply, shown_text};
+use relay_proto::{Access, Reply, shown_text};
 use relay_room::Room;
 use relay_tree::Budget;
 use std::alloc::{AllocError, Global};
 use std::marker::Model;
 
-/// An open session. Contracts see it as its number, the view that it watches, if any, its outbox, and what the patches there may weigh. If
+/// An open session. Contracts see it as its number, what it may do, the view that it watches, if any, its outbox, and what the patches there may weigh. If
 /// it watches nothing, only replies wait.
 #[derive(Drop)]
 pub struct Session {
     number: u64,
+    access: Access,
     view: Option<SharedView>,
     outbox: Outbox<BoxedReply, EncodedPatch>,
     /// The most that the waiting patches may weigh together.
@@ -39,9 +40,9 @@ impl Model for Session {
 
     ghost coded = { session_code slot.the_row.coded reply.the_row.coded op.the_row.coded };
 
-    ghost view = { λ x. record { number = x.number; view = x.view; outbox = x.outbox; budget = x.budget } };
+    ghost view = { λ x. record { number = x.number; access = x.access; view = x.view; outbox = x.outbox; budget = x.budget } };
 
-    ghost invariant = { λ x. IsSession (record { number = x.number; view = x.view; outbox = x.outbox; budget = x.budget }) × IsLoad x.budget x.load x.outbox };
+    ghost invariant = { λ x. IsSession (record { number = x.number; access = x.access; view = x.view; outbox = x.outbox; budget = x.budget }) × IsLoad x.budget x.load x.outbox };
 }
 
 impl Session {
@@ -54,10 +55,16 @@ impl Session {
     ghost use Rattle.relay_hub.specs.Session.{with_outbox, replied, newcomer, watches, unwatches, resumes, front_message, message_text, ReadsBack, waiting, drawn};
 
     /// Makes a session in a room at revision `rev`. It watches nothing, and a `Welcome` waits in its outbox.
-    pub fn new(alloc: Global, made: HubConfig, rev: u64, number: u64) -> Result<Session, AllocError>
+    pub fn new(
+        alloc: Global,
+        made: HubConfig,
+        access: Access,
+        rev: u64,
+        number: u64,
+    ) -> Result<Session, AllocError>
         requires some { 1 ≤ made.max_waiting_patches }
         requires not_too_many { made.max_waiting_patches ≤ MAX_PATCHES }
-        ensures { IfOk result (λ x. x ≡ newcomer made rev number) }
+        ensures { IfOk result (λ x. x ≡ newcomer made access rev number) }
     {
         let mut outbox = match Outbox::new(alloc, made.max_waiting_patches) {
             Ok(outbox) => outbox,
@@ -75,6 +82,7 @@ impl Session {
         };
         Ok(Session {
             number,
+            access,
             view: None,
             outbox,
             budget: made.waiting_weight,
@@ -88,6 +96,13 @@ impl Session {
         ensures { result ≡ self.now.number }
     {
         self.number
+    }
+
+    /// What the session may do in its room.
+    pub fn access(&self) -> Access
+        ensures { result ≡ self.now.access }
+    {
+        self.access
     }
 
     /// The view that the session watches, if any.

@@ -1,7 +1,8 @@
 //! The calls of a hub, as acts of rows. A number behind the word is a session, or the place of a room.
 use crate::shared::{Came, at_revision, number, owned, words};
 use crate::weights::WATCHING;
-use relay_hub::{Hub, HubConfig, HubFault, MessageCounts};
+use relay_hub::{Hub, HubConfig, HubFault, MessageCounts, OpenFault};
+use relay_proto::Access;
 use relay_tree::{Budget, Tree};
 use relay_wire::{Subject, cut, play};
 use std::alloc::{AllocGlobal, Global};
@@ -36,13 +37,20 @@ impl<R: AllocGlobal> Subject<R> for Hubs {
         let hub = &mut self.hub;
         match word {
             "new" => begin_anew(alloc, hub, config_of(rest)?),
-            "open" => words(alloc, hub.open(alloc, rest)),
+            "open" => words(alloc, opened(alloc, hub, rest, Access::ReadWrite)),
+            "open-to-watch" => words(alloc, opened(alloc, hub, rest, Access::ReadOnly)),
+            "begin" => words(alloc, hub.open(alloc, rest, Access::ReadWrite)),
             "told" => words(alloc, hub.told().sessions.as_slice()),
             "shed" => give_memory_back(alloc, hub),
             "counts" => counted(alloc, hub.message_counts()),
             _ => act_on_one(alloc, hub, word, rest),
         }
     }
+}
+
+/// The number of the session.
+fn opened(alloc: Global, hub: &mut Hub, room: &str, access: Access) -> Result<u64, OpenFault> {
+    Ok(hub.open(alloc, room, access)?.session)
 }
 
 /// What comes of an act on a session, whose number stands in front of the text, if there is one.
@@ -98,6 +106,8 @@ fn set(config: &mut HubConfig, name: &str, value: u64) -> Option<()> {
         "history-weight" => config.history_weight = Budget::Left(value),
         "waiting-weight" => config.waiting_weight = Budget::Left(value),
         "telling-weight" => config.telling_weight = Budget::Left(value),
+        "view-weight" => config.view_weight = Budget::Left(value),
+        "rooms" => config.rooms = value,
         _ => return None,
     }
     Some(())

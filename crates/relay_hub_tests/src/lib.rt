@@ -27,6 +27,8 @@ mod replies;
 #[cfg(test)]
 mod room;
 #[cfg(test)]
+mod rooms;
+#[cfg(test)]
 mod runs;
 #[cfg(test)]
 mod shake;

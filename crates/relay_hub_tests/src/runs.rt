@@ -2,6 +2,7 @@
 //! `tests/refuse-allocations` can distinguish out of memory from a wrong answer.
 use crate::shared::{Came, at_revision, owned, words};
 use relay_hub::{Answer, Event, Hub, HubFault, Text};
+use relay_proto::Access;
 use std::alloc::{AllocError, AllocGlobal, Global};
 use std::process::Abort;
 use std::test::Fail;
@@ -19,7 +20,10 @@ fn text_of(alloc: Global, text: &str) -> Result<Text, AllocError> {
 fn events(alloc: Global) -> Result<Vec<Event>, AllocError> {
     let mut events = Vec::new(alloc);
     let room = text_of(alloc, "r")?;
-    events.push(Event::Open { room })?;
+    events.push(Event::Open {
+        room,
+        access: Access::ReadWrite,
+    })?;
     for text in SAID.lines() {
         let text = text_of(alloc, text)?;
         events.push(Event::Receive { session: 1, text })?;
@@ -31,7 +35,7 @@ fn events(alloc: Global) -> Result<Vec<Event>, AllocError> {
 }
 
 /// The answers to these events, as text, a line each.
-const ANSWERS: &str = r#"Opened(1)
+const ANSWERS: &str = r#"Opened(Opening { session: 1, rev: 0 })
 Heard(Answered { short: 0 })
 Heard(Answered { short: 0 })
 Heard(Answered { short: 0 })

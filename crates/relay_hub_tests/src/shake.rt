@@ -1,5 +1,6 @@
 //! Tests of what no contract states: that the definitions mean RFC 6455, and that the calls succeed.
 use crate::shared::{Came, number, owned, repeated, words};
+use relay_proto::Access;
 use relay_shake::{Shake, refusal, shake};
 use relay_wire::{Subject, cut, play};
 use std::alloc::{AllocGlobal, Global};
@@ -11,8 +12,9 @@ const SAMPLE: &str =
 const SWITCH: &str =
     "HTTP/1.1 101 Switching Protocols\r\nUpgrade: websocket\r\nConnection: Upgrade\r\nSec-WebSocket-Accept: ";
 
-/// Of an acceptance a row wants the room and the accept value, and of a refusal the status. `s3pPLMBiTxaQ9kYGzzhZRbK+xOo=` is the accept
-/// value of the sample's key (RFC 6455, section 1.3).
+/// Of an acceptance a row wants the room, `read-only` if that is the access, and the accept value,
+/// and of a refusal the status. `s3pPLMBiTxaQ9kYGzzhZRbK+xOo=` is the accept value of the sample's
+/// key (RFC 6455, section 1.3).
 const ROWS: &str = r"
 # Accepts handshakes.
 sample => a s3pPLMBiTxaQ9kYGzzhZRbK+xOo=
@@ -22,6 +24,21 @@ with Upgrade: websocket -> uPGRADE: WebSocket => a s3pPLMBiTxaQ9kYGzzhZRbK+xOo=
 with keep-alive, Upgrade -> keep-alive,\t upgrade ,x => a s3pPLMBiTxaQ9kYGzzhZRbK+xOo=
 with Connection: keep-alive, Upgrade -> connection: close\r\nCONNECTION: Upgrade => a s3pPLMBiTxaQ9kYGzzhZRbK+xOo=
 with Sec-WebSocket-Key -> sec-websocket-key => a s3pPLMBiTxaQ9kYGzzhZRbK+xOo=
+
+# Behind a room's name stands `/watch` for a session that only watches. A room may be named `watch`.
+with /rooms/a -> /rooms/a/watch => a read-only s3pPLMBiTxaQ9kYGzzhZRbK+xOo=
+with /rooms/a -> /rooms/watch => watch s3pPLMBiTxaQ9kYGzzhZRbK+xOo=
+with /rooms/a -> /rooms/watch/watch => watch read-only s3pPLMBiTxaQ9kYGzzhZRbK+xOo=
+with /rooms/a -> /rooms/watch/watch/watch => 404
+with /rooms/a -> /rooms/a/watch/ => 404
+with /rooms/a -> /rooms/a/watch/watch => 404
+with /rooms/a -> /rooms/a/Watch => 404
+with /rooms/a -> /rooms/a/watch?x=1 => 404
+with /rooms/a -> /rooms//watch => 404
+with /rooms/a -> /rooms/a%2Fwatch => 404
+with /rooms/a -> /watch => 404
+with GET /rooms/a -> POST /rooms/a/watch => 405
+with /rooms/a HTTP/1.1 -> /rooms/a/watch HTTP/1.0 => 400
 
 # Refuses by the first check that fails.
 with GET -> POST => 405
@@ -142,22 +159,26 @@ fn answer_with_lines(alloc: Global, count: u64) -> Came {
 fn answer_to(alloc: Global, bytes: &[u8]) -> Came {
     match shake(alloc, bytes).ok()? {
         Shake::More => owned(alloc, MORE),
-        Shake::Accept { room, reply } => acceptance_in_words(
-            alloc,
-            room.as_str(),
-            reply.as_slice(),
-        ),
+        Shake::Accept {
+            room,
+            access,
+            reply,
+        } => acceptance_in_words(alloc, room.as_str(), access, reply.as_slice()),
         Shake::Refuse { status, reply } => refusal_in_words(alloc, status, reply.as_slice()),
     }
 }
 
 const MORE: &str = "more";
 
-/// An acceptance, as text: the room and the accept value, if the rest of the reply is as it should be.
-fn acceptance_in_words(alloc: Global, room: &str, reply: &[u8]) -> Came {
+/// An acceptance, as text: the room, the access if it is `read-only`, and the accept value, if the
+/// rest of the reply is as it should be.
+fn acceptance_in_words(alloc: Global, room: &str, access: Access, reply: &[u8]) -> Came {
     let reply = String::from_utf8_lossy(alloc, reply).ok()?;
     let value = accept_value(reply.as_str()).unwrap_or("and another reply");
-    format!(in alloc; "{room} {value}").ok()
+    match access {
+        Access::ReadWrite => format!(in alloc; "{room} {value}").ok(),
+        Access::ReadOnly => format!(in alloc; "{room} read-only {value}").ok(),
+    }
 }
 
 fn accept_value(reply: &str) -> Option<&str> {

@@ -4,6 +4,7 @@ use Rattle.relay_follow.specs.declared.fault.HearFault.{HearFault}
 use Rattle.relay_follow.specs.declared.fault.HearFault.TheVariants.{NoMemory}
 use Rattle.relay_hub.specs.declared.event.Event.{Event}
 use Rattle.relay_hub.specs.declared.fault.HubFault.{HubFault}
+use Rattle.relay_proto.specs.declared.access.Access.{Access}
 use Rattle.relay_tree.specs.Document.{Document}
 use Rattle.relay_lines.specs.Line.{Act, opens, says, draws, closes, shows, tells, Form, blank, unknown, named}
 use Rattle.relay_lines.specs.Script.{Stage, stage, Opens, Closes, ActsOpen, Goes, Attends, OnlyName, ActsNew, ActsNamed, Does, Answers, client_of}
@@ -33,10 +34,10 @@ module _ {S T : Type 0} (comes : Transporting S) (telling : Telling S) (others :
   abbrev seen : Stage S → Stage T
   seen s = stage (see s.transport) s.clients
 
-  opens_seen : (name room : List ℕ) (session : Option ℕ) (p q : ScriptClient) (old new : S) (answer : List ℕ)
-      → Opens comes name room session p old q new answer → Opens others name room session p (see old) q (see new) answer
-  opens_seen name room (Some s) p q old new answer (kept, same, text) = (kept, ap see same, text)
-  opens_seen name room None p q old new answer (outcome, came, left, text) = (outcome, same_comes old new _ outcome came, left, text)
+  opens_seen : (name room : List ℕ) (access : Access) (session : Option ℕ) (p q : ScriptClient) (old new : S) (answer : List ℕ)
+      → Opens comes name room access session p old q new answer → Opens others name room access session p (see old) q (see new) answer
+  opens_seen name room access (Some s) p q old new answer (kept, same, text) = (kept, ap see same, text)
+  opens_seen name room access None p q old new answer (outcome, came, left, text) = (outcome, same_comes old new _ outcome came, left, text)
 
   closes_seen : (name : List ℕ) (s : ℕ) (p q : ScriptClient) (old new : S) (answer : List ℕ)
       → Closes comes name s p old q new answer → Closes others name s p (see old) q (see new) answer
@@ -44,7 +45,7 @@ module _ {S T : Type 0} (comes : Transporting S) (telling : Telling S) (others :
 
   acts_seen : (name : List ℕ) (act : Act) (session : Option ℕ) (p q : ScriptClient) (old new : S) (answer : List ℕ)
       → ActsOpen comes telling name act session p old q new answer → ActsOpen others tellings name act session p (see old) q (see new) answer
-  acts_seen name (opens room) session p q old new answer h = opens_seen name room session p q old new answer h
+  acts_seen name (opens room access) session p q old new answer h = opens_seen name room access session p q old new answer h
   acts_seen name (says text) (Some s) p q old new answer (outcome, came, kept, written) = (outcome, same_comes old new _ outcome came, kept, written)
   acts_seen name draws (Some s) p q old new answer (outcome, came, drawn) = (outcome, same_comes old new _ outcome came, drawn)
   acts_seen name closes (Some s) p q old new answer h = closes_seen name s p q old new answer h
@@ -65,7 +66,7 @@ module _ {S T : Type 0} (comes : Transporting S) (telling : Telling S) (others :
   attends_seen name act p q old new answer (mid, fault, hears, goes) = (mid, fault, hears, goes_seen name act fault _ q old new answer goes)
 
   begins_seen : (name : List ℕ) (act : Act) (old new : Stage S) (answer : List ℕ) → ActsNew comes name act old new answer → ActsNew others name act (seen old) (seen new) answer
-  begins_seen name (opens room) old new answer (outcome, came, entered, text) = (outcome, same_comes old.transport new.transport _ outcome came, entered, text)
+  begins_seen name (opens room access) old new answer (outcome, came, entered, text) = (outcome, same_comes old.transport new.transport _ outcome came, entered, text)
   begins_seen name (says text) old new answer (same, kept, written) = (ap see same, kept, written)
   begins_seen name draws old new answer (same, kept, written) = (ap see same, kept, written)
   begins_seen name closes old new answer (same, kept, written) = (ap see same, kept, written)

@@ -3,6 +3,8 @@ use Rattle.std.specs.Prelude.{◌≡◌, ℕ, List, [], ◌∷◌, length, Bool,
 use Rattle.std.specs.Char.{is_ascii_alphanumeric}
 use Rattle.std.specs.List.{list_all, position_or_len, before_first, after_first}
 use Rattle.std.specs.Str.{IsUtf8}
+use Rattle.relay_proto.specs.declared.access.Access.{Access}
+use Rattle.relay_proto.specs.declared.access.Access.TheVariants.{ReadWrite, ReadOnly}
 use Rattle.relay_lines.specs.declared.line.Asks.{Asks}
 use Rattle.relay_lines.specs.declared.line.Asks.TheVariants as asks
 use Rattle.relay_lines.specs.declared.line.Line.{Line}
@@ -11,7 +13,7 @@ use Rattle.relay_lines.specs.declared.line.Line.TheVariants as line
 
 -- the command for a name
 pub data Act : Type 0 where
-  opens : List ℕ → Act
+  opens : List ℕ → Access → Act
   says : List ℕ → Act
   draws : Act
   closes : Act
@@ -26,6 +28,12 @@ pub data Form : Type 0 where
 
 abbrev pub is_space : ℕ → Bool
 is_space b = nat_eq b 32
+
+abbrev pub is_slash : ℕ → Bool
+is_slash b = nat_eq b 47
+
+abbrev pub has_slash : List ℕ → Bool
+has_slash s = nat_lt (position_or_len is_slash s) (length s)
 
 abbrev pub has_space : List ℕ → Bool
 has_space s = nat_lt (position_or_len is_space s) (length s)
@@ -43,9 +51,15 @@ alone word =
     if bytes_eq word (codes "held") then Some shows else
     if bytes_eq word (codes "truth") then Some tells else None
 
+-- the opening of a session: of `ROOM`, or of `ROOM/watch` to watch only
+abbrev pub opening_of : List ℕ → Act
+opening_of target =
+    if has_slash target && bytes_eq (after_first is_slash target) (codes "watch")
+    then opens (before_first is_slash target) ReadOnly else opens target ReadWrite
+
 abbrev pub with_rest : List ℕ → List ℕ → Option Act
 with_rest word rest =
-    if bytes_eq word (codes "open") then Some (opens rest) else
+    if bytes_eq word (codes "open") then Some (opening_of rest) else
     if bytes_eq word (codes "say") then Some (says rest) else None
 
 abbrev pub act_in : List ℕ → Option Act
@@ -77,7 +91,7 @@ LineIs (b ∷ s) form = LineBegins (b == 35) (b ∷ s) form
 -- the code's types as plain data
 
 abbrev pub act_of : Asks → Act
-act_of (asks.Open room) = opens room.now
+act_of (asks.Open room access) = opens room.now access
 act_of (asks.Say text) = says text.now
 act_of asks.Draw = draws
 act_of asks.Close = closes

@@ -9,6 +9,7 @@ use Rattle.relay_hub.specs.declared.config.HubConfig.{HubConfig}
 use Rattle.relay_hub.specs.declared.event.Answer.TheVariants.{Drawn}
 use Rattle.relay_hub.specs.declared.event.Event.TheVariants.{Open, Receive, Draw, Close}
 use Rattle.relay_hub.specs.declared.fault.HubFault.{HubFault}
+use Rattle.relay_proto.specs.declared.access.Access.{Access}
 use Rattle.relay_tree.specs.Document.{Document}
 use Rattle.relay_lines.specs.Line.{Act, opens, says, draws, closes, shows, tells, Form, blank, unknown, named, LineIs}
 use Rattle.relay_lines.specs.Transport.{Transporting, Telling, session_after, HubComes, HubTells}
@@ -84,9 +85,9 @@ module _ {T : Type 0} (comes : Transporting T) where
   -- Commands for a name that was opened before.
 
   -- an opening: refused if the name has an open session
-  abbrev pub Opens : List ℕ → List ℕ → Option ℕ → ScriptClient → T → ScriptClient → T → List ℕ → Type 0
-  Opens name room (Some s) p old q new answer = (q ≡ p) × (new ≡ old) × (answer ≡ taken_text name)
-  Opens name room None p old q new answer = (outcome : Outcome) × comes old (Open room) outcome new
+  abbrev pub Opens : List ℕ → List ℕ → Access → Option ℕ → ScriptClient → T → ScriptClient → T → List ℕ → Type 0
+  Opens name room access (Some s) p old q new answer = (q ≡ p) × (new ≡ old) × (answer ≡ taken_text name)
+  Opens name room access None p old q new answer = (outcome : Outcome) × comes old (Open room access) outcome new
       × (q ≡ client (session_after outcome None) p.follower) × (answer ≡ outcome_text name outcome)
 
   -- the closing of session s
@@ -96,14 +97,14 @@ module _ {T : Type 0} (comes : Transporting T) where
 
   -- for a name that was never opened: any command but an opening is unknown
   abbrev pub ActsNew : List ℕ → Act → Stage T → Stage T → List ℕ → Type 0
-  ActsNew name (opens room) old new answer = (outcome : Outcome) × comes old.transport (Open room) outcome new.transport
+  ActsNew name (opens room access) old new answer = (outcome : Outcome) × comes old.transport (Open room access) outcome new.transport
       × Enters name (session_after outcome None) old.clients new.clients × (answer ≡ outcome_text name outcome)
   ActsNew name _ old new answer = (new.transport ≡ old.transport) × (new.clients ≡ old.clients) × (answer ≡ unknown_text name)
 
 module _ {T : Type 0} (comes : Transporting T) (telling : Telling T) where
   -- a command for a name that was opened before, whose session is open or closed
   abbrev pub ActsOpen : List ℕ → Act → Option ℕ → ScriptClient → T → ScriptClient → T → List ℕ → Type 0
-  ActsOpen name (opens room) session p old q new answer = Opens comes name room session p old q new answer
+  ActsOpen name (opens room access) session p old q new answer = Opens comes name room access session p old q new answer
   ActsOpen name (says text) (Some s) p old q new answer = (outcome : Outcome) × comes old (Receive s text) outcome new
       × (q ≡ p) × (answer ≡ outcome_text name outcome)
   ActsOpen name draws (Some s) p old q new answer = (outcome : Outcome) × comes old (Draw s) outcome new × DrawsAs name outcome p q answer

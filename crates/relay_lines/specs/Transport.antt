@@ -24,7 +24,7 @@ Telling T = T → ℕ → Result (Option (ℕ × Document)) HubFault → Type 0
 
 -- the session that a name has after an outcome, by its session before
 abbrev pub session_after : Outcome → Option ℕ → Option ℕ
-session_after (Answered (Opened s)) was = Some s
+session_after (Answered (Opened o)) was = Some o.session
 session_after (Answered Closed) was = None
 session_after _ was = was
 
@@ -37,7 +37,7 @@ outcome_of None = NoMemory
 
 -- an event that may be out of memory: the hub would serve it otherwise. A close allocates nothing, so it never is.
 abbrev pub TakesMemory : Hub → Event → Type 0
-TakesMemory hub (Open name) = open_fault hub name ≡ None
+TakesMemory hub (Open name access) = open_fault hub name ≡ None
 TakesMemory hub (Receive s text) = IsTrue (may_hear (session_of hub s))
 TakesMemory hub (Draw s) = IsSomeAnd (option_map waiting (session_of hub s)) (λ n. 0 < n)
 TakesMemory hub (Close s) = ⊥

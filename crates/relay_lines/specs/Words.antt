@@ -39,7 +39,7 @@ taken_text name = name ++ codes " refused name-taken\n"
 -- answers of the hub
 
 abbrev pub answer_text : List ℕ → Answer → List ℕ
-answer_text name (Opened s) = name ++ (codes " opened " ++ (decimal s ++ codes "\n"))
+answer_text name (Opened o) = name ++ (codes " opened " ++ (decimal o.session ++ codes "\n"))
 answer_text name (NotOpened fault) = name ++ (codes " refused " ++ (open_word fault ++ codes "\n"))
 answer_text name (Heard (Answered zero)) = name ++ codes " answered\n"
 answer_text name (Heard (Answered (suc n))) = name ++ (codes " answered short " ++ (decimal (suc n) ++ codes "\n"))

@@ -1,7 +1,8 @@
 //! The lines of a script: `NAME WORD` or `NAME WORD REST`, with single spaces.
 ghost use Rattle.std.specs.Prelude.{◌≡◌, option_map};
-ghost use Rattle.relay_lines.specs.Line.{LineIs, form_of, with_rest, alone, act_in, act_of, named_form, is_name, shown};
+ghost use Rattle.relay_lines.specs.Line.{LineIs, form_of, with_rest, alone, act_in, act_of, named_form, is_name, opening_of, shown};
 
+use relay_proto::Access;
 use std::str;
 
 /// A parsed line.
@@ -17,8 +18,8 @@ pub enum Line<'a> {
 /// The command for a name.
 #[derive(Clone, Copy, Debug, PartialEq, Eq)]
 pub enum Asks<'a> {
-    /// Opens a session in the named room.
-    Open(&'a str),
+    /// Opens a session in the named room, with this access.
+    Open { room: &'a str, access: Access },
     /// Sends a text.
     Say(&'a str),
     /// Draws the next text from the session's outbox, and applies it to the name's follower.
@@ -75,9 +76,26 @@ fn with_rest<'a>(word: &str, rest: &'a str) -> Option<Asks<'a>>
     ensures { option_map act_of result ≡ with_rest word.now rest.now }
 {
     match word {
-        "open" => Some(Asks::Open(rest)),
+        "open" => Some(opening_of(rest)),
         "say" => Some(Asks::Say(rest)),
         _ => None,
+    }
+}
+
+/// The opening of a session: of `ROOM`, or of `ROOM/watch` to watch only. The same text behind
+/// `/rooms/` is the target of its handshake.
+fn opening_of(target: &str) -> Asks<'_>
+    ensures { act_of result ≡ opening_of target.now }
+{
+    match target.split_once('/') {
+        Some((room, "watch")) => Asks::Open {
+            room,
+            access: Access::ReadOnly,
+        },
+        _ => Asks::Open {
+            room: target,
+            access: Access::ReadWrite,
+        },
     }
 }
 

@@ -23,7 +23,7 @@ impl Outcome {
         ensures { result ≡ session_after self.now was }
     {
         match self {
-            Outcome::Answered(Answer::Opened(session)) => Some(*session),
+            Outcome::Answered(Answer::Opened(opening)) => Some(opening.session),
             Outcome::Answered(Answer::Closed) => None,
             _ => was,
         }

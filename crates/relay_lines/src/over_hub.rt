@@ -5,7 +5,8 @@ ghost use Rattle.relay_lines.specs.Transport.{outcome_of};
 
 use crate::outcome::Outcome;
 use crate::transport::Transport;
-use relay_hub::{Answer, Heard, Hub, HubFault, NoSession, OpenFault, Text};
+use relay_hub::{Answer, Heard, Hub, HubFault, NoSession, OpenFault, Opening, Text};
+use relay_proto::Access;
 use relay_tree::Tree;
 use std::alloc::{AllocError, Global};
 
@@ -16,8 +17,13 @@ impl Transport for Hub {
 
     ghost tells = { HubTells };
 
-    fn open_session(&mut self, alloc: Global, room: &str) -> Result<Outcome, AllocError> {
-        Ok(opened(self.open(alloc, room)))
+    fn open_session(
+        &mut self,
+        alloc: Global,
+        room: &str,
+        access: Access,
+    ) -> Result<Outcome, AllocError> {
+        Ok(opened(self.open(alloc, room, access)))
     }
 
     fn say(&mut self, alloc: Global, session: u64, text: &str) -> Result<Outcome, AllocError> {
@@ -41,11 +47,11 @@ impl Transport for Hub {
     }
 }
 
-fn opened(opened: Result<u64, OpenFault>) -> Outcome
+fn opened(opened: Result<Opening, OpenFault>) -> Outcome
     ensures { result ≡ outcome_of (opening opened) }
 {
     match opened {
-        Ok(session) => Outcome::Answered(Answer::Opened(session)),
+        Ok(opening) => Outcome::Answered(Answer::Opened(opening)),
         Err(OpenFault::NoMemory) => Outcome::NoMemory,
         Err(fault) => Outcome::Answered(Answer::NotOpened(fault)),
     }

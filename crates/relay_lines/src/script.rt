@@ -10,6 +10,7 @@ use crate::script_client::ScriptClient;
 use crate::transport::Transport;
 use crate::words::{Words, unknown_form};
 use indexmap::IndexMap;
+use relay_proto::Access;
 use std::alloc::{AllocError, Global};
 
 /// The number of the first session, in a script and in a server.
@@ -50,7 +51,13 @@ impl<T: Transport + Drop> Script<T> {
             (string_bytes answer)) }
     {
         match asks {
-            Asks::Open(room) => open_first(words, &mut self.transport, &mut self.clients, room),
+            Asks::Open { room, access } => open_first(
+                words,
+                &mut self.transport,
+                &mut self.clients,
+                room,
+                access,
+            ),
             _ => words.unknown(),
         }
     }
@@ -74,11 +81,12 @@ fn open_first<T: Transport>(
     transport: &mut T,
     clients: &mut IndexMap<String, ScriptClient>,
     room: &str,
+    access: Access,
 ) -> Result<String, AllocError>
-    ensures { IfOk result (λ answer. ActsNew T.comes words.now.name.now (opens room.now)
+    ensures { IfOk result (λ answer. ActsNew T.comes words.now.name.now (opens room.now access)
         (stage transport.old (clients_of clients.old)) (stage transport.new (clients_of clients.new)) (string_bytes answer)) }
 {
-    let outcome = transport.open_session(words.alloc, room)?;
+    let outcome = transport.open_session(words.alloc, room, access)?;
     if let Some(session) = outcome.session_after(None) {
         add(clients, words, session)?;
     }

@@ -11,6 +11,7 @@ use crate::transport::Transport;
 use crate::words::Words;
 use relay_follow::HearFault;
 use relay_hub::Answer;
+use relay_proto::Access;
 use std::alloc::AllocError;
 
 #[derive(Drop)]
@@ -81,7 +82,7 @@ impl ScriptClient {
             self.old transport.old self.new transport.new (string_bytes answer)) }
     {
         match (asks, self.session) {
-            (Asks::Open(room), _) => self.open(words, transport, room),
+            (Asks::Open { room, access }, _) => self.open(words, transport, room, access),
             (Asks::Held, _) => words.held(&self.follower.follower),
             (_, None) => words.unknown(),
             (Asks::Say(text), Some(session)) => {
@@ -106,14 +107,15 @@ impl ScriptClient {
         words: &Words<'_>,
         transport: &mut T,
         room: &str,
+        access: Access,
     ) -> Result<String, AllocError>
-        ensures { IfOk result (λ answer. Opens T.comes words.now.name.now room.now self.old.session
+        ensures { IfOk result (λ answer. Opens T.comes words.now.name.now room.now access self.old.session
             self.old transport.old self.new transport.new (string_bytes answer)) }
     {
         if self.session.is_some() {
             return words.taken();
         }
-        let outcome = transport.open_session(words.alloc, room)?;
+        let outcome = transport.open_session(words.alloc, room, access)?;
         self.session = outcome.session_after(None);
         words.outcome(&outcome)
     }

@@ -8,6 +8,7 @@ ghost use Rattle.relay_lines.specs.declared.outcome.Outcome.{Outcome};
 
 use crate::outcome::Outcome;
 use relay_hub::HubFault;
+use relay_proto::Access;
 use relay_tree::Tree;
 use std::alloc::{AllocError, Global};
 
@@ -19,9 +20,14 @@ pub trait Transport {
     // A state, a session, and the result of `truth_of` for them.
     ghost tells: { Self → ℕ → Result (Option (ℕ × Document)) HubFault → Type 0 };
 
-    /// Opens a session in a room.
-    fn open_session(&mut self, alloc: Global, room: &str) -> Result<Outcome, AllocError>
-        ensures { IfOk result (λ outcome. comes self.old (Open room.now) outcome self.new) };
+    /// Opens a session in a room, with this access.
+    fn open_session(
+        &mut self,
+        alloc: Global,
+        room: &str,
+        access: Access,
+    ) -> Result<Outcome, AllocError>
+        ensures { IfOk result (λ outcome. comes self.old (Open room.now access) outcome self.new) };
 
     /// Sends a text from a session.
     fn say(&mut self, alloc: Global, session: u64, text: &str) -> Result<Outcome, AllocError>

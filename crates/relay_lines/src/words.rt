@@ -66,7 +66,10 @@ impl Words<'_> {
     {
         let (alloc, name) = (self.alloc, self.name);
         match answer {
-            Answer::Opened(session) => format!(in alloc; "{name} opened {session}\n"),
+            Answer::Opened(opening) => {
+                let session = opening.session;
+                format!(in alloc; "{name} opened {session}\n")
+            }
             Answer::NotOpened(fault) => {
                 let word = open_word(*fault);
                 format!(in alloc; "{name} refused {word}\n")

@@ -5,16 +5,16 @@ use Rattle.std.proofs.lemmas.List.Elements.{Contains-append_left, Contains-push}
 use Rattle.relay_hub.specs.declared.event.Answer.{Answer}
 use Rattle.relay_hub.specs.declared.event.Event.{Event}
 use Rattle.relay_hub.specs.declared.event.Event.TheVariants.{Open, Receive, Draw, Close}
-use Rattle.relay_link.specs.Follows.{Point, IsOwn, session_after, Follows, stays, makes}
+use Rattle.relay_link.specs.Follows.{Point, Rooms, IsOwn, session_after, Follows, stays, makes}
 
 -- the link still has the session, or its close was made
 abbrev pub IsKept : ℕ → Option ℕ → List Event → Type 0
 IsKept s session made = (session ≡ Some s) ⊎ Contains made (Close s)
 
 -- one more event preserves this
-kept_on : (rooms : List ℕ → Type 0) (s : ℕ) (session : Option ℕ) (made : List Event) (event : Event) (answer : Answer) → session ≡ Some s → IsOwn rooms session event
+kept_on : (rooms : Rooms) (s : ℕ) (session : Option ℕ) (made : List Event) (event : Event) (answer : Answer) → session ≡ Some s → IsOwn rooms session event
     → IsKept s (session_after session event answer) (made ++ event ∷ [])
-kept_on rooms s session made (Open room) answer h own = let none = own.0 in cc (h, none)
+kept_on rooms s session made (Open room access) answer h own = let none = own.0 in cc (h, none)
 kept_on rooms s session made (Receive t text) answer h own = inl h
 kept_on rooms s session made (Draw t) answer h own = inl h
 kept_on rooms s session made (Close t) answer h own =
@@ -22,7 +22,7 @@ kept_on rooms s session made (Close t) answer h own =
     inr (subst (λ x. Contains (made ++ Close x ∷ []) (Close s)) (sym same) (Contains-push made (Close s)))
 
 -- after a point with session s the link still has s, or its close was made
-pub kept : {rooms : List ℕ → Type 0} {p q : Point} → Follows rooms p q → (s : ℕ) → p.session ≡ Some s → IsKept s q.session q.made
+pub kept : {rooms : Rooms} {p q : Point} → Follows rooms p q → (s : ℕ) → p.session ≡ Some s → IsKept s q.session q.made
 kept stays s h = inl h
 kept (makes {q = q} event answer f own step) s h = elim (kept f s h) [
   | inl there ↦ kept_on _ s q.session q.made event answer there own
@@ -30,5 +30,5 @@ kept (makes {q = q} event answer f own step) s h = elim (kept f s h) [
 ]
 
 -- if the session is gone, its close was made
-pub closed : {rooms : List ℕ → Type 0} {p q : Point} → Follows rooms p q → (s : ℕ) → p.session ≡ Some s → q.session ≡ None → Contains q.made (Close s)
+pub closed : {rooms : Rooms} {p q : Point} → Follows rooms p q → (s : ℕ) → p.session ≡ Some s → q.session ≡ None → Contains q.made (Close s)
 closed f s h gone = elim (kept f s h) [ inl there ↦ cc | inr made ↦ made ]

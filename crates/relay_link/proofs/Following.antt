@@ -9,12 +9,13 @@ use Rattle.relay_hub.specs.declared.event.Event.{Event}
 use Rattle.relay_hub.specs.declared.event.Event.TheVariants.{Open, Receive, Draw, Close}
 use Rattle.relay_hub.specs.declared.fault.OpenFault.{OpenFault}
 use Rattle.relay_hub.specs.declared.fault.OpenFault.TheVariants as fault
+use Rattle.relay_proto.specs.declared.access.Access.{Access}
 use Rattle.relay_link.specs.Asks.{asked_by}
 use Rattle.relay_link.specs.Stage.{session_of}
 use Rattle.relay_link.specs.declared.state.State.{State}
-use Rattle.relay_link.specs.Follows.{Point, at, IsOwn, no_room, session_after, Follows, stays, makes}
+use Rattle.relay_link.specs.Follows.{Point, Rooms, at, IsOwn, no_room, session_after, Follows, stays, makes}
 
-module _ {rooms : List ℕ → Type 0} where
+module _ {rooms : Rooms} where
   -- no event was made
   pub follows_same : (old new : Hub) (session mine : Option ℕ) (before after : List Event) → new ≡ old → mine ≡ session → after ≡ before
       → Follows rooms (at old session before) (at new mine after)
@@ -34,18 +35,18 @@ module _ {rooms : List ℕ → Type 0} where
   follows_then f (makes event answer g own step) = makes event answer (follows_then f g) own step
 
 -- other rooms may be opened as well
-pub follows_wider : {rooms wider : List ℕ → Type 0} {p q : Point} → ((room : List ℕ) → rooms room → wider room) → Follows rooms p q → Follows wider p q
+pub follows_wider : {rooms wider : Rooms} {p q : Point} → ((room : List ℕ) (access : Access) → rooms room access → wider room access) → Follows rooms p q → Follows wider p q
 follows_wider more stays = stays
 follows_wider {rooms = rooms} {wider = wider} more (makes {q = q} event answer before own step) = makes event answer (follows_wider more before) (wider_own q.session event own) step
   where
     wider_own : (session : Option ℕ) (event : Event) → IsOwn rooms session event → IsOwn wider session event
-    wider_own session (Open room) own = (own.0, more room own.1)
+    wider_own session (Open room access) own = (own.0, more room access own.1)
     wider_own session (Receive s text) own = own
     wider_own session (Draw s) own = own
     wider_own session (Close s) own = own
 
-pub follows_none : {rooms : List ℕ → Type 0} {p q : Point} → Follows no_room p q → Follows rooms p q
-follows_none = follows_wider (λ room none. absurd none)
+pub follows_none : {rooms : Rooms} {p q : Point} → Follows no_room p q → Follows rooms p q
+follows_none = follows_wider (λ room access none. absurd none)
 
 -- the same of an equal state
 pub follows_from : {S : Type 0} {hub : Hub} {made : List Event} {q : Point} (remaining : S → Option (List ℕ)) (old state : State S) → state ≡ old → Follows (asked_by remaining state) (at hub (session_of state) made) q
@@ -58,11 +59,11 @@ unanswered old new event None e s = s
 unanswered old new event (Some answer) e s = cc
 
 -- an opening that was refused with an answer is one event, and opens no session
-pub follows_refused : {rooms : List ℕ → Type 0} (old new : Hub) (before after : List Event) (room : List ℕ) (fault : OpenFault)
-    → after ≡ before ++ Open room ∷ [] → true ≡ is_some (not_opened fault) → StepIf old (Open room) (not_opened fault) new
-    → rooms room → Follows rooms (at old None before) (at new None after)
-follows_refused old new before after room fault.RoomName m e s asked = follows_one old new None before after (Open room) (NotOpened fault.RoomName) m (refl, asked) s
-follows_refused old new before after room fault.RoomsFull m e s asked = follows_one old new None before after (Open room) (NotOpened fault.RoomsFull) m (refl, asked) s
-follows_refused old new before after room fault.SessionsFull m e s asked = follows_one old new None before after (Open room) (NotOpened fault.SessionsFull) m (refl, asked) s
-follows_refused old new before after room fault.Exhausted m e s asked = follows_one old new None before after (Open room) (NotOpened fault.Exhausted) m (refl, asked) s
-follows_refused old new before after room fault.NoMemory m e s asked = cc
+pub follows_refused : {rooms : Rooms} (old new : Hub) (before after : List Event) (room : List ℕ) (access : Access) (fault : OpenFault)
+    → after ≡ before ++ Open room access ∷ [] → true ≡ is_some (not_opened fault) → StepIf old (Open room access) (not_opened fault) new
+    → rooms room access → Follows rooms (at old None before) (at new None after)
+follows_refused old new before after room access fault.RoomName m e s asked = follows_one old new None before after (Open room access) (NotOpened fault.RoomName) m (refl, asked) s
+follows_refused old new before after room access fault.RoomsFull m e s asked = follows_one old new None before after (Open room access) (NotOpened fault.RoomsFull) m (refl, asked) s
+follows_refused old new before after room access fault.SessionsFull m e s asked = follows_one old new None before after (Open room access) (NotOpened fault.SessionsFull) m (refl, asked) s
+follows_refused old new before after room access fault.Exhausted m e s asked = follows_one old new None before after (Open room access) (NotOpened fault.Exhausted) m (refl, asked) s
+follows_refused old new before after room access fault.NoMemory m e s asked = cc

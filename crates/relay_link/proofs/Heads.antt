@@ -4,7 +4,8 @@ use Rattle.std.specs.Io.KnownBytes.{Consumes}
 use Rattle.std.proofs.KnownBytes.{Consumes-nil}
 use Rattle.relay_shake.specs.Shaken.{AnswersHead, AnswersNoHead}
 use Rattle.relay_shake.specs.declared.answer.Shake.{Shake}
-use Rattle.relay_link.specs.Asks.{accepted_room, Asks, awaits_head, Receives}
+use Rattle.relay_proto.specs.declared.access.Access.{Access}
+use Rattle.relay_link.specs.Asks.{accepted, Asks, awaits_head, Receives}
 use Rattle.relay_link.specs.Stage.{stage_of, IsForward}
 use Rattle.relay_link.specs.Stream.{stream_of}
 use Rattle.relay_link.specs.declared.stage.Stage.TheVariants as stage
@@ -17,10 +18,10 @@ pub extended : {T E : Type 0} (result : Result T E) (old new more : List ℕ) �
 extended (Ok done) old new more fits same = same
 extended (Err fault) old new more fits same = absurd (cc fits)
 
--- bytes with those that one read took are a head that asks for the room
-pub asks_with : (received taken whole room : List ℕ) (left rest : Option (List ℕ)) (answer : Shake) → whole ≡ received ++ taken → Consumes left rest taken → length taken ≤ MAX_READ
-    → AnswersHead whole answer → AnswersNoHead whole answer → accepted_room answer ≡ Some room → Asks received left room
-asks_with received taken whole room left rest answer same first one_read head no_head accepts = record {
+-- bytes with those that one read took are a head that asks for the room with the access
+pub asks_with : (received taken whole room : List ℕ) (access : Access) (left rest : Option (List ℕ)) (answer : Shake) → whole ≡ received ++ taken → Consumes left rest taken → length taken ≤ MAX_READ
+    → AnswersHead whole answer → AnswersNoHead whole answer → accepted answer ≡ Some (room, access) → Asks received left room access
+asks_with received taken whole room access left rest answer same first one_read head no_head accepts = record {
   taken = taken;
   rest = rest;
   first = first;

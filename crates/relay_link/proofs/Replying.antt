@@ -9,6 +9,7 @@ use Rattle.relay_shake.specs.Shaken.{AnswersHead, AnswersNoHead}
 use Rattle.relay_shake.specs.Replies.{refusal_of}
 use Rattle.relay_shake.specs.declared.answer.Shake.{Shake}
 use Rattle.relay_shake.specs.declared.answer.Shake.TheVariants.{Accept, Refuse}
+use Rattle.relay_proto.specs.declared.access.Access.{Access}
 use Rattle.relay_hub.specs.State.{State as Hub}
 use Rattle.relay_hub.specs.declared.event.Event.{Event}
 use Rattle.relay_link.specs.Hears.{Passes, HasReadNothing, BeginsFresh, PassesTexts}
@@ -64,13 +65,13 @@ module _ {S : Type 0} (contents : S → Option (List ℕ)) where
       (subst (λ w. Appends before (written contents w) reply) (sym fresh.on_stream) all, is, read_nothing)
 
   -- the reply of a head that is accepted
-  pub replies_open : (before : Option (List ℕ)) (room : String Global) (reply : Vec ℕ Global) (s : ℕ) (state : State S) → WritesReply contents before (Entered s) reply.items state
-      → RepliesTo contents before (Accept room reply) state
-  replies_open before room reply s state writes = record { verdict = Entered s; reply = reply.items; is = refl; writes = writes }
+  pub replies_open : (before : Option (List ℕ)) (room : String Global) (access : Access) (reply : Vec ℕ Global) (s : ℕ) (state : State S) → WritesReply contents before (Entered s) reply.items state
+      → RepliesTo contents before (Accept room access reply) state
+  replies_open before room access reply s state writes = record { verdict = Entered s; reply = reply.items; is = refl; writes = writes }
 
-  pub replies_refused : (before : Option (List ℕ)) (room : String Global) (reply refused : Vec ℕ Global) (state : State S) → refused.items ≡ refusal_of 503
-      → WritesReply contents before (Refused 503) refused.items state → RepliesTo contents before (Accept room reply) state
-  replies_refused before room reply refused state is writes = record { verdict = Refused 503; reply = refused.items; is = (refl, is); writes = writes }
+  pub replies_refused : (before : Option (List ℕ)) (room : String Global) (access : Access) (reply refused : Vec ℕ Global) (state : State S) → refused.items ≡ refusal_of 503
+      → WritesReply contents before (Refused 503) refused.items state → RepliesTo contents before (Accept room access reply) state
+  replies_refused before room access reply refused state is writes = record { verdict = Refused 503; reply = refused.items; is = (refl, is); writes = writes }
 
   -- the reply of a head that is refused
   pub replies_refuse : (before : Option (List ℕ)) (status : ℕ) (reply : Vec ℕ Global) (state : State S) → WritesReply contents before (Refused status) reply.items state
@@ -78,8 +79,8 @@ module _ {S : Type 0} (contents : S → Option (List ℕ)) where
   replies_refuse before status reply state writes = record { verdict = Refused status; reply = reply.items; is = (refl, refl); writes = writes }
 
   -- the stream is gone
-  pub replies_gone : (before : Option (List ℕ)) (room : String Global) (reply : Vec ℕ Global) (state : State S) → state ≡ Gone → RepliesTo contents before (Accept room reply) state
-  replies_gone before room reply state gone = rw gone (record { verdict = Refused 503; reply = refusal_of 503; is = (refl, refl); writes = tt })
+  pub replies_gone : (before : Option (List ℕ)) (room : String Global) (access : Access) (reply : Vec ℕ Global) (state : State S) → state ≡ Gone → RepliesTo contents before (Accept room access reply) state
+  replies_gone before room access reply state gone = rw gone (record { verdict = Refused 503; reply = refusal_of 503; is = (refl, refl); writes = tt })
 
 module _ {S : Type 0} (remaining contents : S → Option (List ℕ)) where
   -- a turn that changes nothing

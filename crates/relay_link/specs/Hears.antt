@@ -17,7 +17,7 @@ use Rattle.relay_link.specs.declared.state.State.TheVariants as state
 -- the text that an event passes to the hub, if it passes one
 abbrev pub received_by : Event → List (List ℕ)
 received_by (Receive s text) = text ∷ []
-received_by (Open room) = []
+received_by (Open room access) = []
 received_by (Draw s) = []
 received_by (Close s) = []
 

@@ -15,8 +15,8 @@ use Rattle.relay_link.specs.declared.state.State.TheVariants.{Head, Replying, Op
 -- The bytes of the reply to an answer, and what it reports. A head that is accepted gets the reply of the handshake if the hub opened a
 -- session, and 503 if it opened none.
 abbrev pub IsReply : Shake → Verdict → List ℕ → Type 0
-IsReply (Accept room reply) (Entered s) bytes = bytes ≡ reply.items
-IsReply (Accept room reply) (Refused status) bytes = (status ≡ 503) × (bytes ≡ refusal_of 503)
+IsReply (Accept room access reply) (Entered s) bytes = bytes ≡ reply.items
+IsReply (Accept room access reply) (Refused status) bytes = (status ≡ 503) × (bytes ≡ refusal_of 503)
 IsReply (Refuse status reply) (Refused given) bytes = (given ≡ status) × (bytes ≡ reply.items)
 IsReply (Refuse status reply) (Entered s) bytes = ⊥
 IsReply More verdict bytes = ⊥

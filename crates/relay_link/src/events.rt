@@ -10,19 +10,27 @@ ghost use Rattle.relay_link.specs.declared.event_log.TheConstants.{MAX_EVENTS};
 
 use crate::event_log::EventLog;
 use relay_hub::{Event, Hub, HubFault, NoSession, OpenFault, Text};
+use relay_proto::Access;
 use std::alloc::{AllocError, Global};
 
-/// Opens the link's session in a room. `None` if the hub refuses it or is out of memory; only the refusal is recorded as an event.
+/// Opens the link's session in a room, with the access that its head asks for. `None` if the hub
+/// refuses it or is out of memory; only the refusal is recorded as an event.
 #[tactic(auto, using(crate::proofs::Hearing::passes_same, crate::proofs::Hearing::passes_none))]
-pub(crate) fn open(alloc: Global, hub: &mut Hub, room: String, made: &mut EventLog) -> Option<u64>
+pub(crate) fn open(
+    alloc: Global,
+    hub: &mut Hub,
+    room: String,
+    access: Access,
+    made: &mut EventLog,
+) -> Option<u64>
     requires { length made.old < MAX_EVENTS }
-    ensures follows { Follows (is_room (string_bytes room)) (at hub.old None made.old) (at hub.new result made.new) }
+    ensures follows { Follows (is_room (string_bytes room) access) (at hub.old None made.old) (at hub.new result made.new) }
     ensures passes { Passes made.old made.new [] }
     ensures adds { Adds 1 0 0 made.old made.new }
 {
     let room = Text::of(room);
-    let opened = match hub.open(alloc, room.as_str()) {
-        Ok(session) => Some(session),
+    let opened = match hub.open(alloc, room.as_str(), access) {
+        Ok(opening) => Some(opening.session),
         Err(fault) => {
             made.note_fault(fault);
             if !is_answer(fault) {
@@ -31,7 +39,7 @@ pub(crate) fn open(alloc: Global, hub: &mut Hub, room: String, made: &mut EventL
             None
         }
     };
-    made.note(Event::Open { room });
+    made.note(Event::Open { room, access });
     opened
 }
 

@@ -25,6 +25,7 @@ use crate::socket::socket_on;
 use crate::state::State;
 use crate::transition::Transition;
 use relay_hub::Hub;
+use relay_proto::Access;
 use relay_shake::{Shake, refusal, shake};
 use std::alloc::Global;
 use std::io::{Read, Write};
@@ -70,7 +71,13 @@ pub(crate) fn listen<S: Read + Write + Drop>(
     }
     match shake(alloc, bytes.as_slice()) {
         Ok(Shake::More) => Transition::on(State::Head { stream, bytes }),
-        Ok(Shake::Accept { room, reply }) => admit(alloc, stream, room, reply, hub, made),
+        Ok(
+            Shake::Accept {
+                room,
+                access,
+                reply,
+            },
+        ) => admit(alloc, stream, room, access, reply, hub, made),
         Ok(Shake::Refuse { status, reply }) => {
             answer(alloc, stream, reply, Verdict::Refused(status), hub, made)
         }
@@ -84,14 +91,15 @@ fn admit<S: Read + Write + Drop>(
     alloc: Global,
     stream: CorkedWriter<S>,
     room: String,
+    access: Access,
     accepted: Vec<u8>,
     hub: &mut Hub,
     made: &mut EventLog,
 ) -> Transition<S>
     requires { length made.old + 2 ≤ MAX_EVENTS }
-    ensures follows { Follows (is_room (string_bytes room)) (at hub.old None made.old) (at hub.new (session_of result.state) made.new) }
+    ensures follows { Follows (is_room (string_bytes room) access) (at hub.old None made.old) (at hub.new (session_of result.state) made.new) }
     ensures past { awaits_head result.state ≡ false }
-    ensures replies { RepliesTo S.contents (written S.contents stream) (Accept room accepted) result.state }
+    ensures replies { RepliesTo S.contents (written S.contents stream) (Accept room access accepted) result.state }
     ensures passes { Passes made.old made.new [] }
     ensures adds { Adds 2 0 0 made.old made.new }
     ensures serving { IsServing result.state }
@@ -99,7 +107,7 @@ fn admit<S: Read + Write + Drop>(
     ensures prompt { result.cause ≢ Some Silent }
     ensures patient { MAX_TURNS ≤ turns_left result.state }
 {
-    match events::open(alloc, hub, room, made) {
+    match events::open(alloc, hub, room, access, made) {
         Some(session) => answer(
             alloc,
             stream,

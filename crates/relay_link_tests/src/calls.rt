@@ -4,6 +4,7 @@
 use crate::link_fixture::{ASKS, LinkFixture, hub_of};
 use relay_hub::{Event, Hub};
 use relay_link::{Stage, Turn};
+use relay_proto::Access;
 use relay_wire::{InjectedFault, Subject, Wire, play};
 use std::alloc::{AllocGlobal, Global};
 use std::cell::RefCell;
@@ -70,7 +71,7 @@ struct Run<'a> {
 /// A hub with session 1, which watches, and whose outbox is empty.
 fn watched(alloc: Global) -> Option<Hub> {
     let mut hub = hub_of(alloc, 32)?;
-    hub.open(alloc, "a").ok()?;
+    hub.open(alloc, "a", Access::ReadWrite).ok()?;
     drop(hub.receive(alloc, 1, WATCH).ok()?);
     drop(drawn(alloc, &mut hub)?);
     Some(hub)
@@ -86,10 +87,10 @@ fn drawn(alloc: Global, hub: &mut Hub) -> Option<String> {
     Some(texts)
 }
 
-/// Whether an event names session 2, or opens a session in room `a`.
+/// Whether an event names session 2, or opens a session in room `a` that may edit.
 fn is_own(event: &Event) -> bool {
     match event {
-        Event::Open { room } => room.as_str() == "a",
+        Event::Open { room, access } => room.as_str() == "a" && *access == Access::ReadWrite,
         Event::Receive { session, .. } | Event::Draw { session } | Event::Close { session } => {
             *session == 2
         }

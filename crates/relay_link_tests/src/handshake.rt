@@ -17,6 +17,17 @@ waiting 1 => None
 draws 0 => Head
 asks 13 /rooms/a => open a; Open as 1 > switched
 
+# A target may ask for a session that only watches: its edit is refused, and it may watch.
+asks 13 /rooms/a/watch => open a read-only; Open as 1 > switched
+idle => draw 1; draw 1; Open as 1 > {"epoch":1,"kind":"welcome","rev":0,"session":1}
+says {"do":"edit","id":7,"patch":[]} => receive 1; draw 1; draw 1; Open as 1 > {"at":null,"fault":"read-only","id":7,"kind":"refused"}
+says {"do":"watch","id":8,"view":[""]} => receive 1; draw 1; draw 1; draw 1; Open as 1 > {"id":8,"kind":"watching"} > {"kind":"snapshot","rev":0,"view":[[null]]}
+says {"do":"unwatch","id":9} => receive 1; draw 1; draw 1; Open as 1 > {"id":9,"kind":"unwatched"}
+end => close 1; Gone by Ended > close 1001
+
+# A room may be named `watch`.
+asks 13 /rooms/watch => open watch; Open as 1 > switched
+
 # A hub that is full refuses.
 full
 look => Head

@@ -1,6 +1,7 @@
 //! A link over a wire, whose turns are told in words. What finds no memory, or a word that is none, gives nothing, which fails the test.
 use relay_hub::{Event, Hub};
 use relay_link::{Link, MAX_DRAWS, Turn};
+use relay_proto::Access;
 use relay_wire::{End, Wire, cut, in_words};
 use std::alloc::{AllocError, Global};
 use std::cell::{RefCell, RefMut};
@@ -154,9 +155,17 @@ fn tell_session(told: &mut String, session: Option<u64>) -> Result<(), AllocErro
 
 fn tell_event(told: &mut String, event: &Event) -> Result<(), AllocError> {
     match event {
-        Event::Open { room } => write!(told, "open {}; ", room.as_str()),
+        Event::Open { room, access } => tell_opening(told, room.as_str(), *access),
         Event::Receive { session, .. } => write!(told, "receive {session}; "),
         Event::Draw { session } => write!(told, "draw {session}; "),
         Event::Close { session } => write!(told, "close {session}; "),
+    }
+}
+
+/// The access is told only if it is `read-only`.
+fn tell_opening(told: &mut String, room: &str, access: Access) -> Result<(), AllocError> {
+    match access {
+        Access::ReadWrite => write!(told, "open {room}; "),
+        Access::ReadOnly => write!(told, "open {room} read-only; "),
     }
 }

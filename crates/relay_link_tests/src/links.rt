@@ -2,6 +2,7 @@
 use crate::link_fixture::{LinkFixture, hub_of};
 use relay_hub::{DEFAULT_SESSIONS, Hub};
 use relay_outbox::MAX_REPLIES;
+use relay_proto::Access;
 use relay_wire::{Subject, Wire, cut, play};
 use std::alloc::{AllocGlobal, Global};
 use std::cell::RefCell;
@@ -80,14 +81,14 @@ impl<'a> Links<'a> {
 
     fn fill(&mut self, alloc: Global) -> Option<()> {
         for _ in 0..DEFAULT_SESSIONS {
-            self.hub.open(alloc, "a").ok()?;
+            self.hub.open(alloc, "a", Access::ReadWrite).ok()?;
         }
         Some(())
     }
 
     /// Opens session 2, and draws its welcome.
     fn join(&mut self, alloc: Global) -> Option<()> {
-        self.hub.open(alloc, "a").ok()?;
+        self.hub.open(alloc, "a", Access::ReadWrite).ok()?;
         drop(self.drawn(alloc)?);
         Some(())
     }

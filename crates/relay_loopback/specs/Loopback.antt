@@ -12,8 +12,8 @@ use Rattle.relay_lines.specs.declared.outcome.Outcome.TheVariants as outcome
 -- The outcomes of an event that a client can see: the hub's answer, without the number of outboxes that folded; the status of a
 -- refused handshake; or nothing within the limit of turns.
 abbrev pub CanCome : Event → Outcome → Type 0
-CanCome (Open room) (outcome.Answered (answer.Opened s)) = ⊤
-CanCome (Open room) (outcome.Rejected status) = ⊤
+CanCome (Open room access) (outcome.Answered (answer.Opened o)) = ⊤
+CanCome (Open room access) (outcome.Rejected status) = ⊤
 CanCome (Receive s text) (outcome.Answered (answer.Heard (Answered short))) = short ≡ 0
 CanCome (Receive s text) (outcome.Answered (answer.Heard Busy)) = ⊤
 CanCome (Draw s) (outcome.Answered (answer.Drawn text)) = ⊤

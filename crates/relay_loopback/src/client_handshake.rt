@@ -2,6 +2,7 @@
 ghost use Rattle.std.specs.Prelude.{◌≤◌, length, IfSome};
 
 use crate::client::Client;
+use relay_proto::Access;
 use std::alloc::{AllocError, Global};
 use std::io::{Read, Write};
 use std::str;
@@ -18,14 +19,17 @@ pub struct ClientHandshake<S> {
 }
 
 impl<S: Read + Write + Drop> ClientHandshake<S> {
-    /// Sends the request for a room. `None` if it cannot be sent. After `AllocError` nothing was sent.
+    /// Sends the request for a room, with this access. `None` if it cannot be sent. After `AllocError`
+    /// nothing was sent.
     pub fn at(
         alloc: Global,
         mut stream: S,
         room: &str,
+        access: Access,
     ) -> Result<Option<ClientHandshake<S>>, AllocError> {
+        let suffix = suffix_of(access);
         let head = format!(in alloc;
-            "GET /rooms/{room} HTTP/1.1\r\nHost: localhost\r\nUpgrade: websocket\r\nConnection: Upgrade\r\nSec-WebSocket-Key: dGhlIHNhbXBsZSBub25jZQ==\r\nSec-WebSocket-Version: 13\r\n\r\n"
+            "GET /rooms/{room}{suffix} HTTP/1.1\r\nHost: localhost\r\nUpgrade: websocket\r\nConnection: Upgrade\r\nSec-WebSocket-Key: dGhlIHNhbXBsZSBub25jZQ==\r\nSec-WebSocket-Version: 13\r\n\r\n"
         )?;
         if stream.write_all(head.as_bytes()).is_err() {
             return Ok(None);
@@ -54,6 +58,14 @@ impl<S: Read + Write + Drop> ClientHandshake<S> {
             reply.drain(..len);
         }
         Client::of(alloc, stream, reply)
+    }
+}
+
+/// What stands behind the room's name in the target.
+fn suffix_of(access: Access) -> &'static str {
+    match access {
+        Access::ReadWrite => "",
+        Access::ReadOnly => "/watch",
     }
 }
 

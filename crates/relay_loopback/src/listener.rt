@@ -5,6 +5,7 @@ use crate::fault::ServeFault;
 use crate::sockets::listen;
 use relay_hub::Hub;
 use relay_link::{Link, Stage};
+use relay_proto::Access;
 use std::alloc::{AllocError, Global};
 use std::io::{Read, Write};
 use std::net::{Net, OpenListener, OpenStream, SocketAddr};
@@ -45,18 +46,19 @@ impl<'n, N: Net> LoopbackListener<'n, N> {
         }
     }
 
-    /// Connects a client, and opens its session.
+    /// Connects a client, and opens its session, with this access.
     pub fn enter(
         &self,
         alloc: Global,
         hub: &mut Hub,
         room: &str,
+        access: Access,
     ) -> Result<Entering<N::Stream>, AllocError> {
         let Some((stream, accepted)) = self.ends() else {
             return Ok(Entering::Stuck);
         };
         let link = Link::new(alloc, accepted)?;
-        match ClientHandshake::at(alloc, stream, room)? {
+        match ClientHandshake::at(alloc, stream, room, access)? {
             Some(handshake) => Ok(shake_hands(alloc, hub, link, handshake)),
             None => Ok(Entering::Stuck),
         }

@@ -9,8 +9,9 @@ use crate::connection::Connection;
 use crate::fault::ServeFault;
 use crate::listener::{Entering, LoopbackListener};
 use indexmap::IndexMap;
-use relay_hub::{Answer, Hub, HubConfig, HubFault};
+use relay_hub::{Answer, Hub, HubConfig, HubFault, Opening};
 use relay_lines::{Outcome, Transport};
+use relay_proto::Access;
 use relay_tree::Tree;
 use std::alloc::{AllocError, Global};
 use std::net::Net;
@@ -48,12 +49,18 @@ impl<'n, N: Net> Transport for Loopback<'n, N> {
 
     ghost tells = { λ loopback session shown. ⊤ };
 
-    fn open_session(&mut self, alloc: Global, room: &str) -> Result<Outcome, AllocError> {
-        match self.listener.enter(alloc, &mut self.hub, room)? {
+    fn open_session(
+        &mut self,
+        alloc: Global,
+        room: &str,
+        access: Access,
+    ) -> Result<Outcome, AllocError> {
+        match self.listener.enter(alloc, &mut self.hub, room, access)? {
             Entering::Opened(connection) => {
                 let session = connection.session;
                 drop(self.connections.insert(session, connection)?);
-                Ok(Outcome::Answered(Answer::Opened(session)))
+                let opening = opening_of(&self.hub, session);
+                Ok(Outcome::Answered(Answer::Opened(opening)))
             }
             Entering::Rejected(status) => Ok(Outcome::Rejected(status)),
             Entering::Stuck => Ok(Outcome::Stuck),
@@ -87,5 +94,15 @@ impl<'n, N: Net> Transport for Loopback<'n, N> {
 
     fn truth_of(&self, alloc: Global, session: u64) -> Result<Option<(u64, Tree)>, HubFault> {
         self.hub.truth(alloc, session)
+    }
+}
+
+/// The opening of a session. Nobody edits between the opening and this call, so its room is still at
+/// the revision that it was opened at.
+fn opening_of(hub: &Hub, session: u64) -> Opening {
+    let room = hub.room_of(session).and_then(|place| hub.room_at(place));
+    Opening {
+        session,
+        rev: room.map_or(0, |room| room.revision),
     }
 }

@@ -54,6 +54,9 @@ waiting_weight_option = number_option (codes "max-waiting-weight") 0 MAX_WEIGHT_
 abbrev pub telling_weight_option : List Text → Rule
 telling_weight_option = number_option (codes "max-telling-weight") 0 MAX_WEIGHT_LIMIT
 
+abbrev pub view_weight_option : List Text → Rule
+view_weight_option = number_option (codes "max-view-weight") 0 MAX_WEIGHT_LIMIT
+
 abbrev pub port_option : Rule
 port_option = record (number_option (codes "port") 0 MAX_PORT []) { required = true }
 
@@ -76,14 +79,14 @@ abbrev pub with_settings : App → App
 with_settings command = with_rule (with_rule (with_rule (with_rule command history_option)
     outbox_option) rooms_option) sessions_option
 
-abbrev pub with_weights : List Text → List Text → List Text → App → App
-with_weights history waiting telling command = with_rule (with_rule (with_rule command
+abbrev pub with_weights : List Text → List Text → List Text → List Text → App → App
+with_weights history waiting telling view command = with_rule (with_rule (with_rule (with_rule command
     (history_weight_option history)) (waiting_weight_option waiting))
-    (telling_weight_option telling)
+    (telling_weight_option telling)) (view_weight_option view)
 
 -- a job that runs a script: its epoch is 1, and its weights have no bounds
 abbrev pub with_script_options : App → App
-with_script_options command = with_weights [] [] [] (with_rule (with_settings command)
+with_script_options command = with_weights [] [] [] [] (with_rule (with_settings command)
     (epoch_option (codes "1" ∷ [])))
 
 abbrev pub scripted : Text → App
@@ -92,7 +95,7 @@ scripted name = with_script_options (new_app name)
 -- a server: its epoch has no default, and its weights have bounds
 abbrev pub with_server_options : App → App
 with_server_options command = with_rule (with_rule (with_rule (with_rule (with_rule (with_weights
-    (codes "262144" ∷ []) (codes "65536" ∷ []) (codes "1048576" ∷ [])
+    (codes "262144" ∷ []) (codes "65536" ∷ []) (codes "1048576" ∷ []) (codes "16384" ∷ [])
     (with_rule (with_settings command) (epoch_option [])))
     port_option) admin_option) turns_option) log_option) output_option
 
@@ -139,6 +142,7 @@ pub record AreSettingsOf (rows : List Row) (other : Option ℕ) (settings : Sett
   pub history_weight : number_in (codes "max-history-weight") rows ≡ settings.history_weight
   pub waiting_weight : number_in (codes "max-waiting-weight") rows ≡ settings.waiting_weight
   pub telling_weight : number_in (codes "max-telling-weight") rows ≡ settings.telling_weight
+  pub view_weight : number_in (codes "max-view-weight") rows ≡ settings.view_weight
 
 -- the settings without a subcommand: those of `relay script` without options
 abbrev pub plain_settings : Settings
@@ -151,6 +155,7 @@ plain_settings = record {
   history_weight = None;
   waiting_weight = None;
   telling_weight = None;
+  view_weight = None;
 }
 
 -- the job that a subcommand and its options ask for; `now` is the time, if the clock can be read

@@ -24,6 +24,7 @@ pub record AreSettings (settings : Settings) : Type 0 where
   pub history_weight : IsLimit settings.history_weight
   pub waiting_weight : IsLimit settings.waiting_weight
   pub telling_weight : IsLimit settings.telling_weight
+  pub view_weight : IsLimit settings.view_weight
 
 -- the port of an operator, if there is one, is a port of its own
 abbrev pub IsAdmin : ℕ → Option ℕ → Type 0

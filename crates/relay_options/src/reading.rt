@@ -12,7 +12,8 @@ ghost use Rattle.relay_options.specs.CommandLine.{outbox_option, output_option, 
 ghost use Rattle.relay_options.specs.CommandLine.{relay_command};
 ghost use Rattle.relay_options.specs.CommandLine.{rooms_option, scripted, served};
 ghost use Rattle.relay_options.specs.CommandLine.{sessions_option, telling_weight_option};
-ghost use Rattle.relay_options.specs.CommandLine.{turns_option, waiting_weight_option};
+ghost use Rattle.relay_options.specs.CommandLine.{turns_option, view_weight_option};
+ghost use Rattle.relay_options.specs.CommandLine.{waiting_weight_option};
 ghost use Rattle.relay_options.specs.CommandLine.{with_script_options, with_server_options};
 ghost use Rattle.relay_options.specs.CommandLine.{with_settings, with_version};
 ghost use Rattle.relay_options.specs.Ranges.{AreSettings, IsAdmin, IsLimit, IsPossible};
@@ -82,6 +83,9 @@ const WAITING_WEIGHT: &str = "65536";
 
 /// The default of `--max-telling-weight` for a server: the weight of four largest documents.
 const TELLING_WEIGHT: &str = "1048576";
+
+/// The default of `--max-view-weight` for a server: 16 slots of a thousand bytes.
+const VIEW_WEIGHT: &str = "16384";
 
 /// Parses the arguments `words`, of which the first is the program's name. The job is the one that
 /// the words ask for, and each number of it is in range. Otherwise the reason is help or the
@@ -172,7 +176,8 @@ fn with_script_options<'a>(alloc: Global, command: Command<'a>) -> Result<Comman
         .arg(script_epoch(alloc))?
         .arg(history_weight(alloc))?
         .arg(waiting_weight(alloc))?
-        .arg(telling_weight(alloc))?;
+        .arg(telling_weight(alloc))?
+        .arg(view_weight(alloc))?;
     Ok(command)
 }
 
@@ -185,6 +190,7 @@ fn with_server_options<'a>(alloc: Global, command: Command<'a>) -> Result<Comman
         .arg(history_weight(alloc).default_value(HISTORY_WEIGHT))?
         .arg(waiting_weight(alloc).default_value(WAITING_WEIGHT))?
         .arg(telling_weight(alloc).default_value(TELLING_WEIGHT))?
+        .arg(view_weight(alloc).default_value(VIEW_WEIGHT))?
         .arg(port(alloc))?
         .arg(admin(alloc))?
         .arg(turns(alloc))?
@@ -282,6 +288,14 @@ fn telling_weight<'a>(alloc: Global) -> Arg<'a>
 {
     number(alloc, "max-telling-weight", 0, MAX_WEIGHT_LIMIT).help(
         "How much the patches that are made for one edit weigh together at most; a script's may weigh any",
+    )
+}
+
+fn view_weight<'a>(alloc: Global) -> Arg<'a>
+    ensures { rule_of result ≡ view_weight_option [] }
+{
+    number(alloc, "max-view-weight", 0, MAX_WEIGHT_LIMIT).help(
+        "How much the pointers of a view weigh together at most; a script's may weigh any",
     )
 }
 
@@ -411,6 +425,7 @@ fn settings_of(alloc: Global, given: &ArgMatches<'_>, epoch: Option<u64>) -> Res
         history_weight: weight_of(alloc, given, "max-history-weight")?,
         waiting_weight: weight_of(alloc, given, "max-waiting-weight")?,
         telling_weight: weight_of(alloc, given, "max-telling-weight")?,
+        view_weight: weight_of(alloc, given, "max-view-weight")?,
     })
 }
 

@@ -47,6 +47,8 @@ pub struct Settings {
     pub waiting_weight: Option<u64>,
     /// `--max-telling-weight`: the maximum total weight of the patches that are made for one edit. `None` means no limit.
     pub telling_weight: Option<u64>,
+    /// `--max-view-weight`: the maximum total weight of the pointers of a view. `None` means no limit.
+    pub view_weight: Option<u64>,
 }
 
 impl Settings {
@@ -60,5 +62,6 @@ impl Settings {
         history_weight: None,
         waiting_weight: None,
         telling_weight: None,
+        view_weight: None,
     };
 }

@@ -33,13 +33,16 @@ use Rattle.relay_proto.specs.declared.refusal.Refusal.{Refusal}
 use Rattle.relay_proto.specs.declared.reply.Reply.TheVariants.{Refused}
 use Rattle.relay_proto.specs.declared.request.Request.{Request}
 use Rattle.relay_proto.specs.declared.request.Request.TheVariants.{Edit, Watch, Resume, Unwatch}
-use Rattle.relay_tree.proofs.Each.{IsBelow, few-place}
+use Rattle.relay_tree.proofs.Each.{IsBelow, few-length, few-place}
 
--- a request's numbers are counts, and it has at most as many operations as the limit allows
+abbrev pub IsShort : View → Type 0
+IsShort pointers = length pointers ≤ MAX_SLOTS
+
+-- a request's numbers are counts, and it has at most as many operations or slots as the limit allows
 abbrev pub IsRequest : Request → Type 0
 IsRequest (Edit id base ops) = IsCount id × IsCountOrNull base × (length ops ≤ REQUEST.ops)
-IsRequest (Watch id pointers) = IsCount id
-IsRequest (Resume id epoch rev pointers) = IsCount id × IsCount epoch × IsCount rev
+IsRequest (Watch id pointers) = IsCount id × IsShort pointers
+IsRequest (Resume id epoch rev pointers) = IsCount id × IsCount epoch × IsCount rev × IsShort pointers
 IsRequest (Unwatch id) = IsCount id
 
 -- the numbers of a refusal's reply are counts
@@ -153,18 +156,22 @@ view_of_place : (d : Document) → IfErr (view_of d) (λ fault. IsBelow MAX_SLOT
 view_of_place (list ds) = few-place slot_at pointer_place slot_at_names MAX_SLOTS view.TooMany tt ds
 view_of_place _ = tt
 
+view_of_length : (d : Document) → IfOk (view_of d) IsShort
+view_of_length (list ds) = few-length slot_at MAX_SLOTS view.TooMany ds
+view_of_length _ = tt
+
 view_refused : (id : ℕ) (fault : ViewFault) → IsCount id → IsBelow MAX_SLOTS (pointer_place fault) → IsRefusal (view_refusal id fault)
 view_refused id (view.Shape at) counts h = (counts, below_is MAX_SLOTS at (omega arith) h, tt)
 view_refused id (view.Pointer at) counts h = (counts, below_is MAX_SLOTS (Some at) (omega arith) h, tt)
 view_refused id _ counts h = (counts, tt, tt)
 
-view_reads : (id : ℕ) (d : Document) → IsCount id → Reads Anything (view_in id d)
+view_reads : (id : ℕ) (d : Document) → IsCount id → Reads IsShort (view_in id d)
 view_reads id d counts =
-    part_reads Anything Anything (Some id) (object_member d (codes "view")) _ counts (some_anything _) (λ v _. go (view_of v) (view_of_place v))
+    part_reads Anything IsShort (Some id) (object_member d (codes "view")) _ counts (some_anything _) (λ v _. go (view_of v) (view_of_length v) (view_of_place v))
   where
-    go : (r : Result View ViewFault) → IfErr r (λ fault. IsBelow MAX_SLOTS (pointer_place fault)) → Reads Anything (view_read id r)
-    go (Ok pointers) h = tt
-    go (Err fault) h = view_refused id fault counts h
+    go : (r : Result View ViewFault) → IfOk r IsShort → IfErr r (λ fault. IsBelow MAX_SLOTS (pointer_place fault)) → Reads IsShort (view_read id r)
+    go (Ok pointers) h k = h
+    go (Err fault) h k = view_refused id fault counts k
 
 -- Requests.
 
@@ -177,12 +184,12 @@ resume_reads : (id : ℕ) (d : Document) → IsCount id → Reads IsRequest (res
 resume_reads id d counts =
     part_reads IsCount IsRequest (Some id) (count_in d (codes "epoch")) _ counts (count_in_is d (codes "epoch")) (λ epoch is_epoch.
     part_reads IsCount IsRequest (Some id) (count_in d (codes "rev")) _ counts (count_in_is d (codes "rev")) (λ rev is_rev.
-    then_reads Anything IsRequest (view_in id d) _ (view_reads id d counts) (λ v _. (counts, is_epoch, is_rev))))
+    then_reads IsShort IsRequest (view_in id d) _ (view_reads id d counts) (λ v few. (counts, is_epoch, is_rev, few))))
 
 asked_reads : (name : List ℕ) (id : ℕ) (d : Document) → IsCount id → Reads IsRequest (asked name id d)
 asked_reads name id d counts =
     either_reads IsRequest (bytes_eq name (codes "edit")) _ _ (edit_reads id d counts)
-    (either_reads IsRequest (bytes_eq name (codes "watch")) _ _ (then_reads Anything IsRequest (view_in id d) _ (view_reads id d counts) (λ v _. counts))
+    (either_reads IsRequest (bytes_eq name (codes "watch")) _ _ (then_reads IsShort IsRequest (view_in id d) _ (view_reads id d counts) (λ v few. (counts, few)))
     (either_reads IsRequest (bytes_eq name (codes "resume")) _ _ (resume_reads id d counts)
     (either_reads IsRequest (bytes_eq name (codes "unwatch")) _ _ counts (counts, tt, tt))))
 

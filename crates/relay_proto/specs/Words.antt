@@ -27,6 +27,7 @@ word_text word.TooHeavy = codes "too-heavy"
 word_text word.Exhausted = codes "exhausted"
 word_text word.Stale = codes "stale"
 word_text word.Future = codes "future"
+word_text word.ReadOnly = codes "read-only"
 
 abbrev pub how_text : ResumeOutcome → List ℕ
 how_text how.Nothing = codes "nothing"
@@ -42,7 +43,7 @@ spelled spells (w ∷ words) s = if bytes_eq s (spells w) then Some w else spell
 
 abbrev pub words : List Word
 words =
-    word.TooLong ∷ word.NotJson ∷ word.Number ∷ word.Shape ∷ word.TooMany ∷ word.UnknownOp ∷ word.Pointer ∷ word.Missing ∷ word.NotIndex ∷ word.PastEnd ∷ word.NoContainer ∷ word.Root ∷ word.IntoItself ∷ word.TestFailed ∷ word.TooDeep ∷ word.TooHeavy ∷ word.Exhausted ∷ word.Stale ∷ word.Future ∷ []
+    word.TooLong ∷ word.NotJson ∷ word.Number ∷ word.Shape ∷ word.TooMany ∷ word.UnknownOp ∷ word.Pointer ∷ word.Missing ∷ word.NotIndex ∷ word.PastEnd ∷ word.NoContainer ∷ word.Root ∷ word.IntoItself ∷ word.TestFailed ∷ word.TooDeep ∷ word.TooHeavy ∷ word.Exhausted ∷ word.Stale ∷ word.Future ∷ word.ReadOnly ∷ []
 
 abbrev pub word_of_text : List ℕ → Option Word
 word_of_text s = spelled word_text words s

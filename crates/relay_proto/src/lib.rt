@@ -4,6 +4,7 @@
 //! message. A request is checked in a fixed order, and the first fault is the result.
 #![tactic(auto)]
 
+mod access;
 mod message;
 mod message_reading;
 mod optional;
@@ -16,6 +17,7 @@ mod text;
 mod updates;
 mod word;
 
+pub use access::Access;
 pub use message::Message;
 pub use message_reading::MessageFault;
 pub use reading::MAX_REQUEST;

@@ -25,6 +25,7 @@ pub enum Word {
     Exhausted,
     Stale,
     Future,
+    ReadOnly,
 }
 
 impl Word {
@@ -52,6 +53,7 @@ impl Word {
             "exhausted" => Some(Word::Exhausted),
             "stale" => Some(Word::Stale),
             "future" => Some(Word::Future),
+            "read-only" => Some(Word::ReadOnly),
             _ => None,
         }
     }
@@ -80,6 +82,7 @@ impl Word {
             Word::Exhausted => "exhausted",
             Word::Stale => "stale",
             Word::Future => "future",
+            Word::ReadOnly => "read-only",
         }
     }
 }

@@ -16,4 +16,5 @@ config_of settings = record {
   history_weight = bounded_by settings.history_weight;
   waiting_weight = bounded_by settings.waiting_weight;
   telling_weight = bounded_by settings.telling_weight;
+  view_weight = bounded_by settings.view_weight;
 }

@@ -22,6 +22,7 @@ pub(crate) fn config_of(settings: Settings) -> HubConfig
         history_weight: budget_of(settings.history_weight),
         waiting_weight: budget_of(settings.waiting_weight),
         telling_weight: budget_of(settings.telling_weight),
+        view_weight: budget_of(settings.view_weight),
     }
 }
 

@@ -7,7 +7,7 @@ use Rattle.relay_hub.specs.declared.config.HubConfig.{HubConfig}
 use Rattle.relay_hub.proofs.Shedding.{shed_stands}
 use Rattle.relay_hub.proofs.Stands.{step_stands}
 use Rattle.relay_hub.proofs.Watchers.{exactly_held, each_held}
-use Rattle.relay_link.specs.Follows.{Point, Follows, stays as none, makes, with_events}
+use Rattle.relay_link.specs.Follows.{Point, Rooms, Follows, stays as none, makes, with_events}
 use Rattle.relay_serving.specs.Advances.{Links, Advances, stays, turns, adds, removes, sheds, with_turns}
 use Rattle.relay_serving.specs.Rounds.{Rounds}
 use Rattle.relay_serving.proofs.Owners.{connected_after}
@@ -30,7 +30,7 @@ module _ {S : Type 0} {remaining : S → Option (List ℕ)} where
   advances_then before (sheds after) = sheds (advances_then before after)
 
 -- after a link's events the hub stands for the log with their entries
-follows_stand : (b : HubConfig) (E : Log) {rooms : List ℕ → Type 0} {p q : Point} → StandsFor b E p.hub → (follows : Follows rooms p q) → StandsFor b (with_events follows E) q.hub
+follows_stand : (b : HubConfig) (E : Log) {rooms : Rooms} {p q : Point} → StandsFor b E p.hub → (follows : Follows rooms p q) → StandsFor b (with_events follows E) q.hub
 follows_stand b E stands none = stands
 follows_stand b E stands (makes {q = q} {hub = hub} event answer before own step) = step_stands b (with_events before E) q.hub hub event answer (follows_stand b E stands before) step
 

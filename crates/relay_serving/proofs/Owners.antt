@@ -12,7 +12,7 @@ use Rattle.relay_hub.specs.declared.event.Event.TheVariants.{Open, Receive, Draw
 use Rattle.relay_hub.proofs.Members.{step_is_hub}
 use Rattle.relay_hub.proofs.Cases.{by_number}
 use Rattle.relay_hub.proofs.Shedding.{shed_is_hub}
-use Rattle.relay_link.specs.Follows.{Point, Follows, stays as none, makes, IsOwn, session_after}
+use Rattle.relay_link.specs.Follows.{Point, Rooms, Follows, stays as none, makes, IsOwn, session_after}
 use Rattle.relay_link.specs.Stage.{session_of}
 use Rattle.relay_link.specs.declared.state.State.{State as Link}
 use Rattle.relay_link.specs.declared.state.State.TheVariants.{Head, Replying, Open as Opening, Closing, Gone}
@@ -165,21 +165,21 @@ module _ (key : ℕ) (sessions : Sessions) where
             ]
       ]
 
-  one_event : (rooms : List ℕ → Type 0) (mine : Option ℕ) (event : Event) (answer : Answer) (old new : State) → IsHub old → IsOwn rooms mine event → Step old event answer new
+  one_event : (rooms : Rooms) (mine : Option ℕ) (event : Event) (answer : Answer) (old new : State) → IsHub old → IsOwn rooms mine event → Step old event answer new
       → OneEach old (with_session key mine sessions) → OneEach new (with_session key (session_after mine event answer) sessions)
-  one_event rooms mine (Open name) (Opened n) old new is own step each =
+  one_event rooms mine (Open name access) (Opened opening) old new is own step each =
       let o = step.1 in
-      opens n o.place old new (ap (λ t. place_of old t) o.number ∙ is.below old.next (omega arith)) o.home (subst (λ session. OneEach old (with_session key session sessions)) own.0 each)
-  one_event rooms mine (Open name) (NotOpened fault) old new is own step each = one_each_same (λ t. ap (λ hub. place_of hub t) step.1) (λ k. refl) each
+      opens opening.session o.place old new (ap (λ t. place_of old t) o.number ∙ is.below old.next (omega arith)) o.home (subst (λ session. OneEach old (with_session key session sessions)) own.0 each)
+  one_event rooms mine (Open name access) (NotOpened fault) old new is own step each = one_each_same (λ t. ap (λ hub. place_of hub t) step.1) (λ k. refl) each
   one_event rooms mine (Receive s text) answer old new is own step each = one_each_same (at_place_homes (place_of old s) old new answer _ step) (λ k. refl) each
   one_event rooms mine (Draw s) answer old new is own step each = one_each_same (at_place_homes (place_of old s) old new answer _ step) (λ k. refl) each
   one_event rooms mine (Close s) answer old new is own step each =
       let some = each.opened key s (mine_there mine ∙ own) in
       closes s old new (closed s (place_of old s) old new answer is refl some step) (subst (λ session. OneEach old (with_session key session sessions)) own each)
-  one_event rooms mine (Open name) answer old new is own step each = absurd step
+  one_event rooms mine (Open name access) answer old new is own step each = absurd step
 
   -- several events of a link
-  one_link : {rooms : List ℕ → Type 0} {p q : Point} → Follows rooms p q → IsHub p.hub → OneEach p.hub (with_session key p.session sessions) → IsHub q.hub × OneEach q.hub (with_session key q.session sessions)
+  one_link : {rooms : Rooms} {p q : Point} → Follows rooms p q → IsHub p.hub → OneEach p.hub (with_session key p.session sessions) → IsHub q.hub × OneEach q.hub (with_session key q.session sessions)
   one_link none is each = (is, each)
   one_link {rooms = rooms} (makes {q = q} {hub = hub} event answer before own step) is each =
       let was = one_link before is each in

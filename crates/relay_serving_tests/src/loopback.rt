@@ -2,6 +2,7 @@
 use relay_hub::Hub;
 use relay_loopback::{Client, ClientHandshake};
 use relay_operator::Polling;
+use relay_proto::Access;
 use relay_serving::{NoLog, Server};
 use relay_wire::{Subject, cut, play};
 use std::alloc::{AllocGlobal, Global};
@@ -151,5 +152,5 @@ fn connecting<N: AllocGlobal + Net>(
     let stream = rt.connect(listener.local_addr().ok()?).ok()?;
     stream.set_nonblocking(true).ok()?;
     stream.set_nodelay(true).ok()?;
-    ClientHandshake::at(rt.alloc(), stream, "r").ok()?
+    ClientHandshake::at(rt.alloc(), stream, "r", Access::ReadWrite).ok()?
 }

@@ -1,5 +1,6 @@
 -- Lemmas on routes, replies and heads.
 pub mod Routes
+pub mod Suffixes
 pub mod Refusals
 pub mod Heads
 mod Rows

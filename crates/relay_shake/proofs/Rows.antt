@@ -3,20 +3,36 @@ use Rattle.std.proofs.Common.{◌≡◌, ℕ, List, [], ◌∷◌, codes, true, 
 use Rattle.httparse.specs.Grammar.{RequestHead, crlf, Field, trim_ows}
 use Rattle.relay_head.specs.Head.{has_element, only_value}
 use Rattle.relay_shake.specs.Key.{key_of}
-use Rattle.relay_shake.specs.Route.{room_of}
+use Rattle.relay_proto.specs.declared.access.Access.TheVariants.{ReadWrite, ReadOnly}
+use Rattle.relay_shake.specs.Route.{asked_of}
 use Rattle.relay_shake.specs.Handshake.{accept, refuse, verdict_of}
 
-room : room_of (codes "/rooms/a") ≡ Some (codes "a")
+room : asked_of (codes "/rooms/a") ≡ Some (codes "a", ReadWrite)
 room = refl
 
-room_without_name : room_of (codes "/rooms/") ≡ None
+room_to_watch : asked_of (codes "/rooms/a/watch") ≡ Some (codes "a", ReadOnly)
+room_to_watch = refl
+
+room_named_watch : asked_of (codes "/rooms/watch") ≡ Some (codes "watch", ReadWrite)
+room_named_watch = refl
+
+room_named_watch_to_watch : asked_of (codes "/rooms/watch/watch") ≡ Some (codes "watch", ReadOnly)
+room_named_watch_to_watch = refl
+
+room_without_name : asked_of (codes "/rooms/") ≡ None
 room_without_name = refl
 
-room_with_query : room_of (codes "/rooms/a?x=1") ≡ None
+room_without_name_to_watch : asked_of (codes "/rooms//watch") ≡ None
+room_without_name_to_watch = refl
+
+room_with_query : asked_of (codes "/rooms/a?x=1") ≡ None
 room_with_query = refl
 
-room_of_two_segments : room_of (codes "/rooms/a/b") ≡ None
+room_of_two_segments : asked_of (codes "/rooms/a/b") ≡ None
 room_of_two_segments = refl
+
+room_with_a_slash_behind : asked_of (codes "/rooms/a/watch/") ≡ None
+room_with_a_slash_behind = refl
 
 key_of_23 : key_of ((codes "Sec-WebSocket-Key", codes "dGhlIHNhbXBsZSBub25jZQ=") ∷ []) ≡ None
 key_of_23 = refl
@@ -49,7 +65,7 @@ sample version = record {
   last = crlf;
 }
 
-accepted : verdict_of (sample (codes " 13")) [] ≡ accept (codes "a") (codes "dGhlIHNhbXBsZSBub25jZQ==")
+accepted : verdict_of (sample (codes " 13")) [] ≡ accept (codes "a") ReadWrite (codes "dGhlIHNhbXBsZSBub25jZQ==")
 unfolding trim_ows
 accepted = refl
 

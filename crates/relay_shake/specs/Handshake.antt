@@ -1,20 +1,22 @@
 -- The verdict on a head (RFC 6455, section 4.2.1).
 use Rattle.std.specs.Prelude.{ℕ, Bool, not, ◌==◌, nat_lt, nat_le, if◌then◌else◌, List, [], ◌∷◌, length, take, codes, bytes_eq, Option, Some, None, is_some, unwrap_or}
 use Rattle.httparse.specs.Grammar.{RequestHead}
+use Rattle.relay_proto.specs.declared.access.Access.{Access}
+use Rattle.relay_proto.specs.declared.access.Access.TheVariants.{ReadOnly}
 use Rattle.relay_shake.specs.declared.reading.TheConstants.{MAX_HEAD}
 use Rattle.relay_shake.specs.declared.checks.TheConstants.{MAX_FIELDS}
 use Rattle.relay_head.specs.Checks.{first_failed}
 use Rattle.relay_head.specs.Head.{only_value, kept, has_element}
 use Rattle.relay_head.specs.Parsing.{Parts, parts_of}
 use Rattle.relay_shake.specs.Key.{key_of}
-use Rattle.relay_shake.specs.Route.{room_of}
+use Rattle.relay_shake.specs.Route.{asked_of}
 
 -- the checks in their order: the condition, and the status if it fails
 abbrev pub checks : Parts → List (Bool × ℕ)
 checks head =
     (nat_le (length head.fields) MAX_FIELDS, 431)
     ∷ (bytes_eq head.method (codes "GET"), 405)
-    ∷ (is_some (room_of head.target), 404)
+    ∷ (is_some (asked_of head.target), 404)
     ∷ (head.minor == 1, 400)
     ∷ (is_some (only_value (codes "Host") head.fields), 400)
     ∷ (has_element (codes "Upgrade") (codes "websocket") head.fields, 400)
@@ -25,20 +27,22 @@ checks head =
     ∷ (not head.has_surplus, 400)
     ∷ []
 
--- wait for more bytes, accept a room and a key, or refuse with a status
+-- wait for more bytes, accept a room, the access to it and a key, or refuse with a status
 pub data Verdict : Type 0 where
   wait : Verdict
-  accept : List ℕ → List ℕ → Verdict
+  accept : List ℕ → Access → List ℕ → Verdict
   refuse : ℕ → Verdict
 
--- accept the room and the key if no check failed, else refuse with the status of the first that did
-abbrev pub verdict_by : Option ℕ → Option (List ℕ) → Option (List ℕ) → Verdict
-verdict_by None room key = accept (unwrap_or room []) (unwrap_or key [])
-verdict_by (Some status) room key = refuse status
+-- accept what is asked for and the key if no check failed, else refuse with the status of the first
+-- that did
+abbrev pub verdict_by : Option ℕ → Option (List ℕ × Access) → Option (List ℕ) → Verdict
+verdict_by None asked key =
+    let (room, access) = unwrap_or asked ([], ReadOnly) in accept room access (unwrap_or key [])
+verdict_by (Some status) asked key = refuse status
 
 -- the verdict on the parts of a head
 abbrev pub verdict_on : Parts → Verdict
-verdict_on head = verdict_by (first_failed (checks head)) (room_of head.target) (key_of head.fields)
+verdict_on head = verdict_by (first_failed (checks head)) (asked_of head.target) (key_of head.fields)
 
 -- the verdict on a head that is followed by the surplus bytes
 abbrev pub verdict_of : RequestHead → List ℕ → Verdict

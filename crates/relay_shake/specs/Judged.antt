@@ -8,7 +8,7 @@ use Rattle.relay_shake.specs.declared.checks.Accepted.{Accepted}
 
 -- the result agrees with the verdict, unless memory ran out
 abbrev pub Judges : Result Accepted (Fault ℕ) → Verdict → Type 0
-Judges (Ok accepted) verdict = verdict ≡ accept accepted.room.now accepted.key.now
+Judges (Ok accepted) verdict = verdict ≡ accept accepted.room.now accepted.access accepted.key.now
 Judges (Err (Refused status)) verdict = verdict ≡ refuse status
 Judges (Err NoMemory) verdict = Unit {0}
 

@@ -1,8 +1,12 @@
 -- The targets of rooms.
-use Rattle.std.specs.Prelude.{ℕ, Bool, false, not, ◌==◌, if◌then◌else◌, List, [], ◌∷◌, codes, Option, Some, None}
-use Rattle.std.specs.List.{list_all}
+use Rattle.std.specs.Prelude.{ℕ, Bool, false, not, ◌==◌, ◌-◌, if◌then◌else◌, List, [], ◌∷◌, length, take, codes, nat_eq, Option, Some, None, option_map, option_and_then}
+use Rattle.std.specs.List.{list_all, ends_with}
+use Rattle.std.specs.Option.{option_or}
 use Rattle.relay_proto.specs.RoomName.{is_room_name}
+use Rattle.relay_proto.specs.declared.access.Access.{Access}
+use Rattle.relay_proto.specs.declared.access.Access.TheVariants.{ReadWrite, ReadOnly}
 use Rattle.relay_head.specs.Head.{kept}
+use Rattle.relay_shake.specs.declared.route.Asked.{Asked}
 
 -- the rest of the text after a prefix, if it begins with it
 abbrev pub behind : List ℕ → List ℕ → Option (List ℕ)
@@ -19,6 +23,26 @@ is_segment (b ∷ bs) = list_all (λ x. not (x == 47)) (b ∷ bs)
 abbrev pub routed : List ℕ → Option (List ℕ)
 routed target = kept is_segment (behind (codes "/rooms/") target)
 
--- the room of a target: that part, if it is a room name
+-- the room of a target `/rooms/NAME`: that part, if it is a room name
 abbrev pub room_of : List ℕ → Option (List ℕ)
 room_of target = kept is_room_name (routed target)
+
+-- the text before a suffix, if it ends with it
+abbrev pub before : List ℕ → List ℕ → Option (List ℕ)
+before suffix text =
+    if ends_with nat_eq text suffix then Some (take (length text - length suffix) text) else None
+
+-- a room, and what a session may do in it
+abbrev pub with_access : Access → Option (List ℕ) → Option (List ℕ × Access)
+with_access access room = option_map (λ name. (name, access)) room
+
+-- What a target asks for: to read and write the room of `/rooms/NAME`, or only to read that of
+-- `/rooms/NAME/watch`.
+abbrev pub asked_of : List ℕ → Option (List ℕ × Access)
+asked_of target =
+    option_or (with_access ReadWrite (room_of target))
+    (with_access ReadOnly (option_and_then room_of (before (codes "/watch") target)))
+
+-- the same of what the code found
+abbrev pub asked_by : Asked → List ℕ × Access
+asked_by asked = (asked.room.now, asked.access)

@@ -10,7 +10,8 @@ use Rattle.relay_shake.specs.declared.answer.Shake.TheVariants.{More, Accept, Re
 -- an answer is the verdict, with each byte of its reply
 abbrev pub Shows : Shake → Verdict → Type 0
 Shows More wait = Unit {0}
-Shows (Accept room reply) (accept name key) = (string_bytes room ≡ name) × (reply.items ≡ accept_reply key)
+Shows (Accept room access reply) (accept name asked key) =
+    (string_bytes room ≡ name) × (access ≡ asked) × (reply.items ≡ accept_reply key)
 Shows (Refuse status reply) (refuse other) = (status ≡ other) × (reply.items ≡ refusal_of other)
 Shows _ _ = ⊥
 

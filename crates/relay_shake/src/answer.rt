@@ -1,4 +1,5 @@
 //! The answer to a handshake.
+use relay_proto::Access;
 
 /// The answer to the bytes received so far.
 #[derive(Debug, Drop)]
@@ -9,6 +10,8 @@ pub enum Shake {
     Accept {
         /// The name of the room in the target.
         room: String,
+        /// What the session may do there, by the target.
+        access: Access,
         /// The 101 reply, to be sent whole.
         reply: Vec<u8>,
     },

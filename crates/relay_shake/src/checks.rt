@@ -5,28 +5,30 @@ ghost use Rattle.relay_shake.specs.Judged.{Judges, HasReply};
 ghost use Rattle.relay_shake.specs.Handshake.{verdict_on};
 
 use crate::key::key_of;
-use crate::route::room_of;
+use crate::route::asked_of;
 use relay_head::{Fault, Head, demand, has_element, only_value};
+use relay_proto::Access;
 use std::alloc::Global;
 
 /// The most header fields of a head.
 pub(crate) const MAX_FIELDS: usize = 32;
 
-/// The room and the key of an accepted head.
+/// What an accepted head asks for, and its key.
 #[derive(Drop)]
 pub(crate) struct Accepted<'b> {
     pub room: &'b str,
+    pub access: Access,
     pub key: &'b [u8],
 }
 
-/// Returns the room and the key of a head that passes all checks, or the status of the first check that fails.
+/// Returns what a head that passes all checks asks for, or the status of the first that fails.
 pub(crate) fn judge<'b>(alloc: Global, head: &Head<'_, 'b>) -> Result<Accepted<'b>, Fault<u16>>
     ensures verdict { Judges result (verdict_on (parts head.now)) }
     ensures status { IfErr result HasReply }
 {
     demand(head.fields.len() <= MAX_FIELDS, 431)?;
     demand(head.method == "GET", 405)?;
-    let room = room_of(alloc, head.target)?.ok_or(Fault::Refused(404))?;
+    let asked = asked_of(alloc, head.target)?.ok_or(Fault::Refused(404))?;
     demand(head.minor == 1, 400)?;
     demand(only_value(head.fields, "Host").is_some(), 400)?;
     demand(has_element(head.fields, "Upgrade", "websocket"), 400)?;
@@ -36,5 +38,9 @@ pub(crate) fn judge<'b>(alloc: Global, head: &Head<'_, 'b>) -> Result<Accepted<'
     let key = key_of(head.fields).ok_or(Fault::Refused(400))?;
     // A client must wait for the reply before it sends anything else.
     demand(!head.has_surplus, 400)?;
-    Ok(Accepted { room, key })
+    Ok(Accepted {
+        room: asked.room,
+        access: asked.access,
+        key,
+    })
 }

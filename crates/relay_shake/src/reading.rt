@@ -25,7 +25,8 @@ pub(crate) const MAX_HEAD_FIELDS: usize = 2_730;
 ///
 /// 1. at most 32 header fields, else 431;
 /// 2. the method `GET`, else 405;
-/// 3. the target `/rooms/` and a room name, with no query, else 404;
+/// 3. the target `/rooms/NAME` or `/rooms/NAME/watch`, where NAME is a room name, with no query,
+///    else 404; with `/watch` the session may only watch;
 /// 4. HTTP/1.1, else 400;
 /// 5. one field `Host`, else 400;
 /// 6. the element `websocket` in a field `Upgrade`, else 400;
@@ -63,6 +64,7 @@ fn answer(alloc: Global, head: &Head<'_, '_>) -> Result<Shake, AllocError>
     match judge(alloc, head) {
         Ok(accepted) => Ok(Shake::Accept {
             room: String::from_str(alloc, accepted.room)?,
+            access: accepted.access,
             reply: accept_reply(alloc, accepted.key)?,
         }),
         Err(Fault::Refused(status)) => refused(alloc, status),

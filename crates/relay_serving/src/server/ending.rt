@@ -137,7 +137,7 @@ impl<S: Read + Write + OpenStream + Drop, R: Readiness<S>> Server<S, R> {
     {
         match (session_event(turn), turn.fault) {
             (_, Some(fault)) => self.note_fault(key, fault),
-            (Some(Event::Open { room }), None) => {
+            (Some(Event::Open { room, .. }), None) => {
                 let place = self.place_of(key);
                 self.note_opened(key, room.as_str(), place);
                 if !self.index_opened(key) {

@@ -1,6 +1,7 @@
 use Rattle.std.proofs.Common.{◌∙◌, refl, sym, ap, Result, Ok, Err}
 use Rattle.std.specs.Prelude.{OnErr, slice_set}
 use Rattle.relay_hub.specs.Representation.{rooms_of}
+use Rattle.relay_room.specs.Room.{revision}
 use Rattle.relay_hub.specs.State.{RoomSessions}
 use Rattle.relay_hub.proofs.Representation.{never_unnamed, written}
 use Rattle.relay_hub.proofs.Lists.{slice_set_same}
@@ -22,7 +23,7 @@ returns-in_err-join_room-clause-err c =
     let i = c.in-Some.place in
     let g = c.in-Some-get_index_mut.room_sessions.now in
     let w = written es i g c.join_room.new.room_sessions (sym c.in-Some-get_index_mut.ensures.value) in
-    on_err c.from_residual.result
+    on_err c.from_residual-in_err-join_room.result
     (w.is ∙ (ap (λ (h : RoomSessions). slice_set (rooms_of es) i (w.name, h)) c.in_err-join_room.ensures.err ∙ slice_set_same (rooms_of es) i (w.name, g) w.was))
 
 pub returns-clause-ok : goal.returns-clause-ok
@@ -30,7 +31,7 @@ returns-clause-ok c =
     let g = c.in-Some-get_index_mut.room_sessions.now in
     let new = c.join_room.new.room_sessions in
     let w = written c.args.rooms.now.entries c.in-Some.place g new (sym c.in-Some-get_index_mut.ensures.value) in
-    rw c.in-Some.is (refl, w.name, g, new, w.was, w.is, c.in_ok-join_room.ensures.ok)
+    rw c.in-Some.is (refl, w.name, g, new, w.was, w.is, c.revision-rev.ensures.revision ∙ ap revision c.room.ensures, c.in_ok-join_room.ensures.ok)
 
 pub unreachable-requires : goal.unreachable-requires
 unreachable-requires c = never_unnamed c.args.rooms.now.entries c.args.name.now c.in-Some.place (sym c.requires.place ∙ c.in-Some.is) (sym c.in_default-get_index_mut.ensures.value)

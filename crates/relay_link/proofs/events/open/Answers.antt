@@ -8,11 +8,11 @@ use Rattle.relay_link.proofs.events.open.Goals.{in-Ok, in-Err+else-not-is_answer
 
 pub returns-then-not-is_answer-clause-follows : goal.returns-then-not-is_answer-clause-follows
 returns-then-not-is_answer-clause-follows c =
-    follows_same _ _ _ _ _ _ (unanswered _ _ (Open c.as_str.result.now) _ c.if-not-is_answer.ensures c.in-Err.ensures.step) refl refl
+    follows_same _ _ _ _ _ _ (unanswered _ _ (Open c.as_str.result.now c.args.access) _ c.if-not-is_answer.ensures c.in-Err.ensures.step) refl refl
 
 pub returns-clause-follows : goal.returns-clause-follows
 returns-clause-follows c = elim c.match-open.branch [
-  | in-Ok w ↦ rw w.opened-is (follows_one _ _ _ _ _ (Open c.as_str.result.now) (Opened w.in-Ok.session) (rw c.as_str.ensures c.note.ensures) (refl, c.as_str.ensures ∙ c.of-room.ensures) w.in-Ok.ensures.step)
+  | in-Ok w ↦ rw w.opened-is (follows_one _ _ _ _ _ (Open c.as_str.result.now c.args.access) (Opened w.in-Ok.opening) (rw c.as_str.ensures c.note.ensures) (refl, (c.as_str.ensures ∙ c.of-room.ensures, refl)) w.in-Ok.ensures.step)
   | in-Err+else-not-is_answer w ↦
-      rw w.opened-is (follows_refused _ _ _ _ c.as_str.result.now w.in-Err.fault (rw c.as_str.ensures c.note.ensures) w.if-not-is_answer.ensures w.in-Err.ensures.step (c.as_str.ensures ∙ c.of-room.ensures))
+      rw w.opened-is (follows_refused _ _ _ _ c.as_str.result.now c.args.access w.in-Err.fault (rw c.as_str.ensures c.note.ensures) w.if-not-is_answer.ensures w.in-Err.ensures.step (c.as_str.ensures ∙ c.of-room.ensures, refl))
 ]

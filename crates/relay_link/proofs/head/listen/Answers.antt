@@ -1,7 +1,10 @@
--- The room is the one that the head asks for: the bytes received before, and those that the read took.
+-- The room and the access are those that the head asks for: the bytes received before, and those
+-- that the read took.
 use Rattle.std.proofs.Common.{rules, ◌≡◌, ◌≤◌, ℕ, List, false, length, take, string_bytes, Some, sym, ap, is_err, ◌∙◌, subst}
 use Rattle.std.specs.Io.KnownBytes.{Consumes}
+use Rattle.relay_proto.specs.declared.access.Access.{Access}
 use Rattle.relay_link.specs.Asks.{Asks, Receives}
+use Rattle.relay_link.specs.Follows.{is_room}
 use Rattle.relay_link.specs.Stream.{stream_of}
 use Rattle.relay_link.specs.declared.head.TheConstants.{MAX_READ}
 use Rattle.relay_link.specs.declared.state.State.TheVariants.{Head}
@@ -13,8 +16,8 @@ use Rattle.relay_link.proofs.head.listen.Goals as goal
 pub returns-in-Ok-Accept-clause-follows : goal.returns-in-Ok-Accept-clause-follows
 returns-in-Ok-Accept-clause-follows g c = follows_wider asks c.admit.ensures.follows
   where
-    asks : (room : List ℕ) → room ≡ string_bytes c.in-Ok-Accept.room → Asks c.args.bytes.items (g.S.Read.remaining (stream_of c.args.stream)) room
-    asks room is =
+    asks : (room : List ℕ) (access : Access) → is_room (string_bytes c.in-Ok-Accept.room) c.in-Ok-Accept.access room access → Asks c.args.bytes.items (g.S.Read.remaining (stream_of c.args.stream)) room access
+    asks room access (name, given) =
         let fits : is_err c.extend_from_slice.result ≡ false = search rules in
         let whole = c.as_slice.ensures.value ∙ extended c.extend_from_slice.result c.args.bytes.items c.extend_from_slice.new.self.items _ fits c.extend_from_slice.ensures.items in
         let left = g.S.Read.remaining (stream_of c.read.new.self) in
@@ -22,7 +25,7 @@ returns-in-Ok-Accept-clause-follows g c = follows_wider asks c.admit.ensures.fol
         let first : Consumes (g.S.Read.remaining (stream_of c.args.stream)) left taken = c.in-Ok.ensures.bytes.0 in
         let within : c.in-Ok.len ≤ MAX_READ = search rules in
         let one_read : length taken ≤ MAX_READ = subst (λ n. n ≤ MAX_READ) c.in-Ok.ensures.bound.1 within in
-        asks_with _ taken _ room _ left c.in-Ok-Accept.field-0 whole first one_read c.in-Ok-Accept.ensures.head c.in-Ok-Accept.ensures.no_head (rw c.in-Ok-Accept.field-0-is (ap Some (sym is)))
+        asks_with _ taken _ room access _ left c.in-Ok-Accept.field-0 whole first one_read c.in-Ok-Accept.ensures.head c.in-Ok-Accept.ensures.no_head (rw c.in-Ok-Accept.field-0-is (ap Some (ap (λ r. (r, c.in-Ok-Accept.access)) (sym name) ∙ ap (λ a. (room, a)) (sym given))))
 
 -- The head is not whole: the bytes that the read took are held.
 pub returns-in-Ok-More-clause-received : goal.returns-in-Ok-More-clause-received

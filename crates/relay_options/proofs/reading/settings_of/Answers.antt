@@ -10,4 +10,5 @@ returns-clause-given c = record {
   history_weight = c.in_ok-weight_of.ensures.given;
   waiting_weight = c.in_ok-weight_of-2.ensures.given;
   telling_weight = c.in_ok-weight_of-3.ensures.given;
+  view_weight = c.in_ok-weight_of-4.ensures.given;
 }

@@ -2,7 +2,7 @@ use Rattle.std.proofs.Common.{◌∙◌, ◌∷◌, ◌≡◌, [], ap, codes, re
 use Rattle.clap.specs.Words.{Rule, Text, rule_of}
 use Rattle.relay_options.proofs.CommandsMade.{option_added}
 use Rattle.relay_options.specs.CommandLine.{history_weight_option, telling_weight_option}
-use Rattle.relay_options.specs.CommandLine.{waiting_weight_option}
+use Rattle.relay_options.specs.CommandLine.{view_weight_option, waiting_weight_option}
 use Rattle.relay_options.proofs.reading.with_server_options.Goals as goal
 
 pub returns : goal.returns
@@ -15,13 +15,17 @@ returns c =
     let telling : rule_of c.default_value-3.result ≡ telling_weight_option (codes "1048576" ∷ [])
     = ap rule_of c.default_value-3.ensures
     ∙ ap (bounded (codes "1048576")) c.telling_weight.ensures in
+    let view : rule_of c.default_value-4.result ≡ view_weight_option (codes "16384" ∷ [])
+    = ap rule_of c.default_value-4.ensures
+    ∙ ap (bounded (codes "16384")) c.view_weight.ensures in
     let settings = c.in_ok-with_settings.ensures in
     let one = option_added _ _ _ _ _ settings c.server_epoch.ensures refl c.in_ok-arg.ensures in
     let two = option_added _ _ _ _ _ one history refl c.in_ok-arg-2.ensures in
     let three = option_added _ _ _ _ _ two waiting refl c.in_ok-arg-3.ensures in
     let four = option_added _ _ _ _ _ three telling refl c.in_ok-arg-4.ensures in
-    let five = option_added _ _ _ _ _ four c.port.ensures refl c.in_ok-arg-5.ensures in
-    let six = option_added _ _ _ _ _ five c.admin.ensures refl c.in_ok-arg-6.ensures in
-    let seven = option_added _ _ _ _ _ six c.turns.ensures refl c.in_ok-arg-7.ensures in
-    let eight = option_added _ _ _ _ _ seven c.log.ensures refl c.in_ok-arg-8.ensures in
-    option_added _ _ _ _ _ eight c.output.ensures refl c.in_ok-command.ensures
+    let five = option_added _ _ _ _ _ four view refl c.in_ok-arg-5.ensures in
+    let six = option_added _ _ _ _ _ five c.port.ensures refl c.in_ok-arg-6.ensures in
+    let seven = option_added _ _ _ _ _ six c.admin.ensures refl c.in_ok-arg-7.ensures in
+    let eight = option_added _ _ _ _ _ seven c.turns.ensures refl c.in_ok-arg-8.ensures in
+    let nine = option_added _ _ _ _ _ eight c.log.ensures refl c.in_ok-arg-9.ensures in
+    option_added _ _ _ _ _ nine c.output.ensures refl c.in_ok-command.ensures

@@ -1,6 +1,6 @@
 use Rattle.std.proofs.Common.{◌∙◌, sym, arith}
 use Rattle.relay_hub.specs.Representation.{hub_of}
-use Rattle.relay_hub.proofs.Opening.{place_is, rooms_full, sessions_full, exhausted, admitted}
+use Rattle.relay_hub.proofs.OpenFaults.{place_is, rooms_full, sessions_full, exhausted, admitted}
 use Rattle.relay_hub.proofs.hub.Hub.admit.Goals as goal
 
 pub returns-then-is_crowded-clause-refused : goal.returns-then-is_crowded-clause-refused

@@ -8,7 +8,7 @@ use Rattle.relay_hub.proofs.Shedding.{shed_is_hub, shed_stands}
 use Rattle.relay_hub.proofs.hub.Hub.shed.Goals as goal
 
 abbrev with_rooms : Inside → List (List ℕ × RoomSessions) → State
-with_rooms h rooms = record { made = h.made; next = h.next; rooms = rooms; homes = h.homes.entries }
+with_rooms h rooms = record { made = h.made; next = h.next; floor = h.floor; rooms = rooms; homes = h.homes.entries }
 
 pub invariant_of-self : goal.invariant_of-self
 invariant_of-self c =
