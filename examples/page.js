@@ -11,6 +11,7 @@ const FAULTS = {
   "too-heavy": "the document is full",
   changed: "somebody changed that since",
   away: "there is no connection",
+  "read-only": "this window only watches",
 };
 
 /**

@@ -21,6 +21,10 @@ type Options struct {
 	// there, on each connection before anything else. If that is refused for another reason than that
 	// the room has a document, the board ends.
 	Begin any
+	// ReadOnly enters the room only to watch it, by its WatchAddress. Each edit fails at once with
+	// *Refused, as read-only, and nothing is sent: so do Change, End, Undo and Redo. Begin is not
+	// added. A relay that does not know the address refuses it with 404.
+	ReadOnly bool
 	// OnChange is told of each change of what is shown.
 	OnChange func(Change)
 	// OnState is told of each new state, with its cause if there is one.
@@ -89,16 +93,20 @@ type Board struct {
 	stepping         sync.Mutex // held by the undo or redo that is made
 	quiet            []chan struct{}
 	readers          map[chan Change]struct{}
-	end              error
+	closedBy         error
 	closed           chan struct{}
 }
 
 // ConnectBy enters a room by connections of another kind, and comes back to it until the context is
-// done or the board is closed. It fails if JSON cannot say the document to begin with.
+// done or the board is closed. It fails if JSON cannot say the document to begin with. If it is to
+// be ReadOnly, they have to lead to the room's WatchAddress.
 func ConnectBy(ctx context.Context, dial Dial, view []Shown, options Options) (*Board, error) {
 	begin, err := beginning(options.Begin)
 	if err != nil {
 		return nil, err
+	}
+	if options.ReadOnly {
+		begin = nil
 	}
 	if options.FirstWait == 0 {
 		options.FirstWait = 200 * time.Millisecond
@@ -118,6 +126,9 @@ func ConnectBy(ctx context.Context, dial Dial, view []Shown, options Options) (*
 	}()
 	return b, nil
 }
+
+// WatchAddress is the address by which a room is entered only to watch it.
+func WatchAddress(url string) string { return url + "/watch" }
 
 func beginning(document any) (Patch, error) {
 	if document == nil {
@@ -169,7 +180,7 @@ func (b *Board) Done() <-chan struct{} { return b.closed }
 func (b *Board) Err() error {
 	b.lock.Lock()
 	defer b.lock.Unlock()
-	return b.end
+	return b.closedBy
 }
 
 // Changes gives what is shown, and then each change until the context is done or the board is
@@ -250,6 +261,10 @@ func (b *Board) Send(patch Patch, options ...EditOption) (*Answer, error) {
 		return nil, err
 	}
 	one := &edit{patch: own, ended: make(chan struct{})}
+	if one.err = b.mayEdit(); one.err != nil {
+		close(one.ended)
+		return &Answer{one}, nil
+	}
 	for _, option := range options {
 		option(one)
 	}
@@ -265,6 +280,25 @@ func (b *Board) Send(patch Patch, options ...EditOption) (*Answer, error) {
 	}
 	b.session.ask(one.request(b.session))
 	return &Answer{one}, nil
+}
+
+// End ends the room: it replaces the whole document by null. That is an edit with a base, the
+// revision of what is shown, so it is refused, as stale, if anybody edited since. It fails with
+// ErrNotShown before the first slots. Once everybody has left, the room makes place for a new name
+// if the relay has no other.
+func (b *Board) End() (*Answer, error) {
+	seen, isThere := b.Shown()
+	if !isThere && !b.options.ReadOnly {
+		return nil, ErrNotShown
+	}
+	return b.Send(Patch{Replace("", nil)}, On(seen.Revision))
+}
+
+func (b *Board) mayEdit() error {
+	if b.options.ReadOnly {
+		return &Refused{Fault: "read-only"}
+	}
+	return nil
 }
 
 // publish tells what is shown now. It is called with the lock held, as all that follows.
@@ -291,8 +325,8 @@ func (b *Board) publish(patch Patch) {
 }
 
 func (b *Board) whyClosed() error {
-	if b.end != nil {
-		return b.end
+	if b.closedBy != nil {
+		return b.closedBy
 	}
 	return ErrClosed
 }

@@ -450,3 +450,78 @@ func TestASlowReaderIsGivenTheNewest(t *testing.T) {
 		}
 	}
 }
+
+func TestWhoOnlyWatchesEditsNothing(t *testing.T) {
+	options := Options{ReadOnly: true, Begin: map[string]any{"cards": []string{}}}
+	room := connected(t, options, "/cards")
+	isReadOnly := func(_ any, err error) {
+		t.Helper()
+		var refused *Refused
+		if !errors.As(err, &refused) || refused.Fault != "read-only" {
+			t.Fatalf("it fails by %v", err)
+		}
+	}
+	push := Patch{Add("/cards/-", "c")}
+	never := func(Change) (Patch, error) { t.Fatal("it is called"); return nil, nil }
+	isReadOnly(room.board.Edit(soon(t), push))
+	isReadOnly(room.board.Change(soon(t), never))
+	waits := func(answer *Answer, err error) (Revision, error) {
+		if err != nil {
+			return Revision{}, err
+		}
+		return answer.Wait(soon(t))
+	}
+	isReadOnly(waits(room.board.End()))
+	room.enter(7, 1)
+	if word := room.reply(`"kind":"watching"`).word(); word != "watch" {
+		t.Fatalf("it says %s", word)
+	}
+	room.hear(`{"kind":"snapshot","rev":1,"view":[[["a","b"]]]}`)
+	if _, err := room.board.Ready(soon(t)); err != nil {
+		t.Fatal(err)
+	}
+	isReadOnly(waits(room.board.At("/cards").Push("c")))
+	isReadOnly(room.board.Edit(soon(t), push, Optimistic, On(Revision{1, 7})))
+	isReadOnly(room.board.Undo(soon(t)))
+	isReadOnly(room.board.Redo(soon(t)))
+	room.shows(`[[["a","b"]]]`)
+	asked := room.board.Ask(View("/cards"))
+	if word := room.reply(`"kind":"watching"`).word(); word != "watch" {
+		t.Fatalf("it says %s", word)
+	}
+	room.hear(`{"kind":"snapshot","rev":2,"view":[[["b"]]]}`)
+	if _, err := asked.Wait(soon(t)); err != nil {
+		t.Fatal(err)
+	}
+	room.shows(`[[["b"]]]`)
+}
+
+func TestARoomIsEndedAtTheRevisionThatIsShown(t *testing.T) {
+	if _, err := connected(t, Options{}, "/cards").board.End(); err != ErrNotShown {
+		t.Fatalf("it fails by %v", err)
+	}
+	room := begun(t, Options{}, "/cards", `[[["a"]]]`)
+	answer, err := room.board.End()
+	if err != nil {
+		t.Fatal(err)
+	}
+	request := room.reply(`"kind":"refused","fault":"stale","at":null,"rev":2`)
+	told, _ := json.Marshal(request.Patch)
+	if string(told) != `[{"op":"replace","path":"","value":null}]` || *request.Base != 1 {
+		t.Fatalf("it asks for %s at %d", told, *request.Base)
+	}
+	if _, err := answer.Wait(soon(t)); !isStale(err) {
+		t.Fatalf("it fails by %v", err)
+	}
+	room.hear(`{"kind":"patch","rev":2,"patch":[{"op":"remove","path":"/0/0/0"}]}`)
+	for seen, _ := room.board.Shown(); seen.Rev < 2; seen, _ = room.board.Shown() {
+		time.Sleep(time.Millisecond)
+	}
+	if answer, err = room.board.End(); err != nil {
+		t.Fatal(err)
+	}
+	room.reply(`"kind":"done","rev":3`)
+	if made, err := answer.Wait(soon(t)); err != nil || made != (Revision{3, 7}) {
+		t.Fatalf("it ends at %v, with %v", made, err)
+	}
+}

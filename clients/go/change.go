@@ -21,6 +21,9 @@ type Make func(seen Change) (Patch, error)
 // others are faster, the function is called again, 20 times at most. If it gives nil, nothing is
 // done. It fails as an edit with a base does, and with the function.
 func (b *Board) Change(ctx context.Context, make Make) (Revision, error) {
+	if err := b.mayEdit(); err != nil {
+		return Revision{}, err
+	}
 	if _, err := b.Ready(ctx); err != nil {
 		return Revision{}, err
 	}
@@ -72,6 +75,9 @@ func (b *Board) Redo(ctx context.Context) (bool, error) { return b.step(ctx, &b.
 
 // step is made one after the other, each when all edits before it are shown.
 func (b *Board) step(ctx context.Context, from *[]Patch, why role) (bool, error) {
+	if err := b.mayEdit(); err != nil {
+		return false, err
+	}
 	b.stepping.Lock()
 	defer b.stepping.Unlock()
 	if err := b.whenQuiet(ctx); err != nil {

@@ -8,7 +8,8 @@ import (
 var (
 	// ErrClosed is how what was asked for fails if the board was closed before it was sent.
 	ErrClosed = errors.New("relay: the board is closed")
-	// ErrNotShown is how a place fails that the view does not show, or of which no slots came yet.
+	// ErrNotShown is how a place fails that the view does not show, or of which no slots came yet. So
+	// does an End before the first slots.
 	ErrNotShown = errors.New("relay: the view does not show it")
 
 	errAstray = errors.New("relay: a message that does not follow from those before it")
@@ -35,7 +36,7 @@ func (u *Unknown) Error() string {
 // Refused is the relay's refusal of a request: nothing changed by it. Or the board refused it
 // before it was sent: as stale an edit with a base of another run, as too-long a text by which the
 // connection would end, as away an edit that is not guarded while the connection is lost, as
-// changed an undo.
+// changed an undo, as read-only each edit of a board that only watches.
 type Refused struct {
 	Fault string // docs/PROTOCOL.md, "Messages"
 	At    *int64 // which operation or pointer is at fault, counted from 0; nil if no single one is

@@ -33,6 +33,9 @@ func Connect(ctx context.Context, url string, view []Shown, options Options) (*B
 	if !room.MatchString(url) {
 		return nil, fmt.Errorf("relay: not the address of a room: %q", url)
 	}
+	if options.ReadOnly {
+		url = WatchAddress(url)
+	}
 	return ConnectBy(ctx, WebSocket(url), view, options)
 }
 

@@ -118,3 +118,26 @@ func lasts(socket Socket) time.Duration {
 		}
 	}
 }
+
+func TestWhoOnlyWatchesEntersByAnAddressOfItsOwn(t *testing.T) {
+	targets := make(chan string, 9)
+	refuse := func(to http.ResponseWriter, request *http.Request) {
+		targets <- request.URL.Path
+		http.NotFound(to, request)
+	}
+	server := httptest.NewServer(http.HandlerFunc(refuse))
+	t.Cleanup(server.Close)
+	url := "ws" + strings.TrimPrefix(server.URL, "http") + "/rooms/demo"
+	for target, options := range map[string]Options{
+		"/rooms/demo": {}, "/rooms/demo/watch": {ReadOnly: true},
+	} {
+		board, err := Connect(context.Background(), url, View(""), options)
+		if err != nil {
+			t.Fatal(err)
+		}
+		if told := <-targets; told != target {
+			t.Errorf("it asks for %s, and not %s", told, target)
+		}
+		board.Close()
+	}
+}

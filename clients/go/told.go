@@ -39,7 +39,7 @@ func (t *told) entered(state State, cause error) {
 	if state != Closed {
 		return
 	}
-	b.end = cause
+	b.closedBy = cause
 	for _, one := range b.waiters {
 		one.end(Change{}, b.whyClosed())
 	}

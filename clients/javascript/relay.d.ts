@@ -109,6 +109,12 @@ export interface Options<V extends readonly Shown[] = readonly Shown[], Slots = 
    * in a new room, and after a restart of the relay. It is no edit for `undo`. If it is refused, as `too-heavy`, the board is closed.
    */
   begin?: Writable;
+  /**
+   * Enters the room only to watch it, by its address with `/watch` behind the name. Each edit fails
+   * at once, as `read-only`, and nothing is sent: so do `change`, `end`, `undo` and `redo`. `begin`
+   * is not written. A relay that does not know the address refuses it with 404.
+   */
+  readOnly?: boolean;
   /** Told after each change of the slots, and of how many edits wait. */
   onChange?: (change: Change<Slots>) => void;
   /**
@@ -129,7 +135,7 @@ export interface Options<V extends readonly Shown[] = readonly Shown[], Slots = 
    * something else stands there, nothing is sent.
    */
   storage?: Store;
-  /** The key in `storage`, of one page at a time. The URL, if nothing is said. */
+  /** The key in `storage`, of one page at a time. The address, if nothing is said. */
   storageKey?: string;
   /**
    * A pointer to an object of the document, as `begin` makes it, in which this client keeps a
@@ -326,6 +332,12 @@ export interface Board<D = Json, V extends readonly Shown[] = readonly Shown[]> 
     options?: ChangeOptions,
   ): Promise<number>;
   /**
+   * Ends the room: replaces the whole document by `null`. It is an edit with `rev` as its base, so
+   * it is refused, as `stale`, if anybody edited since. Before the first slots it waits for them.
+   * Once everybody has left, the room makes place for a new name if the relay has no other.
+   */
+  end(): Promise<number>;
+  /**
    * Takes back the newest edit of this board that was done, and gives the revision of that; null where there is none. It waits until all
    * edits before it are shown. Refused, as `changed`, where somebody changed what the edit did; then the edit before it is the newest. Edits
    * of what the slots did not show are not taken back.
@@ -374,7 +386,7 @@ export interface Presence<E extends object> {
   readonly id: string;
   /** The entries of all who are here, by their ids. What is no object is left out. */
   readonly people: Readonly<Record<string, E & { readonly beat: number }>>;
-  /** When the entry is written for the first time. Fails where the board is closed before, or does not show the pointer. */
+  /** When the entry is written for the first time. Fails where the board is closed before, only watches, or does not show the pointer. */
   readonly ready: Promise<void>;
   /** Tells who is here with each change. Gives its end. */
   subscribe(listener: (people: Readonly<Record<string, E & { readonly beat: number }>>) => void): () => void;
@@ -417,8 +429,8 @@ export class Refused extends Error {
   constructor(reply: { fault: string; at?: number | null; rev?: number | null }, advice?: string);
   /**
    * The word of the fault (docs/PROTOCOL.md, "Messages"). The client itself refuses with `too-long` a text of more than 1,056,768 bytes, by
-   * which the connection would end; with `away` what may not wait for the connection; and with `changed` an undo of what somebody changed
-   * since.
+   * which the connection would end; with `away` what may not wait for the connection; with `changed` an undo of what somebody changed
+   * since; and with `read-only` each edit of a board that only watches.
    */
   readonly fault: string;
   /** The place of the operation or pointer that is at fault, counted from 0; null where no single one is. */

@@ -6,6 +6,8 @@
 
     /** The relay refused a request, and nothing changed by it. */
     class Refused extends Error {
+      name = "Refused";
+
       /**
        * @param {{ fault: string, at?: number | null, rev?: number | null }} reply
        * @param {string} [advice] what to do
@@ -14,7 +16,6 @@
         const place = at === null ? "" : ` at ${at}`;
         const room = rev === null ? "" : `, the room is at revision ${rev}`;
         super(fault + place + room + (advice && `: ${advice}`));
-        this.name = "Refused";
         this.fault = fault;
         this.at = at;
         this.rev = rev;
@@ -23,31 +24,35 @@
 
     /** The answer was lost: the edit may have been done, or not; `rev` is the room's revision since. */
     class Unknown extends Error {
+      name = "Unknown";
+
       /** @param {number | null} [rev] null where it may still be done */
       constructor(rev = null) {
         const since = rev === null ? "" : `, and the room is at revision ${rev}`;
         super(`the connection was lost before the answer${since}`);
-        this.name = "Unknown";
         this.rev = rev;
       }
     }
 
     /** The board was closed, and what was asked for was not sent. */
     class Closed extends Error {
+      name = "Closed";
+
       constructor() {
         super("the board is closed");
-        this.name = "Closed";
       }
     }
 
     /** @type {Record<number, string>} */
     const ADVICE = {
-      404: "an address ends with /rooms/NAME",
-      503: "it is full (--sessions, --rooms), or about to stop",
+      404: ": an address ends with /rooms/NAME",
+      503: ": it is full (--sessions, --rooms), or about to stop",
     };
 
     /** No connection could be made. The client goes on trying. */
     class HandshakeFailed extends Error {
+      name = "HandshakeFailed";
+
       /**
        * @param {"refused" | "unreachable"} reason
        * @param {string} url
@@ -55,7 +60,6 @@
        */
       constructor(reason, url, status = null) {
         super(reason === "refused" ? refusal(url, status) : silence(url));
-        this.name = "HandshakeFailed";
         this.reason = reason;
         this.status = status;
       }
@@ -63,10 +67,8 @@
 
     /** @param {string} url @param {number | null} status */
     function refusal(url, status) {
-      if (status === null) return `${url} refuses the connection`;
-      const advice = ADVICE[status];
-      const what = advice === undefined ? "" : `: ${advice}`;
-      return `${url} refuses the connection, with ${status}${what}`;
+      const answer = status === null ? "" : `, with ${status}${ADVICE[status] ?? ""}`;
+      return `${url} refuses the connection${answer}`;
     }
 
     /** @param {string} url */
@@ -228,13 +230,9 @@
         return again;
       }
 
+      /** It has no answer any more. */
       dropped() {
         this.fail(this.#sendings > 0 ? new Unknown() : new Closed());
-      }
-
-      /** It was done, and nobody can say when. */
-      lose() {
-        this.fail(new Unknown());
       }
 
       /** @param {Error} cause */
@@ -365,6 +363,19 @@
     }
 
     /**
+     * What a text says; null where it is no JSON.
+     * @param {string} text
+     * @returns {any}
+     */
+    function parsed(text) {
+      try {
+        return JSON.parse(text);
+      } catch {
+        return null;
+      }
+    }
+
+    /**
      * Whether a value has members, and so is no list.
      * @param {unknown} value
      * @returns {value is Record<string, any>}
@@ -388,7 +399,7 @@
       return names.length === Object.keys(other).length && names.every((name) => Object.hasOwn(other, name) && same(parts[name], others[name]));
     }
 
-    return { DEEPEST, checked, isObject, same };
+    return { DEEPEST, checked, isObject, parsed, same };
   })();
 
   const patchModule = (() => {
@@ -1285,9 +1296,9 @@
       const ending = new AbortController();
       const timer = setTimeout(() => ending.abort(), LONGEST);
       try {
-        const address = new URL(url.replace(/^ws/, "http"), globalThis.location?.href);
-        const foreign = globalThis.location !== undefined && globalThis.location.origin !== address.origin;
-        const mode = foreign ? "no-cors" : "cors";
+        const { location } = globalThis;
+        const address = new URL(url.replace(/^ws/, "http"), location?.href);
+        const mode = location && location.origin !== address.origin ? "no-cors" : "cors";
         const { status } = await fetch(address, { mode, redirect: "manual", cache: "no-store", signal: ending.signal });
         return new HandshakeFailed("refused", url, meant(status));
       } catch {
@@ -1444,6 +1455,7 @@
     const { HandshakeFailed } = errorsModule;
     const { endsConnection } = lengthModule;
     const { failure } = handshakeModule;
+    const { parsed } = jsonModule;
     const { overlap } = pointerModule;
     const { WAITS } = onceModule;
 
@@ -1710,7 +1722,8 @@
 
       /** @param {string} text */
       #hear(text) {
-        const message = messageOf(text);
+        // What is no message is of no kind.
+        const message = parsed(text) ?? {};
         try {
           if (message.kind === "welcome" && this.#welcome === null) this.#enter(message);
           else if (this.#welcome === null) this.#on.astray();
@@ -1758,19 +1771,6 @@
         if (reply.how === "nothing") this.#givenUp = 0;
         this.#goOn();
         asked?.answered(reply);
-      }
-    }
-
-    /**
-     * What a text says. One that is no message is of no kind.
-     * @param {string} text
-     * @returns {any}
-     */
-    function messageOf(text) {
-      try {
-        return JSON.parse(text) ?? {};
-      } catch {
-        return {};
       }
     }
 
@@ -1964,7 +1964,7 @@
 
       /** The slots of the relay are those of the room's revision: they show whatever was done. */
       settleAll(/** @type {Held} */ held) {
-        this.#leave(held, this.#edits.filter(({ rev }) => rev !== null));
+        this.#leave(held, () => true);
       }
 
       /**
@@ -1973,7 +1973,7 @@
        * @param {Held} held
        */
       settle(before, held) {
-        this.#leave(before, this.#edits.filter(({ rev, epoch }) => rev !== null && (epoch !== held.epoch || rev <= (held.rev ?? -1))));
+        this.#leave(before, ({ rev, epoch }) => epoch !== held.epoch || Number(rev) <= (held.rev ?? -1));
         this.settleTraceless(held);
       }
 
@@ -1982,7 +1982,7 @@
        * @param {Held} held
        */
       settleTraceless(held) {
-        this.#leave(held, this.#edits.filter((edit) => edit.rev !== null && edit.epoch === held.epoch && !this.#willShow(edit, held)));
+        this.#leave(held, (edit) => edit.epoch === held.epoch && !this.#willShow(edit, held));
       }
 
       /** @param {Held} held @returns {readonly Slot[] | null} */
@@ -2011,8 +2011,10 @@
         }
       }
 
-      /** @param {Held} before The slots that do not show them yet. @param {Unconfirmed[]} edits */
-      #leave(before, edits) {
+      // Of those that were done.
+      /** @param {Held} before The slots that do not show them yet. @param {(edit: Unconfirmed) => boolean} leaves */
+      #leave(before, leaves) {
+        const edits = this.#edits.filter((edit) => edit.rev !== null && leaves(edit));
         if (edits.length === 0) return;
         this.#edits = this.#edits.filter((edit) => !edits.includes(edit));
         let whole = knownBy(before.view, before.slots ?? []);
@@ -2337,8 +2339,9 @@
       #compareAndSet(make, tries, options) {
         const edit = (/** @type {Operation[]} */ patch, /** @type {object} */ seen) =>
           this.#board.edit(patch, { ...options, ...seen });
-        const done = this.#source.ready.then(() => compareAndSet(this.#board, tries, make, edit));
-        return this.#board.said(done);
+        return this.#board.said(() =>
+          this.#source.ready.then(() => compareAndSet(this.#board, tries, make, edit)),
+        );
       }
 
       /** @param {Slots} slots @returns {readonly any[]} */
@@ -2465,6 +2468,7 @@
 
   const queueModule = (() => {
     // Edits that wait for a connection: which are taken while there is none, and where they are kept beyond this page.
+    const { parsed } = jsonModule;
 
     /**
      * @typedef {import("./edit.mjs").Edit} Edit
@@ -2509,17 +2513,8 @@
        * @returns {Kept[]}
        */
       left() {
-        const left = parsed(this.#storage?.getItem(this.#key) ?? null);
+        const left = parsed(this.#storage?.getItem(this.#key) ?? "");
         return Array.isArray(left) ? left.filter((kept) => Array.isArray(kept?.patch)) : [];
-      }
-    }
-
-    /** @param {string | null} text @returns {unknown} null where it is no JSON */
-    function parsed(text) {
-      try {
-        return text === null ? null : JSON.parse(text);
-      } catch {
-        return null;
       }
     }
 
@@ -3191,7 +3186,7 @@
     function queues(kids) {
       /** @type {Map<string | null, Node[]>} */
       const queues = new Map();
-      for (const kid of kids.filter((kid) => text(kid) !== null)) {
+      for (const kid of kids) {
         const key = text(kid);
         queues.set(key, [...(queues.get(key) ?? []), kid]);
       }
@@ -3285,15 +3280,13 @@
      */
     function isLike(before, kid) {
       if (before.isPartial || !before.isContainer || before.isList !== kid.isList) return false;
-      const [old, made] = [before.kids, kid.kids];
-      const size = (/** @type {Kids} */ kids) => (Array.isArray(kids) ? kids.length : kids.size);
-      const parts = new Set(old.values());
+      const [old, made] = [[...before.kids.values()], [...kid.kids.values()]];
+      const parts = new Set(old);
       const isScalar = (/** @type {Node} */ part) => !part.isContainer;
-      const values = new Set([...old.values()].filter(isScalar).map((part) => part.value));
+      const values = new Set(old.filter(isScalar).map((part) => part.value));
       const isKept = (/** @type {Node} */ part) =>
         parts.has(part) || (isScalar(part) && values.has(part.value));
-      const kept = [...made.values()].filter(isKept);
-      return kept.length * 2 >= Math.max(size(old), size(made));
+      return made.filter(isKept).length * 2 >= Math.max(old.length, made.length);
     }
 
     /** @param {Kids} kids @param {(kid: Node) => Node} make @returns {Kids} */
@@ -3677,19 +3670,19 @@
     /** @param {Draft} draft @param {Set<Node>} changed @returns {Operation[]} */
     function testsOf(draft, changed) {
       const seen = new Set(draft.seen);
-      const known = [...seen, ...changed].map((node) => node.origin ?? []);
+      const pathOf = (/** @type {Node} */ node) => node.origin ?? [];
+      const known = [...seen, ...changed].map(pathOf);
       for (const node of draft.there) {
         const { origin } = node;
         if (origin === null || node.isPartial) continue;
         // What is tested or done within it says that it is there.
         if (!known.some((path) => startsWith(path, origin))) seen.add(node);
       }
-      const paths = new Set([...seen].map((node) => spelled(node.origin ?? [])));
-      const isWithin = (/** @type {readonly string[]} */ origin) =>
-        origin.some((_, length) => paths.has(spelled(origin.slice(0, length))));
-      const outer = [...seen].filter(({ origin }) => !isWithin(origin ?? []));
-      const pathOf = (/** @type {Node} */ node) => spelled(node.origin ?? []);
-      return outer.map((node) => ({ op: "test", path: pathOf(node), value: node.seen }));
+      const paths = new Set([...seen].map((node) => spelled(pathOf(node))));
+      const isOuter = (/** @type {Node} */ node) =>
+        !pathOf(node).some((_, length, path) => paths.has(spelled(path.slice(0, length))));
+      const outer = [...seen].filter(isOuter);
+      return outer.map((node) => ({ op: "test", path: spelled(pathOf(node)), value: node.seen }));
     }
 
     return { guarded };
@@ -3871,9 +3864,12 @@
         this.#options = { ...own, ...DEFAULTS, ...options };
         this.#counter = once === null ? null : new Counter(once);
         if (options.onChange) this.#changes.add(options.onChange);
-        const first = begin === null ? null : beginning(begin, (cause) => this.#end(cause));
-        this.#queue = new Queue(options.queue, options.storage, options.storageKey ?? url);
-        this.#link = new Link(url, this.#options, {
+        const { readOnly } = options;
+        const first =
+          begin === null || readOnly ? null : beginning(begin, (cause) => this.#finish(cause));
+        const address = readOnly ? url.replace(/\?|$/, "/watch$&") : url;
+        this.#queue = new Queue(options.queue, options.storage, options.storageKey ?? address);
+        this.#link = new Link(address, this.#options, {
           entered: () => {
             this.#follower.entered();
             if (first !== null) this.#link.askFirst(first);
@@ -3887,7 +3883,7 @@
         this.#follower = new Follower(view, this.#link, {
           took: (before, patch) => this.#took(before, patch),
           present: () => this.#present(),
-          refused: (cause) => this.#end(cause),
+          refused: (cause) => this.#finish(cause),
         });
         /** The first slots. */
         this.ready = this.#follower.shown().then(() => this.slots);
@@ -3972,11 +3968,15 @@
       }
 
       /**
-       * For what asks more than once: `sync` waits for it.
+       * Asks for what makes edits: `sync` waits for it. Who only watches asks for nothing.
        * @template T
-       * @param {Promise<T>} asked
+       * @param {() => Promise<T>} ask
+       * @returns {Promise<T>}
        */
-      said(asked) {
+      said(ask) {
+        const asked = this.#options.readOnly
+          ? Promise.reject(new Refused({ fault: "read-only" }))
+          : ask();
         const ended = () => void this.#said.delete(asked);
         this.#said.add(asked);
         asked.then(ended, ended);
@@ -3989,7 +3989,7 @@
        * @returns {Promise<number>}
        */
       edit(patch, options = {}) {
-        return this.said(this.#edit(patch, options, options.undo === false ? null : "edit"));
+        return this.said(() => this.#edit(patch, options, options.undo === false ? null : "edit"));
       }
 
       /**
@@ -4010,7 +4010,7 @@
       changePlace(path, make, options) {
         /** @param {import("./draft.mjs").Draft} draft */
         const drafted = (draft) => made(make(draft.at(path)));
-        return this.said(change(this, drafted, options));
+        return this.said(() => change(this, drafted, options));
       }
 
       /**
@@ -4022,6 +4022,17 @@
         this.#options.onTakenBack?.({ patch, cause });
       }
 
+      /**
+       * The room has no document any more, if nobody edited since what is shown.
+       * @returns {Promise<number>}
+       */
+      end() {
+        return this.said(async () => {
+          if (this.slots === null) await this.ready;
+          return this.edit([{ op: "replace", path: "", value: null }], { base: this.rev });
+        });
+      }
+
       undo() {
         return this.#step("undo");
       }
@@ -4031,7 +4042,7 @@
       }
 
       close() {
-        this.#end(null);
+        this.#finish(null);
       }
 
       // Edits.
@@ -4087,7 +4098,7 @@
           // not known.
           doneBefore: (edit, epoch) => {
             unconfirmed.left = () => {};
-            this.watchAgain().then(() => done(Number(this.rev), epoch), () => edit.lose());
+            this.watchAgain().then(() => done(Number(this.rev), epoch), () => edit.dropped());
           },
           failed: (cause) => {
             reject(cause);
@@ -4109,9 +4120,8 @@
       }
 
       #settled() {
-        const { held } = this.#follower;
         const { pending } = this;
-        this.#overlay.settleTraceless(held);
+        this.#overlay.settleTraceless(this.#follower.held);
         this.#becomeQuiet();
         if (this.pending !== pending) this.#tell(null);
       }
@@ -4132,13 +4142,15 @@
 
       /** @param {"undo" | "redo"} role @returns {Promise<number | null>} */
       #step(role) {
-        const step = this.#stepping.then(async () => {
-          await this.quiet();
-          const inverse = this.#history.take(role);
-          return inverse === null ? null : this.#takeBack(inverse, role);
+        return this.said(() => {
+          const step = this.#stepping.then(async () => {
+            await this.quiet();
+            const inverse = this.#history.take(role);
+            return inverse === null ? null : this.#takeBack(inverse, role);
+          });
+          this.#stepping = step.catch(() => {});
+          return step;
         });
-        this.#stepping = step.catch(() => {}).then(() => this.quiet());
-        return this.said(step);
       }
 
       /** @param {import("./inverse.mjs").Inverse} inverse @param {Role} role @returns {Promise<number>} */
@@ -4214,7 +4226,7 @@
       }
 
       /** @param {Error | null} cause */
-      #end(cause) {
+      #finish(cause) {
         if (this.#state === "closed") return;
         this.#link.close();
         this.#follower.end(cause);
@@ -4466,6 +4478,10 @@
         return this.#shared.board.change(make, options);
       }
 
+      end() {
+        return this.#shared.board.end();
+      }
+
       undo() {
         return this.#shared.board.undo();
       }
@@ -4665,7 +4681,8 @@
           for (const id of this.#gone()) this.#remove(id);
         } catch (error) {
           this.#fail();
-          if (error instanceof Refused || error instanceof Unknown) return;
+          const isRefused = error instanceof Refused && error.fault !== "read-only";
+          if (isRefused || error instanceof Unknown) return;
           for (const { reject } of this.#waiters.splice(0)) reject(error);
         }
       }

@@ -27,9 +27,10 @@ class Driver:
         self.heard, self.held = None, None  # the relay's last text, and what was held when the client was looked at last
         threading.Thread(target=self._read, daemon=True).start()
 
-    def begin(self, view):
+    def begin(self, view, **more):
         self.opened, self.said, self.ended, self.left = 0, [], {}, False
-        self.tell(do="connect", url=URL, view=view)
+        self.address = f"{URL}/watch" if more.get("readOnly") else URL
+        self.tell(do="connect", url=URL, view=view, **more)
 
     def end(self):
         self.tell(do="end")
@@ -98,8 +99,8 @@ class Driver:
             self.traits = told["traits"]
         elif "opens" in told:
             self.opened += 1
-            if told["opens"] != URL:
-                raise Failed(f"it opens {told['opens']}, and not {URL}")
+            if told["opens"] != self.address:
+                raise Failed(f"it opens {told['opens']}, and not {self.address}")
         elif "says" in told:
             self.said.append(told["says"])
         elif "leaves" in told:

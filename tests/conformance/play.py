@@ -5,12 +5,12 @@ from relay import shows, text
 
 
 class Play:
-    def __init__(self, driver, relay, view):
+    def __init__(self, driver, relay, view, **more):
         self.driver, self.relay = driver, relay
         self.keys = 0
         self.more = {}  # members that the relay's messages have besides
         self.resumes_of = None  # what the slots are that a resume has to be of
-        driver.begin(view)
+        driver.begin(view, **more)
 
     # Connections.
 
@@ -129,6 +129,11 @@ class Play:
     def edit(self, *patch, **more):
         self.keys += 1
         self.driver.tell(do="edit", key=self.keys, patch=list(patch), **more)
+        return self.keys
+
+    def end_room(self):
+        self.keys += 1
+        self.driver.tell(do="endRoom", key=self.keys)
         return self.keys
 
     def watch(self, view):

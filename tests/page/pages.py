@@ -5,6 +5,7 @@ import tempfile
 import urllib.parse
 
 from board import LISTS, PEOPLE, WORD, card, new_card
+from support.patience import becomes
 from support.play import shows
 from support.ports import free_port
 from support.relay import Relay
@@ -64,13 +65,26 @@ async def a_lobby_shows_how_many_sit_at_each_table_and_who_is_here(place):
         await window.press("#tables button")
         for other in (ann, bob):
             await other.until(first, f"{sits} of 2 players")
-    await place.picture(ann, "lobby")
     await ann.until(text_of("#tables button"), "Leave")
+    await both_play_a_match(place, ann, bob)
     await ann.press("#tables button")
     await bob.until(first, "1 of 2 players")
+    await bob.until(text_of("#match h2"), "north: Bob")
     await ann.leave()
     await bob.until(people, "1 here")
     await bob.leave()
+    # Who closes the window leaves the table, and the last one ends the match.
+    await becomes(Room(place.relay, "lobby-north").document, lambda document: document is None)
+    lobby = await Room(place.relay, "lobby").document()
+    assert lobby["tables"]["north"]["players"] == {}, lobby
+
+
+async def both_play_a_match(place, ann, bob):
+    for window in (ann, bob):
+        await window.until(f"{text_of('#match h2')}.length", len("north: Ann, Bob"))
+    await ann.press("#match button")
+    await bob.until(f"{text_of('#match p')}.slice(0, 13)", "Ann rolled a ")
+    await place.picture(ann, "lobby")
 
 
 # What anyone may write to where a page has a list, an object or a text.

@@ -22,6 +22,7 @@ type line struct {
 	Patch         relay.Patch
 	Base          *int64
 	Optimistic    bool
+	ReadOnly      bool
 }
 
 type driver struct {
@@ -101,6 +102,8 @@ func (d *driver) do(words line) error {
 		<-d.rests
 	case "edit":
 		d.edit(words)
+	case "endRoom":
+		d.endRoom(words)
 	case "watch":
 		d.watch(words)
 	case "look":
@@ -115,8 +118,13 @@ func (d *driver) do(words line) error {
 }
 
 func (d *driver) connect(words line) error {
-	dial := func(context.Context) (relay.Socket, error) { return d.dial(words.URL) }
+	address := words.URL
+	if words.ReadOnly {
+		address = relay.WatchAddress(address)
+	}
+	dial := func(context.Context) (relay.Socket, error) { return d.dial(address) }
 	soon := relay.Options{FirstWait: 2 * time.Millisecond, LongestWait: 2 * time.Millisecond}
+	soon.ReadOnly = words.ReadOnly
 	board, err := relay.ConnectBy(context.Background(), dial, words.View, soon)
 	if err != nil {
 		return err
@@ -124,6 +132,15 @@ func (d *driver) connect(words line) error {
 	d.board, d.first = board, words.View
 	<-d.rests
 	return nil
+}
+
+func (d *driver) endRoom(words line) {
+	answer, err := d.board.End()
+	if err != nil {
+		d.write(map[string]any{"ends": words.Key, "invalid": err.Error()})
+		return
+	}
+	d.pending[words.Key] = func() map[string]any { return answered(answer) }
 }
 
 func (d *driver) edit(words line) {
@@ -211,7 +228,7 @@ func (d *driver) tellEnds() {
 func main() {
 	d := &driver{opens: make(chan *link), rests: make(chan struct{}), out: json.NewEncoder(os.Stdout)}
 	d.pending = map[int]func() map[string]any{}
-	d.tell("traits", []string{"optimistic"})
+	d.tell("traits", []string{"optimistic", "read-only", "end-room"})
 	lines := bufio.NewReader(os.Stdin)
 	for {
 		text, err := lines.ReadString('\n')

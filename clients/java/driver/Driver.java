@@ -59,7 +59,9 @@ public final class Driver implements Connector {
     }
 
     public static void main(String[] words) throws Exception {
-        tell(NODES.objectNode().set("traits", NODES.arrayNode().add("optimistic").add("late")));
+        ArrayNode traits = NODES.arrayNode();
+        for (String one : List.of("optimistic", "late", "read-only", "end-room")) traits.add(one);
+        tell(NODES.objectNode().set("traits", traits));
         Driver driver = new Driver();
         InputStreamReader input = new InputStreamReader(System.in, StandardCharsets.UTF_8);
         BufferedReader lines = new BufferedReader(input);
@@ -89,6 +91,7 @@ public final class Driver implements Connector {
             case "late" -> former.receiver.heard(words.get("text").textValue());
             case "cut" -> cut();
             case "edit" -> edit(words);
+            case "endRoom" -> ends(words, "done", board.end().thenApply(NODES::numberNode));
             case "watch" -> ends(words, "shown", board.watch(view(words)).thenApply(Driver::slots));
             case "look" -> look();
             case "end" -> board.close();
@@ -100,6 +103,7 @@ public final class Driver implements Connector {
         Duration hour = Duration.ofHours(1); // no time is played, so none may pass
         Options options = new Options()
                 .connector(this)
+                .readOnly(words.path("readOnly").asBoolean())
                 .executor(Runnable::run)
                 .waits(Duration.ofMillis(1), Duration.ofMillis(1))
                 .patience(hour, hour);

@@ -70,9 +70,12 @@ export class Board {
     this.#options = { ...own, ...DEFAULTS, ...options };
     this.#counter = once === null ? null : new Counter(once);
     if (options.onChange) this.#changes.add(options.onChange);
-    const first = begin === null ? null : beginning(begin, (cause) => this.#end(cause));
-    this.#queue = new Queue(options.queue, options.storage, options.storageKey ?? url);
-    this.#link = new Link(url, this.#options, {
+    const { readOnly } = options;
+    const first =
+      begin === null || readOnly ? null : beginning(begin, (cause) => this.#finish(cause));
+    const address = readOnly ? url.replace(/\?|$/, "/watch$&") : url;
+    this.#queue = new Queue(options.queue, options.storage, options.storageKey ?? address);
+    this.#link = new Link(address, this.#options, {
       entered: () => {
         this.#follower.entered();
         if (first !== null) this.#link.askFirst(first);
@@ -86,7 +89,7 @@ export class Board {
     this.#follower = new Follower(view, this.#link, {
       took: (before, patch) => this.#took(before, patch),
       present: () => this.#present(),
-      refused: (cause) => this.#end(cause),
+      refused: (cause) => this.#finish(cause),
     });
     /** The first slots. */
     this.ready = this.#follower.shown().then(() => this.slots);
@@ -171,11 +174,15 @@ export class Board {
   }
 
   /**
-   * For what asks more than once: `sync` waits for it.
+   * Asks for what makes edits: `sync` waits for it. Who only watches asks for nothing.
    * @template T
-   * @param {Promise<T>} asked
+   * @param {() => Promise<T>} ask
+   * @returns {Promise<T>}
    */
-  said(asked) {
+  said(ask) {
+    const asked = this.#options.readOnly
+      ? Promise.reject(new Refused({ fault: "read-only" }))
+      : ask();
     const ended = () => void this.#said.delete(asked);
     this.#said.add(asked);
     asked.then(ended, ended);
@@ -188,7 +195,7 @@ export class Board {
    * @returns {Promise<number>}
    */
   edit(patch, options = {}) {
-    return this.said(this.#edit(patch, options, options.undo === false ? null : "edit"));
+    return this.said(() => this.#edit(patch, options, options.undo === false ? null : "edit"));
   }
 
   /**
@@ -209,7 +216,7 @@ export class Board {
   changePlace(path, make, options) {
     /** @param {import("./draft.mjs").Draft} draft */
     const drafted = (draft) => made(make(draft.at(path)));
-    return this.said(change(this, drafted, options));
+    return this.said(() => change(this, drafted, options));
   }
 
   /**
@@ -221,6 +228,17 @@ export class Board {
     this.#options.onTakenBack?.({ patch, cause });
   }
 
+  /**
+   * The room has no document any more, if nobody edited since what is shown.
+   * @returns {Promise<number>}
+   */
+  end() {
+    return this.said(async () => {
+      if (this.slots === null) await this.ready;
+      return this.edit([{ op: "replace", path: "", value: null }], { base: this.rev });
+    });
+  }
+
   undo() {
     return this.#step("undo");
   }
@@ -230,7 +248,7 @@ export class Board {
   }
 
   close() {
-    this.#end(null);
+    this.#finish(null);
   }
 
   // Edits.
@@ -286,7 +304,7 @@ export class Board {
       // not known.
       doneBefore: (edit, epoch) => {
         unconfirmed.left = () => {};
-        this.watchAgain().then(() => done(Number(this.rev), epoch), () => edit.lose());
+        this.watchAgain().then(() => done(Number(this.rev), epoch), () => edit.dropped());
       },
       failed: (cause) => {
         reject(cause);
@@ -308,9 +326,8 @@ export class Board {
   }
 
   #settled() {
-    const { held } = this.#follower;
     const { pending } = this;
-    this.#overlay.settleTraceless(held);
+    this.#overlay.settleTraceless(this.#follower.held);
     this.#becomeQuiet();
     if (this.pending !== pending) this.#tell(null);
   }
@@ -331,13 +348,15 @@ export class Board {
 
   /** @param {"undo" | "redo"} role @returns {Promise<number | null>} */
   #step(role) {
-    const step = this.#stepping.then(async () => {
-      await this.quiet();
-      const inverse = this.#history.take(role);
-      return inverse === null ? null : this.#takeBack(inverse, role);
+    return this.said(() => {
+      const step = this.#stepping.then(async () => {
+        await this.quiet();
+        const inverse = this.#history.take(role);
+        return inverse === null ? null : this.#takeBack(inverse, role);
+      });
+      this.#stepping = step.catch(() => {});
+      return step;
     });
-    this.#stepping = step.catch(() => {}).then(() => this.quiet());
-    return this.said(step);
   }
 
   /** @param {import("./inverse.mjs").Inverse} inverse @param {Role} role @returns {Promise<number>} */
@@ -413,7 +432,7 @@ export class Board {
   }
 
   /** @param {Error | null} cause */
-  #end(cause) {
+  #finish(cause) {
     if (this.#state === "closed") return;
     this.#link.close();
     this.#follower.end(cause);

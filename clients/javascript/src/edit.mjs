@@ -148,13 +148,9 @@ export class Edit {
     return again;
   }
 
+  /** It has no answer any more. */
   dropped() {
     this.fail(this.#sendings > 0 ? new Unknown() : new Closed());
-  }
-
-  /** It was done, and nobody can say when. */
-  lose() {
-    this.fail(new Unknown());
   }
 
   /** @param {Error} cause */

@@ -2,6 +2,8 @@
 
 /** The relay refused a request, and nothing changed by it. */
 export class Refused extends Error {
+  name = "Refused";
+
   /**
    * @param {{ fault: string, at?: number | null, rev?: number | null }} reply
    * @param {string} [advice] what to do
@@ -10,7 +12,6 @@ export class Refused extends Error {
     const place = at === null ? "" : ` at ${at}`;
     const room = rev === null ? "" : `, the room is at revision ${rev}`;
     super(fault + place + room + (advice && `: ${advice}`));
-    this.name = "Refused";
     this.fault = fault;
     this.at = at;
     this.rev = rev;
@@ -19,31 +20,35 @@ export class Refused extends Error {
 
 /** The answer was lost: the edit may have been done, or not; `rev` is the room's revision since. */
 export class Unknown extends Error {
+  name = "Unknown";
+
   /** @param {number | null} [rev] null where it may still be done */
   constructor(rev = null) {
     const since = rev === null ? "" : `, and the room is at revision ${rev}`;
     super(`the connection was lost before the answer${since}`);
-    this.name = "Unknown";
     this.rev = rev;
   }
 }
 
 /** The board was closed, and what was asked for was not sent. */
 export class Closed extends Error {
+  name = "Closed";
+
   constructor() {
     super("the board is closed");
-    this.name = "Closed";
   }
 }
 
 /** @type {Record<number, string>} */
 const ADVICE = {
-  404: "an address ends with /rooms/NAME",
-  503: "it is full (--sessions, --rooms), or about to stop",
+  404: ": an address ends with /rooms/NAME",
+  503: ": it is full (--sessions, --rooms), or about to stop",
 };
 
 /** No connection could be made. The client goes on trying. */
 export class HandshakeFailed extends Error {
+  name = "HandshakeFailed";
+
   /**
    * @param {"refused" | "unreachable"} reason
    * @param {string} url
@@ -51,7 +56,6 @@ export class HandshakeFailed extends Error {
    */
   constructor(reason, url, status = null) {
     super(reason === "refused" ? refusal(url, status) : silence(url));
-    this.name = "HandshakeFailed";
     this.reason = reason;
     this.status = status;
   }
@@ -59,10 +63,8 @@ export class HandshakeFailed extends Error {
 
 /** @param {string} url @param {number | null} status */
 function refusal(url, status) {
-  if (status === null) return `${url} refuses the connection`;
-  const advice = ADVICE[status];
-  const what = advice === undefined ? "" : `: ${advice}`;
-  return `${url} refuses the connection, with ${status}${what}`;
+  const answer = status === null ? "" : `, with ${status}${ADVICE[status] ?? ""}`;
+  return `${url} refuses the connection${answer}`;
 }
 
 /** @param {string} url */

@@ -34,17 +34,17 @@ export function guarded(draft, guard) {
 /** @param {Draft} draft @param {Set<Node>} changed @returns {Operation[]} */
 function testsOf(draft, changed) {
   const seen = new Set(draft.seen);
-  const known = [...seen, ...changed].map((node) => node.origin ?? []);
+  const pathOf = (/** @type {Node} */ node) => node.origin ?? [];
+  const known = [...seen, ...changed].map(pathOf);
   for (const node of draft.there) {
     const { origin } = node;
     if (origin === null || node.isPartial) continue;
     // What is tested or done within it says that it is there.
     if (!known.some((path) => startsWith(path, origin))) seen.add(node);
   }
-  const paths = new Set([...seen].map((node) => spelled(node.origin ?? [])));
-  const isWithin = (/** @type {readonly string[]} */ origin) =>
-    origin.some((_, length) => paths.has(spelled(origin.slice(0, length))));
-  const outer = [...seen].filter(({ origin }) => !isWithin(origin ?? []));
-  const pathOf = (/** @type {Node} */ node) => spelled(node.origin ?? []);
-  return outer.map((node) => ({ op: "test", path: pathOf(node), value: node.seen }));
+  const paths = new Set([...seen].map((node) => spelled(pathOf(node))));
+  const isOuter = (/** @type {Node} */ node) =>
+    !pathOf(node).some((_, length, path) => paths.has(spelled(path.slice(0, length))));
+  const outer = [...seen].filter(isOuter);
+  return outer.map((node) => ({ op: "test", path: spelled(pathOf(node)), value: node.seen }));
 }

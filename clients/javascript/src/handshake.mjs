@@ -17,9 +17,9 @@ export async function failure(url, event) {
   const ending = new AbortController();
   const timer = setTimeout(() => ending.abort(), LONGEST);
   try {
-    const address = new URL(url.replace(/^ws/, "http"), globalThis.location?.href);
-    const foreign = globalThis.location !== undefined && globalThis.location.origin !== address.origin;
-    const mode = foreign ? "no-cors" : "cors";
+    const { location } = globalThis;
+    const address = new URL(url.replace(/^ws/, "http"), location?.href);
+    const mode = location && location.origin !== address.origin ? "no-cors" : "cors";
     const { status } = await fetch(address, { mode, redirect: "manual", cache: "no-store", signal: ending.signal });
     return new HandshakeFailed("refused", url, meant(status));
   } catch {

@@ -53,6 +53,19 @@ function wrong(path, words) {
 }
 
 /**
+ * What a text says; null where it is no JSON.
+ * @param {string} text
+ * @returns {any}
+ */
+export function parsed(text) {
+  try {
+    return JSON.parse(text);
+  } catch {
+    return null;
+  }
+}
+
+/**
  * Whether a value has members, and so is no list.
  * @param {unknown} value
  * @returns {value is Record<string, any>}

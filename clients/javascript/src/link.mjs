@@ -2,6 +2,7 @@
 import { HandshakeFailed } from "./errors.mjs";
 import { endsConnection } from "./length.mjs";
 import { failure } from "./handshake.mjs";
+import { parsed } from "./json.mjs";
 import { overlap } from "./pointer.mjs";
 import { WAITS } from "./once.mjs";
 
@@ -268,7 +269,8 @@ export class Link {
 
   /** @param {string} text */
   #hear(text) {
-    const message = messageOf(text);
+    // What is no message is of no kind.
+    const message = parsed(text) ?? {};
     try {
       if (message.kind === "welcome" && this.#welcome === null) this.#enter(message);
       else if (this.#welcome === null) this.#on.astray();
@@ -316,18 +318,5 @@ export class Link {
     if (reply.how === "nothing") this.#givenUp = 0;
     this.#goOn();
     asked?.answered(reply);
-  }
-}
-
-/**
- * What a text says. One that is no message is of no kind.
- * @param {string} text
- * @returns {any}
- */
-function messageOf(text) {
-  try {
-    return JSON.parse(text) ?? {};
-  } catch {
-    return {};
   }
 }

@@ -45,7 +45,7 @@ function text(kid) {
 function queues(kids) {
   /** @type {Map<string | null, Node[]>} */
   const queues = new Map();
-  for (const kid of kids.filter((kid) => text(kid) !== null)) {
+  for (const kid of kids) {
     const key = text(kid);
     queues.set(key, [...(queues.get(key) ?? []), kid]);
   }

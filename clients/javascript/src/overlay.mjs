@@ -55,7 +55,7 @@ export class Overlay {
 
   /** The slots of the relay are those of the room's revision: they show whatever was done. */
   settleAll(/** @type {Held} */ held) {
-    this.#leave(held, this.#edits.filter(({ rev }) => rev !== null));
+    this.#leave(held, () => true);
   }
 
   /**
@@ -64,7 +64,7 @@ export class Overlay {
    * @param {Held} held
    */
   settle(before, held) {
-    this.#leave(before, this.#edits.filter(({ rev, epoch }) => rev !== null && (epoch !== held.epoch || rev <= (held.rev ?? -1))));
+    this.#leave(before, ({ rev, epoch }) => epoch !== held.epoch || Number(rev) <= (held.rev ?? -1));
     this.settleTraceless(held);
   }
 
@@ -73,7 +73,7 @@ export class Overlay {
    * @param {Held} held
    */
   settleTraceless(held) {
-    this.#leave(held, this.#edits.filter((edit) => edit.rev !== null && edit.epoch === held.epoch && !this.#willShow(edit, held)));
+    this.#leave(held, (edit) => edit.epoch === held.epoch && !this.#willShow(edit, held));
   }
 
   /** @param {Held} held @returns {readonly Slot[] | null} */
@@ -102,8 +102,10 @@ export class Overlay {
     }
   }
 
-  /** @param {Held} before The slots that do not show them yet. @param {Unconfirmed[]} edits */
-  #leave(before, edits) {
+  // Of those that were done.
+  /** @param {Held} before The slots that do not show them yet. @param {(edit: Unconfirmed) => boolean} leaves */
+  #leave(before, leaves) {
+    const edits = this.#edits.filter((edit) => edit.rev !== null && leaves(edit));
     if (edits.length === 0) return;
     this.#edits = this.#edits.filter((edit) => !edits.includes(edit));
     let whole = knownBy(before.view, before.slots ?? []);

@@ -168,8 +168,9 @@ export class Place {
   #compareAndSet(make, tries, options) {
     const edit = (/** @type {Operation[]} */ patch, /** @type {object} */ seen) =>
       this.#board.edit(patch, { ...options, ...seen });
-    const done = this.#source.ready.then(() => compareAndSet(this.#board, tries, make, edit));
-    return this.#board.said(done);
+    return this.#board.said(() =>
+      this.#source.ready.then(() => compareAndSet(this.#board, tries, make, edit)),
+    );
   }
 
   /** @param {Slots} slots @returns {readonly any[]} */

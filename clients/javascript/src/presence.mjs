@@ -145,7 +145,8 @@ export class Presence {
       for (const id of this.#gone()) this.#remove(id);
     } catch (error) {
       this.#fail();
-      if (error instanceof Refused || error instanceof Unknown) return;
+      const isRefused = error instanceof Refused && error.fault !== "read-only";
+      if (isRefused || error instanceof Unknown) return;
       for (const { reject } of this.#waiters.splice(0)) reject(error);
     }
   }

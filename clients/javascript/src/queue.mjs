@@ -1,4 +1,5 @@
 // Edits that wait for a connection: which are taken while there is none, and where they are kept beyond this page.
+import { parsed } from "./json.mjs";
 
 /**
  * @typedef {import("./edit.mjs").Edit} Edit
@@ -43,16 +44,7 @@ export class Queue {
    * @returns {Kept[]}
    */
   left() {
-    const left = parsed(this.#storage?.getItem(this.#key) ?? null);
+    const left = parsed(this.#storage?.getItem(this.#key) ?? "");
     return Array.isArray(left) ? left.filter((kept) => Array.isArray(kept?.patch)) : [];
-  }
-}
-
-/** @param {string | null} text @returns {unknown} null where it is no JSON */
-function parsed(text) {
-  try {
-    return text === null ? null : JSON.parse(text);
-  } catch {
-    return null;
   }
 }

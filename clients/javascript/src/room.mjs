@@ -210,6 +210,10 @@ class SharedBoard {
     return this.#shared.board.change(make, options);
   }
 
+  end() {
+    return this.#shared.board.end();
+  }
+
   undo() {
     return this.#shared.board.undo();
   }

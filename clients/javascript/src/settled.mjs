@@ -70,15 +70,13 @@ function live(draft) {
  */
 function isLike(before, kid) {
   if (before.isPartial || !before.isContainer || before.isList !== kid.isList) return false;
-  const [old, made] = [before.kids, kid.kids];
-  const size = (/** @type {Kids} */ kids) => (Array.isArray(kids) ? kids.length : kids.size);
-  const parts = new Set(old.values());
+  const [old, made] = [[...before.kids.values()], [...kid.kids.values()]];
+  const parts = new Set(old);
   const isScalar = (/** @type {Node} */ part) => !part.isContainer;
-  const values = new Set([...old.values()].filter(isScalar).map((part) => part.value));
+  const values = new Set(old.filter(isScalar).map((part) => part.value));
   const isKept = (/** @type {Node} */ part) =>
     parts.has(part) || (isScalar(part) && values.has(part.value));
-  const kept = [...made.values()].filter(isKept);
-  return kept.length * 2 >= Math.max(size(old), size(made));
+  return made.filter(isKept).length * 2 >= Math.max(old.length, made.length);
 }
 
 /** @param {Kids} kids @param {(kid: Node) => Node} make @returns {Kids} */

@@ -18,7 +18,7 @@ from .known import UNKNOWN, known_by
 from .once import Counter
 from .pending import Pending, laid_over
 from .place import Place
-from .pointers import check_room
+from .pointers import check_room, watching
 from .requests import Edit, Setting, beginning
 from .said import Said
 from .transport import OpenLink, websocket
@@ -61,6 +61,11 @@ class Board:
     waited while the relay was restarted meet it. It is no edit for `undo`. If it is refused for
     another reason than that the room has a document, as `too-heavy`, the board ends with that.
 
+    A board that is `read_only` enters the room only to watch it, by its address with `/watch`
+    behind the name. Each edit fails at once with `Refused`, as `read-only`, and nothing is sent: so
+    do `change`, `end`, `undo` and `redo`. `begin` is not written. A relay that does not know the
+    address refuses it with 404.
+
     `once` is a pointer to an object of the document, as `begin` makes it, in which this client
     keeps a counter for its edits that are `once`.
 
@@ -84,6 +89,7 @@ class Board:
         quiet: float = 20.0,
         patience: float = 10.0,
         begin: Json = None,
+        read_only: bool = False,
         once: Optional[str] = None,
         queue: Literal["all", "guarded"] = "all",
         link: Optional[Dict[str, Any]] = None,
@@ -91,6 +97,7 @@ class Board:
     ):
         check_room(url)
         self._begin, view = as_json(begin, "/begin"), as_json(view, "/view")
+        self._read_only = read_only
         self._counter = None if once is None else Counter(once)
         self._on_state, self._on_taken_back = on_state or warning(), on_taken_back
         self._listeners = Listeners()
@@ -101,8 +108,9 @@ class Board:
         self._state: State = "connecting"
         opened = open_link or websocket(link or {}, patience)
         options = linking.Options(first_wait, longest_wait, quiet, patience, queue)
-        self._link = linking.RoomLink(url, opened, options, self._hearer())
-        on = following.Hearer(self._took, self._present, self._end)
+        address = watching(url) if read_only else url
+        self._link = linking.RoomLink(address, opened, options, self._hearer())
+        on = following.Hearer(self._took, self._present, self._finish)
         self._follower = Follower(view, self._link, on)
         self.ready: "asyncio.Future[Slots]" = self._follower.shown()
         """The first slots. Fails with `Refused` if the view is refused, and with `Closed`."""
@@ -195,7 +203,7 @@ class Board:
     async def close(self) -> None:
         """Leaves the room, and does not come back."""
         was_closed = self._state == "closed"
-        self._end(None)
+        self._finish(None)
         await self._link.left(at_once=not was_closed)
 
     # Edits.
@@ -295,7 +303,7 @@ class Board:
         self, make: Callable[[Draft], Any], keys: Mapping[str, str], options: ChangeOptions
     ) -> "asyncio.Future[int]":
         """`change` and what is done to a list are made of it."""
-        return change(self, make, keys, options)
+        return _read_only() if self._read_only else change(self, make, keys, options)
 
     def edit_anew(
         self, patch: Patch, by_base: bool, options: ChangeOptions
@@ -328,6 +336,17 @@ class Board:
             await asyncio.wait([edit.answer for edit in waiting])
         await self._follower.watch_again()
 
+    async def end(self) -> int:
+        """Ends the room: replaces the whole document by None. It is an edit with `rev` as its base,
+        so it is refused, as `stale`, if anybody edited since. Before the first slots it waits for
+        them. Once everybody has left, the room makes place for a new name if the relay has no
+        other. Fails as `edit` does."""
+        self._check_edits()
+        with self._said.during():
+            if self.rev is None:
+                await self.ready
+            return await self.edit([{"op": "replace", "path": "", "value": None}], base=self.rev)
+
     async def undo(self) -> Optional[int]:
         """Undoes the newest edit of this client that the slots showed and that is not undone. It
         shows at once. Gives the new revision; None if there is no such edit. Fails as `edit` does:
@@ -341,6 +360,7 @@ class Board:
         return await self._turn(self._history.redoing, self._history.undoing)
 
     async def _turn(self, stack: List[OwnEdit], other: List[OwnEdit]) -> Optional[int]:
+        self._check_edits()
         with self._said.during():
             inverse = await History.take(stack)
             if inverse is None:
@@ -365,9 +385,15 @@ class Board:
     ) -> int:
         """An edit that is made of what the relay has shown, and is done to that alone.
         `Place.update` is made of it."""
+        self._check_edits()
         keep = self._history.edited if undo else lambda own: None
         with self._said.during():
             return await self._compare_and_set(make, tries, optimistic, keep)
+
+    def _check_edits(self) -> None:
+        """Before what waits for something else than the answer of an edit."""
+        if self._read_only:
+            raise Refused("read-only")
 
     async def _compare_and_set(
         self,
@@ -408,6 +434,8 @@ class Board:
         setting: Optional[Setting] = None,
     ) -> "asyncio.Future[int]":
         """Of a silent one that is taken back the application is told nothing: it is made anew."""
+        if self._read_only:
+            return _read_only()
         has_base = base is not _NO_BASE
         epoch = self.epoch if epoch is None else epoch
         over = self._said.begin()
@@ -465,15 +493,15 @@ class Board:
             astray=lambda: self._follower.astray(),
             lost=lambda: self._follower.lost(),
             turned=self._enter,
-            ended=self._end,
+            ended=self._finish,
         )
 
     def _entered(self) -> None:
         """The room has to have a document before anything else, so that the slots are never of a
         room that has none."""
         self._follower.entered()
-        if self._begin is not None:
-            self._link.ask_first(beginning(self._begin, self._end))
+        if self._begin is not None and not self._read_only:
+            self._link.ask_first(beginning(self._begin, self._finish))
 
     def _took(
         self, before: Optional[Held], held: Held, patch: Optional[Patch], single: bool
@@ -498,7 +526,7 @@ class Board:
             self._state = state
             told(self._on_state, state, cause)
 
-    def _end(self, cause: Optional[Exception]) -> None:
+    def _finish(self, cause: Optional[Exception]) -> None:
         if self._state == "closed":
             return
         self._state = "closed"
@@ -528,6 +556,13 @@ class Board:
         if held is None or self._shown is None:
             return None
         return Change(self._shown, held.slots, held.rev, self.pending, patch)
+
+
+def _read_only() -> "asyncio.Future[int]":
+    """An edit of who only watches."""
+    refused: "asyncio.Future[int]" = asyncio.get_running_loop().create_future()
+    refused.set_exception(Refused("read-only"))
+    return refused
 
 
 def _checked(patch: Json) -> Patch:

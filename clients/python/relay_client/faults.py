@@ -8,7 +8,8 @@ class Refused(Exception):
     """The relay refused a request, and nothing changed by it. Or the board did, before it was sent:
     as `stale` an edit with a base of another run, as `too-long` a text of more than 1,056,768
     bytes, by which the connection would end, as `away` an edit that is not guarded while the
-    connection is lost, as `changed` an undo."""
+    connection is lost, as `changed` an undo, as `read-only` each edit of a board that only
+    watches."""
 
     def __init__(
         self, fault: str, at: Optional[int] = None, rev: Optional[int] = None, advice: str = ""

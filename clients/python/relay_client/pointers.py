@@ -59,3 +59,9 @@ def check_room(url: str) -> None:
     _, rooms, name = parts.path.rpartition("/rooms/")
     if not rooms or not _ROOM.fullmatch(name):
         raise ValueError(f"{url}: an address ends with /rooms/NAME, and a name is 1 to 64 ASCII letters, digits, `-` and `_`")
+
+
+def watching(url: str) -> str:
+    """The address by which a room is entered only to watch it."""
+    parts = urlsplit(url)
+    return parts._replace(path=f"{parts.path}/watch").geturl()

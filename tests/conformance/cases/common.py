@@ -18,7 +18,7 @@ class Case:
     wants: str
     """What a client has to do, in words."""
     needs: Optional[str]
-    """A trait of the client without which it is not asked."""
+    """The traits of the client without which it is not asked."""
     unless: Optional[str]
     """A trait with which it is not asked."""
     act: Callable[[Driver], None]
@@ -30,7 +30,7 @@ class Case:
         return self.act.__module__
 
     def concerns(self, traits):
-        return (self.needs is None or self.needs in traits) and self.unless not in traits
+        return set((self.needs or "").split()) <= set(traits) and self.unless not in traits
 
 
 def case(wants, needs=None, unless=None):

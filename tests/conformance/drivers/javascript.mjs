@@ -41,8 +41,8 @@ const ends = (key, word, asked) =>
   );
 
 const does = {
-  connect: ({ url, view }) => {
-    board = connect(url, { view, WebSocket: FakeSocket, ...times });
+  connect: ({ url, view, readOnly }) => {
+    board = connect(url, { view, readOnly, WebSocket: FakeSocket, ...times });
   },
   accept: () => socket.onopen?.({}),
   fail: () => socket.onerror?.({}),
@@ -53,6 +53,7 @@ const does = {
     socket.onclose?.({});
   },
   edit: ({ key, patch, ...options }) => ends(key, "done", board.edit(patch, options)),
+  endRoom: ({ key }) => ends(key, "done", board.end()),
   watch: ({ key, view }) => ends(key, "shown", board.watch(view)),
   look: () => {
     const { view, confirmed: slots, rev, epoch, slots: shown } = board;
@@ -61,7 +62,7 @@ const does = {
   end: () => board.close(),
 };
 
-tell({ traits: ["optimistic", "rounding", "late"] });
+tell({ traits: ["optimistic", "rounding", "late", "read-only", "end-room"] });
 for await (const line of createInterface({ input: process.stdin })) {
   const words = JSON.parse(line);
   does[words.do](words);

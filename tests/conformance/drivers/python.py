@@ -50,8 +50,9 @@ class Driver:
                 tell(leaves=True)
                 self.former, self.link = link, None
 
-    async def connect(self, url, view):
-        self.board = relay_client.connect(url, view=view, open_link=self.open_link, **TIMES)
+    async def connect(self, url, view, readOnly=False):
+        options = {"read_only": readOnly, "open_link": self.open_link, **TIMES}
+        self.board = relay_client.connect(url, view=view, **options)
 
     async def accept(self):
         self.handshake.set_result(None)
@@ -77,6 +78,9 @@ class Driver:
         else:
             asyncio.ensure_future(self.ends(key, "done", done))
 
+    async def endRoom(self, key):
+        asyncio.ensure_future(self.ends(key, "done", self.board.end()))
+
     async def watch(self, key, view):
         asyncio.ensure_future(self.ends(key, "shown", self.board.watch(view)))
 
@@ -100,7 +104,7 @@ class Driver:
 
 async def main():
     driver = Driver()
-    tell(traits=["optimistic", "late"])
+    tell(traits=["optimistic", "late", "read-only", "end-room"])
     while line := await asyncio.to_thread(sys.stdin.readline):
         words = json.loads(line)
         await getattr(driver, words.pop("do"))(**words)

@@ -63,7 +63,8 @@ public final class Board implements AutoCloseable {
     /** Slots were asked for anew, to see whether they have all that was done. */
     private boolean isAsking;
     private Change shown;
-    private RelayException end;
+    /** What closed it; null if nothing did but {@link #close}. */
+    private RelayException closedBy;
 
     private Board(URI address, List<Shown> view, Options options) {
         this.options = options;
@@ -86,7 +87,8 @@ public final class Board implements AutoCloseable {
         if (!ROOM.matcher(address).matches()) {
             throw new IllegalArgumentException(address + " is not ws://HOST/rooms/NAME");
         }
-        return new Board(URI.create(address), List.copyOf(view), options);
+        String target = options.isReadOnly ? address + "/watch" : address;
+        return new Board(URI.create(target), List.copyOf(view), options);
     }
 
     /** The same for a view that shows values alone. */
@@ -174,6 +176,7 @@ public final class Board implements AutoCloseable {
     }
 
     private CompletableFuture<Long> edit(Patch patch, EditOptions how, Edit.Role role) {
+        if (options.isReadOnly) return readOnly();
         synchronized (lock) {
             Session.Held held = session.held();
             Long seen = held == null ? null : (Long) held.epoch();
@@ -192,7 +195,12 @@ public final class Board implements AutoCloseable {
      * is done. Fails as an edit with a base does.
      */
     public CompletableFuture<Long> change(Function<Change, Patch> make) {
+        if (options.isReadOnly) return readOnly();
         return ready.thenCompose(first -> attempt(make, EditOptions.PLAIN, Edit.Role.EDIT, 1));
+    }
+
+    private static <T> CompletableFuture<T> readOnly() {
+        return CompletableFuture.failedFuture(new RelayException.Refused("read-only"));
     }
 
     private CompletableFuture<Long> attempt(
@@ -221,6 +229,21 @@ public final class Board implements AutoCloseable {
     }
 
     /**
+     * Ends the room: replaces the whole document by {@code null}. It is an edit with a base, the
+     * revision of what is shown, so it is refused, as {@code stale}, if anybody edited since. Before
+     * the first slots it waits for them. Once everybody has left, the room makes place for a new
+     * name if the relay has no other.
+     */
+    public CompletableFuture<Long> end() {
+        if (options.isReadOnly) return readOnly();
+        return ready.thenCompose(first -> {
+            Change seen = shown().orElseThrow();
+            Patch patch = Patch.of().replace("", null);
+            return edit(patch, EditOptions.PLAIN.on(seen.rev(), seen.epoch()));
+        });
+    }
+
+    /**
      * Undoes the newest edit of this client that the slots showed and that is not undone. It shows
      * at once. Gives the new revision; empty if there is no such edit. Fails as an edit does, and
      * with {@code Refused}, as {@code changed}, if somebody changed what it left: then it is passed
@@ -237,6 +260,7 @@ public final class Board implements AutoCloseable {
 
     /** One after the other, each when all edits before it are shown. */
     private CompletableFuture<Optional<Long>> step(Deque<Patch> from, Edit.Role role) {
+        if (options.isReadOnly) return readOnly();
         synchronized (lock) {
             CompletableFuture<Optional<Long>> step = stepping
                     .handle((ignored, failure) -> null)
@@ -349,7 +373,7 @@ public final class Board implements AutoCloseable {
     }
 
     private RelayException whyClosed() {
-        return end != null ? end : new RelayException.Closed();
+        return closedBy != null ? closedBy : new RelayException.Closed();
     }
 
     private final class Hearer implements Session.Hearer {
@@ -385,7 +409,7 @@ public final class Board implements AutoCloseable {
             isAsking = isAsking && state == State.OPEN;
             tell(() -> options.onState.accept(state, cause));
             if (state != State.CLOSED) return;
-            end = cause;
+            closedBy = cause;
             RelayException why = whyClosed();
             for (CompletableFuture<Change> one : waiters.values()) {
                 tell(() -> one.completeExceptionally(why));

@@ -25,6 +25,7 @@ public final class Options {
     BiConsumer<State, RelayException> onState = (state, cause) -> {};
     BiConsumer<Patch, RelayException> onTakenBack = (patch, cause) -> {};
     JsonNode begin;
+    boolean isReadOnly;
     Queue queue = Queue.ALL;
     Duration firstWait = Duration.ofMillis(200);
     Duration longestWait = Duration.ofSeconds(10);
@@ -58,6 +59,17 @@ public final class Options {
      */
     public Options begin(Object document) {
         begin = document == null ? null : Json.of(document);
+        return this;
+    }
+
+    /**
+     * Enters the room only to watch it, by its address with {@code /watch} behind the name. Each
+     * edit fails at once with {@code Refused}, as {@code read-only}, and nothing is sent: so do
+     * {@code change}, {@code end}, {@code undo} and {@code redo}. The document of {@link #begin} is
+     * not added. A relay that does not know the address refuses it with 404.
+     */
+    public Options readOnly(boolean chosen) {
+        isReadOnly = chosen;
         return this;
     }
 

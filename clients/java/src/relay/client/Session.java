@@ -398,7 +398,7 @@ final class Session {
         failures = 0;
         isAway = false;
         unsent.addFirst(held != null && held.of == wanted ? resuming() : watching());
-        if (options.begin != null) unsent.addFirst(beginning());
+        if (options.begin != null && !options.isReadOnly) unsent.addFirst(beginning());
     }
 
     private static long count(JsonNode message, String name) {

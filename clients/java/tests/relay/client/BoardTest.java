@@ -68,6 +68,59 @@ final class BoardTest {
         board.close();
     }
 
+    static void whoOnlyWatchesEditsNothing() {
+        Played relay = new Played();
+        List<String> told = new ArrayList<>();
+        Options options = relay.options()
+                .readOnly(true)
+                .begin(Map.of("cards", List.of()))
+                .onChange(change -> told.add(change.slots().toString()));
+        Board board = Board.connect("ws://h/rooms/a", options, "/cards");
+        Patch push = Patch.of().add("/cards/-", "c");
+        isReadOnly(board.edit(push));
+        isReadOnly(board.change(seen -> push));
+        isReadOnly(board.end());
+        relay.accept(7, 1);
+        equal("ws://h/rooms/a/watch", relay.address.toString());
+        equal("watch", relay.reply("'kind':'watching'").get("do").textValue());
+        relay.hear("{'kind':'snapshot','rev':1,'view':" + CARDS + "}");
+        isReadOnly(board.edit(push, EditOptions.OPTIMISTIC.on(1, 7)));
+        isReadOnly(board.at("/cards").push("c"));
+        isReadOnly(board.at("/cards").update(before -> before));
+        isReadOnly(board.undo());
+        isReadOnly(board.redo());
+        relay.hear(FOLLOWS.formatted(2, "{'op':'remove','path':'/0/0/0'}"));
+        equal("[[\"b\"]]", shown(board));
+        equal(2, told.size());
+        equal(false, relay.hasSaid());
+        board.close();
+    }
+
+    private static void isReadOnly(CompletableFuture<?> edit) {
+        equal(true, edit.isDone());
+        Throwable failure = edit.handle((made, cause) -> cause).join();
+        equal("read-only", ((RelayException.Refused) failure).fault);
+    }
+
+    static void aRoomIsEndedAtTheRevisionThatIsShown() {
+        Played relay = new Played();
+        Board board = Board.connect("ws://h/rooms/a", relay.options(), "/cards");
+        CompletableFuture<Long> first = board.end();
+        relay.accept(7, 1);
+        relay.reply("'kind':'watching'");
+        equal(false, relay.hasSaid());
+        relay.hear("{'kind':'snapshot','rev':1,'view':" + CARDS + "}");
+        JsonNode ends = relay.reply("'kind':'refused','fault':'stale','at':null,'rev':2");
+        equal(1L, ends.get("base").longValue());
+        equal(json("[{'op':'replace','path':'','value':null}]"), ends.get("patch"));
+        fails(RelayException.Refused.class, first::join);
+        relay.hear(FOLLOWS.formatted(2, "{'op':'remove','path':'/0/0/0'}"));
+        CompletableFuture<Long> second = board.end();
+        equal(2L, relay.reply("'kind':'done','rev':3").get("base").longValue());
+        equal(3L, second.join());
+        board.close();
+    }
+
     private static String shown(Board board) {
         List<JsonNode> slots = new ArrayList<>();
         board.shown().orElseThrow().slots().forEach(slot -> slot.ifPresent(slots::add));

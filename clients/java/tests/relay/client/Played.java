@@ -14,6 +14,7 @@ final class Played implements Connector {
     private final BlockingQueue<Receiver> opened = new LinkedBlockingQueue<>();
     private final BlockingQueue<JsonNode> said = new LinkedBlockingQueue<>();
     volatile boolean isLeft;
+    volatile URI address; // of the newest handshake
     private Receiver receiver;
 
     /** Options of a board that is played: what follows has followed when a call returns. */
@@ -32,7 +33,8 @@ final class Played implements Connector {
     }
 
     @Override
-    public void open(URI address, Receiver hears) {
+    public void open(URI room, Receiver hears) {
+        address = room;
         opened.add(hears);
     }
 
