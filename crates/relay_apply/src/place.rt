@@ -10,6 +10,7 @@ use crate::walk::is_dash;
 use relay_patch::Place;
 use relay_pointer::{Pointer, copy_tokens};
 use std::alloc::{AllocError, Global};
+use std::rc::Rc;
 
 /// Returns the place of an insertion at a path, given its target.
 pub(crate) fn place(
@@ -22,13 +23,13 @@ pub(crate) fn place(
     let item = is_item(insert_target);
     let [before @ .., last] = path.tokens() else {
         return Ok(Place {
-            path: Pointer::root(alloc)?,
+            path: Pointer::root(),
             item,
         });
     };
     let mut tokens = copy_tokens(alloc, before)?;
     tokens.push(final_token(alloc, insert_target, last)?)?;
-    let path = Pointer::from_tokens(alloc, tokens)?;
+    let path = Pointer::from_tokens(Rc::new(alloc, tokens)?);
     Ok(Place { path, item })
 }
 

@@ -13,7 +13,7 @@ ghost use Rattle.relay_apply.specs.Undo.{refilled_items, refilled, rejoined, wit
 use crate::making::remove_at;
 use crate::walk::walk;
 use relay_patch::Place;
-use relay_pointer::{Pointer, copy_tokens, index_of, resolve_mut};
+use relay_pointer::{Pointer, index_of, resolve_mut};
 use relay_tree::{Element, Members, Node, Tree};
 use std::alloc::{AllocError, Global};
 
@@ -74,7 +74,7 @@ pub(crate) fn vacate_item(
     let [before @ .., last] = path else {
         unreachable!()
     };
-    let list = Pointer::from_tokens(alloc, copy_tokens(alloc, before)?)?;
+    let list = Pointer::copied(alloc, before)?;
     let spare = Vec::with_capacity(alloc, length_at(tree, before))?;
     let element = Element::new(alloc, Tree::from(Node::Null))?;
     let index = position(last.as_str());
@@ -123,7 +123,7 @@ pub(crate) fn vacate_member(
     let [before @ .., last] = path else {
         unreachable!()
     };
-    let object = Pointer::from_tokens(alloc, copy_tokens(alloc, before)?)?;
+    let object = Pointer::copied(alloc, before)?;
     let name = last.clone()?;
     let spare = Members::with_capacity(alloc, members_at(tree, before))?;
     let value = remove_at(tree, path);

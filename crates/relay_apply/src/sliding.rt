@@ -13,7 +13,7 @@ ghost use Rattle.relay_apply.specs.Undo.{slid_items, slid, with_part, undone};
 use crate::seat::position;
 use crate::undo::Undo;
 use relay_patch::Place;
-use relay_pointer::{Pointer, copy_tokens, resolve_mut, same_path};
+use relay_pointer::{Pointer, resolve_mut, same_path};
 use relay_tree::{Element, Node, Tree};
 use std::alloc::{AllocError, Global};
 
@@ -70,9 +70,9 @@ fn container_of(alloc: Global, path: &[String]) -> Result<Pointer, AllocError>
     ensures { IfOk result (λ container. container ≡ front (path_of path.now)) }
 {
     let [before @ .., _] = path else {
-        return Pointer::root(alloc);
+        return Ok(Pointer::root());
     };
-    Pointer::from_tokens(alloc, copy_tokens(alloc, before)?)
+    Pointer::copied(alloc, before)
 }
 
 // The index that the last token of the path spells.

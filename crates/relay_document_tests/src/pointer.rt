@@ -2,8 +2,7 @@ use crate::patch;
 use crate::shared::{nothing, part_text, shown, taken_text};
 use crate::stage::{Stage, play_anew};
 use relay_pointer::{
-    MAX_TOKENS, Pointer, PointerFault, child, copy_tokens, exchange, index_of, resolve,
-    resolve_mut, set, take,
+    MAX_TOKENS, Pointer, PointerFault, child, exchange, index_of, resolve, resolve_mut, set, take,
 };
 use relay_tree::{Node, read};
 use std::alloc::Global;
@@ -99,8 +98,8 @@ pub(crate) fn done(alloc: Global, stage: &mut Stage, verb: &str, rest: &str) -> 
         "spell" => pointer.text(alloc).ok(),
         "tokens" => pointer.tokens().join(alloc, " ").ok(),
         "twin" => {
-            let tokens = copy_tokens(alloc, pointer.copy().ok()?.tokens()).ok()?;
-            Pointer::from_tokens(alloc, tokens).ok()?.text(alloc).ok()
+            let copy = pointer.copy().ok()?;
+            Pointer::copied(alloc, copy.tokens()).ok()?.text(alloc).ok()
         }
         "index" => shown(alloc, index_of(rest)),
         "length" => shown(alloc, length(alloc, rest)),

@@ -28,7 +28,7 @@ impl Stage {
     pub(crate) fn new(alloc: Global) -> Option<Stage> {
         Some(Stage {
             tree: Tree::of_count(7),
-            pointer: Pointer::root(alloc).ok()?,
+            pointer: Pointer::root(),
             view: View::of_slots(Vec::new(alloc)),
             patch: Patch::from_ops(Vec::new(alloc)),
             changes: Vec::new(alloc),

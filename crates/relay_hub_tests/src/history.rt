@@ -128,17 +128,17 @@ fn changes_of(alloc: Global, numbers: &str) -> Option<Vec<Change>> {
     let mut changes = Vec::new(alloc);
     for number in numbers.split_whitespace() {
         let number = number.parse::<i64>().ok()?;
-        changes.push(set(alloc, number)?).ok()?;
+        changes.push(set(number)).ok()?;
     }
     Some(changes)
 }
 
 /// A change that sets the root to a number.
-fn set(alloc: Global, number: i64) -> Option<Change> {
-    Some(Change::Set {
-        path: Pointer::root(alloc).ok()?,
+fn set(number: i64) -> Change {
+    Change::Set {
+        path: Pointer::root(),
         value: Tree::from(Node::Whole(number)),
-    })
+    }
 }
 
 fn trim(alloc: Global, history: &mut History, budget: &str) -> Came {

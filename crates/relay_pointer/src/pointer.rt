@@ -7,57 +7,69 @@ use std::marker::Model;
 use std::rc::Rc;
 
 /// A path into a document, as the list of its tokens. Copies share the tokens by reference count.
-/// Contracts see each token as its bytes, with nothing escaped.
+/// The root has none to share. Contracts see each token as its bytes, with nothing escaped.
 #[derive(Drop)]
 pub struct Pointer {
-    tokens: Rc<Vec<String>>,
+    tokens: Option<Rc<Vec<String>>>,
 }
 
 impl Model for Pointer {
-    ghost use Rattle.std.specs.Prelude.{ℕ, List};
-    ghost use Rattle.relay_pointer.specs.Path.{path_of};
+    ghost use Rattle.std.specs.Prelude.{[]};
+    ghost use Rattle.std.specs.Option.{option_map_or};
+    ghost use Rattle.relay_pointer.specs.Path.{Path, path_of};
 
-    ghost Value = { List (List ℕ) };
+    ghost Value = { Path };
 
-    ghost view = { λ p. path_of p.tokens.value.items };
+    ghost view = { λ p. option_map_or (λ tokens. path_of tokens.value.items) p.tokens [] };
 }
 
 impl Pointer {
     ghost use Rattle.std.specs.Prelude.{◌≡◌, [], IfOk};
     ghost use Rattle.relay_pointer.specs.Path.{path_of, is_prefix, is_proper_prefix};
 
-    /// Returns the path without tokens, which leads to the whole document.
-    pub fn root(alloc: Global) -> Result<Pointer, AllocError>
-        ensures { IfOk result (λ root. root ≡ []) }
+    /// Returns the path without tokens, which leads to the whole document. Allocates nothing.
+    pub fn root() -> Pointer
+        ensures { result ≡ [] }
     {
-        Pointer::from_tokens(alloc, Vec::new(alloc))
+        Pointer { tokens: None }
     }
 
-    /// Returns the path of these tokens. They are dropped if memory runs out.
-    pub fn from_tokens(alloc: Global, tokens: Vec<String>) -> Result<Pointer, AllocError>
-        ensures { IfOk result (λ pointer. pointer ≡ path_of tokens.items) }
+    /// Returns the path of these tokens. Allocates nothing.
+    pub fn from_tokens(tokens: Rc<Vec<String>>) -> Pointer
+        ensures { result ≡ path_of tokens.value.items }
     {
-        match Rc::new(alloc, tokens) {
-            Ok(tokens) => Ok(Pointer { tokens }),
-            Err(_) => Err(AllocError),
+        Pointer {
+            tokens: Some(tokens),
         }
+    }
+
+    /// Returns the path of copies of these tokens.
+    pub fn copied(alloc: Global, tokens: &[String]) -> Result<Pointer, AllocError>
+        ensures { IfOk result (λ pointer. pointer ≡ path_of tokens.now) }
+    {
+        let copies = copy_tokens(alloc, tokens)?;
+        Ok(Pointer::from_tokens(Rc::new(alloc, copies)?))
     }
 
     /// Returns the tokens, in order.
     pub fn tokens(&self) -> &[String]
         ensures { path_of result.now ≡ self.now }
     {
-        self.tokens.as_ref().as_slice()
+        match &self.tokens {
+            Some(tokens) => tokens.as_ref().as_slice(),
+            None => &[],
+        }
     }
 
     /// Returns an equal pointer, which shares the tokens. Allocates nothing. `AllocError`: there
-    /// are as many copies as can be counted.
+    /// are as many copies as can be counted. Copies of the root are not counted.
     pub fn copy(&self) -> Result<Pointer, AllocError>
         ensures { IfOk result (λ copy. copy ≡ self.now) }
     {
-        Ok(Pointer {
-            tokens: self.tokens.clone()?,
-        })
+        match &self.tokens {
+            Some(tokens) => Ok(Pointer::from_tokens(tokens.clone()?)),
+            None => Ok(Pointer::root()),
+        }
     }
 
     /// Returns whether the other path begins with this one or is this one. Allocates nothing.

@@ -8,6 +8,7 @@ ghost use Rattle.relay_pointer.specs.declared.reading.PointerFault.TheVariants.{
 
 use crate::pointer::Pointer;
 use std::alloc::{AllocError, Global};
+use std::rc::Rc;
 use thiserror::Error;
 
 /// The most tokens of a pointer in a request.
@@ -52,7 +53,7 @@ impl Pointer {
         if count_tokens(text) > most {
             return Err(PointerFault::TooManyTokens);
         }
-        Ok(Pointer::from_tokens(alloc, tokens_of(alloc, text)?)?)
+        Ok(pointer_of(alloc, text)?)
     }
 }
 
@@ -83,14 +84,16 @@ fn count_tokens(text: &str) -> u64
     text.bytes().filter(|byte| *byte == b'/').count() as u64
 }
 
-fn tokens_of(alloc: Global, text: &str) -> Result<Vec<String>, AllocError>
+// The pointer that a text spells. The empty text spells the root, which takes no memory.
+fn pointer_of(alloc: Global, text: &str) -> Result<Pointer, AllocError>
     requires { IsSome (path_of_text text.now) }
-    ensures { IfOk result (λ tokens. path_of_text text.now ≡ Some (path_of tokens.items)) }
+    ensures { IfOk result (λ pointer. path_of_text text.now ≡ Some pointer) }
 {
-    match text.strip_prefix('/') {
-        Some(written) => tokens_behind(alloc, written),
-        None => Ok(Vec::new(alloc)),
-    }
+    let Some(written) = text.strip_prefix('/') else {
+        return Ok(Pointer::root());
+    };
+    let tokens = tokens_behind(alloc, written)?;
+    Ok(Pointer::from_tokens(Rc::new(alloc, tokens)?))
 }
 
 // The tokens of a text after its first `/`.

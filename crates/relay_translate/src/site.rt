@@ -6,6 +6,7 @@ ghost use Rattle.relay_translate.specs.Translate.{in_slot};
 
 use relay_pointer::Pointer;
 use std::alloc::{AllocError, Global};
+use std::rc::Rc;
 
 /// The number of a slot in its view, counted from 0, and the slot's pointer.
 #[derive(Clone, Copy)]
@@ -21,7 +22,7 @@ impl Site<'_> {
     {
         let mut tokens = Vec::new(alloc);
         tokens.push(index_text(alloc, self.number)?)?;
-        Pointer::from_tokens(alloc, tokens)
+        Ok(Pointer::from_tokens(Rc::new(alloc, tokens)?))
     }
 
     /// Returns `/k/0`, the path of the slot's value in the view, followed by the tokens of the path after the slot's pointer.
@@ -34,7 +35,7 @@ impl Site<'_> {
         for token in tokens_behind(path, self.pointer.tokens().len()) {
             tokens.push(token.clone()?)?;
         }
-        Pointer::from_tokens(alloc, tokens)
+        Ok(Pointer::from_tokens(Rc::new(alloc, tokens)?))
     }
 }
 

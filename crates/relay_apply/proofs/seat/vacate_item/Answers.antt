@@ -1,4 +1,4 @@
-use Rattle.std.proofs.Common.{true, vec_capacity, ◌∙◌}
+use Rattle.std.proofs.Common.{true, vec_capacity}
 use Rattle.relay_pointer.specs.Path.{path_of}
 use Rattle.relay_pointer.proofs.Tokens.{tokens_back}
 use Rattle.relay_patch.proofs.Carried.{drops_plainly, drops_so}
@@ -16,7 +16,7 @@ returns-clause-back c =
     let d = c.args.tree.now in
     let path = c.args.path.now in
     let is = tokens_back path c.last-item.result c.in-len1-up.len_at_least c.last-item.is in
-    let here = c.in_ok-list.ensures ∙ c.in_ok-copy_tokens.ensures in
+    let here = c.in_ok-list.ensures in
     let left = c.remove_at-value.new.tree in
     let at_it = rw c.as_str.ensures.value at c.position-index.ensures in
     rw here (item_again (path_of path) _ _ d left c.remove_at-value.result c.length_at.result c.position-index.result (vec_capacity c.in_ok-spare.spare) is (returns-clause-made c) c.remove_at-value.ensures.value c.length_at.type_inv c.length_at.ensures c.in_ok-spare.ensures.exact at_it)

@@ -1,4 +1,4 @@
-use Rattle.std.proofs.Common.{◌≡◌, false, string_bytes, ◌∙◌}
+use Rattle.std.proofs.Common.{◌≡◌, false, string_bytes}
 use Rattle.relay_pointer.specs.Path.{path_of}
 use Rattle.relay_pointer.proofs.Tokens.{tokens_back}
 use Rattle.relay_patch.proofs.Carried.{drops_plainly, drops_so}
@@ -16,7 +16,7 @@ returns-clause-back c =
     let d = c.args.tree.now in
     let path = c.args.path.now in
     let is = tokens_back path c.last-item.result c.in-len1-up.len_at_least c.last-item.is in
-    let here = c.in_ok-object.ensures ∙ c.in_ok-copy_tokens.ensures in
+    let here = c.in_ok-object.ensures in
     let left = c.remove_at-value.new.tree in
     let named : string_bytes c.in_ok-name.name ≡ string_bytes c.last-item.result = c.in_ok-name.ensures.cases in
     rw (here, named) (member_again (path_of path) _ _ d left c.remove_at-value.result c.members_at.result c.in_ok-spare.spare.capacity is (returns-clause-made c) c.remove_at-value.ensures.value c.members_at.ensures.len c.members_at.ensures.ordered c.in_ok-spare.ensures.1)

@@ -9,5 +9,5 @@ pub returns : goal.returns
 returns c =
     let path = c.args.path.now in
     let end = tokens_last path c.in-len1-up.len_at_least in
-    let here = c.in_ok-copy_tokens.ensures ∙ sym (ap front end.1 ∙ front-append (path_of (take (length path - 1) path)) end.0) in
-    subst (λ container. IfOk c.from_tokens.result (λ made. made ≡ container)) here c.from_tokens.ensures
+    let here = sym (ap front end.1 ∙ front-append (path_of (take (length path - 1) path)) end.0) in
+    subst (λ container. IfOk c.copied.result (λ made. made ≡ container)) here c.copied.ensures

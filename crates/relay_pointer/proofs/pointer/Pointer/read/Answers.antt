@@ -20,20 +20,15 @@ pub returns-then-count_tokens-most-clause-many : goal.returns-then-count_tokens-
 returns-then-count_tokens-most-clause-many c =
     λ _. path_counts c.args.text.now (λ n. c.args.most < n) (sym c.is_pointer.ensures ∙ c.if-not-is_pointer.false) (omega (arith, c.count_tokens.ensures, c.if-count_tokens-most.true))
 
-pub returns-in_err-tokens_of-clause-no_memory : goal.returns-in_err-tokens_of-clause-no_memory
-returns-in_err-tokens_of-clause-no_memory c =
+pub returns-in_err-pointer_of-clause-no_memory : goal.returns-in_err-pointer_of-clause-no_memory
+returns-in_err-pointer_of-clause-no_memory c =
     let few = path_counts c.args.text.now (λ n. n ≤ c.args.most) (sym c.is_pointer.ensures ∙ c.if-not-is_pointer.false) (omega (arith, c.count_tokens.ensures, c.if-count_tokens-most.false)) in
     if_err c.from_residual.result (λ _ _. few)
 
-pub returns-in_err-from_tokens-clause-no_memory : goal.returns-in_err-from_tokens-clause-no_memory
-returns-in_err-from_tokens-clause-no_memory c =
-    let few = path_counts c.args.text.now (λ n. n ≤ c.args.most) (sym c.is_pointer.ensures ∙ c.if-not-is_pointer.false) (omega (arith, c.count_tokens.ensures, c.if-count_tokens-most.false)) in
-    if_err c.from_residual-in_err-from_tokens.result (λ _ _. few)
-
 pub returns-clause-spelled : goal.returns-clause-spelled
-returns-clause-spelled c = reads-spelled c.args.text.now c.in_ok-from_tokens.field-0 (rw c.in_ok-from_tokens.ensures c.in_ok-tokens_of.ensures)
+returns-clause-spelled c = reads-spelled c.args.text.now c.in_ok-pointer_of.field-0 c.in_ok-pointer_of.ensures
 
 pub returns-clause-few : goal.returns-clause-few
 returns-clause-few c =
-    let long = length-path_of_text c.args.text.now c.in_ok-from_tokens.field-0 (rw c.in_ok-from_tokens.ensures c.in_ok-tokens_of.ensures) in
+    let long = length-path_of_text c.args.text.now c.in_ok-pointer_of.field-0 c.in_ok-pointer_of.ensures in
     omega (arith, long, c.count_tokens.ensures, c.if-count_tokens-most.false)
