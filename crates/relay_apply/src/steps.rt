@@ -1,5 +1,5 @@
 //! One operation of a patch: its checks, the change that it makes, and the bounds on the document after it.
-ghost use Rattle.std.specs.Prelude.{◌≡◌, ◌≢◌, ◌<◌, ◌+◌, ◌++◌, Ok, Err, Some, false, is_some, IsOk, IsSome, OnOk, OnErr, IfOk, IfErr, IfSome};
+ghost use Rattle.std.specs.Prelude.{◌≡◌, ◌≢◌, ◌<◌, ◌+◌, ◌++◌, ◌∷◌, [], Ok, Err, Some, false, is_some, IsOk, IsSome, OnOk, OnErr, IfOk, IfErr, IfSome, None};
 ghost use Rattle.relay_tree.specs.Document.{Document, weight};
 ghost use Rattle.relay_tree.specs.Budget.{paid};
 ghost use Rattle.relay_tree.specs.declared.budget.Budget.{Budget};
@@ -9,9 +9,9 @@ ghost use Rattle.relay_patch.specs.Change.{Makes, Leads, changes_of};
 ghost use Rattle.relay_patch.specs.Measure.{carries, Known};
 ghost use Rattle.relay_apply.specs.Steps.{listed, IsOverspent};
 ghost use Rattle.relay_apply.specs.Undo.{taken_back};
-ghost use Rattle.relay_patch.specs.Weight.{changes_weight};
+ghost use Rattle.relay_patch.specs.Weight.{change_weight, changes_weight};
 ghost use Rattle.relay_patch.specs.declared.change.Change.TheVariants.{Move};
-ghost use Rattle.relay_patch.specs.declared.fault.Cause.TheVariants.{NoMemory};
+ghost use Rattle.relay_patch.specs.declared.fault.Cause.TheVariants.{NoMemory, TooHeavy};
 ghost use Rattle.relay_patch.specs.declared.op.Op.TheVariants as op;
 
 use crate::insert_target::resolve_insert;
@@ -26,7 +26,7 @@ use crate::walk::walk;
 use relay_patch::{Bounds, Cause, Change, Op, Place};
 use relay_pointer::Pointer;
 use relay_tree::{Budget, Tree};
-use std::alloc::Global;
+use std::alloc::{AllocError, Global};
 
 /// What the operations so far have done to the document.
 #[derive(Drop)]
@@ -111,8 +111,7 @@ fn heavy_replacement(tree: &Tree, path: &Pointer) -> Cause
     }
 }
 
-// Makes the change, if there is one, within the bounds. It is paid for before it is made.
-#[tactic(auto, using(crate::proofs::Spent::paid_more, crate::proofs::Spent::paid_afforded, crate::proofs::Spent::too_heavy))]
+// Makes the change, if there is one, within the bounds.
 fn advance(
     alloc: Global,
     tree: &mut Tree,
@@ -135,33 +134,82 @@ fn advance(
     ensures back { OnOk result (0 < following → taken_back tree.new kept.new.items ≡ taken_back tree.old kept.old.items) }
     ensures refused_back { OnErr result (taken_back tree.new kept.new.items ≡ taken_back tree.old kept.old.items) }
 {
-    let Done {
-        mut changes,
-        weight,
-        left,
-    } = done;
-    let Some(change) = change else {
-        let weight = weigh(tree, weight, bounds)?;
-        return Ok(Done {
-            changes,
-            weight: Some(weight),
-            left,
-        });
-    };
-    let Some(left) = change.pay(left) else {
-        return Err(Cause::TooHeavy);
-    };
-    changes.reserve(1)?;
-    let weight = match alter(alloc, tree, kept, weight, &change, bounds, following) {
-        Ok(weight) => weight,
-        Err(cause) => return Err(cause),
-    };
-    changes.push_reserved(change);
+    match change {
+        Some(change) => amend(alloc, tree, kept, done, change, bounds, following),
+        None => stay(tree, done, bounds),
+    }
+}
+
+// Leaves the document as it is, which still has to be within the bounds.
+fn stay(tree: &Tree, done: Done, bounds: Bounds) -> Result<Done, Cause>
+    requires { Known bounds tree.now done.weight }
+    ensures known { IfOk result (λ next. Known bounds tree.now next.weight) }
+    ensures weighed { IfOk result (λ next. IsSome next.weight) }
+    ensures changes { IfOk result (λ next. next.changes ≡ done.changes) }
+    ensures left { IfOk result (λ next. next.left ≡ done.left) }
+    ensures refused { IfErr result (λ cause. within bounds tree.now ≡ Err cause) }
+{
+    let weight = weigh(tree, done.weight, bounds)?;
     Ok(Done {
-        changes,
         weight: Some(weight),
-        left,
+        ..done
     })
+}
+
+// Makes a change within the bounds. It is paid for before it is made.
+#[tactic(auto, using(crate::proofs::Spent::paid_more, crate::proofs::Spent::paid_afforded, crate::proofs::Spent::too_heavy))]
+fn amend(
+    alloc: Global,
+    tree: &mut Tree,
+    kept: &mut Vec<Undo>,
+    done: Done,
+    change: Change,
+    bounds: Bounds,
+    following: usize,
+) -> Result<Done, Cause>
+    requires makes { (next : Document) × Makes tree.old change next }
+    requires known { Known bounds tree.old done.weight }
+    requires paid { paid (changes_weight done.changes.items) bounds.changes ≡ Some done.left }
+    ensures known { IfOk result (λ next. Known bounds tree.new next.weight) }
+    ensures paid { IfOk result (λ next. paid (changes_weight next.changes.items) bounds.changes ≡ Some next.left) }
+    ensures weighed { IfOk result (λ next. IsSome next.weight) }
+    ensures fits { OnOk result (afforded bounds (changes_weight done.changes.items + changes_weight (change ∷ [])) tree.new ≡ Ok tree.new) }
+    ensures document { OnOk result (Makes tree.old change tree.new) }
+    ensures changes { IfOk result (λ next. next.changes.items ≡ done.changes.items ++ change ∷ []) }
+    ensures refused { IfErr result (λ cause. cause ≢ NoMemory → (next : Document) × Makes tree.old change next × (afforded bounds (changes_weight done.changes.items + changes_weight (change ∷ [])) next ≡ Err cause)) }
+    ensures back { OnOk result (0 < following → taken_back tree.new kept.new.items ≡ taken_back tree.old kept.old.items) }
+    ensures refused_back { OnErr result (taken_back tree.new kept.new.items ≡ taken_back tree.old kept.old.items) }
+{
+    let place = done.changes.len();
+    let mut next = pay_for(done, change)?;
+    let change = &next.changes[place];
+    match alter(alloc, tree, kept, next.weight, change, bounds, following) {
+        Ok(weight) => next.weight = Some(weight),
+        Err(cause) => return Err(cause),
+    }
+    Ok(next)
+}
+
+// Pays for a change, and adds it to the others.
+fn pay_for(done: Done, change: Change) -> Result<Done, Cause>
+    ensures paid { IfOk result (λ next. paid (change_weight change) done.left ≡ Some next.left) }
+    ensures weight { IfOk result (λ next. next.weight ≡ done.weight) }
+    ensures changes { IfOk result (λ next. next.changes.items ≡ done.changes.items ++ change ∷ []) }
+    ensures heavy { IfErr result (λ cause. cause ≢ NoMemory → (cause ≡ TooHeavy) × (paid (change_weight change) done.left ≡ None)) }
+{
+    let mut next = done;
+    let left = change.pay(next.left);
+    push(&mut next.changes, change)?;
+    next.left = left.ok_or(Cause::TooHeavy)?;
+    Ok(next)
+}
+
+// Adds a change, which is dropped if memory runs out.
+fn push(changes: &mut Vec<Change>, change: Change) -> Result<(), AllocError>
+    ensures { OnOk result (changes.new.items ≡ changes.old.items ++ change ∷ []) }
+{
+    changes.push(change)?;
+    Ok(())
 }
 
 // The weight of a document that is within the bounds, measured unless it is known.
