@@ -1,18 +1,20 @@
 -- The answer to the bytes received so far.
 use Rattle.std.specs.Prelude.{◌≡◌, ◌⊎◌, ℕ, List}
 use Rattle.httparse.specs.Grammar.{RequestHead, ReadsRequest, HasNoRequest, NeverHasRequest, MayBecomeRequest}
-use Rattle.relay_admin.specs.Verdict.{verdict_of, verdict_before_head, window}
+use Rattle.relay_admin.specs.Judged.{verdict_told}
+use Rattle.relay_admin.specs.Verdict.{refuse, verdict_of, verdict_before_head, window}
 use Rattle.relay_admin.specs.declared.answer.Ask.{Ask}
-use Rattle.relay_admin.specs.declared.answer.Ask.TheVariants.{Refused}
 use Rattle.relay_admin.specs.declared.refusal.Refusal.TheVariants.{NoHead}
 
 -- if the window begins with a head: the verdict on it
 abbrev pub AnswersHead : List ℕ → Ask → Type 0
-AnswersHead bytes answer = (head : RequestHead) (rest : List ℕ) → ReadsRequest (window bytes) head rest → answer ≡ verdict_of head
+AnswersHead bytes answer =
+    (head : RequestHead) (rest : List ℕ) → ReadsRequest (window bytes) head rest → verdict_told answer ≡ verdict_of head
 
 -- if there is no head: the verdict before a head, only if one can still come or the bytes end in a target; or `NoHead`, only if none can
 -- come
 abbrev pub AnswersNoHead : List ℕ → Ask → Type 0
 AnswersNoHead bytes answer =
     HasNoRequest (window bytes)
-    → (MayBecomeRequest (window bytes) × (answer ≡ verdict_before_head bytes)) ⊎ (NeverHasRequest (window bytes) × (answer ≡ Refused NoHead))
+    → (MayBecomeRequest (window bytes) × (verdict_told answer ≡ verdict_before_head bytes))
+    ⊎ (NeverHasRequest (window bytes) × (verdict_told answer ≡ refuse NoHead))

@@ -1,5 +1,5 @@
 -- The list of rooms, as the tokens of its JSON.
-use Rattle.std.specs.Prelude.{ℕ, List, [], ◌∷◌, ◌++◌, codes, decimal}
+use Rattle.std.specs.Prelude.{ℕ, List, [], ◌∷◌, ◌++◌, Option, Some, None, codes, decimal}
 use Rattle.json.specs.Token.{Token, begin_array, begin_object, end_object, key, string, number}
 
 -- a list without rooms, before its end
@@ -15,7 +15,14 @@ abbrev pub with_numbers : ℕ → ℕ → ℕ → List Token → List Token
 with_numbers revision sessions weight tokens =
     with_number (codes "weight") weight (with_number (codes "sessions") sessions (with_number (codes "revision") revision tokens))
 
+-- tokens, and behind them for how many seconds nobody has been in a room, if nobody is
+abbrev pub with_empty : Option ℕ → List Token → List Token
+with_empty (Some seconds) tokens = with_number (codes "empty") seconds tokens
+with_empty None tokens = tokens
+
 -- tokens, and behind them a room with its name and these numbers
-abbrev pub with_room : List ℕ → ℕ → ℕ → ℕ → List Token → List Token
-with_room name revision sessions weight tokens =
-    with_numbers revision sessions weight (tokens ++ begin_object ∷ key (codes "name") ∷ string name ∷ []) ++ end_object ∷ []
+abbrev pub with_room : List ℕ → ℕ → ℕ → ℕ → Option ℕ → List Token → List Token
+with_room name revision sessions weight empty tokens =
+    with_empty empty
+    (with_numbers revision sessions weight (tokens ++ begin_object ∷ key (codes "name") ∷ string name ∷ []))
+    ++ end_object ∷ []

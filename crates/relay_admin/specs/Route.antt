@@ -1,5 +1,6 @@
--- The paths of the requests, and their methods.
-use Rattle.std.specs.Prelude.{ℕ, List, if◌then◌else◌, codes, bytes_eq, Option, Some, None}
+-- What an operator may ask, by target and method.
+use Rattle.std.specs.Prelude.{ℕ, List, ◌++◌, if◌then◌else◌, length, drop, nat_eq, codes, bytes_eq, Option, Some, None, option_map}
+use Rattle.std.specs.List.{starts_with}
 use Rattle.relay_admin.specs.declared.request.AdminRequest.{AdminRequest}
 use Rattle.relay_admin.specs.declared.request.AdminRequest.TheVariants.{Health, Metrics, Rooms, Stop}
 
@@ -22,3 +23,28 @@ request_at target =
     if bytes_eq target (target_of Metrics) then Some Metrics else
     if bytes_eq target (target_of Rooms) then Some Rooms else
     if bytes_eq target (target_of Stop) then Some Stop else None
+
+-- the text behind a prefix, if it begins with it
+abbrev pub behind : List ℕ → List ℕ → Option (List ℕ)
+behind prefix text = if starts_with nat_eq text prefix then Some (drop (length prefix) text) else None
+
+-- what is asked: a request of a path of its own, or that the room of a name is forgotten
+pub data Asked : Type 0 where
+  request : AdminRequest → Asked
+  forget : List ℕ → Asked
+
+abbrev pub asked_target : Asked → List ℕ
+asked_target (request r) = target_of r
+asked_target (forget room) = codes "/rooms/" ++ room
+
+abbrev pub asked_method : Asked → List ℕ
+asked_method (request r) = method_of r
+asked_method (forget room) = codes "DELETE"
+
+-- what is asked at a target, if anything is: a path of a request comes first
+abbrev pub asked_by : Option AdminRequest → List ℕ → Option Asked
+asked_by (Some r) target = Some (request r)
+asked_by None target = option_map forget (behind (codes "/rooms/") target)
+
+abbrev pub asked_at : List ℕ → Option Asked
+asked_at target = asked_by (request_at target) target

@@ -5,24 +5,28 @@ use Rattle.relay_head.specs.Checks.{first_failed}
 use Rattle.relay_head.specs.Head.{only_value, has_field, kept}
 use Rattle.relay_head.specs.Parsing.{Parts, parts_of}
 use Rattle.relay_admin.specs.Host.{is_loopback}
-use Rattle.relay_admin.specs.Route.{method_of, request_at}
-use Rattle.relay_admin.specs.declared.answer.Ask.{Ask}
-use Rattle.relay_admin.specs.declared.answer.Ask.TheVariants.{More, Request, Refused}
+use Rattle.relay_admin.specs.Route.{Asked, request, forget, asked_method, asked_at}
 use Rattle.relay_admin.specs.declared.checks.TheConstants.{MAX_FIELDS}
 use Rattle.relay_admin.specs.declared.reading.TheConstants.{MAX_HEAD}
 use Rattle.relay_admin.specs.declared.refusal.Refusal.{Refusal}
-use Rattle.relay_admin.specs.declared.refusal.Refusal.TheVariants.{TooLong, NoHost, OtherHost, Origin, NoPath, OnlyGet, OnlyPost}
-use Rattle.relay_admin.specs.declared.request.AdminRequest.{AdminRequest}
+use Rattle.relay_admin.specs.declared.refusal.Refusal.TheVariants.{TooLong, NoHost, OtherHost, Origin, NoPath, OnlyGet, OnlyPost, OnlyDelete}
 use Rattle.relay_admin.specs.declared.request.AdminRequest.TheVariants.{Stop}
 
--- whether the method is that of the request, if there is one
-abbrev pub has_method : List ℕ → Option AdminRequest → Bool
-has_method method (Some request) = bytes_eq method (method_of request)
+-- wait for more bytes, accept what is asked, or refuse
+pub data Verdict : Type 0 where
+  more : Verdict
+  accept : Asked → Verdict
+  refuse : Refusal → Verdict
+
+-- whether the method is that of what is asked, if anything is
+abbrev pub has_method : List ℕ → Option Asked → Bool
+has_method method (Some asked) = bytes_eq method (asked_method asked)
 has_method method None = true
 
--- the refusal of another method than that of the request
-abbrev pub wrong_method : Option AdminRequest → Refusal
-wrong_method (Some Stop) = OnlyPost
+-- the refusal of another method than that of what is asked
+abbrev pub wrong_method : Option Asked → Refusal
+wrong_method (Some (request Stop)) = OnlyPost
+wrong_method (Some (forget room)) = OnlyDelete
 wrong_method _ = OnlyGet
 
 -- the checks in their order: the condition, and the refusal if it fails
@@ -32,21 +36,21 @@ checks head =
     ∷ (is_some (only_value (codes "Host") head.fields), NoHost)
     ∷ (is_some (kept is_loopback (only_value (codes "Host") head.fields)), OtherHost)
     ∷ (not (has_field (codes "Origin") head.fields), Origin)
-    ∷ (is_some (request_at head.target), NoPath)
-    ∷ (has_method head.method (request_at head.target), wrong_method (request_at head.target))
+    ∷ (is_some (asked_at head.target), NoPath)
+    ∷ (has_method head.method (asked_at head.target), wrong_method (asked_at head.target))
     ∷ []
 
--- the request if no check failed
-abbrev pub verdict_by : Option Refusal → Option AdminRequest → Ask
-verdict_by (Some refusal) request = Refused refusal
-verdict_by None (Some request) = Request request
-verdict_by None None = Refused NoPath
+-- what is asked if no check failed
+abbrev pub verdict_by : Option Refusal → Option Asked → Verdict
+verdict_by (Some refusal) asked = refuse refusal
+verdict_by None (Some asked) = accept asked
+verdict_by None None = refuse NoPath
 
-abbrev pub verdict_on : Parts → Ask
-verdict_on head = verdict_by (first_failed (checks head)) (request_at head.target)
+abbrev pub verdict_on : Parts → Verdict
+verdict_on head = verdict_by (first_failed (checks head)) (asked_at head.target)
 
 -- the verdict on a head, whatever follows it
-abbrev pub verdict_of : RequestHead → Ask
+abbrev pub verdict_of : RequestHead → Verdict
 verdict_of head = verdict_on (parts_of head [])
 
 -- the bytes in which the head must be
@@ -54,5 +58,5 @@ abbrev pub window : List ℕ → List ℕ
 window bytes = take MAX_HEAD bytes
 
 -- the verdict on bytes that can still become a head
-abbrev pub verdict_before_head : List ℕ → Ask
-verdict_before_head bytes = if nat_lt MAX_HEAD (length bytes) then Refused TooLong else More
+abbrev pub verdict_before_head : List ℕ → Verdict
+verdict_before_head bytes = if nat_lt MAX_HEAD (length bytes) then refuse TooLong else more

@@ -1,4 +1,5 @@
-//! The requests of an operator over plain HTTP/1.1, and their replies, as bytes: health, metrics, the list of rooms, and the stop.
+//! The requests of an operator over plain HTTP/1.1, and their replies, as bytes: health, metrics, the
+//! list of rooms, the forgetting of a room, and the stop.
 //!
 //! The promise: the answer of [`ask`] depends on the bytes alone. A request is accepted exactly if `specs/Admitted.antt` says so of its
 //! head: it has one `Host`, which names the loopback, and no `Origin`, so that no page in a browser on the same machine can read
@@ -12,15 +13,18 @@ mod checks;
 mod host;
 mod metric;
 mod metrics;
+mod not_forgotten;
 mod reading;
 mod refusal;
 mod reply;
 mod request;
 mod rooms;
 mod route;
+mod target;
 
 pub use answer::Ask;
 pub use metrics::{DrawnMessages, EndedBy, Metrics, RefusedBy, SnapshotsBy, metrics_text};
+pub use not_forgotten::NotForgotten;
 pub use reading::{MAX_HEAD, ask};
 pub use refusal::Refusal;
 pub use reply::{Reply, reply_text};

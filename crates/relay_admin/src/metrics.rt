@@ -18,6 +18,8 @@ pub struct Metrics<'a> {
     pub max_connections: u64,
     /// The sum of the rooms' revisions. It never falls, since only a room at revision 0 gives its place to another.
     pub edits: u64,
+    /// How many wills of closed sessions were done.
+    pub wills: u64,
     /// The sum of the weights of the rooms' documents.
     pub weight: u64,
     /// What the changes weigh together that the rooms hold for resumes.
@@ -146,6 +148,12 @@ fn write_hub(alloc: Global, text: &mut String, metrics: &Metrics<'_>) -> Result<
             kind: Counter,
             help: "Edits accepted, the sum of the revisions of all rooms.",
             values: One(metrics.edits),
+        },
+        Metric {
+            name: "relay_wills_total",
+            kind: Counter,
+            help: "Wills of closed sessions that were done.",
+            values: One(metrics.wills),
         },
     ];
     write_metrics(alloc, text, &rows)

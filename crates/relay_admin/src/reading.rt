@@ -2,12 +2,14 @@
 ghost use Rattle.std.specs.Prelude.{◌≡◌, IfOk};
 ghost use Rattle.relay_admin.specs.Admitted.{AdmitsExactly};
 ghost use Rattle.relay_admin.specs.Asked.{AnswersHead, AnswersNoHead};
+ghost use Rattle.relay_admin.specs.Judged.{verdict_told};
 ghost use Rattle.relay_admin.specs.Verdict.{verdict_on};
 ghost use Rattle.relay_head.specs.Parsing.{parts};
 
 use crate::answer::Ask;
 use crate::checks::judge;
 use crate::refusal::Refusal;
+use crate::target::Target;
 use httparse::{EMPTY_HEADER, Request};
 use relay_head::{Fault, Head, Parsed, head_of, parse_head};
 use std::alloc::{AllocError, Global};
@@ -21,8 +23,8 @@ pub(crate) const MAX_HEAD_FIELDS: usize = 1_365;
 /// Answers all bytes received so far, of which the head must be within the first 4,096.
 ///
 /// If they begin with a head, the first check that fails gives the [`Refusal`]: at most 32 fields; one field `Host`; it names the
-/// loopback; no field `Origin`; one of the four paths, with no query; the path's method. A head that passes is a request, whatever
-/// follows it.
+/// loopback; no field `Origin`; one of the four paths, with no query, or `/rooms/NAME`; the path's method. A head that passes is a
+/// request, whatever follows it.
 ///
 /// If there is no head but one can still come, the answer is [`Ask::More`], or [`Refusal::TooLong`] after more than 4,096 bytes. If
 /// none can come, it is [`Refusal::NoHead`]. One case is left open, as in `relay_shake`: if the bytes end in a target that no head
@@ -54,10 +56,11 @@ fn answered(alloc: Global, bytes: &[u8]) -> Result<Ask, AllocError>
 }
 
 fn answer(alloc: Global, head: &Head<'_, '_>) -> Result<Ask, AllocError>
-    ensures { IfOk result (λ answer. answer ≡ verdict_on (parts head.now)) }
+    ensures { IfOk result (λ answer. verdict_told answer ≡ verdict_on (parts head.now)) }
 {
     match judge(alloc, head) {
-        Ok(request) => Ok(Ask::Request(request)),
+        Ok(Target::Request(request)) => Ok(Ask::Request(request)),
+        Ok(Target::Room(room)) => Ok(Ask::Forget(String::from_str(alloc, room)?)),
         Err(Fault::Refused(refusal)) => Ok(Ask::Refused(refusal)),
         Err(Fault::NoMemory) => Err(AllocError),
     }

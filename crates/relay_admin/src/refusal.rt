@@ -17,12 +17,14 @@ pub enum Refusal {
     OtherHost,
     /// 403: there is an `Origin`, so a page asked.
     Origin,
-    /// 404: the path is none of the four.
+    /// 404: the path is none of the four, and begins with no `/rooms/`.
     NoPath,
     /// 405: the path takes `GET` alone.
     OnlyGet,
     /// 405: the path takes `POST` alone.
     OnlyPost,
+    /// 405: the path takes `DELETE` alone.
+    OnlyDelete,
 }
 
 impl Refusal {
@@ -35,7 +37,9 @@ impl Refusal {
             Refusal::TooLong => StatusCode::REQUEST_HEADER_FIELDS_TOO_LARGE,
             Refusal::OtherHost | Refusal::Origin => StatusCode::FORBIDDEN,
             Refusal::NoPath => StatusCode::NOT_FOUND,
-            Refusal::OnlyGet | Refusal::OnlyPost => StatusCode::METHOD_NOT_ALLOWED,
+            Refusal::OnlyGet | Refusal::OnlyPost | Refusal::OnlyDelete => {
+                StatusCode::METHOD_NOT_ALLOWED
+            }
         }
     }
 
@@ -46,6 +50,7 @@ impl Refusal {
         match self {
             Refusal::OnlyGet => "Allow: GET\r\n",
             Refusal::OnlyPost => "Allow: POST\r\n",
+            Refusal::OnlyDelete => "Allow: DELETE\r\n",
             Refusal::NoHead
             | Refusal::TooLong
             | Refusal::NoHost
@@ -54,6 +59,7 @@ impl Refusal {
             | Refusal::NoPath => "",
         }
     }
+
     /// The body of the reply.
     pub(crate) fn why(self) -> &'static str
         ensures { result.now ≡ why_of self }
@@ -67,6 +73,7 @@ impl Refusal {
             Refusal::NoPath => "there is no such path\n",
             Refusal::OnlyGet => "only GET\n",
             Refusal::OnlyPost => "only POST\n",
+            Refusal::OnlyDelete => "only DELETE\n",
         }
     }
 }

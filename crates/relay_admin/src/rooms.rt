@@ -3,7 +3,7 @@ ghost use Rattle.std.specs.Prelude.{◌≡◌, ◌∷◌, ◌++◌, [], IfOk, On
 ghost use Rattle.json.specs.Lex.{tokens};
 ghost use Rattle.json.specs.Print.{print};
 ghost use Rattle.json.specs.Token.{begin_object, end_array, key, string};
-ghost use Rattle.relay_admin.specs.Rooms.{begun, with_number, with_numbers, with_room};
+ghost use Rattle.relay_admin.specs.Rooms.{begun, with_empty, with_number, with_numbers, with_room};
 
 use json::Writer;
 use std::alloc::{AllocError, Global};
@@ -15,6 +15,8 @@ pub struct RoomRow<'a> {
     pub revision: u64,
     pub sessions: u64,
     pub weight: u64,
+    /// For how many seconds nobody has been in it, if nobody is.
+    pub empty: Option<u64>,
 }
 
 /// Begins a list of rooms. If memory runs out, it returns `AllocError` and leaves nothing behind.
@@ -29,11 +31,12 @@ pub fn begin_rooms(alloc: Global) -> Result<Writer, AllocError>
 
 /// Adds a room to a list. If memory runs out, some of the room's tokens may already be written.
 pub fn write_room(out: &mut Writer, room: &RoomRow<'_>) -> Result<(), AllocError>
-    ensures tokens { OnOk result (out.new.tokens ≡ with_room room.now.name.now room.now.revision room.now.sessions room.now.weight out.old.tokens) }
+    ensures tokens { OnOk result (out.new.tokens ≡ with_room room.now.name.now room.now.revision room.now.sessions room.now.weight room.now.empty out.old.tokens) }
     ensures before { out.new.before ≡ out.old.before }
 {
     begin_room(out, room.name)?;
     write_numbers(out, room)?;
+    write_empty(out, room.empty)?;
     out.end_object()
 }
 
@@ -53,6 +56,16 @@ fn write_numbers(out: &mut Writer, room: &RoomRow<'_>) -> Result<(), AllocError>
     write_number(out, "revision", room.revision)?;
     write_number(out, "sessions", room.sessions)?;
     write_number(out, "weight", room.weight)
+}
+
+fn write_empty(out: &mut Writer, empty: Option<u64>) -> Result<(), AllocError>
+    ensures tokens { OnOk result (out.new.tokens ≡ with_empty empty out.old.tokens) }
+    ensures before { out.new.before ≡ out.old.before }
+{
+    match empty {
+        Some(seconds) => write_number(out, "empty", seconds),
+        None => Ok(()),
+    }
 }
 
 fn write_number(out: &mut Writer, name: &str, value: u64) -> Result<(), AllocError>

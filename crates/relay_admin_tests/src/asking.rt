@@ -56,6 +56,21 @@ ask get /health HTTP/1.1\r\nHost: localhost\r\n\r\n => Refused(OnlyGet)
 ask GET /stop HTTP/1.1\r\nHost: localhost\r\n\r\n => Refused(OnlyPost)
 ask GET /health HTTP/2.0\r\nHost: localhost\r\n\r\n => Refused(NoHead)
 
+# Accepts a request to forget a room, whatever its name is, by one method.
+ask DELETE /rooms/r HTTP/1.1\r\nHost: localhost\r\n\r\n => Forget("r")
+ask DELETE /rooms/ HTTP/1.1\r\nHost: localhost\r\n\r\n => Forget("")
+ask DELETE /rooms/a/b?c HTTP/1.1\r\nHost: localhost\r\n\r\n => Forget("a/b?c")
+ask DELETE /rooms/r HTTP/1.1\r\nHost: localhost\r\nContent-Length: 3\r\n\r\nabc => Forget("r")
+ask DELETE /rooms HTTP/1.1\r\nHost: localhost\r\n\r\n => Refused(OnlyGet)
+ask DELETE /room/r HTTP/1.1\r\nHost: localhost\r\n\r\n => Refused(NoPath)
+ask DELETE rooms/r HTTP/1.1\r\nHost: localhost\r\n\r\n => Refused(NoPath)
+ask GET /rooms/r HTTP/1.1\r\nHost: localhost\r\n\r\n => Refused(OnlyDelete)
+ask POST /rooms/r HTTP/1.1\r\nHost: localhost\r\n\r\n => Refused(OnlyDelete)
+ask delete /rooms/r HTTP/1.1\r\nHost: localhost\r\n\r\n => Refused(OnlyDelete)
+ask DELETE /rooms/r HTTP/1.1\r\n\r\n => Refused(NoHost)
+ask DELETE /rooms/r HTTP/1.1\r\nHost: evil\r\n\r\n => Refused(OtherHost)
+ask DELETE /rooms/r HTTP/1.1\r\nHost: localhost\r\nOrigin: null\r\n\r\n => Refused(Origin)
+
 # Bounds the head: it may have 4,096 bytes, here with 4,050 of them in a field. A star stands for 64 bytes.
 ask GET /health HTTP/1.1\r\nHost: localhost\r\nX: ***************************************************************xxxxxxxxxxxxxxxxxx\r\n\r\n => Request(Health)
 ask GET /health HTTP/1.1\r\nHost: localhost\r\nX: ***************************************************************xxxxxxxxxxxxxxxxxxx\r\n\r\n => Refused(TooLong)

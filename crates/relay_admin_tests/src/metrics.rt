@@ -10,6 +10,7 @@ const NUMBERS: Metrics<'static> = Metrics {
     connections: 5,
     max_connections: 6,
     edits: 7,
+    wills: 38,
     weight: 8,
     history_weight: 36,
     waiting_weight: 37,
@@ -66,6 +67,9 @@ relay_sessions_limit 4
 # HELP relay_edits_total Edits accepted, the sum of the revisions of all rooms.
 # TYPE relay_edits_total counter
 relay_edits_total 7
+# HELP relay_wills_total Wills of closed sessions that were done.
+# TYPE relay_wills_total counter
+relay_wills_total 38
 # HELP relay_document_weight Weight of all documents together.
 # TYPE relay_document_weight gauge
 relay_document_weight 8

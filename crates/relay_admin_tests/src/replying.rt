@@ -1,6 +1,8 @@
 //! Tests of the replies, and of the list of rooms.
 use crate::shared::shown;
-use relay_admin::{Refusal, Reply, RoomRow, begin_rooms, end_rooms, reply_text, write_room};
+use relay_admin::{
+    NotForgotten, Refusal, Reply, RoomRow, begin_rooms, end_rooms, reply_text, write_room,
+};
 use relay_wire::{Subject, cut, play};
 use std::alloc::{AllocGlobal, Global};
 
@@ -25,11 +27,19 @@ reply 10 => (Refused(NoPath), "HTTP/1.1 404 Not Found\r\nContent-Type: text/plai
 reply 11 => (Refused(OnlyGet), "HTTP/1.1 405 Method Not Allowed\r\nContent-Type: text/plain; charset=utf-8\r\nContent-Length: 9\r\nAllow: GET\r\nCache-Control: no-store\r\nX-Content-Type-Options: nosniff\r\nConnection: close\r\n\r\nonly GET\n")
 reply 12 => (Refused(OnlyPost), "HTTP/1.1 405 Method Not Allowed\r\nContent-Type: text/plain; charset=utf-8\r\nContent-Length: 10\r\nAllow: POST\r\nCache-Control: no-store\r\nX-Content-Type-Options: nosniff\r\nConnection: close\r\n\r\nonly POST\n")
 
-# Lists rooms.
-rooms => [{"name":"r","revision":0,"sessions":2,"weight":8},{"name":"\"","revision":18446744073709551615,"sessions":2,"weight":8}]
+# Replies to requests to forget a room.
+reply 13 => (Forgotten, "HTTP/1.1 204 No Content\r\nCache-Control: no-store\r\nX-Content-Type-Options: nosniff\r\nConnection: close\r\n\r\n")
+reply 14 => (NotForgotten(NoRoom), "HTTP/1.1 404 Not Found\r\nContent-Type: text/plain; charset=utf-8\r\nContent-Length: 22\r\nCache-Control: no-store\r\nX-Content-Type-Options: nosniff\r\nConnection: close\r\n\r\nthere is no such room\n")
+reply 15 => (NotForgotten(Occupied), "HTTP/1.1 409 Conflict\r\nContent-Type: text/plain; charset=utf-8\r\nContent-Length: 25\r\nCache-Control: no-store\r\nX-Content-Type-Options: nosniff\r\nConnection: close\r\n\r\na session is in the room\n")
+reply 16 => (NotForgotten(Exhausted), "HTTP/1.1 409 Conflict\r\nContent-Type: text/plain; charset=utf-8\r\nContent-Length: 20\r\nCache-Control: no-store\r\nX-Content-Type-Options: nosniff\r\nConnection: close\r\n\r\nno revision is left\n")
+reply 17 => (NotForgotten(NoMemory), "HTTP/1.1 503 Service Unavailable\r\nContent-Type: text/plain; charset=utf-8\r\nContent-Length: 19\r\nCache-Control: no-store\r\nX-Content-Type-Options: nosniff\r\nConnection: close\r\n\r\nmemory was refused\n")
+reply 18 => (Refused(OnlyDelete), "HTTP/1.1 405 Method Not Allowed\r\nContent-Type: text/plain; charset=utf-8\r\nContent-Length: 12\r\nAllow: DELETE\r\nCache-Control: no-store\r\nX-Content-Type-Options: nosniff\r\nConnection: close\r\n\r\nonly DELETE\n")
+
+# Lists rooms. Of an empty one it says for how long it has been empty.
+rooms => [{"name":"r","revision":0,"sessions":2,"weight":8},{"name":"\"","revision":18446744073709551615,"sessions":2,"weight":8,"empty":60}]
 "#;
 
-const REPLIES: [Reply<'static>; 13] = [
+const REPLIES: [Reply<'static>; 19] = [
     Reply::Healthy,
     Reply::Unhealthy("tired\n"),
     Reply::Stopping,
@@ -43,6 +53,12 @@ const REPLIES: [Reply<'static>; 13] = [
     Reply::Refused(Refusal::NoPath),
     Reply::Refused(Refusal::OnlyGet),
     Reply::Refused(Refusal::OnlyPost),
+    Reply::Forgotten,
+    Reply::NotForgotten(NotForgotten::NoRoom),
+    Reply::NotForgotten(NotForgotten::Occupied),
+    Reply::NotForgotten(NotForgotten::Exhausted),
+    Reply::NotForgotten(NotForgotten::NoMemory),
+    Reply::Refused(Refusal::OnlyDelete),
 ];
 
 #[test]
@@ -73,16 +89,17 @@ fn reply_at(alloc: Global, index: &str) -> Option<String> {
 /// The list of two rooms.
 fn rooms(alloc: Global) -> Option<String> {
     let mut out = begin_rooms(alloc).ok()?;
-    write_room(&mut out, &row("r", 0)).ok()?;
-    write_room(&mut out, &row("\"", u64::MAX)).ok()?;
+    write_room(&mut out, &row("r", 0, None)).ok()?;
+    write_room(&mut out, &row("\"", u64::MAX, Some(60))).ok()?;
     end_rooms(out).ok()
 }
 
-fn row(name: &str, revision: u64) -> RoomRow<'_> {
+fn row(name: &str, revision: u64, empty: Option<u64>) -> RoomRow<'_> {
     RoomRow {
         name,
         revision,
         sessions: 2,
         weight: 8,
+        empty,
     }
 }

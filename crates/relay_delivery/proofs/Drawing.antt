@@ -11,8 +11,8 @@ use Rattle.relay_hub.specs.State.{State, RoomSessions, home_of, session_in}
 use Rattle.relay_hub.specs.Step.{Step}
 use Rattle.relay_hub.specs.declared.config.HubConfig.{HubConfig}
 use Rattle.relay_hub.specs.declared.event.Answer.{Answer}
-use Rattle.relay_hub.specs.declared.event.Answer.TheVariants.{Opened, NotOpened, Heard, Drawn, Closed, NoSession}
-use Rattle.relay_hub.specs.declared.event.Event.TheVariants.{Open, Receive, Draw, Close}
+use Rattle.relay_hub.specs.declared.event.Answer.TheVariants.{Opened, NotOpened, Heard, Drawn, Closed, WillDone, NoWill, Forgotten, NotForgotten, NoSession}
+use Rattle.relay_hub.specs.declared.event.Event.TheVariants.{Open, Receive, Draw, Close, DoWill, Forget}
 use Rattle.relay_hub.specs.declared.event.Heard.TheVariants.{Answered, Busy}
 use Rattle.relay_hub.proofs.Stands.{step_stands}
 use Rattle.relay_hub.proofs.Watchers.{exactly_held}
@@ -21,7 +21,7 @@ use Rattle.relay_proto.specs.Client.{Client, nothing, holds, lost, client, clien
 use Rattle.relay_proto.specs.Request.{request_of_text}
 use Rattle.relay_proto.specs.declared.refusal.Refusal.{Refusal}
 use Rattle.relay_proto.specs.declared.request.Request.{Request}
-use Rattle.relay_proto.specs.declared.request.Request.TheVariants.{Edit, Watch, Resume, Unwatch}
+use Rattle.relay_proto.specs.declared.request.Request.TheVariants.{Edit, Will, Watch, Resume, Unwatch}
 use Rattle.relay_tree.specs.Document.{Document}
 use Rattle.relay_tree.specs.declared.budget.Budget.{Budget}
 use Rattle.relay_view.specs.View.{View, view}
@@ -69,6 +69,7 @@ tracks_asked : (c : Client) (epoch : ℕ) (ds : List Document) (was : Option Wat
     → Tracks c was → Tracks c (asked epoch ds was request)
 tracks_asked c epoch ds was (Err r) starts before = before
 tracks_asked c epoch ds was (Ok (Edit id base patch)) starts before = before
+tracks_asked c epoch ds was (Ok (Will id patch)) starts before = before
 tracks_asked c epoch ds was (Ok (Watch id pointers)) starts before = inr (refl, refl)
 tracks_asked c epoch ds was (Ok (Unwatch id)) starts before = tt
 tracks_asked c epoch ds was (Ok (Resume id e rev pointers)) starts before =
@@ -88,6 +89,7 @@ affordable_ok : (budget : Budget) (request : Result Request Refusal) (asked : Re
     → affordable budget request ≡ Ok asked → request ≡ Ok asked
 affordable_ok budget (Err r) asked is = is
 affordable_ok budget (Ok (Edit id base patch)) asked is = is
+affordable_ok budget (Ok (Will id patch)) asked is = is
 affordable_ok budget (Ok (Unwatch id)) asked is = is
 affordable_ok budget (Ok (Watch id pointers)) asked is =
     ap Ok (unless_ok (unpaid_slot 0 budget pointers) id (Watch id pointers) asked is)
@@ -116,6 +118,10 @@ module _ (b : HubConfig) (E : Log) (s : ℕ) (c : Client) (before : Tracks c (wa
   after_request text (NotOpened fault) starts = before
   after_request text (Drawn drew) starts = before
   after_request text Closed starts = before
+  after_request text (WillDone short) starts = before
+  after_request text NoWill starts = before
+  after_request text (Forgotten rev) starts = before
+  after_request text (NotForgotten fault) starts = before
   after_request text NoSession starts = before
 
 -- ---- a draw
@@ -155,6 +161,10 @@ module _ (b : HubConfig) (E : Log) (hub new : State) (s : ℕ) (c : Client) (bef
   stays_draw (NotOpened fault) step = quiet (NotOpened fault) refl step refl
   stays_draw (Heard heard) step = quiet (Heard heard) refl step refl
   stays_draw Closed step = quiet Closed refl step refl
+  stays_draw (WillDone short) step = quiet (WillDone short) refl step refl
+  stays_draw NoWill step = quiet NoWill refl step refl
+  stays_draw (Forgotten rev) step = quiet (Forgotten rev) refl step refl
+  stays_draw (NotForgotten fault) step = quiet (NotForgotten fault) refl step refl
   stays_draw NoSession step = quiet NoSession refl step refl
 
 -- ---- the events of a turn
@@ -166,6 +176,8 @@ own_session s (makes (Open room access) answer before own step) is = absurd own.
 own_session s (makes (Receive t text) answer before own step) is = own_session s before is
 own_session s (makes (Draw t) answer before own step) is = own_session s before is
 own_session s (makes (Close t) answer before own step) is = inr refl
+own_session s (makes DoWill answer before own step) is = absurd own
+own_session s (makes (Forget room) answer before own step) is = absurd own
 
 its_own : (q : Option ℕ) (s t : ℕ) → (q ≡ Some s) ⊎ (q ≡ None) → q ≡ Some t → t ≡ s
 its_own q s t held is =
@@ -205,6 +217,8 @@ stays_turn b E s t c (makes {q = q} {hub = hub} (Draw u) answer follows own step
       found = last.found;
     })
 stays_turn b E s t c (makes (Close u) answer follows own step) is still resumes before found = absurd (cc still)
+stays_turn b E s t c (makes DoWill answer follows own step) is still resumes before found = absurd own
+stays_turn b E s t c (makes (Forget room) answer follows own step) is still resumes before found = absurd own
 
 -- ---- what it holds when nothing waits
 

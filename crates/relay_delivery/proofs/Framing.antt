@@ -6,7 +6,7 @@ use Rattle.relay_hub.specs.Log.{Log}
 use Rattle.relay_hub.specs.State.{State as Hub}
 use Rattle.relay_hub.specs.declared.config.HubConfig.{HubConfig}
 use Rattle.relay_hub.specs.declared.event.Event.{Event}
-use Rattle.relay_hub.specs.declared.event.Event.TheVariants.{Open as OpenEvent, Receive, Draw, Close}
+use Rattle.relay_hub.specs.declared.event.Event.TheVariants.{Open as OpenEvent, Receive, Draw, Close, DoWill, Forget}
 use Rattle.relay_link.specs.Adds.{is_receive, receives}
 use Rattle.relay_link.specs.Follows.{Point, at, no_room, Follows, stays, makes, drawn}
 use Rattle.relay_link.specs.Frames.{framed, text_frames}
@@ -44,6 +44,8 @@ nobody_resumes b E s c (makes {q = q} (Draw t) answer follows own step) none =
 nobody_resumes b E s c (makes {q = q} (Close t) answer follows own step) none =
     let before : receives q.made ≡ 0 = omega (arith, none, one_more q.made (Close t)) in
     (nobody_resumes b E s c follows before, λ m told. tt)
+nobody_resumes b E s c (makes DoWill answer follows own step) none = absurd own
+nobody_resumes b E s c (makes (Forget room) answer follows own step) none = absurd own
 
 -- ---- a turn
 

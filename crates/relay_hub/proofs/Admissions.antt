@@ -1,5 +1,5 @@
 -- What is known of a request that is admitted, and of one that is not.
-use Rattle.std.proofs.Common.{◌≡◌, ℕ, zero, suc, ◌+◌, ◌≤◌, ◌<◌, drop, slice_get, option_map, Bool, true, false, List, [], ◌∷◌, length, Option, Some, None, Result, Ok, Err, refl, subst, arith, if◌then◌else◌}
+use Rattle.std.proofs.Common.{◌≡◌, ℕ, zero, suc, ◌+◌, ◌≤◌, ◌<◌, drop, slice_get, option_map, Bool, true, false, List, [], ◌∷◌, length, Option, Some, None, Result, Ok, Err, refl, sym, ◌∙◌, ap, subst, arith, if◌then◌else◌}
 use Rattle.std.specs.Option.{option_map_or}
 use Rattle.relay_patch.specs.declared.op.Op.{Op}
 use Rattle.relay_pointer.specs.Weight.{path_weight}
@@ -8,7 +8,7 @@ use Rattle.relay_proto.specs.Request.{request_of_text}
 use Rattle.relay_proto.specs.declared.access.Access.{Access}
 use Rattle.relay_proto.specs.declared.refusal.Refusal.{Refusal}
 use Rattle.relay_proto.specs.declared.request.Request.{Request}
-use Rattle.relay_proto.specs.declared.request.Request.TheVariants.{Edit, Watch, Resume, Unwatch}
+use Rattle.relay_proto.specs.declared.request.Request.TheVariants.{Edit, Will, Watch, Resume, Unwatch}
 use Rattle.relay_tree.specs.Budget.{paid}
 use Rattle.relay_tree.specs.Document.{Document}
 use Rattle.relay_tree.specs.declared.budget.Budget.{Budget}
@@ -20,76 +20,76 @@ use Rattle.relay_proto.specs.Written.{IsCount}
 use Rattle.relay_proto.specs.declared.word.Word.TheVariants as word
 use Rattle.relay_hub.specs.Refusal.{refusal}
 use Rattle.relay_hub.specs.Admitted.{may_edit, permitted, unpaid_slot, unless_unpaid, affordable, admitted}
-use Rattle.relay_hub.specs.Log.{Watching, requested, asked}
+use Rattle.relay_hub.specs.Log.{Watching, will_after, requested, asked}
 
--- An edit that is admitted is permitted, and any other request affordable.
+-- A request that is admitted is permitted, and was sent as it is.
 
-paid_edit : (budget : Budget) (r : Result Request Refusal) (id : ℕ) (base : Option ℕ) (patch : List Op) → affordable budget r ≡ Ok (Edit id base patch) → r ≡ Ok (Edit id base patch)
-paid_edit budget (Ok (Watch n v)) id base patch h = go (unpaid_slot 0 budget v) h
+afforded : (budget : Budget) (r : Result Request Refusal) (request : Request)
+    → affordable budget r ≡ Ok request → r ≡ Ok request
+afforded budget (Ok (Watch id v)) request h = go (unpaid_slot 0 budget v) h
   where
-    go : (o : Option ℕ) → unless_unpaid o n (Watch n v) ≡ Ok (Edit id base patch) → ◌≡◌ {A = Result Request Refusal} (Ok (Watch n v)) (Ok (Edit id base patch))
+    go : (o : Option ℕ) → unless_unpaid o id (Watch id v) ≡ Ok request
+        → ◌≡◌ {A = Result Request Refusal} (Ok (Watch id v)) (Ok request)
     go None h = h
     go (Some at) h = absurd (cc h)
-paid_edit budget (Ok (Resume n e rev v)) id base patch h = go (unpaid_slot 0 budget v) h
+afforded budget (Ok (Resume id e rev v)) request h = go (unpaid_slot 0 budget v) h
   where
-    go : (o : Option ℕ) → unless_unpaid o n (Resume n e rev v) ≡ Ok (Edit id base patch) → ◌≡◌ {A = Result Request Refusal} (Ok (Resume n e rev v)) (Ok (Edit id base patch))
+    go : (o : Option ℕ) → unless_unpaid o id (Resume id e rev v) ≡ Ok request
+        → ◌≡◌ {A = Result Request Refusal} (Ok (Resume id e rev v)) (Ok request)
     go None h = h
     go (Some at) h = absurd (cc h)
-paid_edit budget (Ok (Edit n b p)) id base patch h = h
-paid_edit budget (Ok (Unwatch n)) id base patch h = h
-paid_edit budget (Err r) id base patch h = h
+afforded budget (Ok (Edit id base patch)) request h = h
+afforded budget (Ok (Will id patch)) request h = h
+afforded budget (Ok (Unwatch id)) request h = h
+afforded budget (Err r) request h = h
 
-pub edit_permitted : (budget : Budget) (access : Access) (r : Result Request Refusal) (id : ℕ) (base : Option ℕ) (patch : List Op)
-    → admitted budget access r ≡ Ok (Edit id base patch) → permitted access r ≡ Ok (Edit id base patch)
-edit_permitted budget access r id base patch h = paid_edit budget (permitted access r) id base patch h
+-- what a session may do it asked for
+if_may : (may : Bool) (asked request : Request) (why : Refusal)
+    → ◌≡◌ {A = Result Request Refusal} (if may then Ok asked else Err why) (Ok request)
+    → ◌≡◌ {A = Result Request Refusal} (Ok asked) (Ok request)
+if_may true asked request why h = h
+if_may false asked request why h = absurd (cc h)
 
--- and it was sent as it is
-pub edit_sent : (access : Access) (r : Result Request Refusal) (id : ℕ) (base : Option ℕ) (patch : List Op) → permitted access r ≡ Ok (Edit id base patch) → r ≡ Ok (Edit id base patch)
-edit_sent access (Ok (Edit n b p)) id base patch h = go (may_edit access) h
-  where
-    go : (may : Bool) → ◌≡◌ {A = Result Request Refusal} (if may then Ok (Edit n b p) else Err (refusal n word.ReadOnly None)) (Ok (Edit id base patch))
-        → ◌≡◌ {A = Result Request Refusal} (Ok (Edit n b p)) (Ok (Edit id base patch))
-    go true h = h
-    go false h = absurd (cc h)
-edit_sent access (Ok (Watch n v)) id base patch h = absurd (cc h)
-edit_sent access (Ok (Resume n e rev v)) id base patch h = absurd (cc h)
-edit_sent access (Ok (Unwatch n)) id base patch h = absurd (cc h)
-edit_sent access (Err r) id base patch h = absurd (cc h)
+permitted_sent : (access : Access) (r : Result Request Refusal) (request : Request)
+    → permitted access r ≡ Ok request → r ≡ Ok request
+permitted_sent access (Ok (Edit id base patch)) request h =
+    if_may (may_edit access) (Edit id base patch) request (refusal id word.ReadOnly None) h
+permitted_sent access (Ok (Will id patch)) request h =
+    if_may (may_edit access) (Will id patch) request (refusal id word.ReadOnly None) h
+permitted_sent access (Ok (Watch id v)) request h = h
+permitted_sent access (Ok (Resume id e rev v)) request h = h
+permitted_sent access (Ok (Unwatch id)) request h = h
+permitted_sent access (Err r) request h = h
 
--- whether a request is no edit
+pub admitted_sent : (budget : Budget) (access : Access) (r : Result Request Refusal) (request : Request)
+    → admitted budget access r ≡ Ok request → (permitted access r ≡ Ok request) × (r ≡ Ok request)
+admitted_sent budget access r request h =
+    let may = afforded budget (permitted access r) request h in
+    (may, permitted_sent access r request may)
+
+-- whether a request needs no permission
 abbrev pub IsOther : Request → Type 0
 IsOther (Edit id base patch) = ⊥
+IsOther (Will id patch) = ⊥
 IsOther request = Unit {0}
 
--- a request that is no edit was sent as it is
-pub other_sent : (budget : Budget) (access : Access) (r : Result Request Refusal) (request : Request) → IsOther request → admitted budget access r ≡ Ok request
-    → (r ≡ Ok request) × (affordable budget r ≡ Ok request)
-other_sent budget access (Ok (Edit id base patch)) request other h = go (may_edit access) h
-  where
-    no_edit : (request : Request) → IsOther request → ◌≡◌ {A = Result Request Refusal} (Ok (Edit id base patch)) (Ok request) → ⊥
-    no_edit (Edit n b p) other same = other
-    no_edit (Watch n v) other same = absurd (cc same)
-    no_edit (Resume n e rev v) other same = absurd (cc same)
-    no_edit (Unwatch n) other same = absurd (cc same)
+other_permitted : (access : Access) (request : Request) → IsOther request → permitted access (Ok request) ≡ Ok request
+other_permitted access (Edit id base patch) other = absurd other
+other_permitted access (Will id patch) other = absurd other
+other_permitted access (Watch id v) other = refl
+other_permitted access (Resume id e rev v) other = refl
+other_permitted access (Unwatch id) other = refl
 
-    go : (b : Bool) → affordable budget (if b then Ok (Edit id base patch) else Err (refusal id word.ReadOnly None)) ≡ Ok request
-        → (◌≡◌ {A = Result Request Refusal} (Ok (Edit id base patch)) (Ok request)) × (affordable budget (Ok (Edit id base patch)) ≡ Ok request)
-    go true h = absurd (no_edit request other h)
-    go false h = absurd (cc h)
-other_sent budget access (Ok (Watch id v)) request other h = (go (unpaid_slot 0 budget v) h, h)
-  where
-    go : (o : Option ℕ) → unless_unpaid o id (Watch id v) ≡ Ok request → ◌≡◌ {A = Result Request Refusal} (Ok (Watch id v)) (Ok request)
-    go None h = h
-    go (Some at) h = absurd (cc h)
-other_sent budget access (Ok (Resume id e rev v)) request other h = (go (unpaid_slot 0 budget v) h, h)
-  where
-    go : (o : Option ℕ) → unless_unpaid o id (Resume id e rev v) ≡ Ok request → ◌≡◌ {A = Result Request Refusal} (Ok (Resume id e rev v)) (Ok request)
-    go None h = h
-    go (Some at) h = absurd (cc h)
-other_sent budget access (Ok (Unwatch id)) request other h = (h, h)
-other_sent budget access (Err r) request other h = (h, h)
+-- one that needs none was sent as it is, and its view is affordable
+pub other_sent : (budget : Budget) (access : Access) (r : Result Request Refusal) (request : Request) → IsOther request
+    → admitted budget access r ≡ Ok request → (r ≡ Ok request) × (affordable budget r ≡ Ok request)
+other_sent budget access r request other h =
+    let sent = (admitted_sent budget access r request h).1 in
+    let may : permitted access r ≡ r = rw sent (other_permitted access request other) in
+    (sent, ap (affordable budget) (sym may) ∙ h)
 
--- A request that is refused adds no document and begins no watching, and its reply has counts.
+-- A request that is refused adds no document, leaves no will and begins no watching, and its reply has
+-- counts.
 
 pub refused_adds : (budget : Budget) (access : Access) (ds : List Document) (r : Result Request Refusal) (why : Refusal) → admitted budget access r ≡ Err why
     → requested ds (permitted access r) ≡ None
@@ -99,14 +99,38 @@ refused_adds budget access ds (Ok (Edit id base patch)) why h = go (may_edit acc
         → requested ds (if b then Ok (Edit id base patch) else Err (refusal id word.ReadOnly None)) ≡ None
     go true h = absurd (cc h)
     go false h = refl
+refused_adds budget access ds (Ok (Will id patch)) why h = will_adds (may_edit access)
+  where
+    will_adds : (b : Bool) → requested ds (if b then Ok (Will id patch) else Err (refusal id word.ReadOnly None)) ≡ None
+    will_adds true = refl
+    will_adds false = refl
 refused_adds budget access ds (Ok (Watch id v)) why h = refl
 refused_adds budget access ds (Ok (Resume id e rev v)) why h = refl
 refused_adds budget access ds (Ok (Unwatch id)) why h = refl
 refused_adds budget access ds (Err r) why h = refl
 
+pub refused_wills : (budget : Budget) (access : Access) (was : List Op) (r : Result Request Refusal) (why : Refusal)
+    → admitted budget access r ≡ Err why → will_after was (permitted access r) ≡ was
+refused_wills budget access was (Ok (Will id patch)) why h = go (may_edit access) h
+  where
+    go : (b : Bool) → affordable budget (if b then Ok (Will id patch) else Err (refusal id word.ReadOnly None)) ≡ Err why
+        → will_after was (if b then Ok (Will id patch) else Err (refusal id word.ReadOnly None)) ≡ was
+    go true h = absurd (cc h)
+    go false h = refl
+refused_wills budget access was (Ok (Edit id base patch)) why h = edit_wills (may_edit access)
+  where
+    edit_wills : (b : Bool) → will_after was (if b then Ok (Edit id base patch) else Err (refusal id word.ReadOnly None)) ≡ was
+    edit_wills true = refl
+    edit_wills false = refl
+refused_wills budget access was (Ok (Watch id v)) why h = refl
+refused_wills budget access was (Ok (Resume id e rev v)) why h = refl
+refused_wills budget access was (Ok (Unwatch id)) why h = refl
+refused_wills budget access was (Err r) why h = refl
+
 pub refused_asks : (budget : Budget) (access : Access) (epoch : ℕ) (ds : List Document) (was : Option Watching) (r : Result Request Refusal) (why : Refusal)
     → admitted budget access r ≡ Err why → asked epoch ds was (affordable budget r) ≡ was
 refused_asks budget access epoch ds was (Ok (Edit id base patch)) why h = refl
+refused_asks budget access epoch ds was (Ok (Will id patch)) why h = refl
 refused_asks budget access epoch ds was (Ok (Watch id v)) why h = rw h refl
 refused_asks budget access epoch ds was (Ok (Resume id e rev v)) why h = rw h refl
 refused_asks budget access epoch ds was (Ok (Unwatch id)) why h = absurd (cc h)
@@ -160,13 +184,16 @@ refused_counts budget access text why h = go (request_of_text text) refl h
         let same : refusal id word.TooHeavy (Some at) ≡ why = cc in
         subst IsRefusal same (count, omega (arith, below, few), tt)
 
-    edit : (b : Bool) (id : ℕ) (base : Option ℕ) (patch : List Op) → IsCount id
-        → affordable budget (if b then Ok (Edit id base patch) else Err (refusal id word.ReadOnly None)) ≡ Err why → IsRefusal why
-    edit true id base patch count h = absurd (cc h)
-    edit false id base patch count h = let same : refusal id word.ReadOnly None ≡ why = cc in subst IsRefusal same (count, tt, tt)
+    may : (b : Bool) (id : ℕ) (request : Request) → IsCount id → affordable budget (Ok request) ≡ Ok request
+        → affordable budget (if b then Ok request else Err (refusal id word.ReadOnly None)) ≡ Err why → IsRefusal why
+    may true id request count free h = absurd (cc (free, h))
+    may false id request count free h = let same : refusal id word.ReadOnly None ≡ why = cc in subst IsRefusal same (count, tt, tt)
 
     go : (r : Result Request Refusal) → request_of_text text ≡ r → admitted budget access r ≡ Err why → IsRefusal why
-    go (Ok (Edit id base patch)) read h = edit (may_edit access) id base patch (request_counts text (Edit id base patch) read).0 h
+    go (Ok (Edit id base patch)) read h =
+        may (may_edit access) id (Edit id base patch) (request_counts text (Edit id base patch) read).0 refl h
+    go (Ok (Will id patch)) read h =
+        may (may_edit access) id (Will id patch) (request_counts text (Will id patch) read).0 refl h
     go (Ok (Watch id v)) read h =
         let is = request_counts text (Watch id v) read in
         slot (unpaid_slot 0 budget v) id v (Watch id v) is.0 is.1 refl h

@@ -1,7 +1,8 @@
 -- Openings and closings.
-use Rattle.std.proofs.Common.{◌≡◌, ◌≢◌, ℕ, zero, suc, ◌+◌, ◌-◌, ◌<◌, ◌≤◌, ◌==◌, ◌⊎◌, min, Bool, true, false, List, [], ◌∷◌, ◌++◌, length, length-append, replicate, not, option_and_then, Option, Some, None, refl, sym, ◌∙◌, ap, subst, arith, inl, inr, slice_get, slice_set, nat_lt, nat_le, ◌||◌, if◌then◌else◌}
+use Rattle.std.proofs.Common.{◌≡◌, ◌≢◌, ℕ, zero, suc, ◌+◌, ◌-◌, ◌<◌, ◌≤◌, ◌==◌, ◌⊎◌, min, Bool, true, false, List, [], ◌∷◌, ◌++◌, length, length-append, replicate, map, not, option_and_then, Option, Some, None, refl, sym, ◌∙◌, ap, subst, arith, inl, inr, slice_get, slice_set, nat_lt, nat_le, ◌||◌, if◌then◌else◌}
 use Rattle.std.proofs.lemmas.Bool.Decides.{eqb_tells, nat_tests}
-use Rattle.std.proofs.lemmas.List.{length-replicate}
+use Rattle.std.proofs.lemmas.List.{length-replicate, length-set, map-append}
+use Rattle.std.proofs.lemmas.Option.{slice_get_within}
 use Rattle.relay_history.specs.History.{changes_since}
 use Rattle.relay_history.proofs.Growing.{changes_since-newest}
 use Rattle.relay_history.specs.declared.history.TheConstants.{MAX_REVISIONS}
@@ -15,21 +16,22 @@ use Rattle.relay_room.specs.Room.{begun, revision}
 use Rattle.relay_room.proofs.Rooms.{begun_is_room}
 use Rattle.relay_tree.specs.Document.{Document, null}
 use Rattle.relay_tree.specs.declared.count.TheConstants.{MAX_COUNT}
-use Rattle.relay_hub.specs.Log.{Log, Entry, entry, Place, place, home, is_opened, documents, reaching, beginning, watching}
+use Rattle.relay_hub.specs.Log.{Log, Entry, entry, Place, place, home, left_in, left, is_opened, documents, reaching, beginning, watching}
 use Rattle.relay_hub.specs.Session.{newcomer}
-use Rattle.relay_hub.specs.Stands.{RoomStands, OutboxStands, RoomSessionsStand, HomeStands, MayBegin, StandsFor}
-use Rattle.relay_hub.specs.State.{RoomSessions, room_sessions, State, RoomOf, place_of, place_named, vacant_place, above, floor_over, floor_at, is_crowded, session_in}
-use Rattle.relay_hub.specs.Step.{open_fault, Founds, floor_after, Enters, Opens, Closes}
+use Rattle.relay_hub.specs.Stands.{RoomStands, OutboxStands, RoomSessionsStand, HomeStands, MayBegin, named_will, StandsFor}
+use Rattle.relay_hub.specs.State.{RoomSessions, room_sessions, State, RoomOf, place_of, place_named, vacant_in, Home, HaveRooms, above, floor_over, floor_at, is_crowded, session_in}
+use Rattle.relay_hub.specs.Step.{open_fault, Founds, floor_after, Enters, Opens, left_of, Closes}
 use Rattle.relay_hub.specs.declared.config.HubConfig.{HubConfig}
 use Rattle.relay_hub.specs.declared.event.Answer.TheVariants.{Opened, Closed}
 use Rattle.relay_hub.specs.declared.event.Event.TheVariants.{Open, Close}
 use Rattle.relay_hub.specs.declared.event.Opening.{Opening}
 use Rattle.relay_hub.specs.declared.fault.OpenFault.TheVariants.{RoomName, RoomsFull, SessionsFull, Exhausted}
-use Rattle.relay_hub.proofs.Frames.{set_rooms, set_names, set_known, set_others, set_home, session_stands, session_stays, room_sessions_stay}
+use Rattle.relay_hub.proofs.Frames.{set_rooms, set_names, set_known, set_others, set_home, session_stands, session_stays, room_sessions_stay, here}
 use Rattle.relay_hub.proofs.Cases.{by_finding}
 use Rattle.relay_hub.proofs.Lists.{append_cases, slice_set_cases, slice_get-set, slice_get-set_other, slice_get-earlier, slice_get-last}
-use Rattle.relay_hub.proofs.Rooms.{by_name, named_earlier, named_last, named_apart, named_other, named_written, name_found, first_document, may_begin_again, joined, joined_beginning, begun_here, begun_elsewhere, beginning_within, begun_beginning_here, begun_beginning_elsewhere, Vacant, vacant}
+use Rattle.relay_hub.proofs.Rooms.{by_name, named_earlier, named_last, named_apart, named_other, named_written, name_found, first_document, may_begin_again, joined, joined_beginning, begun_here, begun_elsewhere, beginning_within, begun_beginning_here, begun_beginning_elsewhere, Vacant, vacant, none_left}
 use Rattle.relay_hub.proofs.Floors.{floor_count, floor_rises}
+use Rattle.relay_hub.proofs.Wills.{have_more, have_set, have_left, named_set as same_wills, named_earlier as same_wills_earlier, named_left}
 
 -- Openings.
 
@@ -37,7 +39,7 @@ use Rattle.relay_hub.proofs.Floors.{floor_count, floor_rises}
 number_left : (hub : State) (name : List ℕ) → open_fault hub name ≡ None → IsCount hub.next
 number_left hub name h =
     let test : nat_lt MAX_COUNT hub.next ≡ false =
-    last (not (is_room_name name)) (is_crowded (place_named name hub.rooms) hub) (nat_le hub.made.sessions (length hub.homes)) (nat_lt MAX_COUNT hub.next) h in
+    last (not (is_room_name name)) (is_crowded (place_named name hub.rooms) hub) (nat_le hub.made.sessions (length hub.homes + length hub.wills)) (nat_lt MAX_COUNT hub.next) h in
     grind (arith, nat_tests, test)
   where
     last : (x y z w : Bool) → (if x then Some RoomName else if y then Some RoomsFull else if z then Some SessionsFull else if w then Some Exhausted else None) ≡ None → w ≡ false
@@ -91,7 +93,7 @@ begun_led history floor rev ds d last below over at =
     let is : d ≡ null = cc in
     rw (same, changes_since-newest (begun null floor history).history) is
 
-begun_stands : (b : HubConfig) (floor from : ℕ) (ds : List Document) → IsCount floor → from ≤ floor → (b.history_weight ≡ Unbounded → min b.history (floor - from) ≡ 0) → MayBegin floor ds
+pub begun_stands : (b : HubConfig) (floor from : ℕ) (ds : List Document) → IsCount floor → from ≤ floor → (b.history_weight ≡ Unbounded → min b.history (floor - from) ≡ 0) → MayBegin floor ds
     → 1 ≤ b.history → b.history ≤ MAX_REVISIONS → RoomStands b from (reaching floor ds) (begun null floor b.history)
 begun_stands b floor from ds count began none may least most =
     let r = may_reach floor ds may in
@@ -161,15 +163,17 @@ module _ (b : HubConfig) (E : Log) (old new : State) (name : List ℕ) (access :
             (set_others b E e old r h stands (λ other apart. docs other) (λ other apart. begins other) other (ap (place_named other) (sym enters.5) ∙ none));
         sessions = λ t. elim (eqb_tells n t) [
           | inl is ↦ rw (step.home t, is.0, enters.0, enters.5, slice_get-set old.rooms i (known, g) (known, h) at, enters.7.1.found t, is.0)
-              (ap (λ k. Some (place k access)) (sym same), welcome, (refl, refl, refl))
+              (ap (λ k. Some (place k access [])) (sym same), welcome, (refl, refl, refl))
           | inr apart ↦
               let o = others_home t apart.1 in
               rw (o.2, enters.5)
-              (set_home b E e old r h stands (λ other differs. docs other) (λ other differs. begins other) t (home (e ∷ E) t) (watching b (e ∷ E) t) o.0 (λ away. o.1)
+              (set_home b E e old r h stands (λ other differs. docs other) (λ other differs. begins other) t (home (e ∷ E) t) (watching b (e ∷ E) t) (λ away. o.0) (λ away. o.1)
               (λ t_at. rw (o.0, o.1, enters.7.0, enters.7.1.found t, apart.0)
               (session_stays b.max_waiting_patches (documents E) (documents (e ∷ E)) known g.room (session_in g.sessions t) (home E t) (watching b E t) (docs known)
               (session_stands b E old t r stands t_at))))
         ];
+        wills = rw (enters.5, step.wills) (same_wills old.rooms i known g h old.wills at stands.willing ∙ stands.wills);
+        willing = rw (enters.5, step.wills) (have_set old.rooms i (known, h) old.wills stands.willing);
       }
 
   -- the room that the opening makes
@@ -268,6 +272,8 @@ module _ (b : HubConfig) (E : Log) (old new : State) (name : List ℕ) (access :
             (refl, first_outbox, (refl, refl, refl))
         | inr apart ↦ let o = others_home t apart.1 in rw (o.0, o.1, o.2, enters.1) (later t (place_of old t) (stands.sessions t))
       ];
+      wills = rw (enters.1, step.wills) (same_wills_earlier old.rooms (name, founded) old.wills stands.willing ∙ stands.wills);
+      willing = rw (enters.1, step.wills) (have_more old.rooms (old.rooms ++ (name, founded) ∷ []) old.wills (omega (arith, length-append old.rooms ((name, founded) ∷ []))) stands.willing);
     }
       where
         cases : (p : ℕ) (known : List ℕ) (g : RoomSessions) → slice_get new.rooms p ≡ Some (known, g)
@@ -286,8 +292,8 @@ module _ (b : HubConfig) (E : Log) (old new : State) (name : List ℕ) (access :
         later t None h = h
 
     -- it takes the place of one that makes place, whose name may begin again above it
-    replaced_stands : (i : ℕ) (v : Vacant old.rooms i) → above v.room_sessions ≤ new.floor → Founds (Some i) (name, founded) old.rooms step.place new.rooms → StandsFor b (e ∷ E) new
-    replaced_stands i v over enters = record {
+    replaced_stands : (i : ℕ) (v : Vacant old.rooms i) → old.wills ≡ [] → above v.room_sessions ≤ new.floor → Founds (Some i) (name, founded) old.rooms step.place new.rooms → StandsFor b (e ∷ E) new
+    replaced_stands i v none over enters = record {
       made = step.made ∙ stands.made;
       floor = floor;
       is = stands.is;
@@ -314,6 +320,8 @@ module _ (b : HubConfig) (E : Log) (old new : State) (name : List ℕ) (access :
             (refl, first_outbox, (refl, refl, refl))
         | inr apart ↦ let o = others_home t apart.1 in rw (o.0, o.1, o.2, enters.1) (elsewhere t (place_of old t) (stands.sessions t))
       ];
+      wills = rw (step.wills, none) (rw none at stands.wills);
+      willing = rw (step.wills, none) tt;
     }
       where
         taken : place_named v.name old.rooms ≡ Some i
@@ -337,28 +345,34 @@ module _ (b : HubConfig) (E : Log) (old new : State) (name : List ℕ) (access :
             ]
         elsewhere t None h = h
 
-    new_stands : (at : Option ℕ) → vacant_place old.made.rooms old.rooms ≡ at → Founds at (name, founded) old.rooms step.place new.rooms → StandsFor b (e ∷ E) new
+    new_stands : (at : Option ℕ) → vacant_in old ≡ at → Founds at (name, founded) old.rooms step.place new.rooms → StandsFor b (e ∷ E) new
     new_stands (Some i) is enters =
-        let v = vacant old.made.rooms old.rooms i is in
+        let v = vacant old.made.rooms old.wills old.rooms i is in
         let floor : new.floor ≡ floor_over old.floor (slice_get old.rooms i) = step.floor ∙ (ap (λ at. floor_after at old) absent ∙ ap (λ at. floor_at at old) is) in
         let higher : new.floor ≡ floor_over old.floor (Some (v.name, v.room_sessions)) = floor ∙ ap (floor_over old.floor) v.there in
-        replaced_stands i v (omega (arith, higher)) enters
+        replaced_stands i v (none_left old.made.rooms old.wills old.rooms i is) (omega (arith, higher)) enters
     new_stands None is enters = found_stands enters
 
   enter_stands : (at : Option ℕ) → place_named name old.rooms ≡ at → Enters o name access at old step.place new → IsCount new.floor → StandsFor b (e ∷ E) new
   enter_stands (Some i) named enters floor = join_stands i named enters
-  enter_stands None named enters floor = new_stands named enters.0 floor (vacant_place old.made.rooms old.rooms) refl enters.1
+  enter_stands None named enters floor = new_stands named enters.0 floor (vacant_in old) refl enters.1
 
   pub open_stands : StandsFor b (e ∷ E) new
   open_stands = enter_stands (place_named name old.rooms) refl step.enters (rw step.floor (floor_count old (place_named name old.rooms) stands.floor))
 
 -- Closings.
 
-pub close_stands : (b : HubConfig) (E : Log) (old new : State) (s : ℕ) (r : RoomOf old) → StandsFor b E old → Closes s r.place r.name r.room_sessions old new
-    → StandsFor b (entry (Close s) Closed ∷ E) new
-close_stands b E old new s r stands step =
+pub close_stands : (b : HubConfig) (E : Log) (old new : State) (s : ℕ) (mine : Home old s) → StandsFor b E old
+    → Closes s mine.room.place mine.room.name mine.room.room_sessions mine.session.will old new → StandsFor b (entry (Close s) Closed ∷ E) new
+close_stands b E old new s mine stands step =
     let e = entry (Close s) Closed in
+    let r = mine.room in
+    let will = mine.session.will in
     let h = step.left in
+    let at_home = here b E old s mine stands in
+    let there : slice_get (slice_set old.rooms r.place (r.name, h)) r.place ≡ Some (r.name, h) =
+    slice_get-set old.rooms r.place (r.name, r.room_sessions) (r.name, h) r.there in
+    let within = slice_get_within old.rooms r.place (r.name, r.room_sessions) r.there in
     record {
       made = step.made ∙ stands.made;
       floor = rw step.floor stands.floor;
@@ -372,7 +386,18 @@ close_stands b E old new s r stands step =
       sessions = λ t. elim (eqb_tells s t) [
         | inl is ↦ rw (step.home t, is.0) refl
         | inr apart ↦ rw (step.home t, apart.0, step.rooms)
-            (set_home b E e old r h stands (λ other differs. refl) (λ other differs. refl) t (home E t) (watching b E t) refl (λ away. refl)
+            (set_home b E e old r h stands (λ other differs. refl) (λ other differs. refl) t (home E t) (watching b E t) (λ away. refl) (λ away. refl)
             (λ t_at. rw (step.leaves.0, step.leaves.1.found t, apart.0) (session_stands b E old t r stands t_at)))
       ];
+      wills = rw (
+        step.rooms,
+        step.wills,
+        at_home.0,
+        map-append (named_will (slice_set old.rooms r.place (r.name, h))) old.wills (left_of r.place will),
+        same_wills old.rooms r.place r.name r.room_sessions h old.wills r.there stands.willing,
+        stands.wills,
+        named_left (slice_set old.rooms r.place (r.name, h)) r.place r.name h will there,
+      ) refl;
+      willing = rw (step.rooms, step.wills) (have_left (slice_set old.rooms r.place (r.name, h)) old.wills r.place will
+          (omega (arith, within, length-set old.rooms r.place (r.name, h))) (have_set old.rooms r.place (r.name, h) old.wills stands.willing));
     }

@@ -88,9 +88,9 @@ draw_stands b E old s mine h text stands step =
     let reads = front_reads r.room_sessions.room x.view o.replies o.patches o.due (stands.rooms r.place r.name r.room_sessions r.there).is at_home.1.replies at_home.1.patches step.2 in
     let same : (s == s) ≡ true = grind (arith, nat_tests) in
     session_changes b E (entry (Draw s) (Drawn text)) old r h stands (λ other apart. refl) (λ other apart. refl)
-    (record { opened = refl; count = refl; rooms = λ name. refl; home = λ t. refl; begins = λ name. refl })
+    refl refl (record { opened = refl; count = refl; rooms = λ name. refl })
     (λ other. refl)
     s (drawn x) mine.at at_home.0 step.1
-    (λ t apart. let other : (s == t) ≡ false = grind (arith, nat_tests, apart) in rw other refl)
+    (λ t apart. let other : (s == t) ≡ false = grind (arith, nat_tests, apart) in (refl, rw other refl))
     (outbox_drawn b.max_waiting_patches x at_home.1)
     (rw (same, step.0) (watch_drawn (documents E r.name) r.room_sessions.room x x.view o.replies o.patches o.due o.max_waiting_patches (watching b E s) reads at_home.2))

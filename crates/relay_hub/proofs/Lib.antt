@@ -36,3 +36,6 @@ pub mod Promises
 pub mod Shedding
 pub mod Configs
 pub mod Founding
+pub mod Bequests
+pub mod Forgetting
+pub mod Wills

@@ -1,38 +1,46 @@
 -- Each step keeps `IsHub`: session numbers are below the next one, and a session is in its own room alone, and once.
-use Rattle.std.proofs.Common.{◌≡◌, ◌≢◌, ℕ, ◌≤◌, ◌==◌, ◌⊎◌, inl, inr, Bool, true, false, List, [], ◌∷◌, length, Option, Some, None, Result, Ok, Err, refl, sym, ◌∙◌, ap, subst, arith, slice_get, slice_set, nat_le, IsSome, if◌then◌else◌}
+use Rattle.std.proofs.Common.{◌≡◌, ◌≢◌, ℕ, ◌+◌, ◌<◌, ◌≤◌, ◌==◌, ◌⊎◌, inl, inr, Bool, true, false, List, [], ◌∷◌, ◌++◌, length, Option, Some, None, Result, Ok, Err, refl, sym, ◌∙◌, ap, subst, arith, length-append, slice_get, slice_set, not, nat_le, nat_lt, IsSome, if◌then◌else◌}
 use Rattle.std.proofs.lemmas.Bool.Decides.{eqb_tells, nat_tests}
+use Rattle.std.proofs.lemmas.List.{length-set}
+use Rattle.std.proofs.lemmas.Option.{slice_get_within}
 use Rattle.relay_patch.specs.Change.{all_changes}
 use Rattle.relay_patch.specs.declared.op.Op.{Op}
 use Rattle.relay_view.specs.View.{View}
 use Rattle.relay_proto.specs.Request.{request_of_text}
+use Rattle.relay_proto.specs.RoomName.{is_room_name}
 use Rattle.relay_proto.specs.declared.access.Access.{Access}
 use Rattle.relay_proto.specs.declared.refusal.Refusal.{Refusal}
 use Rattle.relay_proto.specs.declared.reply.Reply.TheVariants.{Done}
 use Rattle.relay_proto.specs.declared.request.Request.{Request}
-use Rattle.relay_proto.specs.declared.request.Request.TheVariants.{Edit, Watch, Resume, Unwatch}
+use Rattle.relay_proto.specs.declared.request.Request.TheVariants.{Edit, Will, Watch, Resume, Unwatch}
 use Rattle.relay_room.specs.CatchUp.{caught_up_within}
 use Rattle.relay_room.specs.Edit.{edited}
 use Rattle.relay_room.specs.Room.{begun, revision}
 use Rattle.relay_room.specs.declared.catch_up.CatchUp.TheVariants.{Snapshot}
 use Rattle.relay_room.specs.declared.fault.EditFault.{EditFault}
 use Rattle.relay_tree.specs.Document.{Document, null}
+use Rattle.relay_tree.specs.declared.count.TheConstants.{MAX_COUNT}
 use Rattle.relay_hub.specs.Admitted.{admitted}
 use Rattle.relay_hub.specs.Refusal.{refused, future_refusal}
-use Rattle.relay_hub.specs.Session.{Session, replied, newcomer, watches, unwatches, resumes, drawn}
-use Rattle.relay_hub.specs.State.{RoomSessions, room_sessions, State, EachOnce, Home, RoomOf, IsHub, place_of, place_named, vacant_place, session_in}
-use Rattle.relay_hub.specs.Step.{OnlyAt, EditServed, ResumeServed, Serves, Receives, Draws, with_room, InRoom, AtPlace, Founds, Enters, Opens, Closes, ClosesIn, ClosesInRoom, ClosesAt, Step}
+use Rattle.relay_hub.specs.Session.{Session, replied, newcomer, leaves_will, watches, unwatches, resumes, drawn}
+use Rattle.relay_hub.specs.State.{RoomSessions, room_sessions, State, EachOnce, Home, RoomOf, IsHub, HaveRooms, place_of, place_named, vacant_in, is_crowded, session_in}
+use Rattle.relay_hub.specs.Step.{OnlyAt, EditServed, WillServed, ResumeServed, Serves, Receives, Draws, with_room, with_wills, InRoom, AtPlace, open_fault, Founds, Enters, Opens, left_of, Closes, ClosesIn, ClosesInRoom, ClosesAt, DoesWill, forget_fault, Forgets, Step}
 use Rattle.relay_hub.specs.declared.config.HubConfig.{HubConfig}
 use Rattle.relay_hub.specs.declared.event.Answer.{Answer}
-use Rattle.relay_hub.specs.declared.event.Answer.TheVariants.{Opened, NotOpened, Heard, Drawn, Closed, NoSession}
+use Rattle.relay_hub.specs.declared.event.Answer.TheVariants.{Opened, NotOpened, Heard, Drawn, Closed, WillDone, NoWill, Forgotten, NotForgotten, NoSession}
 use Rattle.relay_hub.specs.declared.event.Event.{Event}
-use Rattle.relay_hub.specs.declared.event.Event.TheVariants.{Open, Receive, Draw, Close}
+use Rattle.relay_hub.specs.declared.event.Event.TheVariants.{Open, Receive, Draw, Close, DoWill, Forget}
 use Rattle.relay_hub.specs.declared.event.Opening.{Opening}
+use Rattle.relay_hub.specs.declared.fault.OpenFault.TheVariants.{RoomName, RoomsFull, SessionsFull, Exhausted}
+use Rattle.relay_hub.specs.declared.will.Will.{Will as WillLeft}
 use Rattle.relay_hub.specs.declared.event.Heard.TheVariants.{Answered, Busy}
 use Rattle.relay_hub.proofs.Cases.{by_number, by_finding}
 use Rattle.relay_hub.proofs.Lists.{slice_set_cases, append_cases, slice_get-set, slice_get-set_other, slice_get-earlier, slice_get-last}
 use Rattle.relay_hub.proofs.Floors.{floor_count}
+use Rattle.relay_hub.proofs.Forgetting.{idle, absent, fault_is}
 use Rattle.relay_hub.proofs.Rooms.{Vacant, vacant}
 use Rattle.relay_hub.proofs.Notified.{each_notified, none_notified, some_notified, once_notified}
+use Rattle.relay_hub.proofs.Wills.{have_more, have_set, have_left, few_left}
 
 -- each session is in no room but its own
 abbrev StandAlone : State → Type 0
@@ -125,6 +133,8 @@ in_room_is_hub old new place answer Does (Some there) h keeps at step =
           (λ same. some_one (session_in step.0.sessions t) (kept.some t home.session (same_home old t place there.0 there.1 home at same)));
       members = set_alone old next place there.0 step.0 h refl (λ t p e other. e) (stays_home old place there.0 there.1 step.0 h at kept);
       once = set_once old next place there.0 step.0 h refl (kept.once (h.once place there.0 there.1 at));
+      few = h.few;
+      wills = have_set old.rooms place (there.0, step.0) old.wills h.wills;
     })
 
 at_home_is_hub : (old new : State) (answer : Answer) (Does : RoomSessions → RoomSessions → Type 0) (place : Option ℕ) → IsHub old
@@ -169,6 +179,7 @@ serve_keeps : (made : HubConfig) (s short : ℕ) (x : Session) (request : Result
     → Serves made s x request short old new → Keeps old new
 serve_keeps made s short x (Err r) old new e h = keeps_only s x (replied (refused r) x) old new e h.1.1
 serve_keeps made s short x (Ok (Watch id pointers)) old new e h = keeps_only s x (watches id pointers x) old new e h.1.1
+serve_keeps made s short x (Ok (Will id patch)) old new e h = keeps_only s x (leaves_will id patch x) old new e h.1.1
 serve_keeps made s short x (Ok (Unwatch id)) old new e h = keeps_only s x (unwatches id x) old new e h.1.1
 serve_keeps made s short x (Ok (Resume id n rev pointers)) old new e h = resume_keeps (n == made.epoch) (nat_le rev (revision old.room)) id rev s pointers x old new e h.1
 serve_keeps made s short x (Ok (Edit id base patch)) old new e h = edit_keeps made s short id x patch (edited old.room base patch) old new e h
@@ -247,7 +258,7 @@ founds_alone old new name access floor n place None h number home step p known g
 enters_alone : (old new : State) (name : List ℕ) (access : Access) (o : Opening) (place : ℕ) (at : Option ℕ) → IsHub old → o.session ≡ old.next
     → ((t : ℕ) → place_of new t ≡ (if o.session == t then Some place else place_of old t)) → Enters o name access at old place new → StandAlone new
 enters_alone old new name access o place (Some i) h number home step = joins_alone old new name access o place i h number home step
-enters_alone old new name access o place None h number home step = founds_alone old new name access new.floor o.session place (vacant_place old.made.rooms old.rooms) h number home step.1
+enters_alone old new name access o place None h number home step = founds_alone old new name access new.floor o.session place (vacant_in old) h number home step.1
 
 founds_once : (old new : State) (name : List ℕ) (access : Access) (floor n place : ℕ) (o : Option ℕ) → IsHub old → Founds o (founded old name access floor n) old.rooms place new.rooms → StandOnce new
 founds_once old new name access floor n place (Some i) h step = set_once old new i name (founded old name access floor n).1 h step.1 (refl, tt)
@@ -259,7 +270,7 @@ founds_once old new name access floor n place None h step = λ p known g at.
 
 enters_once : (old new : State) (name : List ℕ) (access : Access) (o : Opening) (place : ℕ) (at : Option ℕ) → IsHub old → Enters o name access at old place new → StandOnce new
 enters_once old new name access o place (Some i) h step = set_once old new i step.1 step.3 h step.5 (step.7.1.once (h.once i step.1 step.2 step.4))
-enters_once old new name access o place None h step = founds_once old new name access new.floor o.session place (vacant_place old.made.rooms old.rooms) h step.1
+enters_once old new name access o place None h step = founds_once old new name access new.floor o.session place (vacant_in old) h step.1
 
 -- a session that has a room after an opening is the new one, or had it before
 home_cases : (old new : State) (n place t p : ℕ) → ((t : ℕ) → place_of new t ≡ (if n == t then Some place else place_of old t)) → place_of new t ≡ Some p
@@ -294,12 +305,12 @@ unchanged_home old new t was at there =
       is = was.is;
     }
 
-founds_homes : (old new : State) (name : List ℕ) (access : Access) (floor n place : ℕ) (o : Option ℕ) → vacant_place old.made.rooms old.rooms ≡ o → IsHub old → n ≡ old.next
+founds_homes : (old new : State) (name : List ℕ) (access : Access) (floor n place : ℕ) (o : Option ℕ) → vacant_in old ≡ o → IsHub old → n ≡ old.next
     → ((t : ℕ) → place_of new t ≡ (if n == t then Some place else place_of old t)) → Founds o (founded old name access floor n) old.rooms place new.rooms
     → (t p : ℕ) → place_of new t ≡ Some p → Home new t
 founds_homes old new name access floor n place (Some i) is_vacant h number home step t p at =
     let room = founded old name access floor n in
-    let v = vacant old.made.rooms old.rooms i is_vacant in
+    let v = vacant old.made.rooms old.wills old.rooms i is_vacant in
     elim (home_cases old new n place t p home at) [
       | inl mine ↦
           let here : p ≡ i = mine.1 ∙ step.0 in
@@ -348,16 +359,42 @@ enters_homes old new name access o place (Some i) h number home step t p at =
           let test : (o.session == t) ≡ false = grind (arith, nat_tests, other.0) in
           (was.session, rw (step.7.1.found t, test) (same_home old t i step.1 g was step.4 same)))
     ]
-enters_homes old new name access o place None h number home step t p at = founds_homes old new name access new.floor o.session place (vacant_place old.made.rooms old.rooms) refl h number home step.1 t p at
+enters_homes old new name access o place None h number home step t p at = founds_homes old new name access new.floor o.session place (vacant_in old) refl h number home step.1 t p at
 
-open_is_hub : (old new : State) (name : List ℕ) (access : Access) (o : Opening) → IsHub old → Opens old name access o new → IsHub new
-open_is_hub old new name access o h step = record {
+-- a place for another session is left
+place_left : (hub : State) (name : List ℕ) → open_fault hub name ≡ None → length hub.homes + length hub.wills < hub.made.sessions
+place_left hub name h =
+    let test : nat_le hub.made.sessions (length hub.homes + length hub.wills) ≡ false =
+    third (not (is_room_name name)) (is_crowded (place_named name hub.rooms) hub) (nat_le hub.made.sessions (length hub.homes + length hub.wills)) (nat_lt MAX_COUNT hub.next) h in
+    grind (arith, nat_tests, test)
+  where
+    third : (x y z w : Bool) → (if x then Some RoomName else if y then Some RoomsFull else if z then Some SessionsFull else if w then Some Exhausted else None) ≡ None → z ≡ false
+    third true y z w h = absurd (cc h)
+    third false true z w h = absurd (cc h)
+    third false false true w h = absurd (cc h)
+    third false false false w h = refl
+
+enters_wills : (old new : State) (name : List ℕ) (access : Access) (o : Opening) (place : ℕ) (at : Option ℕ) → HaveRooms old.rooms old.wills
+    → Enters o name access at old place new → HaveRooms new.rooms old.wills
+enters_wills old new name access o place (Some i) have step = rw step.5 (have_set old.rooms i (step.1, step.3) old.wills have)
+enters_wills old new name access o place None have step = go (vacant_in old) step.1
+  where
+    go : (v : Option ℕ) → Founds v (founded old name access new.floor o.session) old.rooms place new.rooms → HaveRooms new.rooms old.wills
+    go (Some i) founds = rw founds.1 (have_set old.rooms i (founded old name access new.floor o.session) old.wills have)
+    go None founds =
+        let room = founded old name access new.floor o.session in
+        rw founds.1 (have_more old.rooms (old.rooms ++ room ∷ []) old.wills (omega (arith, length-append old.rooms (room ∷ []))) have)
+
+open_is_hub : (old new : State) (name : List ℕ) (access : Access) (o : Opening) → IsHub old → open_fault old name ≡ None → Opens old name access o new → IsHub new
+open_is_hub old new name access o h may step = record {
   made = rw step.made h.made;
   floor = rw step.floor (floor_count old (place_named name old.rooms) h.floor);
   below = opens_below old new name access o h step;
   homes = enters_homes old new name access o step.place (place_named name old.rooms) h step.number step.home step.enters;
   members = enters_alone old new name access o step.place (place_named name old.rooms) h step.number step.home step.enters;
   once = enters_once old new name access o step.place (place_named name old.rooms) h step.enters;
+  few = let left = place_left old name may in rw (step.made, step.wills) (omega (arith, step.count, left));
+  wills = rw step.wills (enters_wills old new name access o step.place (place_named name old.rooms) h.wills step.enters);
 }
 
 -- a session that is closed
@@ -366,8 +403,8 @@ otherwise : {X : Type 0} (b : Bool) (u v w : X) → b ≡ false → w ≡ (if b 
 otherwise true u v w other is = absurd (cc other)
 otherwise false u v w other is = is
 
-closes_is_hub : (old new : State) (s : ℕ) (r : RoomOf old) → IsHub old → place_of old s ≡ Some r.place → Closes s r.place r.name r.room_sessions old new → IsHub new
-closes_is_hub old new s r h home step = record {
+closes_is_hub : (old new : State) (s : ℕ) (r : RoomOf old) (will : List Op) → IsHub old → place_of old s ≡ Some r.place → Closes s r.place r.name r.room_sessions will old new → IsHub new
+closes_is_hub old new s r will h home step = record {
   made = rw step.made h.made;
   floor = rw step.floor h.floor;
   homes = λ t p t_at.
@@ -389,12 +426,17 @@ closes_is_hub old new s r h home step = record {
       (λ e. let same : Some p ≡ Some r.place = sym e ∙ home in absurd (other cc)) (λ apart e. e) is))
       (λ t x is. rw (step.home t) (by_number (λ t b. (if b then None else session_in r.room_sessions.sessions t) ≡ Some x → (if b then None else place_of old t) ≡ Some r.place) s t
       (λ e. absurd (cc e)) (λ apart e. h.members r.place r.name r.room_sessions r.there t x e) (sym (step.leaves.1.found t) ∙ is)));
+  few = rw (step.made, step.wills) (omega (arith, h.few, step.count, few_left r.place will, length-append old.wills (left_of r.place will)));
+  wills =
+      let within = slice_get_within old.rooms r.place (r.name, r.room_sessions) r.there in
+      rw (step.rooms, step.wills) (have_left (slice_set old.rooms r.place (r.name, step.left)) old.wills r.place will
+      (omega (arith, within, length-set old.rooms r.place (r.name, step.left))) (have_set old.rooms r.place (r.name, step.left) old.wills h.wills));
 }
 
 close_in_is_hub : (old new : State) (s : ℕ) (r : RoomOf old) (o : Option Session) (answer : Answer) → IsHub old → place_of old s ≡ Some r.place
     → ClosesIn s r.place r.name r.room_sessions o old answer new → IsHub new
 close_in_is_hub old new s r None NoSession h home step = rw step h
-close_in_is_hub old new s r (Some x) Closed h home step = closes_is_hub old new s r h home step
+close_in_is_hub old new s r (Some x) Closed h home step = closes_is_hub old new s r x.will h home step
 close_in_is_hub old new s r o answer h home step = absurd step
 
 close_in_room_is_hub : (old new : State) (s place : ℕ) (o : Option (List ℕ × RoomSessions)) (answer : Answer) → IsHub old → place_of old s ≡ Some place
@@ -408,9 +450,81 @@ close_is_hub : (old new : State) (s : ℕ) (o : Option ℕ) (answer : Answer) �
 close_is_hub old new s None answer h home step = rw step.1 h
 close_is_hub old new s (Some place) answer h home step = close_in_room_is_hub old new s place (slice_get old.rooms place) answer h home refl step
 
+-- a will that is done
+
+will_keeps : (made : HubConfig) (patch : List Op) (o : Result Document EditFault) (short : ℕ) (old new : RoomSessions) → WillServed made patch o short old new → Keeps old new
+will_keeps made patch (Err fault) short old new h = keeps_same old new h.1
+will_keeps made patch (Ok d) short old new h =
+    let before = old.room.document in
+    let changes = all_changes before patch in
+    let room = h.0 in
+    let notified = each_notified before changes room made.telling_weight old.sessions new.sessions short h.2 in
+    record {
+      none = λ t none. none_notified before changes room (session_in old.sessions t) (session_in new.sessions t) (notified t) none;
+      some = λ t x is. some_notified before changes room (session_in old.sessions t) (session_in new.sessions t) x (notified t) is;
+      once = λ once. once_notified before changes room made.telling_weight old.sessions new.sessions short h.2 once;
+    }
+
+-- what is done in a room leaves the wills
+in_room_wills : (old done : State) (place : ℕ) (answer : Answer) (Does : RoomSessions → RoomSessions → Type 0) (o : Option (List ℕ × RoomSessions)) → InRoom place o old answer Does done
+    → (done.wills ≡ old.wills) × (done.homes ≡ old.homes) × (done.made ≡ old.made)
+in_room_wills old done place answer Does (Some there) step = rw step.2 (refl, refl, refl)
+in_room_wills old done place answer Does None step = rw step.1 (refl, refl, refl)
+
+does_will_is_hub : (old new : State) (wills : List WillLeft) (answer : Answer) → IsHub old → old.wills ≡ wills → DoesWill wills old answer new → IsHub new
+does_will_is_hub old new [] NoWill h is step = rw step h
+does_will_is_hub old new (w ∷ wills) (WillDone short) h is step =
+    let done = step.0 in
+    let k = in_room_is_hub old done w.place (WillDone short) (λ g k. WillServed old.made w.patch (edited g.room None w.patch) short g k) (slice_get old.rooms w.place) h
+    (λ g k served. will_keeps old.made w.patch (edited g.room None w.patch) short g k served) refl step.2 in
+    let same = in_room_wills old done w.place (WillDone short) (λ g k. WillServed old.made w.patch (edited g.room None w.patch) short g k) (slice_get old.rooms w.place) step.2 in
+    let all : done.wills ≡ w ∷ wills = same.0 ∙ is in
+    let few : length done.homes + length (w ∷ wills) ≤ done.made.sessions = rw all at k.few in
+    let have : HaveRooms done.rooms (w ∷ wills) = rw all at k.wills in
+    rw step.1 (record {
+      made = k.made;
+      floor = k.floor;
+      below = k.below;
+      homes = λ t place at. kept_home done wills t (k.homes t place at);
+      members = k.members;
+      once = k.once;
+      few = omega (arith, few);
+      wills = have.1;
+    })
+  where
+    kept_home : (hub : State) (wills : List WillLeft) (t : ℕ) → Home hub t → Home (with_wills wills hub) t
+    kept_home hub wills t home =
+        let r = home.room in
+        record { room = record { place = r.place; name = r.name; room_sessions = r.room_sessions; there = r.there }; session = home.session; at = home.at; is = home.is }
+does_will_is_hub old new wills answer h is step = absurd step
+
+-- a room that is forgotten
+
+forgets_is_hub : (old new : State) (name : List ℕ) (rev : ℕ) → IsHub old → forget_fault old name ≡ None → Forgets old name rev new → IsHub new
+forgets_is_hub old new name rev h may step =
+    let g = step.room in
+    let anew = room_sessions (begun null rev old.made.history) [] in
+    let next = with_room step.place name anew old in
+    let is = idle g (sym (fault_is old name step.place (name, g) step.named step.there) ∙ may) in
+    subst IsHub (sym step.begins) (record {
+      made = h.made;
+      floor = h.floor;
+      below = h.below;
+      homes = λ t p t_at.
+          let home = h.homes t p t_at in
+          set_homes old next step.place name g anew step.there refl t home home.at (λ same. absurd (nobody g t home.session is.empty (same_home old t step.place name g home step.there same)));
+      members = set_alone old next step.place name anew h refl (λ t p e other. e) (λ t x none. absurd (cc none));
+      once = set_once old next step.place name anew h refl tt;
+      few = h.few;
+      wills = have_set old.rooms step.place (name, anew) old.wills h.wills;
+    })
+  where
+    nobody : (g : RoomSessions) (t : ℕ) (x : Session) → g.sessions ≡ [] → session_in g.sessions t ≡ Some x → ⊥
+    nobody g t x empty there = cc (absent g t empty, there)
+
 -- a step keeps `IsHub`
 pub step_is_hub : (old new : State) (event : Event) (answer : Answer) → IsHub old → Step old event answer new → IsHub new
-step_is_hub old new (Open name access) (Opened o) h step = open_is_hub old new name access o h step.1
+step_is_hub old new (Open name access) (Opened o) h step = open_is_hub old new name access o h step.0 step.1
 step_is_hub old new (Open name access) (NotOpened fault) h step = rw step.1 h
 step_is_hub old new (Receive s text) answer h step =
     at_home_is_hub old new answer (λ g k. Receives old.made s (session_in g.sessions s) text answer g k) (place_of old s) h
@@ -419,4 +533,8 @@ step_is_hub old new (Draw s) answer h step =
     at_home_is_hub old new answer (λ g k. Draws s (session_in g.sessions s) answer g k) (place_of old s) h
     (λ g k does. draw_keeps s (session_in g.sessions s) answer g k refl does) step
 step_is_hub old new (Close s) answer h step = close_is_hub old new s (place_of old s) answer h refl step
+step_is_hub old new DoWill answer h step = does_will_is_hub old new old.wills answer h refl step
+step_is_hub old new (Forget name) (Forgotten rev) h step = forgets_is_hub old new name rev h step.0 step.1
+step_is_hub old new (Forget name) (NotForgotten fault) h step = rw step.1 h
+step_is_hub old new (Forget name) answer h step = absurd step
 step_is_hub old new (Open name access) answer h step = absurd step

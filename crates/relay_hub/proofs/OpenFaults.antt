@@ -1,5 +1,5 @@
 -- Opening a session: the reasons not to, and the room that it enters.
-use Rattle.std.proofs.Common.{◌≡◌, ℕ, ◌+◌, ◌<◌, ◌≤◌, true, false, List, [], ◌∷◌, Some, None, refl, ◌∙◌, ap, length, arith, cond, position, bytes_eq, string_bytes, not, nat_le, nat_lt}
+use Rattle.std.proofs.Common.{◌≡◌, ℕ, ◌+◌, ◌<◌, ◌≤◌, true, false, List, [], ◌∷◌, Option, Some, None, subst, refl, ◌∙◌, ap, length, arith, cond, position, bytes_eq, string_bytes, not, nat_le, nat_lt}
 use Rattle.std.specs.List.{position_or_len}
 use Rattle.std.specs.Map.{keys_of, lookup}
 use Rattle.std.specs.String.{string_eq}
@@ -9,10 +9,15 @@ use Rattle.std.proofs.lemmas.List.{length-map}
 use Rattle.std.proofs.lemmas.Map.Entries.{length-keys_of}
 use Rattle.indexmap.proofs.MapLemmas.{Missing-position}
 use Rattle.relay_proto.specs.RoomName.{is_room_name}
+use Rattle.relay_proto.specs.declared.access.Access.{Access}
+use Rattle.relay_room.specs.Room.{begun}
+use Rattle.relay_tree.specs.Document.{null}
 use Rattle.relay_tree.specs.declared.count.TheConstants.{MAX_COUNT}
 use Rattle.relay_hub.specs.Representation.{named, rooms_of}
-use Rattle.relay_hub.specs.State.{RoomSessions, State, place_named, is_crowded}
-use Rattle.relay_hub.specs.Step.{open_fault}
+use Rattle.relay_hub.specs.Session.{newcomer}
+use Rattle.relay_hub.specs.State.{RoomSessions, room_sessions, State, place_named, is_crowded, vacant_in}
+use Rattle.relay_hub.specs.Step.{open_fault, Founds, EntersRooms, Enters}
+use Rattle.relay_hub.specs.declared.event.Opening.{Opening}
 use Rattle.relay_hub.specs.declared.fault.OpenFault.TheVariants.{RoomsFull, SessionsFull, Exhausted}
 
 -- Names.
@@ -37,18 +42,35 @@ module _ (hub : State) (name : List ℕ) (right : is_room_name name ≡ true) wh
   rooms_full crowded = rw (right, crowded) refl
 
   module _ (free : is_crowded (place_named name hub.rooms) hub ≡ false) where
-    pub sessions_full : hub.made.sessions ≤ length hub.homes → open_fault hub name ≡ Some SessionsFull
-    sessions_full full = let f : nat_le hub.made.sessions (length hub.homes) ≡ true = grind (arith, nat_tests, full) in rw (right, free, f) refl
+    pub sessions_full : hub.made.sessions ≤ length hub.homes + length hub.wills → open_fault hub name ≡ Some SessionsFull
+    sessions_full full = let f : nat_le hub.made.sessions (length hub.homes + length hub.wills) ≡ true = grind (arith, nat_tests, full) in rw (right, free, f) refl
 
-    module _ (few : length hub.homes < hub.made.sessions) where
+    module _ (few : length hub.homes + length hub.wills < hub.made.sessions) where
       pub exhausted : MAX_COUNT < hub.next → open_fault hub name ≡ Some Exhausted
       exhausted past =
-          let f : nat_le hub.made.sessions (length hub.homes) ≡ false = grind (arith, nat_tests, few) in
+          let f : nat_le hub.made.sessions (length hub.homes + length hub.wills) ≡ false = grind (arith, nat_tests, few) in
           let g : nat_lt MAX_COUNT hub.next ≡ true = grind (arith, nat_tests, past) in
           rw (right, free, f, g) refl
 
       pub admitted : hub.next ≤ MAX_COUNT → open_fault hub name ≡ None
       admitted left =
-          let f : nat_le hub.made.sessions (length hub.homes) ≡ false = grind (arith, nat_tests, few) in
+          let f : nat_le hub.made.sessions (length hub.homes + length hub.wills) ≡ false = grind (arith, nat_tests, few) in
           let g : nat_lt MAX_COUNT hub.next ≡ false = grind (arith, nat_tests, left) in
           rw (right, free, f, g) refl
+
+-- The room that a session enters.
+
+-- where the vacant place matters only for a name without a room
+pub enters_at : (old : State) (name : List ℕ) (access : Access) (o : Opening) (at v : Option ℕ) (place : ℕ) (new : State) → (at ≡ None → v ≡ vacant_in old) → at ≡ place_named name old.rooms
+    → EntersRooms o (λ rev. newcomer old.made access rev o.session) v old.made.history new.floor name at old.rooms place new.rooms
+    → Enters o name access (place_named name old.rooms) old place new
+enters_at old name access o at v place new free is enters =
+    subst (λ at. Enters o name access at old place new) is (go at free enters)
+  where
+    go : (at : Option ℕ) → (at ≡ None → v ≡ vacant_in old)
+        → EntersRooms o (λ rev. newcomer old.made access rev o.session) v old.made.history new.floor name at old.rooms place new.rooms
+        → Enters o name access at old place new
+    go (Some i) free h = h
+    go None free h =
+        let room : List ℕ × RoomSessions = (name, room_sessions (begun null new.floor old.made.history) (newcomer old.made access new.floor o.session ∷ [])) in
+        (h.0, subst (λ w. Founds w room old.rooms place new.rooms) (free refl) h.1)

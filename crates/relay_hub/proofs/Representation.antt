@@ -1,25 +1,32 @@
 -- What the maps in the code mean for the hub that contracts see.
-use Rattle.std.proofs.Common.{◌≡◌, ℕ, ◌+◌, true, arith, List, [], ◌∷◌, Option, Some, None, IsSome, refl, sym, ◌∙◌, ap, subst, map, length, zero, suc, slice_get, slice_set, nat_lt, option_map, string_bytes, nat_eq, ◌==◌, if◌then◌else◌}
+use Rattle.std.proofs.Common.{◌≡◌, ◌≢◌, ℕ, ◌+◌, true, arith, drop, remove, Result, Ok, Err, IfOk, IfErr, OnOk, OnErr, List, [], ◌∷◌, ◌++◌, Option, Some, None, IsSome, refl, sym, ◌∙◌, ap, subst, map, length, zero, suc, slice_get, slice_set, nat_lt, option_map, string_bytes, nat_eq, ◌==◌, if◌then◌else◌}
 use Rattle.std.specs.Map.{lookup, values_of}
 use Rattle.std.specs.declared.string.String.{String}
 use Rattle.std.proofs.lemmas.Bool.Decides.{nat_tests}
 use Rattle.std.proofs.lemmas.Option.{slice_get-map}
 use Rattle.indexmap.specs.IndexMap.{set_value_at, with_value_at, values}
 use Rattle.relay_outbox.specs.declared.outbox.TheConstants.{MAX_REPLIES}
-use Rattle.relay_hub.specs.Call.{StepIf, ReceivesIf, DrawsIf, HasSpace}
+use Rattle.relay_room.specs.Edit.{edited}
+use Rattle.relay_room.specs.Room.{begun, revision}
+use Rattle.relay_tree.specs.Document.{null}
+use Rattle.relay_hub.specs.Call.{StepIf, ReceivesIf, DrawsIf, HasSpace, forgetting}
 use Rattle.relay_hub.specs.Representation.{named, hub_of}
 use Rattle.relay_hub.specs.Session.{Session}
-use Rattle.relay_hub.specs.State.{RoomSessions, State, IsHub, place_of, place_named, session_in, session_of}
-use Rattle.relay_hub.specs.Step.{ChangesOnly, with_room, Step}
+use Rattle.relay_hub.specs.State.{RoomSessions, room_sessions, State, IsHub, place_of, place_named, session_in, session_of}
+use Rattle.relay_hub.specs.Step.{ChangesOnly, WillServed, with_room, left_of, DoesWill, anew_fault, forget_fault, Step}
 use Rattle.relay_hub.specs.Queries.{room_and_session, may_hear}
 use Rattle.relay_hub.specs.declared.event.Answer.{Answer}
 use Rattle.relay_hub.specs.declared.event.Answer.TheVariants as answer
 use Rattle.relay_hub.specs.declared.event.Event.{Event}
-use Rattle.relay_hub.specs.declared.event.Event.TheVariants.{Receive, Draw, Close}
+use Rattle.relay_hub.specs.declared.event.Event.TheVariants.{Receive, Draw, Close, DoWill, Forget}
+use Rattle.relay_hub.specs.declared.fault.ForgetFault.{ForgetFault}
+use Rattle.relay_hub.specs.declared.fault.ForgetFault.TheVariants as forget
 use Rattle.relay_hub.specs.declared.hub.Hub.TheInside.{Inside}
+use Rattle.relay_hub.specs.declared.will.Will.{Will}
 use Rattle.relay_hub.proofs.Members.{step_is_hub}
 use Rattle.relay_hub.proofs.Lists.{slice_set_same}
-use Rattle.relay_hub.proofs.Rooms.{some_named}
+use Rattle.relay_hub.proofs.Forgetting.{fault_is}
+use Rattle.relay_hub.proofs.Rooms.{some_named, name_found}
 
 -- the room at a place
 pub room_at : {A : Type 0} (es : List (String A × RoomSessions)) (i : ℕ) (key : String A) (g : RoomSessions) → slice_get es i ≡ Some (key, g)
@@ -112,24 +119,35 @@ module _ (h : Inside) (s i : ℕ) (is : IsHub (hub_of h)) (at : place_of (hub_of
 abbrev pub hub_with : Inside → ℕ → RoomSessions → State
 hub_with h i g = hub_of (record h { rooms = with_value_at h.rooms i g })
 
--- the same, with another list of homes
-abbrev pub hub_closed : Inside → ℕ → RoomSessions → List (ℕ × ℕ) → State
-hub_closed h i g homes = record { made = h.made; next = h.next; floor = h.floor; rooms = map named (set_value_at h.rooms.entries i g); homes = homes }
+-- the same, with other lists of homes and of wills
+abbrev pub hub_leaving : Inside → ℕ → RoomSessions → List (ℕ × ℕ) → List Will → State
+hub_leaving h i g homes wills = record {
+  made = h.made;
+  next = h.next;
+  floor = h.floor;
+  rooms = map named (set_value_at h.rooms.entries i g);
+  homes = homes;
+  wills = wills;
+}
 
 hub_with-is : (h : Inside) (i : ℕ) (old new : RoomSessions) (w : Written h.rooms.entries i old new) → hub_with h i new ≡ with_room i w.name new (hub_of h)
 hub_with-is h i old new w =
-    ap (λ rooms. record { made = h.made; next = h.next; floor = h.floor; rooms = rooms; homes = h.homes.entries }) w.is
+    ap (λ rooms. record { made = h.made; next = h.next; floor = h.floor; rooms = rooms; homes = h.homes.entries; wills = h.wills.items }) w.is
 
 with_room_same : (hub : State) (i : ℕ) (name : List ℕ) (g : RoomSessions) → slice_get hub.rooms i ≡ Some (name, g) → with_room i name g hub ≡ hub
 with_room_same hub i name g h =
-    ap (λ rooms. record { made = hub.made; next = hub.next; floor = hub.floor; rooms = rooms; homes = hub.homes }) (slice_set_same hub.rooms i (name, g) h)
+    ap (λ rooms. record { made = hub.made; next = hub.next; floor = hub.floor; rooms = rooms; homes = hub.homes; wills = hub.wills }) (slice_set_same hub.rooms i (name, g) h)
+
+-- sessions that were written as they were are a hub as it was
+pub same_hub : (h : Inside) (i : ℕ) (old new : RoomSessions) → slice_get (values h.rooms) i ≡ Some old → new ≡ old → hub_with h i new ≡ hub_of h
+same_hub h i old new there same =
+    let w = written h.rooms.entries i old new there in
+    hub_with-is h i old new w ∙ (ap (λ g. with_room i w.name g (hub_of h)) same ∙ with_room_same (hub_of h) i w.name old w.was)
 
 -- what is done in a session's room, or nothing, is a step if it is one in the room
 module _ (h : Inside) (s i : ℕ) (old new : RoomSessions) (home : place_of (hub_of h) s ≡ Some i) (there : slice_get (values h.rooms) i ≡ Some old) where
   unchanged : new ≡ old → hub_with h i new ≡ hub_of h
-  unchanged same =
-      let w = written h.rooms.entries i old new there in
-      hub_with-is h i old new w ∙ (ap (λ g. with_room i w.name g (hub_of h)) same ∙ with_room_same (hub_of h) i w.name old w.was)
+  unchanged same = same_hub h i old new there same
 
   pub receives : (text : List ℕ) (answer : Option Answer) → ReceivesIf h.made s text answer old new
       → StepIf (hub_of h) (Receive s text) answer (hub_with h i new)
@@ -145,10 +163,10 @@ module _ (h : Inside) (s i : ℕ) (old new : RoomSessions) (home : place_of (hub
   draws None same = unchanged same
 
   -- a session that is closed is removed from the room and from the list of homes
-  pub closes : (homes : List (ℕ × ℕ)) (x : Session) → session_in old.sessions s ≡ Some x → ChangesOnly s None old new
+  pub closes : (homes : List (ℕ × ℕ)) (wills : List Will) (x : Session) → session_in old.sessions s ≡ Some x → ChangesOnly s None old new
       → ((t : ℕ) → lookup (nat_eq t) homes ≡ (if s == t then None else place_of (hub_of h) t)) → length homes + 1 ≡ length h.homes.entries
-      → Step (hub_of h) (Close s) answer.Closed (hub_closed h i new homes)
-  closes homes x is leaves home_after count =
+      → wills ≡ h.wills.items ++ left_of i x.will → Step (hub_of h) (Close s) answer.Closed (hub_leaving h i new homes wills)
+  closes homes wills x is leaves home_after count adds =
       let w = written h.rooms.entries i old new there in
       rw (home, w.was, is) (record {
         next = refl;
@@ -159,7 +177,71 @@ module _ (h : Inside) (s i : ℕ) (old new : RoomSessions) (home : place_of (hub
         rooms = w.is;
         home = home_after;
         count = count;
+        wills = adds;
       })
+
+-- the oldest will is done in its room
+pub will_done : (h : Inside) (w : Will) (old new : RoomSessions) (left : List Will) (short : ℕ) → slice_get h.wills.items 0 ≡ Some w
+    → slice_get (values h.rooms) w.place ≡ Some old → left ≡ remove h.wills.items 0 → WillServed h.made w.patch (edited old.room None w.patch) short old new
+    → Step (hub_of h) DoWill (answer.WillDone short) (hub_leaving h w.place new h.homes.entries left)
+will_done h w old new left short oldest there is served =
+    subst (λ wills. left ≡ remove wills 0 → DoesWill wills (hub_of h) (answer.WillDone short) (hub_leaving h w.place new h.homes.entries left)) (sym all) done is
+  where
+    head : (wills : List Will) → slice_get wills 0 ≡ Some w → wills ≡ w ∷ drop 1 wills
+    head (v ∷ wills) at = let same : v ≡ w = cc in ap (λ u. u ∷ wills) same
+    head [] at = absurd (cc at)
+
+    all : h.wills.items ≡ w ∷ drop 1 h.wills.items
+    all = head h.wills.items oldest
+
+    done : left ≡ remove (w ∷ drop 1 h.wills.items) 0
+        → DoesWill (w ∷ drop 1 h.wills.items) (hub_of h) (answer.WillDone short) (hub_leaving h w.place new h.homes.entries left)
+    done is =
+        let k = written h.rooms.entries w.place old new there in (
+          hub_with h w.place new,
+          ap (λ wills. hub_leaving h w.place new h.homes.entries wills) is,
+          rw k.was (new, served, hub_with-is h w.place old new k),
+        )
+
+-- the room of a name is forgotten, or not
+pub forgets : (h : Inside) (name : List ℕ) (i : ℕ) (old new : RoomSessions) (result : Result ℕ ForgetFault) → place_named name (hub_of h).rooms ≡ Some i
+    → slice_get (values h.rooms) i ≡ Some old
+    → IfOk result (λ rev. (rev ≡ revision old.room + 1) × (new ≡ room_sessions (begun null rev h.made.history) [])) → OnOk result (anew_fault old ≡ None)
+    → IfErr result (λ fault. fault ≢ forget.NoMemory → anew_fault old ≡ Some fault) → OnErr result (new ≡ old)
+    → StepIf (hub_of h) (Forget name) (forgetting result) (hub_with h i new)
+forgets h name i old new result at there ok may fault err = go result ok may fault err
+  where
+    w : Written h.rooms.entries i old new
+    w = written h.rooms.entries i old new there
+
+    known : w.name ≡ name
+    known = name_found (hub_of h).rooms name w.name old i at w.was
+
+    is : forget_fault (hub_of h) name ≡ anew_fault old
+    is = fault_is (hub_of h) name i (w.name, old) at w.was
+
+    refused : (why : ForgetFault) → anew_fault old ≡ Some why → new ≡ old → Step (hub_of h) (Forget name) (answer.NotForgotten why) (hub_with h i new)
+    refused why because same = (is ∙ because, same_hub h i old new there same)
+
+    go : (r : Result ℕ ForgetFault)
+        → IfOk r (λ rev. (rev ≡ revision old.room + 1) × (new ≡ room_sessions (begun null rev h.made.history) [])) → OnOk r (anew_fault old ≡ None)
+        → IfErr r (λ fault. fault ≢ forget.NoMemory → anew_fault old ≡ Some fault) → OnErr r (new ≡ old)
+        → StepIf (hub_of h) (Forget name) (forgetting r) (hub_with h i new)
+    go (Ok rev) ok may fault err = (
+      is ∙ may,
+      record {
+        place = i;
+        room = old;
+        named = at;
+        there = w.was ∙ ap (λ n. Some (n, old)) known;
+        newer = ok.0;
+        begins = hub_with-is h i old new w ∙ ap (λ n. with_room i n new (hub_of h)) known ∙ ap (λ g. with_room i name g (hub_of h)) ok.1;
+      },
+    )
+    go (Err forget.NoMemory) ok may fault err = same_hub h i old new there err
+    go (Err forget.NoRoom) ok may fault err = refused forget.NoRoom (fault (λ e. absurd (cc e))) err
+    go (Err forget.Occupied) ok may fault err = refused forget.Occupied (fault (λ e. absurd (cc e))) err
+    go (Err forget.Exhausted) ok may fault err = refused forget.Exhausted (fault (λ e. absurd (cc e))) err
 
 -- a call that is a step, or changes nothing, keeps `IsHub`
 pub stays_hub : (old new : State) (event : Event) (answer : Option Answer) → IsHub old → StepIf old event answer new → IsHub new

@@ -5,21 +5,23 @@ use Rattle.std.proofs.lemmas.List.{append-nil, length-replicate}
 use Rattle.std.proofs.lemmas.List.Quantifiers.{position-Some}
 use Rattle.std.proofs.lemmas.Option.{get_or_from_slice_get}
 use Rattle.std.proofs.lemmas.Slice.Eq.{bytes_eq-Decides}
+use Rattle.relay_patch.specs.declared.op.Op.{Op}
 use Rattle.relay_proto.specs.Request.{request_of_text}
 use Rattle.relay_proto.specs.declared.access.Access.{Access}
 use Rattle.relay_room.specs.Room.{revision}
 use Rattle.relay_tree.specs.Document.{Document, null}
 use Rattle.relay_tree.specs.declared.count.TheConstants.{MAX_COUNT}
 use Rattle.relay_hub.specs.Admitted.{permitted}
-use Rattle.relay_hub.specs.Log.{Log, Place, place, entry, home, documents, documents_after, document_added, extended, requested, reaching, beginning, beginning_after}
+use Rattle.relay_hub.specs.Log.{Log, Place, Bequest, place, entry, home, left, document_left, documents, documents_after, document_added, extended, requested, reaching, beginning, beginning_after}
 use Rattle.relay_hub.specs.Stands.{MayBegin}
 use Rattle.relay_hub.specs.Session.{Session}
 use Rattle.relay_hub.specs.State.{RoomSessions, place_named, is_null, makes_place, above, vacant_place}
 use Rattle.relay_hub.specs.declared.event.Answer.{Answer}
-use Rattle.relay_hub.specs.declared.event.Answer.TheVariants.{Opened, Heard}
+use Rattle.relay_hub.specs.declared.event.Answer.TheVariants.{Opened, Heard, WillDone, Forgotten}
 use Rattle.relay_hub.specs.declared.event.Event.{Event}
-use Rattle.relay_hub.specs.declared.event.Event.TheVariants.{Open, Receive}
+use Rattle.relay_hub.specs.declared.event.Event.TheVariants.{Open, Receive, DoWill, Forget}
 use Rattle.relay_hub.specs.declared.event.Opening.{Opening}
+use Rattle.relay_hub.specs.declared.will.Will.{Will}
 use Rattle.relay_hub.specs.declared.event.Heard.TheVariants.{Answered}
 use Rattle.relay_hub.proofs.Lists.{position_set, position_within, position_apart, position_earlier, position_last, position_written, slice_get-earlier}
 
@@ -91,8 +93,13 @@ pub record Vacant (rooms : List (List ℕ × RoomSessions)) (i : ℕ) : Type 0 w
   pub empty : room_sessions.sessions ≡ []
   pub left : revision room_sessions.room < MAX_COUNT
 
-pub vacant : (most : ℕ) (rooms : List (List ℕ × RoomSessions)) (i : ℕ) → vacant_place most rooms ≡ Some i → Vacant rooms i
-vacant most rooms i is = taken (nat_le most (length rooms)) is
+-- no room makes place while a will is left to be done
+pub none_left : (most : ℕ) (wills : List Will) (rooms : List (List ℕ × RoomSessions)) (i : ℕ) → vacant_place most wills rooms ≡ Some i → wills ≡ []
+none_left most [] rooms i is = refl
+none_left most (w ∷ wills) rooms i is = absurd (cc is)
+
+pub vacant : (most : ℕ) (wills : List Will) (rooms : List (List ℕ × RoomSessions)) (i : ℕ) → vacant_place most wills rooms ≡ Some i → Vacant rooms i
+vacant most wills rooms i is = taken (nat_le most (length rooms)) (ap (λ ws. vacant_place most ws rooms) (sym (none_left most wills rooms i is)) ∙ is)
   where
     all : (a b c : Bool) → (a && b && c) ≡ true → (a ≡ true) × (b ≡ true) × (c ≡ true)
     all true true c h = (refl, refl, h)
@@ -164,22 +171,22 @@ may_begin_again floor g ds made first over = go (revision g.room) made over
 -- Documents.
 
 -- a text that asks for no edit, or for a refused one, adds no document anywhere
-pub none_added : (E : Log) (s short : ℕ) (text name : List ℕ) (access : Access) → home E s ≡ Some (place name access) → requested (documents E name) (permitted access (request_of_text text)) ≡ None
+pub none_added : (E : Log) (s short : ℕ) (text name : List ℕ) (access : Access) (will : List Op) → home E s ≡ Some (place name access will) → requested (documents E name) (permitted access (request_of_text text)) ≡ None
     → (other : List ℕ) → documents (entry (Receive s text) (Heard (Answered short)) ∷ E) other ≡ documents E other
-none_added E s short text name access at none other =
+none_added E s short text name access will at none other =
     rw at (by_name (λ b. extended (documents E other) (if b then requested (documents E other) (permitted access (request_of_text text)) else None) ≡ documents E other) name other
     (λ same. subst (λ n. extended (documents E n) (requested (documents E n) (permitted access (request_of_text text))) ≡ documents E n) same (rw none refl))
     (λ apart. refl))
 
-pub one_added : (E : Log) (s short : ℕ) (text name : List ℕ) (access : Access) (d : Document) → home E s ≡ Some (place name access) → requested (documents E name) (permitted access (request_of_text text)) ≡ Some d
+pub one_added : (E : Log) (s short : ℕ) (text name : List ℕ) (access : Access) (will : List Op) (d : Document) → home E s ≡ Some (place name access will) → requested (documents E name) (permitted access (request_of_text text)) ≡ Some d
     → documents (entry (Receive s text) (Heard (Answered short)) ∷ E) name ≡ documents E name ++ d ∷ []
-one_added E s short text name access d at adds =
+one_added E s short text name access will d at adds =
     let same : bytes_eq name name ≡ true = (bytes_eq-Decides name name).1 refl in
     rw (at, same, adds) refl
 
-pub others_stay : (E : Log) (s short : ℕ) (text name : List ℕ) (access : Access) → home E s ≡ Some (place name access)
+pub others_stay : (E : Log) (s short : ℕ) (text name : List ℕ) (access : Access) (will : List Op) → home E s ≡ Some (place name access will)
     → (other : List ℕ) → other ≢ name → documents (entry (Receive s text) (Heard (Answered short)) ∷ E) other ≡ documents E other
-others_stay E s short text name access at other apart =
+others_stay E s short text name access will at other apart =
     rw at (by_name (λ b. extended (documents E other) (if b then requested (documents E other) (permitted access (request_of_text text)) else None) ≡ documents E other) name other
     (λ same. absurd (apart (sym same)))
     (λ differ. refl))
@@ -188,7 +195,7 @@ others_stay E s short text name access at other apart =
 
 pub first_document : (E : Log) (name : List ℕ) → slice_get (documents E name) 0 ≡ Some null
 first_document [] name = refl
-first_document (e ∷ E) name = after (home E) (documents E name) e.event e.answer (first_document E name)
+first_document (e ∷ E) name = after (home E) (left E) (documents E name) e.event e.answer (first_document E name)
   where
     more : (ds : List Document) (o : Option Document) → slice_get ds 0 ≡ Some null → slice_get (extended ds o) 0 ≡ Some null
     more ds None h = h
@@ -202,11 +209,13 @@ first_document (e ∷ E) name = after (home E) (documents E name) e.event e.answ
     reached true ds rev h = append ds (replicate (rev + 1 - length ds) null) h
     reached false ds rev h = h
 
-    after : (homes : ℕ → Option Place) (ds : List Document) (event : Event) (answer : Answer) → slice_get ds 0 ≡ Some null
-        → slice_get (documents_after homes ds name event answer) 0 ≡ Some null
-    after homes ds (Open room access) (Opened o) h = reached (bytes_eq room name) ds o.rev h
-    after homes ds (Receive s text) (Heard (Answered short)) h = more ds (document_added ds name (homes s) text) h
-    after homes ds _ _ h = h
+    after : (homes : ℕ → Option Place) (wills : List Bequest) (ds : List Document) (event : Event) (answer : Answer) → slice_get ds 0 ≡ Some null
+        → slice_get (documents_after homes wills ds name event answer) 0 ≡ Some null
+    after homes wills ds (Open room access) (Opened o) h = reached (bytes_eq room name) ds o.rev h
+    after homes wills ds (Receive s text) (Heard (Answered short)) h = more ds (document_added ds name (homes s) text) h
+    after homes wills ds DoWill (WillDone short) h = more ds (document_left ds name wills) h
+    after homes wills ds (Forget room) (Forgotten rev) h = reached (bytes_eq room name) ds rev h
+    after homes wills ds _ _ h = h
 
 -- An opening.
 
@@ -239,7 +248,7 @@ begun_here E name access o = let same : bytes_eq name name ≡ true = (bytes_eq-
 -- it is one of the revisions of its documents
 pub beginning_within : (E : Log) (name : List ℕ) → beginning E name < length (documents E name)
 beginning_within [] name = omega arith
-beginning_within (e ∷ E) name = after (home E) (beginning E name) (documents E name) e.event e.answer (beginning_within E name)
+beginning_within (e ∷ E) name = after (home E) (left E) (beginning E name) (documents E name) e.event e.answer (beginning_within E name)
   where
     more : (ds : List Document) (o : Option Document) (was : ℕ) → was < length ds → was < length (extended ds o)
     more ds None was h = h
@@ -250,11 +259,13 @@ beginning_within (e ∷ E) name = after (home E) (beginning E name) (documents E
     reached true false ds rev was h = omega (arith, h, length-append ds (replicate (rev + 1 - length ds) null))
     reached false later ds rev was h = h
 
-    after : (homes : ℕ → Option Place) (was : ℕ) (ds : List Document) (event : Event) (answer : Answer) → was < length ds
-        → beginning_after was ds name event answer < length (documents_after homes ds name event answer)
-    after homes was ds (Open room access) (Opened o) h = reached (bytes_eq room name) (nat_le (length ds) o.rev) ds o.rev was h
-    after homes was ds (Receive s text) (Heard (Answered short)) h = more ds (document_added ds name (homes s) text) was h
-    after homes was ds _ _ h = h
+    after : (homes : ℕ → Option Place) (wills : List Bequest) (was : ℕ) (ds : List Document) (event : Event) (answer : Answer) → was < length ds
+        → beginning_after was ds name event answer < length (documents_after homes wills ds name event answer)
+    after homes wills was ds (Open room access) (Opened o) h = reached (bytes_eq room name) (nat_le (length ds) o.rev) ds o.rev was h
+    after homes wills was ds (Receive s text) (Heard (Answered short)) h = more ds (document_added ds name (homes s) text) was h
+    after homes wills was ds DoWill (WillDone short) h = more ds (document_left ds name wills) was h
+    after homes wills was ds (Forget room) (Forgotten rev) h = reached (bytes_eq room name) (nat_le (length ds) rev) ds rev was h
+    after homes wills was ds _ _ h = h
 
 -- a session that enters a room that is there does not change it
 pub joined_beginning : (E : Log) (name : List ℕ) (access : Access) (o : Opening) → o.rev + 1 ≡ length (documents E name)

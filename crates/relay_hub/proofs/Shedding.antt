@@ -1,6 +1,7 @@
 -- A hub that gives back what it can stays a hub, and stands for the same log.
-use Rattle.std.proofs.Common.{◌≡◌, ℕ, ◌+◌, ◌==◌, Bool, true, false, cond, not, List, [], ◌∷◌, map, Option, Some, None, refl, sym, ◌∙◌, ap, slice_get, option_map, option_and_then, bytes_eq, if◌then◌else◌}
+use Rattle.std.proofs.Common.{◌≡◌, ℕ, ◌+◌, ◌==◌, Bool, true, false, cond, not, List, [], ◌∷◌, map, Option, Some, None, refl, sym, ◌∙◌, ap, slice_get, option_map, option_and_then, bytes_eq, arith, if◌then◌else◌}
 use Rattle.std.specs.List.{position_or_len}
+use Rattle.std.specs.Option.{option_map_or}
 use Rattle.std.proofs.lemmas.List.{length-map}
 use Rattle.std.proofs.lemmas.Option.{slice_get-map}
 use Rattle.relay_outbox.specs.Outbox.{Contents}
@@ -11,16 +12,18 @@ use Rattle.relay_translate.specs.Watches.{Watches}
 use Rattle.relay_tree.specs.Document.{Document}
 use Rattle.relay_tree.specs.declared.budget.Budget.{Budget}
 use Rattle.relay_tree.specs.declared.budget.Budget.TheVariants.{Unbounded}
-use Rattle.relay_hub.specs.Log.{Log, Watching, Place, home, documents, watching}
+use Rattle.relay_hub.specs.Log.{Log, Watching, Place, Bequest, home, documents, watching}
 use Rattle.relay_hub.specs.Session.{Session, with_outbox, later}
 use Rattle.relay_hub.specs.Shed.{shed_budget, fold_patches, shed_session, shed_room, shed_named, shed}
-use Rattle.relay_hub.specs.Stands.{RoomStands, OutboxStands, WatchStands, SessionStands, RoomSessionsStand, HomeStands, Follows, StandsFor}
+use Rattle.relay_hub.specs.Stands.{RoomStands, OutboxStands, WatchStands, SessionStands, RoomSessionsStand, HomeStands, Follows, named_will, StandsFor}
 use Rattle.relay_hub.specs.State.{RoomSessions, State, EachOnce, IsHub, numbers, place_of, place_named, session_in}
 use Rattle.relay_hub.specs.Watched.{IsIndexed}
 use Rattle.relay_hub.specs.declared.config.HubConfig.{HubConfig}
+use Rattle.relay_hub.specs.declared.will.Will.{Will}
 use Rattle.relay_hub.proofs.Documents.{trimmed_stands}
 use Rattle.relay_hub.proofs.Follow.{EachLeads-left, Follows-snapshot}
 use Rattle.relay_hub.proofs.Rising.{same_rises}
+use Rattle.relay_hub.proofs.Wills.{have_more}
 
 -- Sessions.
 
@@ -102,10 +105,27 @@ shed_is_hub hub h = record {
   once = λ place name g at.
       let w = was hub budget place name g at in
       rw w.is (shed_once w.old.sessions (h.once place name w.old w.there));
+  few = h.few;
+  wills = have_more hub.rooms (map (shed_named budget) hub.rooms) hub.wills (omega (arith, length-map hub.rooms (shed_named budget))) h.wills;
 }
   where
     budget : Budget
     budget = shed_budget hub.made.history_weight
+
+-- The wills name the rooms that they named.
+shed_wills : (rooms : List (List ℕ × RoomSessions)) (budget : Budget) (wills : List Will)
+    → map (named_will (map (shed_named budget) rooms)) wills ≡ map (named_will rooms) wills
+shed_wills rooms budget [] = refl
+shed_wills rooms budget (w ∷ wills) =
+    rw (slice_get-map (shed_named budget) rooms w.place, shed_wills rooms budget wills) (one (slice_get rooms w.place))
+  where
+    bequest : Option (List ℕ × RoomSessions) → Bequest
+    bequest o = record { room = option_map_or (λ r. r.0) o []; patch = w.patch }
+
+    one : (o : Option (List ℕ × RoomSessions))
+        → bequest (option_map (shed_named budget) o) ∷ map (named_will rooms) wills ≡ bequest o ∷ map (named_will rooms) wills
+    one None = refl
+    one (Some r) = refl
 
 -- The log.
 
@@ -172,4 +192,6 @@ module _ (b : HubConfig) (E : Log) (hub : State) (h : StandsFor b E hub) where
     known = λ name place there. h.known name place (sym (shed_names name budget hub.rooms) ∙ there);
     others = λ name none. h.others name (sym (shed_names name budget hub.rooms) ∙ none);
     sessions = λ t. home_stands t (place_of hub t) (h.sessions t);
+    wills = shed_wills hub.rooms budget hub.wills ∙ h.wills;
+    willing = have_more hub.rooms (map (shed_named budget) hub.rooms) hub.wills (omega (arith, length-map hub.rooms (shed_named budget))) h.willing;
   }

@@ -4,7 +4,7 @@ use Rattle.relay_proto.proofs.Counts.{request_counts}
 use Rattle.relay_proto.specs.Request.{request_of_text}
 use Rattle.relay_proto.specs.declared.refusal.Refusal.{Refusal}
 use Rattle.relay_proto.specs.declared.request.Request.{Request}
-use Rattle.relay_proto.specs.declared.request.Request.TheVariants.{Edit, Watch, Resume, Unwatch}
+use Rattle.relay_proto.specs.declared.request.Request.TheVariants.{Edit, Will, Watch, Resume, Unwatch}
 use Rattle.relay_room.specs.Edit.{edited}
 use Rattle.relay_room.specs.Room.{revision}
 use Rattle.relay_hub.specs.Call.{StepIf, logged, Runs, stops, steps, followed}
@@ -16,17 +16,19 @@ use Rattle.relay_hub.specs.State.{RoomSessions, State, RoomOf, Home, place_of, s
 use Rattle.relay_hub.specs.Step.{Serves, Receives, Draws, with_room, InRoom, AtPlace, ClosesIn, ClosesInRoom, ClosesAt, Step}
 use Rattle.relay_hub.specs.declared.config.HubConfig.{HubConfig}
 use Rattle.relay_hub.specs.declared.event.Answer.{Answer}
-use Rattle.relay_hub.specs.declared.event.Answer.TheVariants.{Opened, NotOpened, Heard, Drawn, Closed, NoSession}
+use Rattle.relay_hub.specs.declared.event.Answer.TheVariants.{Opened, NotOpened, Heard, Drawn, Closed, WillDone, NoWill, Forgotten, NotForgotten, NoSession}
 use Rattle.relay_hub.specs.declared.event.Event.{Event}
-use Rattle.relay_hub.specs.declared.event.Event.TheVariants.{Open, Receive, Draw, Close}
+use Rattle.relay_hub.specs.declared.event.Event.TheVariants.{Open, Receive, Draw, Close, DoWill, Forget}
 use Rattle.relay_hub.specs.declared.event.Heard.TheVariants.{Answered, Busy}
-use Rattle.relay_hub.proofs.Admissions.{edit_permitted, edit_sent, other_sent}
+use Rattle.relay_hub.proofs.Admissions.{admitted_sent, other_sent}
 use Rattle.relay_hub.proofs.Counts.{edit_refusal_counts}
 use Rattle.relay_hub.proofs.Doors.{open_stands, close_stands}
+use Rattle.relay_hub.proofs.Bequests.{does_will_stands}
 use Rattle.relay_hub.proofs.Draws.{draw_stands}
+use Rattle.relay_hub.proofs.Forgetting.{forget_stands}
 use Rattle.relay_hub.proofs.Frames.{Quiet, unaffected, session_stands}
 use Rattle.relay_hub.proofs.Lists.{slice_set_same}
-use Rattle.relay_hub.proofs.Served.{served_refusal, served_watch, served_unwatch, served_resume, served_edit}
+use Rattle.relay_hub.proofs.Served.{served_refusal, served_will, served_watch, served_unwatch, served_resume, served_edit}
 
 -- What happens in the room of a session.
 
@@ -44,18 +46,18 @@ serve_stands : (b : HubConfig) (E : Log) (old : State) (s : ℕ) (mine : Home ol
     → StandsFor b (entry (Receive s text) (Heard (Answered short)) ∷ E) (with_room mine.room.place mine.room.name h old)
 serve_stands b E old s mine h short text (Err r) stands read step = served_refusal b E old s mine h short text stands r read step.1
 serve_stands b E old s mine h short text (Ok (Watch id v)) stands read step = served_watch b E old s mine h short text stands id v read step.1
+serve_stands b E old s mine h short text (Ok (Will id patch)) stands read step = served_will b E old s mine h short text stands id patch read step.1
 serve_stands b E old s mine h short text (Ok (Unwatch id)) stands read step = served_unwatch b E old s mine h short text stands id read step.1
 serve_stands b E old s mine h short text (Ok (Resume id e rev v)) stands read step =
     let is = other_sent b.view_weight mine.session.access (request_of_text text) (Resume id e rev v) tt read in
     served_resume b E old s mine h short text stands id e rev v (e == b.epoch) (nat_le rev (revision mine.room.room_sessions.room)) is.0 is.1 refl refl step.1
     (request_counts text (Resume id e rev v) is.0).0
 serve_stands b E old s mine h short text (Ok (Edit id base patch)) stands read step =
-    let may = edit_permitted b.view_weight mine.session.access (request_of_text text) id base patch read in
-    let sent = edit_sent mine.session.access (request_of_text text) id base patch may in
-    let counts = request_counts text (Edit id base patch) sent in
+    let is = admitted_sent b.view_weight mine.session.access (request_of_text text) (Edit id base patch) read in
+    let counts = request_counts text (Edit id base patch) is.1 in
     let room = mine.room.room_sessions.room in
     let last = (stands.rooms mine.room.place mine.room.name mine.room.room_sessions mine.room.there).is.history.last in
-    served_edit b E old s mine h short text stands id base patch may sent counts.0 (edited room base patch) refl
+    served_edit b E old s mine h short text stands id base patch is.0 is.1 counts.0 (edited room base patch) refl
     (λ fault r unmade is. edit_refusal_counts room id base patch fault r counts.0 last counts.2 unmade is) step
 
 receive_stands : (b : HubConfig) (E : Log) (old : State) (s : ℕ) (r : RoomOf old) (h : RoomSessions) (o : Option Session) (text : List ℕ) (answer : Answer) → StandsFor b E old
@@ -63,10 +65,10 @@ receive_stands : (b : HubConfig) (E : Log) (old : State) (s : ℕ) (r : RoomOf o
     → StandsFor b (entry (Receive s text) answer ∷ E) (with_room r.place r.name h old)
 receive_stands b E old s r h None text NoSession stands at is step = absurd (never_absent b E old s r stands at is)
 receive_stands b E old s r h (Some x) text (Heard Busy) stands at is step =
-    rw (same_room_sessions old r h step.1) (unaffected b E (entry (Receive s text) (Heard Busy)) old stands quiet (λ other. refl) (λ t. refl))
+    rw (same_room_sessions old r h step.1) (unaffected b E (entry (Receive s text) (Heard Busy)) old stands quiet (λ name. refl) refl (λ t. refl) (λ other. refl) (λ t. refl))
   where
     quiet : Quiet E (entry (Receive s text) (Heard Busy))
-    quiet = record { opened = refl; count = refl; rooms = λ name. refl; home = λ t. refl; begins = λ name. refl }
+    quiet = record { opened = refl; count = refl; rooms = λ name. refl }
 receive_stands b E old s r h (Some x) text (Heard (Answered short)) stands at is step =
     serve_stands b E old s (record { room = r; session = x; at = at; is = is }) h short text (admitted b.view_weight x.access (request_of_text text)) stands refl
     (subst (λ (made : HubConfig). Serves made s x (admitted made.view_weight x.access (request_of_text text)) short r.room_sessions h) stands.made step.1)
@@ -100,7 +102,7 @@ at_home_stands b E old new event answer Does None quiet does step = rw (step.0, 
 closes_in_stands : (b : HubConfig) (E : Log) (old new : State) (s : ℕ) (r : RoomOf old) (o : Option Session) (answer : Answer) → StandsFor b E old
     → place_of old s ≡ Some r.place → session_in r.room_sessions.sessions s ≡ o → ClosesIn s r.place r.name r.room_sessions o old answer new → StandsFor b (entry (Close s) answer ∷ E) new
 closes_in_stands b E old new s r None NoSession stands at is step = absurd (never_absent b E old s r stands at is)
-closes_in_stands b E old new s r (Some x) Closed stands at is step = close_stands b E old new s r stands step
+closes_in_stands b E old new s r (Some x) Closed stands at is step = close_stands b E old new s (record { room = r; session = x; at = at; is = is }) stands step
 closes_in_stands b E old new s r o answer stands at is step = absurd step
 
 closes_in_room_stands : (b : HubConfig) (E : Log) (old new : State) (s place : ℕ) (o : Option (List ℕ × RoomSessions)) (answer : Answer) → StandsFor b E old → StandsFor b (entry (Close s) NoSession ∷ E) old
@@ -120,22 +122,27 @@ closes_stands b E old new s None answer stands quiet at step = rw (step.0, step.
 pub step_stands : (b : HubConfig) (E : Log) (old new : State) (event : Event) (answer : Answer) → StandsFor b E old → Step old event answer new → StandsFor b (entry event answer ∷ E) new
 step_stands b E old new (Open name access) (Opened o) stands step = open_stands b E old new name access o stands step.1 step.0
 step_stands b E old new (Open name access) (NotOpened fault) stands step =
-    rw step.1 (unaffected b E (entry (Open name access) (NotOpened fault)) old stands (record { opened = refl; count = refl; rooms = λ name. refl; home = λ t. refl; begins = λ name. refl }) (λ other. refl) (λ t. refl))
+    rw step.1 (unaffected b E (entry (Open name access) (NotOpened fault)) old stands (record { opened = refl; count = refl; rooms = λ name. refl }) (λ name. refl) refl (λ t. refl) (λ other. refl) (λ t. refl))
 step_stands b E old new (Receive s text) answer stands step =
     at_home_stands b E old new (Receive s text) answer (λ g h. Receives old.made s (session_in g.sessions s) text answer g h) (place_of old s)
-    (unaffected b E (entry (Receive s text) NoSession) old stands (record { opened = refl; count = refl; rooms = λ name. refl; home = λ t. refl; begins = λ name. refl }) (λ other. refl) (λ t. refl))
+    (unaffected b E (entry (Receive s text) NoSession) old stands (record { opened = refl; count = refl; rooms = λ name. refl }) (λ name. refl) refl (λ t. refl) (λ other. refl) (λ t. refl))
     (λ r h at does. receive_stands b E old s r h (session_in r.room_sessions.sessions s) text answer stands at refl does)
     step
 step_stands b E old new (Draw s) answer stands step =
     at_home_stands b E old new (Draw s) answer (λ g h. Draws s (session_in g.sessions s) answer g h) (place_of old s)
-    (unaffected b E (entry (Draw s) NoSession) old stands (record { opened = refl; count = refl; rooms = λ name. refl; home = λ t. refl; begins = λ name. refl }) (λ other. refl) (λ t. refl))
+    (unaffected b E (entry (Draw s) NoSession) old stands (record { opened = refl; count = refl; rooms = λ name. refl }) (λ name. refl) refl (λ t. refl) (λ other. refl) (λ t. refl))
     (λ r h at does. drawn_stands b E old s r h (session_in r.room_sessions.sessions s) answer stands at refl does)
     step
 step_stands b E old new (Close s) answer stands step =
     closes_stands b E old new s (place_of old s) answer stands
-    (unaffected b E (entry (Close s) NoSession) old stands (record { opened = refl; count = refl; rooms = λ name. refl; home = λ t. refl; begins = λ name. refl }) (λ other. refl) (λ t. refl))
+    (unaffected b E (entry (Close s) NoSession) old stands (record { opened = refl; count = refl; rooms = λ name. refl }) (λ name. refl) refl (λ t. refl) (λ other. refl) (λ t. refl))
     refl step
+step_stands b E old new DoWill answer stands step = does_will_stands b E old new old.wills answer stands refl step
+step_stands b E old new (Forget name) (Forgotten rev) stands step = forget_stands b E old new name rev stands step.0 step.1
+step_stands b E old new (Forget name) (NotForgotten fault) stands step =
+    rw step.1 (unaffected b E (entry (Forget name) (NotForgotten fault)) old stands (record { opened = refl; count = refl; rooms = λ name. refl }) (λ name. refl) refl (λ t. refl) (λ other. refl) (λ t. refl))
 step_stands b E old new (Open name access) answer stands step = absurd step
+step_stands b E old new (Forget name) answer stands step = absurd step
 
 pub call_stands : (b : HubConfig) (E : Log) (old new : State) (event : Event) (answer : Option Answer) → StandsFor b E old → StepIf old event answer new → StandsFor b (logged E event answer) new
 call_stands b E old new event (Some answer) stands step = step_stands b E old new event answer stands step

@@ -97,6 +97,7 @@ leaves_no_trace hub s r h y at changes =
     record {
       rooms = same_rooms hub.rooms r.place r.name r.room_sessions h r.there changes.0;
       homes = refl;
+      wills = refl;
       next = refl;
       others = others_found hub r h s (Some y) changes.1;
       sender = rw (at, slice_get-set hub.rooms r.place (r.name, r.room_sessions) (r.name, h) r.there, changes.1.found s, same) refl;

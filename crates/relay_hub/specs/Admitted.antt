@@ -6,7 +6,7 @@ use Rattle.relay_proto.specs.declared.access.Access.{Access}
 use Rattle.relay_proto.specs.declared.access.Access.TheVariants.{ReadWrite, ReadOnly}
 use Rattle.relay_proto.specs.declared.refusal.Refusal.{Refusal}
 use Rattle.relay_proto.specs.declared.request.Request.{Request}
-use Rattle.relay_proto.specs.declared.request.Request.TheVariants.{Edit, Watch, Resume, Unwatch}
+use Rattle.relay_proto.specs.declared.request.Request.TheVariants.{Edit, Will, Watch, Resume, Unwatch}
 use Rattle.relay_proto.specs.declared.word.Word.TheVariants as word
 use Rattle.relay_tree.specs.Budget.{paid}
 use Rattle.relay_tree.specs.declared.budget.Budget.{Budget}
@@ -19,9 +19,10 @@ abbrev pub may_edit : Access → Bool
 may_edit ReadWrite = true
 may_edit ReadOnly = false
 
--- an edit of a session that may not edit is refused
+-- an edit or a will of a session that may not edit is refused
 abbrev pub permitted : Access → Result Request Refusal → Result Request Refusal
 permitted access (Ok (Edit id base patch)) = if may_edit access then Ok (Edit id base patch) else Err (refusal id word.ReadOnly None)
+permitted access (Ok (Will id patch)) = if may_edit access then Ok (Will id patch) else Err (refusal id word.ReadOnly None)
 permitted access request = request
 
 -- How heavy a view may be.

@@ -1,18 +1,23 @@
 -- Calls as events: what each one answers, when it is a step, and runs of steps.
 use Rattle.std.specs.Prelude.{◌≡◌, ℕ, ◌<◌, ◌≤◌, length, List, [], ◌∷◌, Option, Some, None, option_map, Result, Ok, Err, slice_get, string_bytes}
 use Rattle.std.specs.Global.{Vec}
+use Rattle.std.specs.declared.alloc.AllocError.{AllocError}
 use Rattle.std.specs.declared.string.String.{String}
 use Rattle.relay_outbox.specs.declared.outbox.TheConstants.{MAX_REPLIES}
 use Rattle.relay_hub.specs.Log.{Log, entry}
 use Rattle.relay_hub.specs.Session.{Session}
 use Rattle.relay_hub.specs.State.{RoomSessions, State, session_in}
-use Rattle.relay_hub.specs.Step.{OnlyAt, Receives, Draws, Step}
+use Rattle.relay_room.specs.Edit.{edited}
+use Rattle.relay_patch.specs.declared.op.Op.{Op}
+use Rattle.relay_hub.specs.Step.{OnlyAt, Receives, WillServed, Draws, Step}
 use Rattle.relay_hub.specs.declared.config.HubConfig.{HubConfig}
 use Rattle.relay_hub.specs.declared.event.Answer.{Answer}
 use Rattle.relay_hub.specs.declared.event.Answer.TheVariants as answer
 use Rattle.relay_hub.specs.declared.event.Event.{Event}
 use Rattle.relay_hub.specs.declared.event.Heard.{Heard}
 use Rattle.relay_hub.specs.declared.event.Opening.{Opening}
+use Rattle.relay_hub.specs.declared.fault.ForgetFault.{ForgetFault}
+use Rattle.relay_hub.specs.declared.fault.ForgetFault.TheVariants as forget
 use Rattle.relay_hub.specs.declared.fault.HubFault.{HubFault}
 use Rattle.relay_hub.specs.declared.fault.HubFault.TheVariants as hub
 use Rattle.relay_hub.specs.declared.fault.NoSession.{NoSession}
@@ -45,6 +50,22 @@ drawing (Err fault) = not_served fault
 abbrev pub closing : Result (Unit {0}) NoSession → Answer
 closing (Ok u) = answer.Closed
 closing (Err e) = answer.NoSession
+
+abbrev pub will_done : Option ℕ → Answer
+will_done (Some short) = answer.WillDone short
+will_done None = answer.NoWill
+
+abbrev pub doing_will : Result (Option ℕ) AllocError → Option Answer
+doing_will (Ok short) = Some (will_done short)
+doing_will (Err e) = None
+
+abbrev pub not_forgotten : ForgetFault → Option Answer
+not_forgotten forget.NoMemory = None
+not_forgotten fault = Some (answer.NotForgotten fault)
+
+abbrev pub forgetting : Result ℕ ForgetFault → Option Answer
+forgetting (Ok rev) = Some (answer.Forgotten rev)
+forgetting (Err fault) = not_forgotten fault
 
 -- a call with that answer is a step, and a call without an answer changed nothing
 abbrev pub StepIf : State → Event → Option Answer → State → Type 0
@@ -81,6 +102,11 @@ ReceivesIf made s text None old new = new ≡ old
 abbrev pub DrawsIf : ℕ → Option Answer → RoomSessions → RoomSessions → Type 0
 DrawsIf s (Some answer) old new = Draws s (session_in old.sessions s) answer old new
 DrawsIf s None old new = new ≡ old
+
+-- a will is done, or memory ran out and nothing changed
+abbrev pub WillServedIf : HubConfig → List Op → Result ℕ AllocError → RoomSessions → RoomSessions → Type 0
+WillServedIf made patch (Ok short) old new = WillServed made patch (edited old.room None patch) short old new
+WillServedIf made patch (Err e) old new = new ≡ old
 
 -- no session has that number or a higher one
 abbrev pub IsAbove : ℕ → List Session → Type 0

@@ -1,6 +1,7 @@
--- What follows from a log: the documents of each room, which sessions are open in which room and what they may do there, what each session
--- watches and which messages it received. A log has its newest entry first, so each definition says what one more entry changes.
-use Rattle.std.specs.Prelude.{ℕ, ◌+◌, ◌-◌, ◌==◌, Bool, false, ◌||◌, List, [], ◌∷◌, ◌++◌, Option, Some, None, Result, Ok, length, replicate, nat_le, slice_get, unwrap_or, bytes_eq, ◌&&◌, if◌then◌else◌}
+-- What follows from a log: the documents of each room, which sessions are open in which room, what they
+-- may do there and what will they left, what each session watches and which messages it received. A log
+-- has its newest entry first, so each definition says what one more entry changes.
+use Rattle.std.specs.Prelude.{ℕ, ◌+◌, ◌-◌, ◌==◌, Bool, false, ◌||◌, List, [], ◌∷◌, ◌++◌, Option, Some, None, option_map, Result, Ok, drop, length, replicate, nat_le, slice_get, unwrap_or, bytes_eq, ◌&&◌, if◌then◌else◌}
 use Rattle.std.specs.Result.{result_ok}
 use Rattle.relay_tree.specs.Document.{Document, null}
 use Rattle.relay_patch.specs.declared.op.Op.{Op}
@@ -12,15 +13,15 @@ use Rattle.relay_proto.specs.declared.message.Message.{Message}
 use Rattle.relay_proto.specs.declared.message.Message.TheVariants as message
 use Rattle.relay_proto.specs.declared.refusal.Refusal.{Refusal}
 use Rattle.relay_proto.specs.declared.request.Request.{Request}
-use Rattle.relay_proto.specs.declared.request.Request.TheVariants.{Edit, Watch, Resume, Unwatch}
+use Rattle.relay_proto.specs.declared.request.Request.TheVariants.{Edit, Will, Watch, Resume, Unwatch}
 use Rattle.relay_room.specs.Edit.{edited_at}
 use Rattle.relay_view.specs.View.{View, view}
 use Rattle.relay_hub.specs.Admitted.{permitted, affordable}
 use Rattle.relay_hub.specs.declared.config.HubConfig.{HubConfig}
 use Rattle.relay_hub.specs.declared.event.Answer.{Answer}
-use Rattle.relay_hub.specs.declared.event.Answer.TheVariants.{Opened, Heard, Drawn, Closed}
+use Rattle.relay_hub.specs.declared.event.Answer.TheVariants.{Opened, Heard, Drawn, Closed, WillDone, Forgotten}
 use Rattle.relay_hub.specs.declared.event.Event.{Event}
-use Rattle.relay_hub.specs.declared.event.Event.TheVariants.{Open, Receive, Draw, Close}
+use Rattle.relay_hub.specs.declared.event.Event.TheVariants.{Open, Receive, Draw, Close, DoWill, Forget}
 use Rattle.relay_hub.specs.declared.event.Heard.TheVariants.{Answered}
 
 -- an event and its answer. A call that ran out of memory changed nothing, and has no entry
@@ -36,17 +37,28 @@ Log = List Entry
 
 -- Which sessions are open, and in which room.
 
--- the name of the room in which a session is open, and what it may do there
+-- the name of the room in which a session is open, what it may do there, and its will, which may be empty
 pub record Place : Type 0 where
   pub room : List ℕ
   pub access : Access
+  pub will : List Op
 
-abbrev pub place : List ℕ → Access → Place
-place name access = record { room = name; access = access }
+abbrev pub place : List ℕ → Access → List Op → Place
+place name access will = record { room = name; access = access; will = will }
+
+-- the will of a session after a request
+abbrev pub will_after : List Op → Result Request Refusal → List Op
+will_after was (Ok (Will id patch)) = patch
+will_after was _ = was
+
+-- the same after a text of a session that is open there
+abbrev pub willed : List ℕ → Place → Place
+willed text p = place p.room p.access (will_after p.will (permitted p.access (request_of_text text)))
 
 -- where session s is open, if it is, after an event
 abbrev pub home_after : Option Place → ℕ → Event → Answer → Option Place
-home_after was s (Open name access) (Opened o) = if o.session == s then Some (place name access) else was
+home_after was s (Open name access) (Opened o) = if o.session == s then Some (place name access []) else was
+home_after was s (Receive t text) (Heard (Answered short)) = if t == s then option_map (willed text) was else was
 home_after was s (Close t) Closed = if t == s then None else was
 home_after was s _ _ = was
 
@@ -64,6 +76,32 @@ is_opened_after was name _ _ = was
 abbrev pub is_opened : Log → List ℕ → Bool
 is_opened [] name = false
 is_opened (e ∷ E) name = is_opened_after (is_opened E name) name e.event e.answer
+
+-- The wills that are left to be done.
+
+-- the name of a room and a patch for it
+pub record Bequest : Type 0 where
+  pub room : List ℕ
+  pub patch : List Op
+
+-- what a session leaves that was open there: nothing, or its will
+abbrev pub left_in : List ℕ → List Op → List Bequest
+left_in name [] = []
+left_in name (op ∷ ops) = record { room = name; patch = op ∷ ops } ∷ []
+
+abbrev pub left_by : Option Place → List Bequest
+left_by (Some p) = left_in p.room p.will
+left_by None = []
+
+abbrev pub left_after : (ℕ → Option Place) → List Bequest → Event → Answer → List Bequest
+left_after homes was (Close s) Closed = was ++ left_by (homes s)
+left_after homes was DoWill (WillDone short) = drop 1 was
+left_after homes was _ _ = was
+
+-- the wills of closed sessions that are not done yet, the oldest first
+abbrev pub left : Log → List Bequest
+left [] = []
+left (e ∷ E) = left_after (home E) (left E) e.event e.answer
 
 -- The documents of a room, the first one first, so that the one of revision r is at place r.
 
@@ -85,6 +123,12 @@ document_added documents name (Some home) text =
     if bytes_eq home.room name then requested documents (permitted home.access (request_of_text text)) else None
 document_added documents name None text = None
 
+-- the document that the oldest of these wills adds to the room of that name
+abbrev pub document_left : List Document → List ℕ → List Bequest → Option Document
+document_left documents name [] = None
+document_left documents name (w ∷ wills) =
+    if bytes_eq w.room name then next_document documents None w.patch else None
+
 abbrev pub extended : List Document → Option Document → List Document
 extended documents None = documents
 extended documents (Some d) = documents ++ d ∷ []
@@ -94,16 +138,18 @@ extended documents (Some d) = documents ++ d ∷ []
 abbrev pub reaching : ℕ → List Document → List Document
 reaching rev documents = documents ++ replicate (rev + 1 - length documents) null
 
-abbrev pub documents_after : (ℕ → Option Place) → List Document → List ℕ → Event → Answer → List Document
-documents_after homes documents name (Open room access) (Opened o) = if bytes_eq room name then reaching o.rev documents else documents
-documents_after homes documents name (Receive s text) (Heard (Answered short)) = extended documents (document_added documents name (homes s) text)
-documents_after homes documents name _ _ = documents
+abbrev pub documents_after : (ℕ → Option Place) → List Bequest → List Document → List ℕ → Event → Answer → List Document
+documents_after homes wills documents name (Open room access) (Opened o) = if bytes_eq room name then reaching o.rev documents else documents
+documents_after homes wills documents name (Receive s text) (Heard (Answered short)) = extended documents (document_added documents name (homes s) text)
+documents_after homes wills documents name DoWill (WillDone short) = extended documents (document_left documents name wills)
+documents_after homes wills documents name (Forget room) (Forgotten rev) = if bytes_eq room name then reaching rev documents else documents
+documents_after homes wills documents name _ _ = documents
 
 -- the documents of the rooms of that name, one after another: null, and then one for each accepted edit, and null at each revision that was
 -- passed over where a room began anew
 abbrev pub documents : Log → List ℕ → List Document
 documents [] name = null ∷ []
-documents (e ∷ E) name = documents_after (home E) (documents E name) name e.event e.answer
+documents (e ∷ E) name = documents_after (home E) (left E) (documents E name) name e.event e.answer
 
 abbrev pub present : Log → List ℕ → Document
 present E name = present_of (documents E name)
@@ -111,6 +157,7 @@ present E name = present_of (documents E name)
 -- the revision at which the newest room of that name began
 abbrev pub beginning_after : ℕ → List Document → List ℕ → Event → Answer → ℕ
 beginning_after was documents name (Open room access) (Opened o) = if bytes_eq room name && nat_le (length documents) o.rev then o.rev else was
+beginning_after was documents name (Forget room) (Forgotten rev) = if bytes_eq room name && nat_le (length documents) rev then rev else was
 beginning_after was documents name _ _ = was
 
 abbrev pub beginning : Log → List ℕ → ℕ

@@ -48,6 +48,7 @@ truth hub s = option_and_then (λ home. option_map (shown home.1.room) (session_
 pub record LeavesNoTrace (s : ℕ) (y : Session) (old new : State) : Type 0 where
   pub rooms : map without_sessions new.rooms ≡ map without_sessions old.rooms
   pub homes : new.homes ≡ old.homes
+  pub wills : new.wills ≡ old.wills
   pub next : new.next ≡ old.next
   pub others : (t : ℕ) → s ≢ t → session_of new t ≡ session_of old t
   pub sender : session_of new s ≡ Some y

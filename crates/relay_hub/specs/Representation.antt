@@ -18,4 +18,5 @@ hub_of h = record {
   floor = h.floor;
   rooms = rooms_of h.rooms.entries;
   homes = h.homes.entries;
+  wills = h.wills.items;
 }

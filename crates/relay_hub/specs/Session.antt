@@ -1,4 +1,4 @@
--- How one session changes: its view and its outbox.
+-- How one session changes: its view, its outbox and its will.
 use Rattle.std.specs.Prelude.{ℕ, ◌≡◌, ◌+◌, Bool, true, false, length, List, [], ◌∷◌, ◌++◌, map, Option, Some, None, option_map, is_some, if◌then◌else◌, refl}
 use Rattle.std.specs.Coded.{Coded, code_by, coded×, coded_bool, coded_ℕ, coded_list, coded_option}
 use Rattle.relay_outbox.specs.Outbox.{Contents, Foremost, reply, patch, snapshot, nothing, empty, with_reply, with_patch, folded, cleared, front_of, without_front, contents_code}
@@ -10,7 +10,7 @@ use Rattle.relay_proto.specs.declared.message.Message.{Message}
 use Rattle.relay_proto.specs.declared.message.Message.TheVariants as message
 use Rattle.relay_proto.specs.declared.reply.ResumeOutcome.TheVariants as how
 use Rattle.relay_proto.specs.declared.reply.Reply.{Reply}
-use Rattle.relay_proto.specs.declared.reply.Reply.TheVariants.{Welcome, Watching, Resumed, Unwatched}
+use Rattle.relay_proto.specs.declared.reply.Reply.TheVariants.{Welcome, Willing, Watching, Resumed, Unwatched}
 use Rattle.relay_room.specs.Room.{State as Room, revision}
 use Rattle.relay_room.specs.declared.catch_up.CatchUp.{CatchUp}
 use Rattle.relay_room.specs.declared.catch_up.CatchUp.TheVariants.{Nothing, Patch, Snapshot}
@@ -23,17 +23,37 @@ use Rattle.relay_hub.specs.Config.{budget_code}
 use Rattle.relay_hub.specs.declared.config.HubConfig.{HubConfig}
 pub use Rattle.relay_hub.specs.EncodedPatch.{patch_message, message_text, ReadsBack}
 
--- a session: its number, what it may do, the view that it watches, if it does, its outbox, and how much the waiting patches may weigh
+-- a session: its number, what it may do, the view that it watches, if it does, its outbox, how much the
+-- waiting patches may weigh, and its will: the patch for when it has ended, which may be empty
 pub record Session : Type 0 where
   pub number : ℕ
   pub access : Access
   pub view : Option View
   pub outbox : Contents Reply (ℕ × List Op)
   pub budget : Budget
+  pub will : List Op
 
 -- the session with another view and another outbox
 abbrev pub session_with : Option View → Contents Reply (ℕ × List Op) → Session → Session
-session_with pointers contents x = record { number = x.number; access = x.access; view = pointers; outbox = contents; budget = x.budget }
+session_with pointers contents x = record {
+  number = x.number;
+  access = x.access;
+  view = pointers;
+  outbox = contents;
+  budget = x.budget;
+  will = x.will;
+}
+
+-- the session with another will
+abbrev pub with_will : List Op → Session → Session
+with_will ops x = record {
+  number = x.number;
+  access = x.access;
+  view = x.view;
+  outbox = x.outbox;
+  budget = x.budget;
+  will = ops;
+}
 
 -- What holds of each session.
 pub record IsSession (x : Session) : Type 0 where
@@ -56,6 +76,7 @@ newcomer made access rev number = record {
   view = None;
   outbox = with_reply (Welcome made.epoch rev number) (empty made.max_waiting_patches);
   budget = made.waiting_weight;
+  will = [];
 }
 
 -- The weight of what waits.
@@ -69,6 +90,10 @@ patches_weight (p ∷ ps) = ops_weight p.1 + patches_weight ps
 abbrev pub with_patch_within : Budget → ℕ × List Op → Contents Reply (ℕ × List Op) → Contents Reply (ℕ × List Op)
 with_patch_within budget p contents =
     if is_some (paid (patches_weight contents.patches + ops_weight p.1) budget) then with_patch p contents else folded contents
+
+-- the session when it leaves a will, in place of the one that it left before
+abbrev pub leaves_will : ℕ → List Op → Session → Session
+leaves_will id ops x = with_will ops (replied (Willing id) x)
 
 -- the session when it begins to watch, and when it stops
 abbrev pub watches : ℕ → View → Session → Session
@@ -135,8 +160,17 @@ abbrev pub access_code : Coded Access
 access_code = code_by Bool coded_bool may_edit access_where access_kept
 
 abbrev pub session_code : Coded Slot → Coded Reply → Coded Op → Coded Session
-session_code slots replies ops = code_by (ℕ × (Access × (Option View × (Contents Reply (ℕ × List Op) × Budget))))
-    (coded× coded_ℕ (coded× access_code (coded× (coded_option (coded_list slots)) (coded× (contents_code replies (coded× coded_ℕ (coded_list ops))) budget_code))))
-    (λ x. (x.number, (x.access, (x.view, (x.outbox, x.budget)))))
-    (λ p. record { number = p.0; access = p.1.0; view = p.1.1.0; outbox = p.1.1.1.0; budget = p.1.1.1.1 })
+session_code slots replies ops =
+    code_by (ℕ × (Access × (Option View × (Contents Reply (ℕ × List Op) × (Budget × List Op)))))
+    (coded× coded_ℕ (coded× access_code (coded× (coded_option (coded_list slots))
+    (coded× (contents_code replies (coded× coded_ℕ (coded_list ops))) (coded× budget_code (coded_list ops))))))
+    (λ x. (x.number, (x.access, (x.view, (x.outbox, (x.budget, x.will))))))
+    (λ p. record {
+      number = p.0;
+      access = p.1.0;
+      view = p.1.1.0;
+      outbox = p.1.1.1.0;
+      budget = p.1.1.1.1.0;
+      will = p.1.1.1.1.1;
+    })
     (λ _. refl)

@@ -37,4 +37,5 @@ shed hub = record {
   floor = hub.floor;
   rooms = map (shed_named (shed_budget hub.made.history_weight)) hub.rooms;
   homes = hub.homes;
+  wills = hub.wills;
 }

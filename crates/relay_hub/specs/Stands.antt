@@ -1,7 +1,8 @@
 -- When a hub stands for a log, that is, agrees with it: it has the documents, the sessions and the views of the log, and every watching
 -- client that applies what was drawn for it and what waits holds exactly its view of the present document.
-use Rattle.std.specs.Prelude.{ℕ, ◌≡◌, ⊤, ◌+◌, ◌-◌, ◌<◌, min, true, false, List, [], ◌∷◌, ◌++◌, Option, Some, None, length, slice_get, option_map, ◌≤◌, ◌⊎◌}
+use Rattle.std.specs.Prelude.{ℕ, ◌≡◌, ⊤, ◌+◌, ◌-◌, ◌<◌, min, true, false, List, [], ◌∷◌, ◌++◌, Option, Some, None, length, map, slice_get, option_map, ◌≤◌, ◌⊎◌}
 use Rattle.std.specs.List.{AllByRecursion}
+use Rattle.std.specs.Option.{option_map_or}
 use Rattle.relay_history.specs.History.{Reaches, changes_since}
 use Rattle.relay_patch.specs.Change.{Leads}
 use Rattle.relay_patch.specs.declared.change.Change.{Change}
@@ -14,11 +15,12 @@ use Rattle.relay_room.specs.CatchUp.{IsSent}
 use Rattle.relay_room.specs.Room.{State as Room, IsRoom, revision}
 use Rattle.relay_tree.specs.Document.{Document, null}
 use Rattle.relay_view.specs.View.{View, view}
-use Rattle.relay_hub.specs.Log.{Log, Watching, Place, place, home, is_opened, documents, beginning, present_of, watching, opened, open_count}
+use Rattle.relay_hub.specs.Log.{Log, Watching, Place, place, home, is_opened, documents, beginning, present_of, watching, Bequest, left, opened, open_count}
 use Rattle.relay_hub.specs.Session.{Session, later}
-use Rattle.relay_hub.specs.State.{State, IsConfig, RoomSessions, place_of, home_of, place_named, session_in}
+use Rattle.relay_hub.specs.State.{HaveRooms, State, IsConfig, RoomSessions, place_of, home_of, place_named, session_in}
 use Rattle.relay_tree.specs.declared.budget.Budget.TheVariants.{Unbounded}
 use Rattle.relay_hub.specs.declared.config.HubConfig.{HubConfig}
+use Rattle.relay_hub.specs.declared.will.Will.{Will}
 
 -- What a client holds.
 
@@ -84,7 +86,7 @@ WatchStands documents room x (Some w) = (x.view ≡ Some w.view) × Follows docu
 WatchStands documents room x None = (x.view ≡ None) × (x.outbox.patches ≡ []) × (x.outbox.due ≡ false)
 
 abbrev pub SessionStands : ℕ → (List ℕ → List Document) → List ℕ → Room → Option Session → Option Place → Option Watching → Type 0
-SessionStands most documents name room (Some x) there w = (there ≡ Some (place name x.access)) × OutboxStands most x × WatchStands (documents name) room x w
+SessionStands most documents name room (Some x) there w = (there ≡ Some (place name x.access x.will)) × OutboxStands most x × WatchStands (documents name) room x w
 SessionStands most documents name room None there w = ⊥
 
 abbrev pub RoomSessionsStand : ℕ → (List ℕ → List Document) → ℕ → Option (List ℕ × RoomSessions) → Option Place → Option Watching → Type 0
@@ -99,6 +101,10 @@ HomeStands most documents rooms s None there w = there ≡ None
 -- a room that begins anew at the floor begins above the documents of its name, or there is only the first of them
 abbrev pub MayBegin : ℕ → List Document → Type 0
 MayBegin floor documents = (length documents ≤ floor) ⊎ (documents ≡ null ∷ [])
+
+-- what a will leaves, by the name of its room
+abbrev pub named_will : List (List ℕ × RoomSessions) → Will → Bequest
+named_will rooms w = record { room = option_map_or (λ r. r.0) (slice_get rooms w.place) []; patch = w.patch }
 
 pub record StandsFor (b : HubConfig) (E : Log) (hub : State) : Type 0 where
   pub made : hub.made ≡ b
@@ -116,6 +122,9 @@ pub record StandsFor (b : HubConfig) (E : Log) (hub : State) : Type 0 where
   pub others : (name : List ℕ) → place_named name hub.rooms ≡ None → MayBegin hub.floor (documents E name)
   -- the sessions that are open, with their views
   pub sessions : (s : ℕ) → HomeStands b.max_waiting_patches (documents E) hub.rooms s (place_of hub s) (home E s) (watching b E s)
+  -- the wills that are left to be done, each in its room
+  pub wills : map (named_will hub.rooms) hub.wills ≡ left E
+  pub willing : HaveRooms hub.rooms hub.wills
 
 -- What follows for the clients of a hub that stands for a log.
 

@@ -1,11 +1,13 @@
 -- A hub as contracts see it: plain data, and how a session and a room are found in it.
-use Rattle.std.specs.Prelude.{◌≡◌, ⊤, ℕ, ◌+◌, ◌≤◌, ◌==◌, max, nat_eq, nat_le, nat_lt, Bool, true, false, ◌&&◌, not, is_some, if◌then◌else◌, length, List, [], ◌∷◌, Option, Some, None, option_and_then, map, find, position, slice_get, bytes_eq, refl}
+use Rattle.std.specs.Prelude.{◌≡◌, ⊤, ℕ, ◌+◌, ◌<◌, ◌≤◌, ◌==◌, max, nat_eq, nat_le, nat_lt, Bool, true, false, ◌&&◌, not, is_some, if◌then◌else◌, length, List, [], ◌∷◌, Option, Some, None, option_and_then, map, find, position, slice_get, bytes_eq, refl}
 use Rattle.std.specs.Coded.{Coded, code_by, coded×, coded_list, coded_ℕ}
+use Rattle.std.specs.List.{AllByRecursion}
 use Rattle.std.specs.List.Sorted.{IsStrictlyIncreasing}
 use Rattle.std.specs.Map.{lookup}
 use Rattle.relay_history.specs.declared.history.TheConstants.{MAX_REVISIONS}
 use Rattle.relay_outbox.specs.declared.outbox.TheConstants.{MAX_PATCHES}
 use Rattle.relay_patch.specs.declared.change.Change.{Change}
+use Rattle.relay_patch.specs.declared.op.Op.{Op}
 use Rattle.relay_room.specs.Room.{State as Room, state_code, revision}
 use Rattle.relay_tree.specs.Document.{Document, null}
 use Rattle.relay_tree.specs.declared.budget.Budget.TheVariants.{Unbounded}
@@ -13,6 +15,7 @@ use Rattle.relay_tree.specs.declared.count.TheConstants.{MAX_COUNT}
 use Rattle.relay_hub.specs.Config.{config_code}
 use Rattle.relay_hub.specs.declared.config.HubConfig.{HubConfig}
 use Rattle.relay_hub.specs.declared.config.TheConstants.{DEFAULT_ROOMS, DEFAULT_SESSIONS, MAX_ROOMS, MAX_SESSIONS}
+use Rattle.relay_hub.specs.declared.will.Will.{Will}
 use Rattle.relay_hub.specs.Session.{Session}
 
 -- a room with the sessions that are open in it
@@ -47,18 +50,21 @@ pub record IsConfig (made : HubConfig) : Type 0 where
   pub history : (1 ≤ made.history) × (made.history ≤ MAX_REVISIONS)
   pub max_waiting_patches : (1 ≤ made.max_waiting_patches) × (made.max_waiting_patches ≤ MAX_PATCHES)
 
--- the configuration, the number of the next session, the revision at which a new room begins, the rooms by name, each at its place (a new
--- one comes last, or takes that of one that makes place), and for each open session the place of its room
+-- the configuration, the number of the next session, the revision at which a new room begins, the rooms
+-- by name, each at its place (a new one comes last, or takes that of one that makes place), for each
+-- open session the place of its room, and the wills that closed sessions left and that are not done
+-- yet, the oldest first
 pub record State : Type 0 where
   pub made : HubConfig
   pub next : ℕ
   pub floor : ℕ
   pub rooms : List (List ℕ × RoomSessions)
   pub homes : List (ℕ × ℕ)
+  pub wills : List Will
 
 -- a hub on which nothing was called yet
 abbrev pub made_with : HubConfig → State
-made_with c = record { made = c; next = c.first; floor = 0; rooms = []; homes = [] }
+made_with c = record { made = c; next = c.first; floor = 0; rooms = []; homes = []; wills = [] }
 
 -- the same of a hub in which nothing is bounded by weight
 abbrev pub new_hub : ℕ → ℕ → ℕ → ℕ → State
@@ -107,9 +113,15 @@ is_null _ = false
 abbrev pub makes_place : RoomSessions → Bool
 makes_place g = is_null g.room.document && (length g.sessions == 0) && nat_lt (revision g.room) MAX_COUNT
 
--- the place that a new room takes from another: that of the first room that makes place, if all places are taken
-abbrev pub vacant_place : ℕ → List (List ℕ × RoomSessions) → Option ℕ
-vacant_place most rooms = if nat_le most (length rooms) then position (λ room. makes_place room.1) rooms else None
+-- the place that a new room takes from another: that of the first room that makes place, if all places
+-- are taken, and no will is left to be done
+abbrev pub vacant_place : ℕ → List Will → List (List ℕ × RoomSessions) → Option ℕ
+vacant_place most [] rooms =
+    if nat_le most (length rooms) then position (λ room. makes_place room.1) rooms else None
+vacant_place most (w ∷ wills) rooms = None
+
+abbrev pub vacant_in : State → Option ℕ
+vacant_in hub = vacant_place hub.made.rooms hub.wills hub.rooms
 
 -- a revision above all of a room that makes place; 0 for one in which no edit was ever accepted
 abbrev pub above : RoomSessions → ℕ
@@ -126,7 +138,7 @@ floor_at place hub = floor_over hub.floor (option_and_then (slice_get hub.rooms)
 
 -- another room is wanted, all places are taken, and none is vacant
 abbrev pub is_crowded : Option ℕ → State → Bool
-is_crowded place hub = not (is_some place) && nat_le hub.made.rooms (length hub.rooms) && not (is_some (vacant_place hub.made.rooms hub.rooms))
+is_crowded place hub = not (is_some place) && nat_le hub.made.rooms (length hub.rooms) && not (is_some (vacant_in hub))
 
 -- a room with its name, without its sessions
 abbrev pub without_sessions : List ℕ × RoomSessions → List ℕ × Room
@@ -138,6 +150,10 @@ pub record RoomOf (hub : State) : Type 0 where
   pub name : List ℕ
   pub room_sessions : RoomSessions
   pub there : slice_get hub.rooms place ≡ Some (name, room_sessions)
+
+-- each will has its room
+abbrev pub HaveRooms : List (List ℕ × RoomSessions) → List Will → Type 0
+HaveRooms rooms = AllByRecursion (λ w. w.place < length rooms)
 
 -- Session s is open: its room, and the session in it.
 pub record Home (hub : State) (s : ℕ) : Type 0 where
@@ -160,6 +176,9 @@ pub record IsHub (hub : State) : Type 0 where
       → (t : ℕ) (x : Session) → session_in g.sessions t ≡ Some x → place_of hub t ≡ Some place
   -- and is there only once
   pub once : (place : ℕ) (name : List ℕ) (g : RoomSessions) → slice_get hub.rooms place ≡ Some (name, g) → EachOnce g.sessions
+  -- sessions and wills together are within the limit of sessions
+  pub few : length hub.homes + length hub.wills ≤ hub.made.sessions
+  pub wills : HaveRooms hub.rooms hub.wills
 
 -- how the logic stores a hub
 
@@ -170,10 +189,26 @@ room_sessions_code change session = code_by (Room × List Session)
     (λ p. room_sessions p.0 p.1)
     (λ _. refl)
 
-abbrev pub hub_code : Coded Change → Coded Session → Coded State
-hub_code change session = code_by (HubConfig × (ℕ × (ℕ × (List (List ℕ × RoomSessions) × List (ℕ × ℕ)))))
+abbrev pub will_code : Coded Op → Coded Will
+will_code op = code_by (ℕ × List Op)
+    (coded× coded_ℕ (coded_list op))
+    (λ w. (w.place, w.patch))
+    (λ p. record { place = p.0; patch = p.1 })
+    (λ _. refl)
+
+abbrev pub hub_code : Coded Change → Coded Op → Coded Session → Coded State
+hub_code change op session =
+    code_by (HubConfig × (ℕ × (ℕ × (List (List ℕ × RoomSessions) × (List (ℕ × ℕ) × List Will)))))
     (coded× config_code (coded× coded_ℕ (coded× coded_ℕ
-    (coded× (coded_list (coded× (coded_list coded_ℕ) (room_sessions_code change session))) (coded_list (coded× coded_ℕ coded_ℕ))))))
-    (λ h. (h.made, (h.next, (h.floor, (h.rooms, h.homes)))))
-    (λ p. record { made = p.0; next = p.1.0; floor = p.1.1.0; rooms = p.1.1.1.0; homes = p.1.1.1.1 })
+    (coded× (coded_list (coded× (coded_list coded_ℕ) (room_sessions_code change session)))
+    (coded× (coded_list (coded× coded_ℕ coded_ℕ)) (coded_list (will_code op)))))))
+    (λ h. (h.made, (h.next, (h.floor, (h.rooms, (h.homes, h.wills))))))
+    (λ p. record {
+      made = p.0;
+      next = p.1.0;
+      floor = p.1.1.0;
+      rooms = p.1.1.1.0;
+      homes = p.1.1.1.1.0;
+      wills = p.1.1.1.1.1;
+    })
     (λ _. refl)

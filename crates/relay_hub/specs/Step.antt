@@ -1,5 +1,5 @@
 -- One step of a hub: the answer to an event, and the state after it. What a case does not name is unchanged.
-use Rattle.std.specs.Prelude.{ℕ, ◌≡◌, ◌+◌, ◌<◌, ◌==◌, Bool, true, false, List, [], ◌∷◌, ◌++◌, Option, Some, None, option_map, Result, Ok, Err, length, slice_get, slice_set, nat_lt, nat_le, not, if◌then◌else◌}
+use Rattle.std.specs.Prelude.{ℕ, ◌≡◌, ◌+◌, ◌<◌, ◌==◌, Bool, true, false, List, [], ◌∷◌, ◌++◌, Option, Some, None, option_map, Result, Ok, Err, length, option_and_then, slice_get, slice_set, nat_lt, nat_le, not, if◌then◌else◌}
 use Rattle.relay_history.specs.History.{with_revision}
 use Rattle.relay_outbox.specs.Outbox.{folded}
 use Rattle.relay_outbox.specs.declared.outbox.TheConstants.{MAX_REPLIES}
@@ -14,7 +14,7 @@ use Rattle.relay_proto.specs.declared.refusal.Refusal.{Refusal}
 use Rattle.relay_proto.specs.declared.reply.Reply.{Reply}
 use Rattle.relay_proto.specs.declared.reply.Reply.TheVariants.{Done}
 use Rattle.relay_proto.specs.declared.request.Request.{Request}
-use Rattle.relay_proto.specs.declared.request.Request.TheVariants.{Edit, Watch, Resume, Unwatch}
+use Rattle.relay_proto.specs.declared.request.Request.TheVariants.{Edit, Will, Watch, Resume, Unwatch}
 use Rattle.relay_room.specs.CatchUp.{caught_up_within, patch_or_snapshot, MakesPresent, LeadsOn, Fits}
 use Rattle.relay_room.specs.Edit.{edited}
 use Rattle.relay_room.specs.Room.{State as Room, IsRoom, begun, revision, trimmed}
@@ -27,18 +27,21 @@ use Rattle.relay_tree.specs.declared.budget.Budget.{Budget}
 use Rattle.relay_tree.specs.declared.count.TheConstants.{MAX_COUNT}
 use Rattle.relay_hub.specs.declared.config.HubConfig.{HubConfig}
 use Rattle.relay_hub.specs.declared.event.Answer.{Answer}
-use Rattle.relay_hub.specs.declared.event.Answer.TheVariants.{Opened, NotOpened, Heard, Drawn, Closed, NoSession}
+use Rattle.relay_hub.specs.declared.event.Answer.TheVariants.{Opened, NotOpened, Heard, Drawn, Closed, WillDone, NoWill, Forgotten, NotForgotten, NoSession}
 use Rattle.relay_hub.specs.declared.event.Event.{Event}
-use Rattle.relay_hub.specs.declared.event.Event.TheVariants.{Open, Receive, Draw, Close}
+use Rattle.relay_hub.specs.declared.event.Event.TheVariants.{Open, Receive, Draw, Close, DoWill, Forget}
 use Rattle.relay_hub.specs.declared.event.Opening.{Opening}
 use Rattle.relay_hub.specs.declared.event.Heard.TheVariants.{Answered, Busy}
+use Rattle.relay_hub.specs.declared.fault.ForgetFault.{ForgetFault}
+use Rattle.relay_hub.specs.declared.fault.ForgetFault.TheVariants as forget
+use Rattle.relay_hub.specs.declared.will.Will.{Will as WillLeft}
 use Rattle.relay_hub.specs.declared.fault.OpenFault.{OpenFault}
 use Rattle.relay_hub.specs.declared.fault.OpenFault.TheVariants.{RoomName, RoomsFull, SessionsFull, Exhausted}
 use Rattle.relay_hub.specs.Admitted.{admitted}
 use Rattle.relay_hub.specs.Allowance.{Allowance, whole, within, after_update}
 use Rattle.relay_hub.specs.Refusal.{refused, edit_refusal, future_refusal}
-use Rattle.relay_hub.specs.Session.{Session, with_outbox, replied, newcomer, watches, unwatches, resumes, notified_outbox, front_message, message_text, ReadsBack, drawn}
-use Rattle.relay_hub.specs.State.{RoomSessions, room_sessions, State, EachOnce, place_of, place_named, vacant_place, floor_at, is_crowded, session_in}
+use Rattle.relay_hub.specs.Session.{Session, with_outbox, replied, newcomer, leaves_will, watches, unwatches, resumes, notified_outbox, front_message, message_text, ReadsBack, drawn}
+use Rattle.relay_hub.specs.State.{RoomSessions, room_sessions, State, EachOnce, place_of, place_named, vacant_in, floor_at, is_crowded, session_in}
 
 -- Within a room.
 
@@ -117,6 +120,14 @@ EditServed made s x id patch (Ok d) short old new = (notified : Room) × GoesOn 
 EditServed made s x id patch (Err fault) short old new = (short ≡ 0)
     × (r : Reply) × (edit_refusal id fault ≡ Some r) × ChangesOnly s (Some (replied r x)) old new
 
+-- a will that a closed session left, whose patch the room makes into this: an edit of which nobody gets a
+-- reply. Refused, it changes nothing
+abbrev pub WillServed : HubConfig → List Op → Result Document EditFault → ℕ → RoomSessions → RoomSessions → Type 0
+WillServed made patch (Ok d) short old new = (notified : Room) × GoesOn old.room patch d notified
+    × AllNotified old.room.document (all_changes old.room.document patch) notified made.telling_weight old.sessions new.sessions short
+    × (new.room ≡ trimmed made.history_weight notified)
+WillServed made patch (Err fault) short old new = (short ≡ 0) × (new ≡ old)
+
 -- Other requests.
 
 -- a resume. The two booleans: is the epoch the present one, and does the revision exist
@@ -132,6 +143,7 @@ abbrev pub Serves : HubConfig → ℕ → Session → Result Request Refusal →
 Serves made s x (Err r) short old new = (short ≡ 0) × ChangesOnly s (Some (replied (refused r) x)) old new
 Serves made s x (Ok (Watch id pointers)) short old new = (short ≡ 0) × ChangesOnly s (Some (watches id pointers x)) old new
 Serves made s x (Ok (Unwatch id)) short old new = (short ≡ 0) × ChangesOnly s (Some (unwatches id x)) old new
+Serves made s x (Ok (Will id patch)) short old new = (short ≡ 0) × ChangesOnly s (Some (leaves_will id patch x)) old new
 Serves made s x (Ok (Resume id e rev pointers)) short old new =
     (short ≡ 0) × ResumeServed (e == made.epoch) (nat_le rev (revision old.room)) id rev pointers s x old new
 Serves made s x (Ok (Edit id base patch)) short old new = EditServed made s x id patch (edited old.room base patch) short old new
@@ -160,6 +172,17 @@ with_room place name g hub = record {
   floor = hub.floor;
   rooms = slice_set hub.rooms place (name, g);
   homes = hub.homes;
+  wills = hub.wills;
+}
+
+abbrev pub with_wills : List WillLeft → State → State
+with_wills wills hub = record {
+  made = hub.made;
+  next = hub.next;
+  floor = hub.floor;
+  rooms = hub.rooms;
+  homes = hub.homes;
+  wills = wills;
 }
 
 -- what happens in the room at a place; nothing else changes
@@ -180,7 +203,7 @@ abbrev pub open_fault : State → List ℕ → Option OpenFault
 open_fault hub name =
     if not (is_room_name name) then Some RoomName else
     if is_crowded (place_named name hub.rooms) hub then Some RoomsFull else
-    if nat_le hub.made.sessions (length hub.homes) then Some SessionsFull else
+    if nat_le hub.made.sessions (length hub.homes + length hub.wills) then Some SessionsFull else
     if nat_lt MAX_COUNT hub.next then Some Exhausted else None
 
 -- a new room, with its first session, is the last one, or takes the place of one that makes place
@@ -191,26 +214,26 @@ Founds None room old place new = (place ≡ length old) × (new ≡ old ++ room 
 abbrev pub opening_of : ℕ → ℕ → Opening
 opening_of session rev = record { session = session; rev = rev }
 
--- the new session, which `made` gives for the room's revision, enters a room that is there, or a new one, whose document is null at the
--- floor
-abbrev pub EntersRooms : Opening → (ℕ → Session) → ℕ → ℕ → ℕ → List ℕ → Option ℕ → List (List ℕ × RoomSessions) → ℕ → List (List ℕ × RoomSessions) → Type 0
-EntersRooms o made most history floor name (Some i) old place new = (place ≡ i)
+-- the new session, which `made` gives for the room's revision, enters a room that is there, or a new
+-- one, whose document is null at the floor, at the vacant place if there is one
+abbrev pub EntersRooms : Opening → (ℕ → Session) → Option ℕ → ℕ → ℕ → List ℕ → Option ℕ → List (List ℕ × RoomSessions) → ℕ → List (List ℕ × RoomSessions) → Type 0
+EntersRooms o made vacant history floor name (Some i) old place new = (place ≡ i)
     × (known : List ℕ) × (g : RoomSessions) × (h : RoomSessions) × (slice_get old i ≡ Some (known, g))
     × (new ≡ slice_set old i (known, h))
     × (o.rev ≡ revision g.room)
     × ChangesOnly o.session (Some (made (revision g.room))) g h
-EntersRooms o made most history floor name None old place new =
-    (o.rev ≡ floor) × Founds (vacant_place most old) (name, room_sessions (begun null floor history) (made floor ∷ [])) old place new
+EntersRooms o made vacant history floor name None old place new =
+    (o.rev ≡ floor) × Founds vacant (name, room_sessions (begun null floor history) (made floor ∷ [])) old place new
 
 -- the floor of a hub after a session entered a room that is there, or a new one
 abbrev pub floor_after : Option ℕ → State → ℕ
 floor_after (Some i) hub = hub.floor
-floor_after None hub = floor_at (vacant_place hub.made.rooms hub.rooms) hub
+floor_after None hub = floor_at (vacant_in hub) hub
 
 -- the same in a hub
 abbrev pub Enters : Opening → List ℕ → Access → Option ℕ → State → ℕ → State → Type 0
 Enters o name access at old place new =
-    EntersRooms o (λ rev. newcomer old.made access rev o.session) old.made.rooms old.made.history new.floor name at old.rooms place new.rooms
+    EntersRooms o (λ rev. newcomer old.made access rev o.session) (vacant_in old) old.made.history new.floor name at old.rooms place new.rooms
 
 pub record Opens (old : State) (name : List ℕ) (access : Access) (o : Opening) (new : State) : Type 0 where
   pub number : o.session ≡ old.next
@@ -221,9 +244,15 @@ pub record Opens (old : State) (name : List ℕ) (access : Access) (o : Opening)
   pub enters : Enters o name access (place_named name old.rooms) old place new
   pub home : (t : ℕ) → place_of new t ≡ (if o.session == t then Some place else place_of old t)
   pub count : length new.homes ≡ length old.homes + 1
+  pub wills : new.wills ≡ old.wills
 
--- session s is removed from its room, which stays, and is open nowhere
-pub record Closes (s place : ℕ) (name : List ℕ) (g : RoomSessions) (old : State) (new : State) : Type 0 where
+-- what a session leaves to be done: nothing, or its will
+abbrev pub left_of : ℕ → List Op → List WillLeft
+left_of place [] = []
+left_of place (op ∷ ops) = record { place = place; patch = op ∷ ops } ∷ []
+
+-- session s is removed from its room, which stays, and is open nowhere; its will is left to be done
+pub record Closes (s place : ℕ) (name : List ℕ) (g : RoomSessions) (will : List Op) (old : State) (new : State) : Type 0 where
   pub next : new.next ≡ old.next
   pub made : new.made ≡ old.made
   pub floor : new.floor ≡ old.floor
@@ -232,10 +261,11 @@ pub record Closes (s place : ℕ) (name : List ℕ) (g : RoomSessions) (old : St
   pub rooms : new.rooms ≡ slice_set old.rooms place (name, left)
   pub home : (t : ℕ) → place_of new t ≡ (if s == t then None else place_of old t)
   pub count : length new.homes + 1 ≡ length old.homes
+  pub wills : new.wills ≡ old.wills ++ left_of place will
 
 abbrev pub ClosesIn : ℕ → ℕ → List ℕ → RoomSessions → Option Session → State → Answer → State → Type 0
 ClosesIn s place name g None old NoSession new = new ≡ old
-ClosesIn s place name g (Some x) old Closed new = Closes s place name g old new
+ClosesIn s place name g (Some x) old Closed new = Closes s place name g x.will old new
 ClosesIn s place name g x old answer new = ⊥
 
 abbrev pub ClosesInRoom : ℕ → ℕ → Option (List ℕ × RoomSessions) → State → Answer → State → Type 0
@@ -246,6 +276,39 @@ abbrev pub ClosesAt : ℕ → Option ℕ → State → Answer → State → Type
 ClosesAt s (Some place) old answer new = ClosesInRoom s place (slice_get old.rooms place) old answer new
 ClosesAt s None old answer new = (answer ≡ NoSession) × (new ≡ old)
 
+-- the oldest of the wills that are left is done
+abbrev pub DoesWill : List WillLeft → State → Answer → State → Type 0
+DoesWill [] old NoWill new = new ≡ old
+DoesWill (w ∷ wills) old (WillDone short) new = (done : State) × (new ≡ with_wills wills done)
+    × InRoom w.place (slice_get old.rooms w.place) old (WillDone short)
+    (λ g h. WillServed old.made w.patch (edited g.room None w.patch) short g h) done
+DoesWill wills old answer new = ⊥
+
+-- the first reason why a room cannot begin anew
+abbrev pub anew_fault : RoomSessions → Option ForgetFault
+anew_fault g =
+    if not (length g.sessions == 0) then Some forget.Occupied else
+    if nat_le MAX_COUNT (revision g.room) then Some forget.Exhausted else None
+
+-- the first reason not to forget the room of a name
+abbrev pub forget_fault_in : Option (List ℕ × RoomSessions) → Option ForgetFault
+forget_fault_in None = Some forget.NoRoom
+forget_fault_in (Some room) = anew_fault room.1
+
+abbrev pub forget_fault : State → List ℕ → Option ForgetFault
+forget_fault hub name =
+    forget_fault_in (option_and_then (slice_get hub.rooms) (place_named name hub.rooms))
+
+-- the room of that name, in which nobody is, begins anew: its document is null at the next revision, and
+-- it remembers no change
+pub record Forgets (old : State) (name : List ℕ) (rev : ℕ) (new : State) : Type 0 where
+  pub place : ℕ
+  pub room : RoomSessions
+  pub named : place_named name old.rooms ≡ Some place
+  pub there : slice_get old.rooms place ≡ Some (name, room)
+  pub newer : rev ≡ revision room.room + 1
+  pub begins : new ≡ with_room place name (room_sessions (begun null rev old.made.history) []) old
+
 -- An event with its answer takes the hub from one state to the other.
 abbrev pub Step : State → Event → Answer → State → Type 0
 Step old (Open name access) (Opened o) new = (open_fault old name ≡ None) × Opens old name access o new
@@ -254,3 +317,7 @@ Step old (Open name access) answer new = ⊥
 Step old (Receive s text) answer new = AtHome s old answer (λ g h. Receives old.made s (session_in g.sessions s) text answer g h) new
 Step old (Draw s) answer new = AtHome s old answer (λ g h. Draws s (session_in g.sessions s) answer g h) new
 Step old (Close s) answer new = ClosesAt s (place_of old s) old answer new
+Step old DoWill answer new = DoesWill old.wills old answer new
+Step old (Forget name) (Forgotten rev) new = (forget_fault old name ≡ None) × Forgets old name rev new
+Step old (Forget name) (NotForgotten fault) new = (forget_fault old name ≡ Some fault) × (new ≡ old)
+Step old (Forget name) answer new = ⊥

@@ -25,13 +25,15 @@ pub fn read_admitted(
     afford(permit(request, access)?, budget)
 }
 
-/// An edit of a session that only reads is refused.
+/// An edit or a will of a session that only watches is refused.
 fn permit(request: Request, access: Access) -> Result<Request, RequestFault>
     ensures ok { IfOk result (λ allowed. permitted access (Ok request) ≡ Ok allowed) }
     ensures refused { IfErr result (λ fault. IsRefusedAs fault (permitted access (Ok request))) }
 {
     match (access, request) {
-        (Access::ReadOnly, Request::Edit { id, .. }) => Err(refusal(Word::ReadOnly, id, None)),
+        (Access::ReadOnly, Request::Edit { id, .. } | Request::Will { id, .. }) => {
+            Err(refusal(Word::ReadOnly, id, None))
+        }
         (_, request) => Ok(request),
     }
 }
@@ -45,7 +47,7 @@ fn afford(request: Request, budget: Budget) -> Result<Request, RequestFault>
         Request::Watch { id, view } | Request::Resume { id, view, .. } => {
             unpaid_slot(view, budget).map(|at| (*id, at))
         }
-        Request::Edit { .. } | Request::Unwatch { .. } => None,
+        Request::Edit { .. } | Request::Will { .. } | Request::Unwatch { .. } => None,
     };
     match unpaid {
         Some((id, at)) => Err(refusal(Word::TooHeavy, id, Some(at))),

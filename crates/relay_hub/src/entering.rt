@@ -1,31 +1,35 @@
 //! Opening a session in a room. All memory is allocated before anything changes.
-ghost use Rattle.std.specs.Prelude.{◌≡◌, ◌≤◌, Some, None, [], ◌∷◌, ◌++◌, IfOk, OnOk, OnErr, length};
+ghost use Rattle.std.specs.Prelude.{◌≡◌, ◌≤◌, Some, None, [], ◌∷◌, ◌++◌, ◌<◌, IfOk, IfSome, OnOk, OnErr, length, position};
 ghost use Rattle.relay_room.specs.Room.{begun, revision};
 ghost use Rattle.relay_tree.specs.Document.{null};
 ghost use Rattle.relay_tree.specs.declared.count.TheConstants.{MAX_COUNT};
 ghost use Rattle.relay_hub.specs.Call.{IsAbove, IsFresh};
 ghost use Rattle.relay_hub.specs.Representation.{rooms_of};
 ghost use Rattle.relay_hub.specs.Session.{newcomer};
-ghost use Rattle.relay_hub.specs.State.{IsConfig, room_sessions, place_named, vacant_place};
+ghost use Rattle.relay_hub.specs.State.{IsConfig, room_sessions, makes_place, place_named, vacant_place};
 ghost use Rattle.relay_hub.specs.Step.{ChangesOnly, EntersRooms, Founds, opening_of};
 
 use crate::config::HubConfig;
 use crate::room_sessions::RoomSessions;
 use crate::session::Session;
+use crate::will::Will;
 use indexmap::IndexMap;
 use relay_proto::Access;
 use relay_room::{Room, RoomFault};
 use relay_tree::{Node, Tree};
 use std::alloc::{AllocError, Global};
 
-/// A session to be opened: its number, what it may do, the configuration of its hub, and the revision at which its room begins, if it is
-/// new.
+/// A session to be opened.
 #[derive(Clone, Copy)]
 pub struct NewSession {
     pub number: u64,
     pub access: Access,
+    /// The configuration of its hub.
     pub made: HubConfig,
+    /// The revision at which its room begins, if it is new.
     pub floor: u64,
+    /// The place that a new room takes from another one; `None`: it comes last.
+    pub vacant: Option<usize>,
 }
 
 impl NewSession {
@@ -51,8 +55,9 @@ pub fn open_session(
     requires fresh { IsFresh new_session.number (rooms_of rooms.old.entries) }
     requires made { IsConfig new_session.made }
     requires floor { new_session.floor ≤ MAX_COUNT }
+    requires vacant { IfSome new_session.vacant (λ i. i < length (rooms_of rooms.old.entries)) }
     ensures ok { IfOk result (λ at. EntersRooms (opening_of new_session.number at.1) (λ rev. newcomer new_session.made new_session.access rev new_session.number)
-        new_session.made.rooms new_session.made.history new_session.floor name.now place (rooms_of rooms.old.entries) at.0 (rooms_of rooms.new.entries)) }
+        new_session.vacant new_session.made.history new_session.floor name.now place (rooms_of rooms.old.entries) at.0 (rooms_of rooms.new.entries)) }
     ensures err { OnErr result (rooms_of rooms.new.entries ≡ rooms_of rooms.old.entries) }
 {
     let Some(place) = place else {
@@ -94,7 +99,8 @@ fn begin_room(
     requires absent { place_named name.now (rooms_of rooms.old.entries) ≡ None }
     requires made { IsConfig new_session.made }
     requires floor { new_session.floor ≤ MAX_COUNT }
-    ensures ok { IfOk result (λ at. Founds (vacant_place new_session.made.rooms (rooms_of rooms.old.entries)) (
+    requires vacant { IfSome new_session.vacant (λ i. i < length (rooms_of rooms.old.entries)) }
+    ensures ok { IfOk result (λ at. Founds new_session.vacant (
       name.now,
       room_sessions (begun null new_session.floor new_session.made.history)
           (newcomer new_session.made new_session.access new_session.floor new_session.number ∷ []),
@@ -114,10 +120,9 @@ fn begin_room(
         Err(_) => unreachable!(),
     };
     let room_sessions = RoomSessions::begin(alloc, room, new_session.session(alloc, floor)?)?;
-    let vacant = vacant_place(new_session.made.rooms, rooms);
     let last = rooms.len();
     rooms.insert(String::from_str(alloc, name)?, room_sessions)?;
-    match vacant {
+    match new_session.vacant {
         Some(place) => {
             let _ = rooms.swap_remove_index(place);
             Ok(place)
@@ -127,12 +132,23 @@ fn begin_room(
 }
 
 /// The place of the first room that makes place for another one, if there are as many as there may be.
-pub fn vacant_place(most: u64, rooms: &IndexMap<String, RoomSessions>) -> Option<usize>
-    ensures { result ≡ vacant_place most (rooms_of rooms.now.entries) }
+/// None does while a will is left to be done.
+pub fn vacant_place(
+    most: u64,
+    wills: &Vec<Will>,
+    rooms: &IndexMap<String, RoomSessions>,
+) -> Option<usize>
+    ensures { result ≡ vacant_place most wills.now.items (rooms_of rooms.now.entries) }
 {
-    if (rooms.len() as u64) < most {
+    if !wills.is_empty() || (rooms.len() as u64) < most {
         return None;
     }
+    first_vacant(rooms)
+}
+
+fn first_vacant(rooms: &IndexMap<String, RoomSessions>) -> Option<usize>
+    ensures { result ≡ position (λ room. makes_place room.1) (rooms_of rooms.now.entries) }
+{
     for place in 0..rooms.len() {
         let Some((_, room_sessions)) = rooms.get_index(place) else {
             unreachable!()

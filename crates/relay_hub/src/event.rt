@@ -1,5 +1,5 @@
 //! The events of a hub, and its answers.
-use crate::fault::OpenFault;
+use crate::fault::{ForgetFault, OpenFault};
 use crate::text::Text;
 use relay_proto::Access;
 
@@ -10,6 +10,10 @@ pub enum Event {
     Receive { session: u64, text: Text },
     Draw { session: u64 },
     Close { session: u64 },
+    /// Of the wills that closed sessions left, the oldest is done.
+    DoWill,
+    /// The room of that name begins anew.
+    Forget { room: Text },
 }
 
 /// A session that was opened.
@@ -40,5 +44,13 @@ pub enum Answer {
     /// The text at the front of the session's outbox; `None` if nothing waited.
     Drawn(Option<Text>),
     Closed,
+    /// A will is done, and the room's next revision made if it accepts the patch. `short` is as in
+    /// [`Heard::Answered`].
+    WillDone { short: u64 },
+    /// No will is left to be done.
+    NoWill,
+    /// The room began anew, at revision `rev`.
+    Forgotten { rev: u64 },
+    NotForgotten(ForgetFault),
     NoSession,
 }

@@ -21,11 +21,28 @@ pub enum OpenFault {
     /// No room has this name, there are as many rooms as the configuration allows, and none of them makes place.
     #[error("too many rooms")]
     RoomsFull,
-    /// As many sessions are open as the configuration allows.
+    /// As many sessions are open, or have left a will that is not done yet, as the configuration
+    /// allows.
     #[error("too many sessions")]
     SessionsFull,
     /// No session number is left.
     #[error("no session number is left")]
+    Exhausted,
+    #[error("out of memory")]
+    NoMemory,
+}
+
+/// Why a room cannot be forgotten, in the order of the checks. The hub is unchanged.
+#[derive(Clone, Copy, Debug, PartialEq, Eq, Error)]
+pub enum ForgetFault {
+    /// No room has that name.
+    #[error("no such room")]
+    NoRoom,
+    /// A session is open in the room.
+    #[error("somebody is in the room")]
+    Occupied,
+    /// No revision is left.
+    #[error("no revision is left")]
     Exhausted,
     #[error("out of memory")]
     NoMemory,

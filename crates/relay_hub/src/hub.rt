@@ -3,26 +3,26 @@
 //! Each call is a step (`specs/Step`). A hub agrees with the log of the calls that it answered (`specs/Stands`): it has the documents,
 //! sessions and views of the log, and every client that watches, and applies what was drawn for it and what waits, in order, holds exactly
 //! its view of the present document. A call that returns `NoMemory` changes nothing.
-ghost use Rattle.std.specs.Prelude.{◌≡◌, ◌≢◌, ◌<◌, ◌≤◌, ◌⊎◌, ◌↔◌, [], ◌∷◌, ℕ, Some, None, Ok, IfOk, IfErr, IsErrOf, IsSomeAnd, IsTrue, OnOk, OnErr, length, option_map, slice_get};
-ghost use Rattle.relay_hub.specs.Call.{StepIf, opening, receiving, drawing, closing, logged, done, followed, Runs};
+ghost use Rattle.std.specs.Prelude.{◌≡◌, ◌≢◌, ◌<◌, ◌≤◌, ◌⊎◌, ◌↔◌, [], ◌∷◌, ℕ, Some, None, Ok, IfOk, IfErr, IfSome, IsErrOf, IsSomeAnd, IsTrue, OnOk, OnErr, length, not, ◌==◌, option_map, slice_get};
+ghost use Rattle.relay_hub.specs.Call.{StepIf, opening, receiving, drawing, closing, doing_will, forgetting, logged, done, followed, Runs};
 ghost use Rattle.relay_hub.specs.Log.{Log, entry};
-ghost use Rattle.relay_hub.specs.State.{config, place_named, is_crowded, session_of, made_with, new_hub};
+ghost use Rattle.relay_hub.specs.State.{config, place_named, is_crowded, vacant_in, session_of, made_with, new_hub};
 ghost use Rattle.relay_hub.specs.Session.{waiting};
 ghost use Rattle.relay_hub.specs.Shed.{shed};
 ghost use Rattle.relay_hub.specs.Stands.{StandsFor, EachHoldsPresent, EachIsAtNamed};
-ghost use Rattle.relay_hub.specs.Step.{Step, open_fault, floor_after};
+ghost use Rattle.relay_hub.specs.Step.{Step, open_fault, forget_fault, floor_after};
 ghost use Rattle.relay_tree.specs.declared.count.TheConstants.{MAX_COUNT};
 ghost use Rattle.relay_hub.specs.Summary.{shown_by, summary_of};
 ghost use Rattle.relay_hub.specs.Queries.{BadLimits, room_and_session, may_hear, truth, RefusesEdits};
 ghost use Rattle.relay_hub.specs.declared.config.HubConfig.{HubConfig};
-ghost use Rattle.relay_hub.specs.declared.event.Event.TheVariants.{Open, Receive, Draw, Close};
+ghost use Rattle.relay_hub.specs.declared.event.Event.TheVariants.{Open, Receive, Draw, Close, DoWill, Forget};
 ghost use Rattle.relay_hub.specs.declared.event.Heard.TheVariants.{Answered};
 ghost use Rattle.relay_hub.specs.declared.fault.HubNewFault.TheVariants.{BadLimit};
 
 use crate::config::HubConfig;
 use crate::entering::{NewSession, open_session, vacant_place};
 use crate::event::{Answer, Event, Heard, Opening};
-use crate::fault::{HubFault, HubNewFault, NoSession, OpenFault, RunFault};
+use crate::fault::{ForgetFault, HubFault, HubNewFault, NoSession, OpenFault, RunFault};
 use crate::message_counts::MessageCounts;
 use crate::room_sessions::RoomSessions;
 use crate::session::Session;
@@ -30,6 +30,7 @@ use crate::shed::{shed_budget, shed_rooms};
 use crate::summary::{RoomSummary, summary_of};
 use crate::text::Text;
 use crate::told::Told;
+use crate::will::{Will, leave_behind};
 use indexmap::IndexMap;
 use relay_proto::{Access, is_room_name};
 use relay_room::Room;
@@ -49,6 +50,8 @@ pub struct Hub {
     rooms: IndexMap<String, RoomSessions>,
     /// The place of each open session's room, by the session's number.
     homes: IndexMap<u64, usize>,
+    /// The wills that are left to be done, the oldest first. There is space for one of each session.
+    wills: Vec<Will>,
     counts: MessageCounts,
     /// Whom the last text told something.
     told: Told,
@@ -57,18 +60,20 @@ pub struct Hub {
 }
 
 impl Model for Hub {
+    ghost use Rattle.std.specs.Prelude.{◌≤◌, vec_capacity};
     ghost use Rattle.relay_patch.specs.contracts.change.Change as change;
+    ghost use Rattle.relay_patch.specs.contracts.op.Op as op;
     ghost use Rattle.relay_hub.specs.contracts.session.Session as session;
     ghost use Rattle.relay_hub.specs.State.{State, IsHub, hub_code};
     ghost use Rattle.relay_hub.specs.Representation.{hub_of};
 
     ghost Value = { State };
 
-    ghost coded = { hub_code change.the_row.coded session.the_row.coded };
+    ghost coded = { hub_code change.the_row.coded op.the_row.coded session.the_row.coded };
 
     ghost view = { hub_of };
 
-    ghost invariant = { λ h. IsHub (hub_of h) };
+    ghost invariant = { λ h. IsHub (hub_of h) × (h.made.sessions ≤ vec_capacity h.wills) };
 }
 
 impl Hub {
@@ -103,12 +108,16 @@ impl Hub {
         let Ok(scratch) = Box::new(alloc, Scratch::new(alloc)) else {
             return Err(HubNewFault::NoMemory);
         };
+        let Ok(wills) = Vec::with_capacity(alloc, made.sessions as usize) else {
+            return Err(HubNewFault::NoMemory);
+        };
         Ok(Hub {
             made,
             next: made.first,
             floor: 0,
             rooms: IndexMap::new(alloc),
             homes: IndexMap::new(alloc),
+            wills,
             counts: MessageCounts::none(),
             told: Told::nobody(alloc),
             scratch,
@@ -134,9 +143,11 @@ impl Hub {
     }
 
     /// Opens a session in a room, which may edit there or only watch. If there is no room of that name, one begins, with the document
-    /// `null`; if all places are taken, it takes that of a room in which nobody is and whose document is `null`. It begins at a revision
-    /// above those of all rooms that made place, so that no client takes it for an earlier one; 0 as long as no edit was accepted in these.
-    /// A `Welcome` waits in the session's outbox. An error leaves the hub unchanged. `NoMemory` comes only if no other error does.
+    /// `null`; if all places are taken, it takes that of a room in which nobody is and whose document is
+    /// `null`, unless a will is left to be done. It begins at a revision above those of all rooms that
+    /// made place, so that no client takes it for an earlier one; 0 as long as no edit was accepted in
+    /// these. A `Welcome` waits in the session's outbox. An error leaves the hub unchanged. `NoMemory`
+    /// comes only if no other error does.
     pub fn open(&mut self, alloc: Global, room: &str, access: Access) -> Result<Opening, OpenFault>
         ensures step { StepIf self.old (Open room.now access) (opening result) self.new }
         ensures stands { (b : HubConfig) (E : Log) → StandsFor b E self.old →
@@ -149,6 +160,7 @@ impl Hub {
             access,
             made: self.made,
             floor: self.floor_after(place),
+            vacant: self.vacant_for(place),
         };
         if self.homes.reserve(1).is_err() {
             return Err(OpenFault::NoMemory);
@@ -173,13 +185,24 @@ impl Hub {
         if place.is_some() {
             return self.floor;
         }
-        let Some(vacant) = vacant_place(self.made.rooms, &self.rooms) else {
+        let Some(vacant) = vacant_place(self.made.rooms, &self.wills, &self.rooms) else {
             return self.floor;
         };
         let Some((_, room_sessions)) = self.rooms.get_index(vacant) else {
             unreachable!()
         };
         self.floor.max(room_sessions.above())
+    }
+
+    /// The place that a new room takes from another one, if it is not the last.
+    fn vacant_for(&self, place: Option<usize>) -> Option<usize>
+        ensures new { place ≡ None → result ≡ vacant_in self.now }
+        ensures within { IfSome result (λ i. i < length self.now.rooms) }
+    {
+        match place {
+            Some(_) => None,
+            None => vacant_place(self.made.rooms, &self.wills, &self.rooms),
+        }
     }
 
     /// Returns the place of the room of that name, if there is one, or the first reason not to open a session there.
@@ -195,7 +218,7 @@ impl Hub {
         if self.is_crowded(place) {
             return Err(OpenFault::RoomsFull);
         }
-        if self.homes.len() as u64 >= self.made.sessions {
+        if (self.homes.len() + self.wills.len()) as u64 >= self.made.sessions {
             return Err(OpenFault::SessionsFull);
         }
         if self.next > MAX_COUNT {
@@ -210,7 +233,7 @@ impl Hub {
     {
         place.is_none()
             && self.rooms.len() as u64 >= self.made.rooms
-            && vacant_place(self.made.rooms, &self.rooms).is_none()
+            && vacant_place(self.made.rooms, &self.wills, &self.rooms).is_none()
     }
 
     /// Serves a text from a session. `NoSession`: it is not open. `Busy`, with nothing changed, exactly if 32 replies wait for it, which is
@@ -263,7 +286,8 @@ impl Hub {
         room_sessions.draw(alloc, session, &mut self.counts)
     }
 
-    /// Closes a session. Its room stays. `NoSession`: it is not open. Allocates nothing.
+    /// Closes a session. Its room stays, and its will, if it has one, is left to be done
+    /// ([`Hub::do_will`]). `NoSession`: it is not open. Allocates nothing.
     pub fn close(&mut self, session: u64) -> Result<(), NoSession>
         ensures step { Step self.old (Close session) (closing result) self.new }
         ensures stands { (b : HubConfig) (E : Log) → StandsFor b E self.old →
@@ -275,9 +299,56 @@ impl Hub {
         let Some(room_sessions) = self.rooms.get_index_mut(*place) else {
             unreachable!()
         };
-        room_sessions.leave(session);
+        let patch = room_sessions.leave(session);
+        leave_behind(&mut self.wills, *place, patch);
         let _ = self.homes.swap_remove(&session);
         Ok(())
+    }
+
+    /// Whether a will is left to be done. Allocates nothing.
+    pub fn has_wills(&self) -> bool
+        ensures { result ≡ not (length self.now.wills == 0) }
+    {
+        !self.wills.is_empty()
+    }
+
+    /// Does the oldest of the wills that closed sessions left: an edit of which nobody gets a reply. If
+    /// the room refuses it, nothing changes but that it is done. Returns how many watchers' outboxes
+    /// folded because memory ran out; `None` if no will is left. `AllocError` leaves the hub
+    /// unchanged, so that it can be done later.
+    pub fn do_will(&mut self, alloc: Global) -> Result<Option<u64>, AllocError>
+        ensures step { StepIf self.old DoWill (doing_will result) self.new }
+        ensures stands { (b : HubConfig) (E : Log) → StandsFor b E self.old →
+            StandsFor b (logged E DoWill (doing_will result)) self.new }
+        ensures no_memory { OnErr result (0 < length self.old.wills) }
+    {
+        let Some(will) = self.wills.first() else {
+            return Ok(None);
+        };
+        let Some(room_sessions) = self.rooms.get_index_mut(will.place) else {
+            unreachable!()
+        };
+        let short = room_sessions.do_will(alloc, self.made, &will.patch, &mut self.told)?;
+        let _ = self.wills.remove(0);
+        Ok(Some(short))
+    }
+
+    /// Forgets the document of a room in which nobody is: it becomes `null` at the next revision, which
+    /// is returned. A client that resumes from an earlier one gets a snapshot. A fault leaves the hub
+    /// unchanged. `NoMemory` comes only if no other fault does.
+    pub fn forget(&mut self, alloc: Global, room: &str) -> Result<u64, ForgetFault>
+        ensures step { StepIf self.old (Forget room.now) (forgetting result) self.new }
+        ensures stands { (b : HubConfig) (E : Log) → StandsFor b E self.old →
+            StandsFor b (logged E (Forget room.now) (forgetting result)) self.new }
+        ensures no_memory { IsErrOf result ForgetFault.NoMemory → forget_fault self.old room.now ≡ None }
+    {
+        let Some(place) = self.rooms.get_index_of(room) else {
+            return Err(ForgetFault::NoRoom);
+        };
+        let Some(room_sessions) = self.rooms.get_index_mut(place) else {
+            unreachable!()
+        };
+        room_sessions.begin_anew(alloc, self.made.history)
     }
 
     /// Gives memory back when there was none: each room forgets its history, if a weight bounds that, so that a resume from before its last
@@ -414,6 +485,15 @@ impl Hub {
             Event::Close { session } => match self.close(*session) {
                 Ok(()) => Ok(Answer::Closed),
                 Err(NoSession) => Ok(Answer::NoSession),
+            },
+            Event::DoWill => match self.do_will(alloc)? {
+                Some(short) => Ok(Answer::WillDone { short }),
+                None => Ok(Answer::NoWill),
+            },
+            Event::Forget { room } => match self.forget(alloc, room.as_str()) {
+                Ok(rev) => Ok(Answer::Forgotten { rev }),
+                Err(ForgetFault::NoMemory) => Err(AllocError),
+                Err(fault) => Ok(Answer::NotForgotten(fault)),
             },
         }
     }

@@ -1,5 +1,5 @@
-//! The relay without sockets: rooms, sessions and events. One event is one call of [`Hub::open`], [`Hub::receive`], [`Hub::draw`] or
-//! [`Hub::close`]. A call ends before the next one starts, so concurrent clients are events in any order.
+//! The relay without sockets: rooms, sessions and events. One event is one call of [`Hub::open`],
+//! [`Hub::receive`], [`Hub::draw`], [`Hub::close`], [`Hub::do_will`] or [`Hub::forget`]. A call ends before the next one starts, so concurrent clients are events in any order.
 //!
 //! Rooms are kept by name, and stay when their sessions are closed. One whose document is `null` and in which nobody is makes place for
 //! another when all places are taken. A session belongs to one room.
@@ -28,10 +28,11 @@ mod summary;
 mod text;
 mod told;
 mod update;
+mod will;
 
 pub use config::{DEFAULT_ROOMS, DEFAULT_SESSIONS, HubConfig, MAX_ROOMS, MAX_SESSIONS};
 pub use event::{Answer, Event, Heard, Opening};
-pub use fault::{HubFault, HubNewFault, NoSession, OpenFault, RunFault};
+pub use fault::{ForgetFault, HubFault, HubNewFault, NoSession, OpenFault, RunFault};
 pub use hub::Hub;
 pub use message_counts::{FaultCount, MessageCounts, SnapshotCounts};
 pub use summary::RoomSummary;

@@ -4,13 +4,13 @@ ghost use Rattle.std.specs.Bool.{MatchBool};
 ghost use Rattle.std.specs.FinMap as map;
 ghost use Rattle.relay_room.specs.Edit.{edited};
 ghost use Rattle.relay_room.specs.Room.{revision};
-ghost use Rattle.relay_hub.specs.Call.{receiving, drawing, ReceivesIf, DrawsIf, ChangesBy, HasSpace, IsFull};
+ghost use Rattle.relay_hub.specs.Call.{receiving, drawing, ReceivesIf, WillServedIf, DrawsIf, ChangesBy, HasSpace, IsFull};
 ghost use Rattle.relay_hub.specs.Caller.{IsCaller};
 ghost use Rattle.relay_hub.specs.Refusal.{cause_word, edit_refusal};
-ghost use Rattle.relay_hub.specs.Session.{Session, watches as watching, unwatches, waiting};
+ghost use Rattle.relay_hub.specs.Session.{Session, leaves_will, watches as watching, unwatches, waiting};
 ghost use Rattle.relay_hub.specs.State.{IsRising, is_number, room_sessions, numbers, session_in};
-ghost use Rattle.relay_hub.specs.Step.{EditServed, ResumeServed, Serves, OnlyAt};
-ghost use Rattle.relay_hub.specs.Told.{ChangesToldAnd};
+ghost use Rattle.relay_hub.specs.Step.{EditServed, WillServed, ResumeServed, Serves, OnlyAt};
+ghost use Rattle.relay_hub.specs.Told.{ChangesTold, ChangesToldAnd};
 ghost use Rattle.relay_hub.specs.Watched.{IsIndexed};
 
 use crate::admission::read_admitted;
@@ -117,6 +117,10 @@ fn perform(
                 alloc, made, room, watches, sessions, caller, slot, &request, told,
             )
         }
+        Request::Will { id, patch } => {
+            leave_will(watches, sessions, caller, slot, id, patch);
+            Ok(0)
+        }
         Request::Watch { id, view } => {
             watch(alloc, watches, sessions, caller, slot, id, view)?;
             Ok(0)
@@ -210,6 +214,40 @@ fn edit(
     }
 }
 
+/// Does the will of a session that is closed: an edit that nobody is answered. Returns how many
+/// outboxes folded because memory ran out.
+pub fn do_will(
+    alloc: Global,
+    made: HubConfig,
+    room: &mut Room,
+    watches: &WatchIndex,
+    sessions: &mut [Session],
+    patch: &Patch,
+    told: &mut Told,
+) -> Result<u64, AllocError>
+    requires indexed { IsIndexed watches.now sessions.old }
+    ensures done { WillServedIf made patch.now result (room_sessions room.old sessions.old) (room_sessions room.new sessions.new) }
+    ensures told { ChangesTold told.new sessions.old sessions.new }
+    ensures indexed { IsIndexed watches.now sessions.new }
+{
+    *told = told.next(alloc);
+    let kept = RevisionSlot::new(alloc)?;
+    let (weight, held) = (room.weight(), room.history_weight());
+    match room.edit(alloc, kept, None, patch) {
+        Ok(_) => {
+            let changed = room.history_weight().saturating_sub(held);
+            told.count(cost::editing(patch, weight, changed));
+            Ok(broadcast_and_trim(alloc, made, room, watches, sessions, told))
+        }
+        Err(EditFault::Apply(fault)) if fault.cause == Cause::NoMemory => Err(AllocError),
+        Err(EditFault::Apply(fault)) => {
+            told.count(cost::refusing(patch, fault.at, weight));
+            Ok(0)
+        }
+        Err(_) => Ok(0),
+    }
+}
+
 /// The reply to a refused edit; `None` for out of memory, which is no refusal.
 fn edit_refusal(id: u64, fault: EditFault) -> Option<Reply>
     ensures { result ≡ edit_refusal id fault }
@@ -243,6 +281,24 @@ fn word_of(cause: Cause) -> Option<Word>
         Cause::TooHeavy => Some(Word::TooHeavy),
         Cause::NoMemory => None,
     }
+}
+
+/// Leaves a will, in place of the one that was left before.
+fn leave_will(
+    watches: &WatchIndex,
+    sessions: &mut [Session],
+    caller: Caller,
+    slot: ReplySlot,
+    id: u64,
+    patch: Patch,
+)
+    requires caller { IsCaller sessions.old caller }
+    requires space { HasSpace sessions.old caller.number }
+    requires indexed { IsIndexed watches.now sessions.old }
+    ensures leaves { ChangesBy caller.number (leaves_will id patch) sessions.old sessions.new }
+    ensures indexed { IsIndexed watches.now sessions.new }
+{
+    session_mut(sessions, caller).leave_will(slot, id, patch);
 }
 
 /// Watches the view from now on, and makes a snapshot due.
@@ -366,22 +422,25 @@ pub fn draw(
     }
 }
 
-/// Removes a session, and its view from the index.
-pub fn remove(sessions: &mut Vec<Session>, watches: &mut WatchIndex, number: u64)
-    requires { IsIndexed watches.old sessions.old.items }
+/// Removes a session that is there, and its view from the index. Returns what it leaves behind.
+pub fn remove(sessions: &mut Vec<Session>, watches: &mut WatchIndex, number: u64) -> Patch
+    requires there { IsSome (session_in sessions.old.items number) }
+    requires indexed { IsIndexed watches.old sessions.old.items }
     ensures gone { OnlyAt number None sessions.old.items sessions.new.items }
+    ensures will { (x : Session) → session_in sessions.old.items number ≡ Some x → result ≡ x.will }
     ensures indexed { IsIndexed watches.new sessions.new.items }
 {
     watches.take_out(number);
-    drop_session(sessions, number);
+    take_session(sessions, number).into_will()
 }
 
-/// Removes the session with that number, if it is there. The later ones move down.
-fn drop_session(sessions: &mut Vec<Session>, number: u64)
-    requires { IsRising sessions.old.items }
-    ensures { sessions.new.items ≡ filter (λ x. not (is_number number x)) sessions.old.items }
+/// Removes and returns the session with that number, which is there. The later ones move down.
+fn take_session(sessions: &mut Vec<Session>, number: u64) -> Session
+    requires there { IsSome (session_in sessions.old.items number) }
+    requires rising { IsRising sessions.old.items }
+    ensures session { session_in sessions.old.items number ≡ Some result }
+    ensures others { sessions.new.items ≡ filter (λ x. not (is_number number x)) sessions.old.items }
 {
-    if let Some(place) = position_of(sessions.as_slice(), number) {
-        let _ = sessions.remove(place);
-    }
+    let caller = Caller::find(sessions.as_slice(), number);
+    sessions.remove(caller.place)
 }

@@ -5,13 +5,14 @@ ghost use Rattle.relay_hub.specs.State.{is_null};
 use crate::caller::{Caller, session_at};
 use crate::config::HubConfig;
 use crate::event::Heard;
-use crate::fault::HubFault;
+use crate::fault::{ForgetFault, HubFault};
 use crate::message_counts::MessageCounts;
 use crate::requests;
 use crate::session::Session;
 use crate::shed::shed_sessions;
 use crate::told::Told;
-use relay_room::Room;
+use relay_patch::Patch;
+use relay_room::{Room, RoomFault};
 use relay_translate::WatchIndex;
 use relay_tree::{Budget, MAX_COUNT, Node, Scratch, Tree};
 use std::alloc::{AllocError, Global};
@@ -42,13 +43,17 @@ impl Model for RoomSessions {
 }
 
 impl RoomSessions {
-    ghost use Rattle.std.specs.Prelude.{◌≡◌, ◌<◌, true, [], ◌∷◌, Some, None, IfOk, OnOk, OnErr, IsErrOf, IsSome, IsSomeAnd, length, option_map};
-    ghost use Rattle.relay_hub.specs.Call.{receiving, drawing, ReceivesIf, DrawsIf, HasSpace, IsAbove};
-    ghost use Rattle.relay_hub.specs.Session.{waiting};
+    ghost use Rattle.std.specs.Prelude.{◌≡◌, ◌≢◌, ◌<◌, ◌≤◌, ◌+◌, true, [], ◌∷◌, Some, None, IfOk, IfErr, OnOk, OnErr, IsErrOf, IsSome, IsSomeAnd, length, option_map};
+    ghost use Rattle.relay_history.specs.declared.history.TheConstants.{MAX_REVISIONS};
+    ghost use Rattle.relay_room.specs.Room.{begun, revision};
+    ghost use Rattle.relay_tree.specs.Document.{null};
+    ghost use Rattle.relay_hub.specs.Call.{receiving, drawing, ReceivesIf, WillServedIf, DrawsIf, HasSpace, IsAbove};
+    ghost use Rattle.relay_hub.specs.Session.{Session, waiting};
     ghost use Rattle.relay_hub.specs.Shed.{shed_room};
     ghost use Rattle.relay_hub.specs.State.{room_sessions, makes_place, above, session_in};
-    ghost use Rattle.relay_hub.specs.Step.{ChangesOnly};
-    ghost use Rattle.relay_hub.specs.Told.{ChangesToldAnd};
+    ghost use Rattle.relay_hub.specs.Step.{ChangesOnly, anew_fault};
+    ghost use Rattle.relay_hub.specs.Told.{ChangesTold, ChangesToldAnd};
+    ghost use Rattle.relay_hub.specs.declared.fault.ForgetFault.TheVariants.{NoMemory};
 
     /// A room with its first session, which watches nothing.
     pub fn begin(alloc: Global, room: Room, first: Session) -> Result<RoomSessions, AllocError>
@@ -129,11 +134,64 @@ impl RoomSessions {
         Ok(())
     }
 
-    /// Removes a session. Allocates nothing.
-    pub fn leave(&mut self, number: u64)
-        ensures { ChangesOnly number None self.old self.new }
+    /// Removes a session that is there, and returns the will that it leaves, which may be empty.
+    /// Allocates nothing.
+    pub fn leave(&mut self, number: u64) -> Patch
+        requires { IsSome (session_in self.old.sessions number) }
+        ensures gone { ChangesOnly number None self.old self.new }
+        ensures will { (x : Session) → session_in self.old.sessions number ≡ Some x → result ≡ x.will }
     {
-        requests::remove(&mut self.sessions, &mut self.watches, number);
+        requests::remove(&mut self.sessions, &mut self.watches, number)
+    }
+
+    /// Does the will of a session that is closed ([`requests::do_will`]). `AllocError` changes
+    /// nothing.
+    pub fn do_will(
+        &mut self,
+        alloc: Global,
+        made: HubConfig,
+        patch: &Patch,
+        told: &mut Told,
+    ) -> Result<u64, AllocError>
+        ensures done { WillServedIf made patch.now result self.old self.new }
+        ensures told { ChangesTold told.new self.old.sessions self.new.sessions }
+    {
+        requests::do_will(
+            alloc,
+            made,
+            &mut self.room,
+            &self.watches,
+            self.sessions.as_mut_slice(),
+            patch,
+            told,
+        )
+    }
+
+    /// Begins anew, at the next revision, which is returned, with the document `null` and no change
+    /// remembered. A fault changes nothing.
+    pub fn begin_anew(&mut self, alloc: Global, history: u64) -> Result<u64, ForgetFault>
+        requires least { 1 ≤ history }
+        requires most { history ≤ MAX_REVISIONS }
+        ensures ok { IfOk result (λ rev. (rev ≡ revision self.old.room + 1)
+            × (self.new ≡ room_sessions (begun null rev history) [])) }
+        ensures fault { IfErr result (λ fault. fault ≢ NoMemory → anew_fault self.old ≡ Some fault) }
+        ensures may { OnOk result (anew_fault self.old ≡ None) }
+        ensures no_memory { IsErrOf result NoMemory → anew_fault self.old ≡ None }
+        ensures err { OnErr result (self.new ≡ self.old) }
+    {
+        if !self.sessions.is_empty() {
+            return Err(ForgetFault::Occupied);
+        }
+        let rev = self.room.revision();
+        if rev >= MAX_COUNT {
+            return Err(ForgetFault::Exhausted);
+        }
+        match Room::starting_at(alloc, Tree::from(Node::Null), rev + 1, history) {
+            Ok(room) => self.room = room,
+            Err(RoomFault::NoMemory) => return Err(ForgetFault::NoMemory),
+            Err(_) => unreachable!(),
+        }
+        Ok(rev + 1)
     }
 
     /// Drops the oldest changes that the budget does not pay for, and folds the patches that wait. Allocates nothing.

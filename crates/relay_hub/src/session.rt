@@ -1,4 +1,4 @@
-//! One session: its view and its outbox.
+//! One session: its view, its outbox and its will.
 use crate::boxed_reply::{BoxedReply, ReplySlot};
 use crate::config::HubConfig;
 use crate::encoded_patch::EncodedPatch;
@@ -7,14 +7,16 @@ use crate::shared_view::SharedView;
 use crate::update::Update;
 use crate::{cost, load};
 use relay_outbox::{Front, Outbox, OutboxFault};
+use relay_patch::Patch;
 use relay_proto::{Access, Reply, shown_text};
 use relay_room::Room;
 use relay_tree::Budget;
 use std::alloc::{AllocError, Global};
 use std::marker::Model;
 
-/// An open session. Contracts see it as its number, what it may do, the view that it watches, if any, its outbox, and what the patches there may weigh. If
-/// it watches nothing, only replies wait.
+/// An open session. Contracts see it as its number, what it may do, the view that it watches, if any,
+/// its outbox, what the patches there may weigh, and its will. If it watches nothing, only replies
+/// wait.
 #[derive(Drop)]
 pub struct Session {
     number: u64,
@@ -27,6 +29,8 @@ pub struct Session {
     load: u64,
     /// Why the snapshot is due, if one is.
     due_for: SnapshotCause,
+    /// The patch for when it has ended, which may be empty.
+    will: Patch,
 }
 
 impl Model for Session {
@@ -40,9 +44,9 @@ impl Model for Session {
 
     ghost coded = { session_code slot.the_row.coded reply.the_row.coded op.the_row.coded };
 
-    ghost view = { λ x. record { number = x.number; access = x.access; view = x.view; outbox = x.outbox; budget = x.budget } };
+    ghost view = { λ x. record { number = x.number; access = x.access; view = x.view; outbox = x.outbox; budget = x.budget; will = x.will } };
 
-    ghost invariant = { λ x. IsSession (record { number = x.number; access = x.access; view = x.view; outbox = x.outbox; budget = x.budget }) × IsLoad x.budget x.load x.outbox };
+    ghost invariant = { λ x. IsSession (record { number = x.number; access = x.access; view = x.view; outbox = x.outbox; budget = x.budget; will = x.will }) × IsLoad x.budget x.load x.outbox };
 }
 
 impl Session {
@@ -52,7 +56,7 @@ impl Session {
     ghost use Rattle.relay_hub.specs.Load.{IsLoad};
     ghost use Rattle.relay_hub.specs.Update.{update_of, heard};
     ghost use Rattle.relay_hub.specs.Shed.{shed_session};
-    ghost use Rattle.relay_hub.specs.Session.{with_outbox, replied, newcomer, watches, unwatches, resumes, front_message, message_text, ReadsBack, waiting, drawn};
+    ghost use Rattle.relay_hub.specs.Session.{with_outbox, replied, newcomer, leaves_will, watches, unwatches, resumes, front_message, message_text, ReadsBack, waiting, drawn};
 
     /// Makes a session in a room at revision `rev`. It watches nothing, and a `Welcome` waits in its outbox.
     pub fn new(
@@ -88,6 +92,7 @@ impl Session {
             budget: made.waiting_weight,
             load: 0,
             due_for: SnapshotCause::Watch,
+            will: Patch::from_ops(Vec::new(alloc)),
         })
     }
 
@@ -149,6 +154,23 @@ impl Session {
         let Ok(()) = self.outbox.reply(slot.fill(reply)) else {
             unreachable!()
         };
+    }
+
+    /// Leaves a will, in place of the one that it left before. Adds the reply.
+    pub fn leave_will(&mut self, slot: ReplySlot, id: u64, patch: Patch)
+        requires { length self.old.outbox.replies < MAX_REPLIES }
+        ensures { self.new ≡ leaves_will id patch self.old }
+    {
+        self.reply(slot, Reply::Willing { id });
+        self.will = patch;
+    }
+
+    /// What it leaves behind, which may be empty.
+    pub fn into_will(self) -> Patch
+        ensures { result ≡ self.will }
+    {
+        let Session { will, .. } = self;
+        will
     }
 
     /// Watches the view from now on. Adds the reply, and makes a snapshot due.

@@ -40,6 +40,9 @@ impl<R: AllocGlobal> Subject<R> for Hubs {
             "open" => words(alloc, opened(alloc, hub, rest, Access::ReadWrite)),
             "open-to-watch" => words(alloc, opened(alloc, hub, rest, Access::ReadOnly)),
             "begin" => words(alloc, hub.open(alloc, rest, Access::ReadWrite)),
+            "do-will" => words(alloc, hub.do_will(alloc)),
+            "has-wills" => words(alloc, hub.has_wills()),
+            "forget" => words(alloc, hub.forget(alloc, rest)),
             "told" => words(alloc, hub.told().sessions.as_slice()),
             "shed" => give_memory_back(alloc, hub),
             "counts" => counted(alloc, hub.message_counts()),
@@ -108,6 +111,7 @@ fn set(config: &mut HubConfig, name: &str, value: u64) -> Option<()> {
         "telling-weight" => config.telling_weight = Budget::Left(value),
         "view-weight" => config.view_weight = Budget::Left(value),
         "rooms" => config.rooms = value,
+        "sessions" => config.sessions = value,
         _ => return None,
     }
     Some(())

@@ -36,3 +36,5 @@ mod shake;
 mod shared;
 #[cfg(test)]
 mod weights;
+#[cfg(test)]
+mod wills;

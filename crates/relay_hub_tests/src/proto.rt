@@ -25,6 +25,8 @@ message-of-reply 1 => {"id":2,"kind":"done","rev":1}
 message-of-reply 2 => {"id":1,"kind":"watching"}
 message-of-reply 3 => {"how":"nothing","id":4,"kind":"resumed"}
 message-of-reply 4 => {"id":5,"kind":"unwatched"}
+reply 8 => {"id":6,"kind":"willing"}
+message-of-reply 8 => {"id":6,"kind":"willing"}
 
 # Writes refusals. Only one that has a revision writes it.
 reply 5 => {"at":2,"fault":"test-failed","id":7,"kind":"refused"}
@@ -45,6 +47,7 @@ message {"at":null,"fault":"stale","id":9,"kind":"refused","rev":2} => {"at":nul
 message {"how":"snapshot","id":4,"kind":"resumed"} => {"how":"snapshot","id":4,"kind":"resumed"}
 message {"kind":"patch","patch":[{"op":"replace","path":"/0","value":[5]}],"rev":5} => {"kind":"patch","patch":[{"op":"replace","path":"/0","value":[5]}],"rev":5}
 message {"kind":"snapshot","rev":1,"view":[[{"x":1}],[]]} => {"kind":"snapshot","rev":1,"view":[[{"x":1}],[]]}
+message {"id":6,"kind":"willing"} => {"id":6,"kind":"willing"}
 message {} => NotMessage
 
 # Reads each request.
@@ -52,6 +55,15 @@ request {"base":4,"do":"edit","id":1,"patch":[{"op":"remove","path":""}]} => edi
 request {"do":"watch","id":2,"view":["/a",""]} => watch 2 2
 request {"do":"resume","epoch":1,"id":3,"rev":0,"view":[""]} => resume 3 1
 request {"do":"unwatch","id":4} => unwatch 4 0
+request {"do":"will","id":5,"patch":[{"op":"remove","path":""}]} => will 5 1
+request {"do":"will","id":6,"patch":[]} => will 6 0
+
+# A will has no base, and its patch weighs 65,536 at most.
+request {"base":4,"do":"will","id":1,"patch":[]} => Refused(Refusal { fault: Shape, id: Some(1), at: None })
+request {"do":"will","id":1} => Refused(Refusal { fault: Shape, id: Some(1), at: None })
+request {"do":"will","id":1,"patch":[{"op":"add","path":"a"}]} => Refused(Refusal { fault: Shape, id: Some(1), at: Some(0) })
+will-of 65528 => will 1 1
+will-of 65529 => Refused(Refusal { fault: TooHeavy, id: Some(1), at: None })
 
 # A request has 1,048,576 bytes at most.
 unwatch-of 1048576 => unwatch 1 0
@@ -84,6 +96,7 @@ fn act_of_reading(alloc: Global, word: &str, text: &str) -> Came {
         "message" => written_again(alloc, text),
         "request" => asked(alloc, text),
         "unwatch-of" => asked_by_unwatch_of(alloc, text),
+        "will-of" => asked_by_will_of(alloc, text),
         _ => None,
     }
 }
@@ -126,14 +139,15 @@ fn asked(alloc: Global, text: &str) -> Came {
             let count = patch.ops().len();
             format!(in alloc; "edit {id} {base:?} {count}").ok()
         }
-        Ok(Request::Watch { id, view }) => of_view(alloc, "watch", id, view.len()),
-        Ok(Request::Resume { id, view, .. }) => of_view(alloc, "resume", id, view.len()),
-        Ok(Request::Unwatch { id }) => of_view(alloc, "unwatch", id, 0),
+        Ok(Request::Will { id, patch }) => of_len(alloc, "will", id, patch.ops().len() as u64),
+        Ok(Request::Watch { id, view }) => of_len(alloc, "watch", id, view.len()),
+        Ok(Request::Resume { id, view, .. }) => of_len(alloc, "resume", id, view.len()),
+        Ok(Request::Unwatch { id }) => of_len(alloc, "unwatch", id, 0),
         Err(fault) => words(alloc, fault),
     }
 }
 
-fn of_view(alloc: Global, what: &str, id: u64, len: u64) -> Came {
+fn of_len(alloc: Global, what: &str, id: u64, len: u64) -> Came {
     format!(in alloc; "{what} {id} {len}").ok()
 }
 
@@ -143,6 +157,16 @@ fn asked_by_unwatch_of(alloc: Global, len: &str) -> Came {
     let request = r#"{"do":"unwatch","id":1}"#;
     let blanks = " ".repeat(alloc, len.saturating_sub(request.len())).ok()?;
     let text = format!(in alloc; "{request}{blanks}").ok()?;
+    asked(alloc, text.as_str())
+}
+
+/// What a will requests whose patch adds a string of so many bytes, which weighs 8 more.
+fn asked_by_will_of(alloc: Global, len: &str) -> Came {
+    let string = "a".repeat(alloc, len.parse::<usize>().ok()?).ok()?;
+    let patch = format!(in alloc;
+        "[{{\"op\":\"add\",\"path\":\"\",\"value\":\"{string}\"}}]"
+    ).ok()?;
+    let text = format!(in alloc; "{{\"do\":\"will\",\"id\":1,\"patch\":{patch}}}").ok()?;
     asked(alloc, text.as_str())
 }
 

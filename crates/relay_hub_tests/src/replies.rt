@@ -2,7 +2,7 @@
 use relay_proto::{Reply, ResumeOutcome, Word};
 
 /// Each kind of reply except refusals, then refusals with each of their numbers and without.
-pub(crate) const REPLIES: [Reply; 8] = [
+pub(crate) const REPLIES: [Reply; 9] = [
     Reply::Welcome {
         epoch: 1,
         rev: 0,
@@ -33,4 +33,5 @@ pub(crate) const REPLIES: [Reply; 8] = [
         at: None,
         rev: Some(2),
     },
+    Reply::Willing { id: 6 },
 ];

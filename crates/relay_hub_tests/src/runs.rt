@@ -12,6 +12,9 @@ const SAID: &str = r#"{"do":"watch","id":1,"view":["/x"]}
 {"do":"edit","id":2,"patch":[{"op":"add","path":"","value":{"x":1}}]}
 {"do":"edit","id":3,"patch":[{"op":"replace","path":"/x","value":2},{"op":"remove","path":"/y"}]}"#;
 
+/// The will that it leaves.
+const WILL: &str = r#"{"do":"will","id":4,"patch":[{"op":"remove","path":"/x"}]}"#;
+
 fn text_of(alloc: Global, text: &str) -> Result<Text, AllocError> {
     Ok(Text::of(String::from_str(alloc, text)?))
 }
@@ -31,7 +34,20 @@ fn events(alloc: Global) -> Result<Vec<Event>, AllocError> {
     for _ in 0..6 {
         events.push(Event::Draw { session: 1 })?;
     }
+    leave(alloc, &mut events)?;
     Ok(events)
+}
+
+/// The session leaves a will and is closed, its will is done, and the room forgotten.
+fn leave(alloc: Global, events: &mut Vec<Event>) -> Result<(), AllocError> {
+    let text = text_of(alloc, WILL)?;
+    events.push(Event::Receive { session: 1, text })?;
+    events.push(Event::Close { session: 1 })?;
+    events.push(Event::DoWill)?;
+    events.push(Event::DoWill)?;
+    let room = text_of(alloc, "r")?;
+    events.push(Event::Forget { room })?;
+    Ok(())
 }
 
 /// The answers to these events, as text, a line each.
@@ -44,10 +60,15 @@ Heard(Answered { short: 0 })
 {"id":2,"kind":"done","rev":1}
 {"at":1,"fault":"missing","id":3,"kind":"refused"}
 {"kind":"snapshot","rev":1,"view":[[1]]}
-Drawn(None)"#;
+Drawn(None)
+Heard(Answered { short: 0 })
+Closed
+WillDone { short: 0 }
+NoWill
+Forgotten { rev: 3 }"#;
 
 /// How many they are.
-const COUNT: usize = 10;
+const COUNT: usize = 15;
 
 /// An answer, as text. Of a draw it is the text itself, if there was one.
 fn in_words(alloc: Global, answer: &Answer) -> Came {

@@ -2,14 +2,16 @@
 use Rattle.std.proofs.Common.{◌≡◌, ℕ, List, Option, Some, None, Result, sym, ap, subst}
 use Rattle.relay_follow.specs.declared.fault.HearFault.{HearFault}
 use Rattle.relay_follow.specs.declared.fault.HearFault.TheVariants.{NoMemory}
+use Rattle.relay_hub.specs.declared.event.Answer.TheVariants.{Closed}
 use Rattle.relay_hub.specs.declared.event.Event.{Event}
 use Rattle.relay_hub.specs.declared.fault.HubFault.{HubFault}
 use Rattle.relay_proto.specs.declared.access.Access.{Access}
 use Rattle.relay_tree.specs.Document.{Document}
 use Rattle.relay_lines.specs.Line.{Act, opens, says, draws, closes, shows, tells, Form, blank, unknown, named}
-use Rattle.relay_lines.specs.Script.{Stage, stage, Opens, Closes, ActsOpen, Goes, Attends, OnlyName, ActsNew, ActsNamed, Does, Answers, client_of}
+use Rattle.relay_lines.specs.Script.{Stage, stage, Opens, DoesWill, Closes, ActsOpen, Goes, Attends, OnlyName, ActsNew, ActsNamed, Does, Answers, client_of}
 use Rattle.relay_lines.specs.Transport.{Transporting, Telling}
 use Rattle.relay_lines.specs.declared.outcome.Outcome.{Outcome}
+use Rattle.relay_lines.specs.declared.outcome.Outcome.TheVariants.{Answered}
 use Rattle.relay_lines.specs.declared.script_client.ScriptClient.{ScriptClient}
 
 module _ {T : Type 0} (comes : Transporting T) (telling : Telling T) where
@@ -39,9 +41,15 @@ module _ {S T : Type 0} (comes : Transporting S) (telling : Telling S) (others :
   opens_seen name room access (Some s) p q old new answer (kept, same, text) = (kept, ap see same, text)
   opens_seen name room access None p q old new answer (outcome, came, left, text) = (outcome, same_comes old new _ outcome came, left, text)
 
+  wills_seen : (name : List ℕ) (outcome : Outcome) (old new : S) (rest : List ℕ)
+      → DoesWill comes name outcome old new rest → DoesWill others name outcome (see old) (see new) rest
+  wills_seen name (Answered Closed) old new rest (will, came, text) = (will, same_comes old new _ will came, text)
+  wills_seen name outcome old new rest h = (ap see h.0, h.1)
+
   closes_seen : (name : List ℕ) (s : ℕ) (p q : ScriptClient) (old new : S) (answer : List ℕ)
       → Closes comes name s p old q new answer → Closes others name s p (see old) q (see new) answer
-  closes_seen name s p q old new answer (outcome, came, left, text) = (outcome, same_comes old new _ outcome came, left, text)
+  closes_seen name s p q old new answer (outcome, mid, rest, came, wills, left, text) =
+      (outcome, see mid, rest, same_comes old mid _ outcome came, wills_seen name outcome mid new rest wills, left, text)
 
   acts_seen : (name : List ℕ) (act : Act) (session : Option ℕ) (p q : ScriptClient) (old new : S) (answer : List ℕ)
       → ActsOpen comes telling name act session p old q new answer → ActsOpen others tellings name act session p (see old) q (see new) answer

@@ -6,14 +6,14 @@ use Rattle.relay_follow.specs.declared.fault.HearFault.{HearFault}
 use Rattle.relay_follow.specs.declared.fault.HearFault.TheVariants.{NoMemory}
 use Rattle.relay_hub.specs.State.{State as Hub, made_with}
 use Rattle.relay_hub.specs.declared.config.HubConfig.{HubConfig}
-use Rattle.relay_hub.specs.declared.event.Answer.TheVariants.{Drawn}
-use Rattle.relay_hub.specs.declared.event.Event.TheVariants.{Open, Receive, Draw, Close}
+use Rattle.relay_hub.specs.declared.event.Answer.TheVariants.{Drawn, Closed}
+use Rattle.relay_hub.specs.declared.event.Event.TheVariants.{Open, Receive, Draw, Close, DoWill}
 use Rattle.relay_hub.specs.declared.fault.HubFault.{HubFault}
 use Rattle.relay_proto.specs.declared.access.Access.{Access}
 use Rattle.relay_tree.specs.Document.{Document}
 use Rattle.relay_lines.specs.Line.{Act, opens, says, draws, closes, shows, tells, Form, blank, unknown, named, LineIs}
 use Rattle.relay_lines.specs.Transport.{Transporting, Telling, session_after, HubComes, HubTells}
-use Rattle.relay_lines.specs.Words.{unknown_text, form_text, taken_text, outcome_text, off_text, held_text, shown_text}
+use Rattle.relay_lines.specs.Words.{unknown_text, form_text, taken_text, outcome_text, after_will, off_text, held_text, shown_text}
 use Rattle.relay_lines.specs.declared.outcome.Outcome.{Outcome}
 use Rattle.relay_lines.specs.declared.outcome.Outcome.TheVariants.{Answered}
 use Rattle.relay_lines.specs.declared.retrying_follower.RetryingFollower.{RetryingFollower}
@@ -90,10 +90,17 @@ module _ {T : Type 0} (comes : Transporting T) where
   Opens name room access None p old q new answer = (outcome : Outcome) × comes old (Open room access) outcome new
       × (q ≡ client (session_after outcome None) p.follower) × (answer ≡ outcome_text name outcome)
 
-  -- the closing of session s
+  -- the will of a session that was closed is done: the oldest that is left. It has a line of its own only if
+  -- memory ran out, and then it is left
+  abbrev pub DoesWill : List ℕ → Outcome → T → T → List ℕ → Type 0
+  DoesWill name (Answered Closed) old new rest = (will : Outcome) × comes old DoWill will new × (rest ≡ after_will name will)
+  DoesWill name outcome old new rest = (new ≡ old) × (rest ≡ [])
+
+  -- the closing of session s, and then its will
   abbrev pub Closes : List ℕ → ℕ → ScriptClient → T → ScriptClient → T → List ℕ → Type 0
-  Closes name s p old q new answer = (outcome : Outcome) × comes old (Close s) outcome new
-      × (q ≡ client (session_after outcome (Some s)) p.follower) × (answer ≡ outcome_text name outcome)
+  Closes name s p old q new answer = (outcome : Outcome) × (mid : T) × (rest : List ℕ)
+      × comes old (Close s) outcome mid × DoesWill name outcome mid new rest
+      × (q ≡ client (session_after outcome (Some s)) p.follower) × (answer ≡ outcome_text name outcome ++ rest)
 
   -- for a name that was never opened: any command but an opening is unknown
   abbrev pub ActsNew : List ℕ → Act → Stage T → Stage T → List ℕ → Type 0

@@ -1,9 +1,9 @@
 -- The texts of answers: `NAME` and the result of its line.
-use Rattle.std.specs.Prelude.{ℕ, zero, suc, List, ◌++◌, codes, decimal, Option, Some, None, Result, Ok, Err}
+use Rattle.std.specs.Prelude.{[], ℕ, zero, suc, List, ◌++◌, codes, decimal, Option, Some, None, Result, Ok, Err}
 use Rattle.relay_follow.specs.declared.fault.HearFault.{HearFault}
 use Rattle.relay_follow.specs.declared.fault.HearFault.TheVariants as hear
 use Rattle.relay_hub.specs.declared.event.Answer.{Answer}
-use Rattle.relay_hub.specs.declared.event.Answer.TheVariants.{Opened, NotOpened, Heard, Drawn, Closed, NoSession}
+use Rattle.relay_hub.specs.declared.event.Answer.TheVariants.{Opened, NotOpened, Heard, Drawn, Closed, WillDone, NoWill, Forgotten, NotForgotten, NoSession}
 use Rattle.relay_hub.specs.declared.event.Heard.TheVariants.{Answered, Busy}
 use Rattle.relay_hub.specs.declared.fault.HubFault.{HubFault}
 use Rattle.relay_hub.specs.declared.fault.HubFault.TheVariants as hub
@@ -47,6 +47,10 @@ answer_text name (Heard Busy) = name ++ codes " busy\n"
 answer_text name (Drawn (Some text)) = name ++ (codes " " ++ (text ++ codes "\n"))
 answer_text name (Drawn None) = name ++ codes " nothing\n"
 answer_text name Closed = name ++ codes " closed\n"
+answer_text name (WillDone short) = []
+answer_text name NoWill = []
+answer_text name (Forgotten rev) = []
+answer_text name (NotForgotten fault) = []
 answer_text name NoSession = unknown_text name
 
 -- outcomes of an event
@@ -56,6 +60,11 @@ outcome_text name (outcome.Answered answer) = answer_text name answer
 outcome_text name outcome.NoMemory = no_memory_text name
 outcome_text name (outcome.Rejected status) = name ++ (codes " refused " ++ (decimal status ++ codes "\n"))
 outcome_text name outcome.Stuck = name ++ codes " stuck\n"
+
+-- a will has no line, unless memory ran out for it
+abbrev pub after_will : List ℕ → Outcome → List ℕ
+after_will name outcome.NoMemory = no_memory_text name
+after_will name outcome = []
 
 -- faults of a follower
 

@@ -1,8 +1,10 @@
 //! The outcome of an event of a script.
 ghost use Rattle.std.specs.Prelude.{◌≡◌};
-ghost use Rattle.relay_lines.specs.Transport.{session_after};
+ghost use Rattle.relay_hub.specs.Call.{doing_will};
+ghost use Rattle.relay_lines.specs.Transport.{outcome_of, session_after};
 
 use relay_hub::Answer;
+use std::alloc::AllocError;
 
 /// The outcome of an event of a script.
 #[derive(Drop)]
@@ -18,6 +20,17 @@ pub enum Outcome {
 }
 
 impl Outcome {
+    /// The outcome of a call that does a will ([`relay_hub::Hub::do_will`]).
+    pub fn of_will(done: Result<Option<u64>, AllocError>) -> Outcome
+        ensures { result ≡ outcome_of (doing_will done) }
+    {
+        match done {
+            Ok(Some(short)) => Outcome::Answered(Answer::WillDone { short }),
+            Ok(None) => Outcome::Answered(Answer::NoWill),
+            Err(AllocError) => Outcome::NoMemory,
+        }
+    }
+
     /// The session that a name has after the event, given its session before.
     pub fn session_after(&self, was: Option<u64>) -> Option<u64>
         ensures { result ≡ session_after self.now was }

@@ -42,6 +42,10 @@ impl Transport for Hub {
         Ok(Outcome::Answered(answer))
     }
 
+    fn do_one_will(&mut self, alloc: Global) -> Result<Outcome, AllocError> {
+        Ok(Outcome::of_will(self.do_will(alloc)))
+    }
+
     fn truth_of(&self, alloc: Global, session: u64) -> Result<Option<(u64, Tree)>, HubFault> {
         self.truth(alloc, session)
     }

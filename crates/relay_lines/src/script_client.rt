@@ -2,7 +2,7 @@
 ghost use Rattle.std.specs.Prelude.{◌≡◌, ◌≢◌, IfOk, Some, None, string_bytes};
 ghost use Rattle.relay_follow.specs.declared.fault.HearFault.TheVariants.{NoMemory};
 ghost use Rattle.relay_lines.specs.Line.{act_of};
-ghost use Rattle.relay_lines.specs.Script.{client, new_follower, Opens, Closes, Acts, Goes, Attends, DrawsAs};
+ghost use Rattle.relay_lines.specs.Script.{client, new_follower, Opens, DoesWill, Closes, Acts, Goes, Attends, DrawsAs};
 
 use crate::line::Asks;
 use crate::outcome::Outcome;
@@ -134,7 +134,7 @@ impl ScriptClient {
         format!(in words.alloc; "{answer}{after}")
     }
 
-    /// Closes `session`, which is the name's session.
+    /// Closes `session`, which is the name's session, and does its will.
     fn close<T: Transport>(
         &mut self,
         words: &Words<'_>,
@@ -146,6 +146,27 @@ impl ScriptClient {
     {
         let outcome = transport.close_session(words.alloc, session)?;
         self.session = outcome.session_after(Some(session));
-        words.outcome(&outcome)
+        let answer = words.outcome(&outcome)?;
+        let after = do_will(words, transport, &outcome)?;
+        format!(in words.alloc; "{answer}{after}")
+    }
+}
+
+/// Does the will of a session, if this outcome closed it. Returns its line, which is empty unless memory
+/// ran out.
+fn do_will<T: Transport>(
+    words: &Words<'_>,
+    transport: &mut T,
+    outcome: &Outcome,
+) -> Result<String, AllocError>
+    ensures { IfOk result (λ rest. DoesWill T.comes words.now.name.now outcome.now
+        transport.old transport.new (string_bytes rest)) }
+{
+    match outcome {
+        Outcome::Answered(Answer::Closed) => {
+            let will = transport.do_one_will(words.alloc)?;
+            words.after_will(&will)
+        }
+        _ => Ok(String::new(words.alloc)),
     }
 }

@@ -1,7 +1,7 @@
 //! The trait of a script's transport: a hub, or sockets in front of one.
 ghost use Rattle.std.specs.Prelude.{◌≡◌, ℕ, Option, Result, IfOk};
 ghost use Rattle.relay_hub.specs.declared.event.Event.{Event};
-ghost use Rattle.relay_hub.specs.declared.event.Event.TheVariants.{Open, Receive, Draw, Close};
+ghost use Rattle.relay_hub.specs.declared.event.Event.TheVariants.{Open, Receive, Draw, Close, DoWill};
 ghost use Rattle.relay_hub.specs.declared.fault.HubFault.{HubFault};
 ghost use Rattle.relay_tree.specs.Document.{Document};
 ghost use Rattle.relay_lines.specs.declared.outcome.Outcome.{Outcome};
@@ -40,6 +40,10 @@ pub trait Transport {
     /// Closes a session.
     fn close_session(&mut self, alloc: Global, session: u64) -> Result<Outcome, AllocError>
         ensures { IfOk result (λ outcome. comes self.old (Close session) outcome self.new) };
+
+    /// Does the oldest of the wills that closed sessions left.
+    fn do_one_will(&mut self, alloc: Global) -> Result<Outcome, AllocError>
+        ensures { IfOk result (λ outcome. comes self.old DoWill outcome self.new) };
 
     /// The present revision, and the session's view of the present document. `None` if the session watches nothing.
     fn truth_of(&self, alloc: Global, session: u64) -> Result<Option<(u64, Tree)>, HubFault>

@@ -3,7 +3,7 @@ ghost use Rattle.std.specs.Prelude.{◌≡◌, IfOk, string_bytes};
 ghost use Rattle.relay_hub.specs.declared.event.Answer.TheVariants as answer;
 ghost use Rattle.relay_hub.specs.declared.event.Heard.TheVariants as heard;
 ghost use Rattle.relay_lines.specs.Script.{after_hearing};
-ghost use Rattle.relay_lines.specs.Words.{unknown_text, no_memory_text, form_text, taken_text, open_word, answer_text, outcome_text, hear_word, off_text, held_text, view_text, truth_text, shown_text};
+ghost use Rattle.relay_lines.specs.Words.{unknown_text, no_memory_text, form_text, taken_text, open_word, answer_text, outcome_text, after_will, hear_word, off_text, held_text, view_text, truth_text, shown_text};
 
 use crate::outcome::Outcome;
 use relay_follow::{Follower, HearFault};
@@ -83,6 +83,20 @@ impl Words<'_> {
             Answer::Drawn(None) => format!(in alloc; "{name} nothing\n"),
             Answer::Closed => format!(in alloc; "{name} closed\n"),
             Answer::NoSession => self.unknown(),
+            Answer::WillDone { .. }
+            | Answer::NoWill
+            | Answer::Forgotten { .. }
+            | Answer::NotForgotten(_) => Ok(String::new(alloc)),
+        }
+    }
+
+    /// The line of a will's outcome, which is empty unless memory ran out.
+    pub fn after_will(&self, outcome: &Outcome) -> Result<String, AllocError>
+        ensures { IfOk result (λ text. string_bytes text ≡ after_will self.now.name.now outcome.now) }
+    {
+        match outcome {
+            Outcome::NoMemory => self.no_memory(),
+            _ => Ok(String::new(self.alloc)),
         }
     }
 

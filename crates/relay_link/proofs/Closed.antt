@@ -20,6 +20,7 @@ kept_on rooms s session made (Draw t) answer h own = inl h
 kept_on rooms s session made (Close t) answer h own =
     let same : t ≡ s = cc in
     inr (subst (λ x. Contains (made ++ Close x ∷ []) (Close s)) (sym same) (Contains-push made (Close s)))
+kept_on rooms s session made event answer h own = absurd own
 
 -- after a point with session s the link still has s, or its close was made
 pub kept : {rooms : Rooms} {p q : Point} → Follows rooms p q → (s : ℕ) → p.session ≡ Some s → IsKept s q.session q.made

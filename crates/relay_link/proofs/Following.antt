@@ -44,6 +44,7 @@ follows_wider {rooms = rooms} {wider = wider} more (makes {q = q} event answer b
     wider_own session (Receive s text) own = own
     wider_own session (Draw s) own = own
     wider_own session (Close s) own = own
+    wider_own session event own = absurd own
 
 pub follows_none : {rooms : Rooms} {p q : Point} → Follows no_room p q → Follows rooms p q
 follows_none = follows_wider (λ room access none. absurd none)

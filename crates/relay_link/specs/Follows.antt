@@ -30,12 +30,13 @@ abbrev pub is_room : List ℕ → Access → Rooms
 is_room name given room access = (room ≡ name) × (access ≡ given)
 
 -- A link without a session may open one in some rooms, with some access. Any other event names the
--- link's own session.
+-- link's own session: it does no will, and forgets no room.
 abbrev pub IsOwn : Rooms → Option ℕ → Event → Type 0
 IsOwn rooms session (Open room access) = (session ≡ None) × rooms room access
 IsOwn rooms session (Receive s text) = session ≡ Some s
 IsOwn rooms session (Draw s) = session ≡ Some s
 IsOwn rooms session (Close s) = session ≡ Some s
+IsOwn rooms session event = ⊥
 
 -- the link's session after an event with its answer: the one that was opened, until it is closed
 abbrev pub session_after : Option ℕ → Event → Answer → Option ℕ

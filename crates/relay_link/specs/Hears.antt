@@ -3,7 +3,7 @@ use Rattle.std.specs.Prelude.{◌≡◌, ◌⊎◌, ⊤, ℕ, zero, suc, List, [
 use Rattle.relay_hub.specs.Queries.{may_hear}
 use Rattle.relay_hub.specs.State.{State as Hub, session_of}
 use Rattle.relay_hub.specs.declared.event.Event.{Event}
-use Rattle.relay_hub.specs.declared.event.Event.TheVariants.{Open, Receive, Draw, Close}
+use Rattle.relay_hub.specs.declared.event.Event.TheVariants.{Receive}
 use Rattle.tungstenite.specs.Socket.{Socket, Reads, IsFresh}
 use Rattle.tungstenite.specs.declared.error.Error.{Error}
 use Rattle.tungstenite.specs.declared.message.Message.{Message}
@@ -17,9 +17,7 @@ use Rattle.relay_link.specs.declared.state.State.TheVariants as state
 -- the text that an event passes to the hub, if it passes one
 abbrev pub received_by : Event → List (List ℕ)
 received_by (Receive s text) = text ∷ []
-received_by (Open room access) = []
-received_by (Draw s) = []
-received_by (Close s) = []
+received_by event = []
 
 -- the texts that events pass to the hub, in order
 abbrev pub received : List Event → List (List ℕ)

@@ -94,6 +94,7 @@ fn is_own(event: &Event) -> bool {
         Event::Receive { session, .. } | Event::Draw { session } | Event::Close { session } => {
             *session == 2
         }
+        Event::DoWill | Event::Forget { .. } => false,
     }
 }
 

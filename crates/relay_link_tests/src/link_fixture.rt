@@ -159,6 +159,11 @@ fn tell_event(told: &mut String, event: &Event) -> Result<(), AllocError> {
         Event::Receive { session, .. } => write!(told, "receive {session}; "),
         Event::Draw { session } => write!(told, "draw {session}; "),
         Event::Close { session } => write!(told, "close {session}; "),
+        Event::DoWill => write!(told, "do a will; "),
+        Event::Forget { room } => {
+            let room = room.as_str();
+            write!(told, "forget {room}; ")
+        }
     }
 }
 

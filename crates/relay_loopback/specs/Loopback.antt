@@ -2,7 +2,7 @@
 use Rattle.std.specs.Prelude.{◌≡◌, ⊤, ℕ, List, []}
 use Rattle.relay_hub.specs.declared.event.Answer.TheVariants as answer
 use Rattle.relay_hub.specs.declared.event.Event.{Event}
-use Rattle.relay_hub.specs.declared.event.Event.TheVariants.{Open, Receive, Draw, Close}
+use Rattle.relay_hub.specs.declared.event.Event.TheVariants.{Open, Receive, Draw, Close, DoWill}
 use Rattle.relay_hub.specs.declared.event.Heard.TheVariants.{Answered, Busy}
 use Rattle.relay_lines.specs.Script as script
 use Rattle.relay_lines.specs.Script.{Stage, stage}
@@ -10,7 +10,7 @@ use Rattle.relay_lines.specs.declared.outcome.Outcome.{Outcome}
 use Rattle.relay_lines.specs.declared.outcome.Outcome.TheVariants as outcome
 
 -- The outcomes of an event that a client can see: the hub's answer, without the number of outboxes that folded; the status of a
--- refused handshake; or nothing within the limit of turns.
+-- refused handshake; or nothing within the limit of turns. A will is done by the hub itself.
 abbrev pub CanCome : Event → Outcome → Type 0
 CanCome (Open room access) (outcome.Answered (answer.Opened o)) = ⊤
 CanCome (Open room access) (outcome.Rejected status) = ⊤
@@ -18,6 +18,9 @@ CanCome (Receive s text) (outcome.Answered (answer.Heard (Answered short))) = sh
 CanCome (Receive s text) (outcome.Answered (answer.Heard Busy)) = ⊤
 CanCome (Draw s) (outcome.Answered (answer.Drawn text)) = ⊤
 CanCome (Close s) (outcome.Answered answer.Closed) = ⊤
+CanCome DoWill (outcome.Answered (answer.WillDone short)) = ⊤
+CanCome DoWill (outcome.Answered answer.NoWill) = ⊤
+CanCome DoWill outcome.NoMemory = ⊤
 CanCome event (outcome.Answered answer.NoSession) = ⊤
 CanCome event outcome.Stuck = ⊤
 CanCome event came = ⊥

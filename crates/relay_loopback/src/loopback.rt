@@ -92,6 +92,10 @@ impl<'n, N: Net> Transport for Loopback<'n, N> {
         Ok(Outcome::Answered(Answer::Closed))
     }
 
+    fn do_one_will(&mut self, alloc: Global) -> Result<Outcome, AllocError> {
+        Ok(Outcome::of_will(self.hub.do_will(alloc)))
+    }
+
     fn truth_of(&self, alloc: Global, session: u64) -> Result<Option<(u64, Tree)>, HubFault> {
         self.hub.truth(alloc, session)
     }

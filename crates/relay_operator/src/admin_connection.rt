@@ -18,6 +18,8 @@ const WRITES: u32 = 64;
 pub(crate) struct AdminConnection<S> {
     stream: S,
     received: Vec<u8>,
+    /// The room that it asked to be forgotten, while that has no reply.
+    to_forget: Option<String>,
     reply: Option<String>,
     /// How many bytes of the reply were sent.
     sent: usize,
@@ -39,6 +41,7 @@ impl<S: Read + Write + OpenStream + Drop> AdminConnection<S> {
         AdminConnection {
             stream,
             received: Vec::new(alloc),
+            to_forget: None,
             reply: None,
             sent: 0,
         }
@@ -51,7 +54,21 @@ impl<S: Read + Write + OpenStream + Drop> AdminConnection<S> {
 
     /// Gives it its reply.
     pub(crate) fn answer(&mut self, reply: String) {
+        self.to_forget = None;
         self.reply = Some(reply);
+    }
+
+    /// The room that it asked to be forgotten, while that has no reply.
+    pub(crate) fn to_forget(&self) -> Option<&str> {
+        match &self.to_forget {
+            Some(room) => Some(room.as_str()),
+            None => None,
+        }
+    }
+
+    /// Notes that it asked for a room to be forgotten.
+    pub(crate) fn ask_to_forget(&mut self, room: String) {
+        self.to_forget = Some(room);
     }
 
     /// Reads until the bytes received are answered, or no more are there. `None` if the stream is
@@ -64,7 +81,7 @@ impl<S: Read + Write + OpenStream + Drop> AdminConnection<S> {
                 Ok(len) => {
                     self.received.extend_from_slice(&bytes[..len])?;
                     let asked = ask(alloc, self.received.as_slice())?;
-                    if asked != Ask::More {
+                    if !matches!(asked, Ask::More) {
                         return Ok(Some(asked));
                     }
                 }

@@ -7,13 +7,19 @@ use relay_admin::{
 use relay_hub::{Hub, MAX_ROOMS, SnapshotCounts};
 use std::alloc::{AllocError, Global};
 
-/// A hub, which no request changes, and the numbers of its server.
+/// A hub, which no request changes through this view, and the numbers of its server.
 #[derive(Clone, Copy)]
 pub struct AdminView<'v> {
     pub hub: &'v Hub,
+    /// By a room's place in the hub, the second in which a session last left it; 0 beyond the end.
+    pub left: &'v [u64],
+    /// The present second.
+    pub second: u64,
     /// How many connections are held, with and without a session.
     pub connections: u64,
     pub max_connections: u64,
+    /// How many wills of closed sessions were done.
+    pub wills: u64,
     /// How many rounds there were.
     pub rounds: u64,
     /// How long the longest round of the last minute worked, in microseconds.
@@ -69,6 +75,7 @@ impl AdminView<'_> {
             connections: self.connections,
             max_connections: self.max_connections,
             edits: totals.edits,
+            wills: self.wills,
             weight: totals.weight,
             history_weight: totals.history,
             waiting_weight: self.hub.waiting_weight(),
@@ -118,6 +125,15 @@ impl AdminView<'_> {
         totals
     }
 
+    /// For how many seconds nobody has been in a room with so many sessions, if nobody is.
+    fn empty_for(&self, place: usize, sessions: usize) -> Option<u64> {
+        if sessions > 0 {
+            return None;
+        }
+        let left = self.left.get(place).copied().unwrap_or(0);
+        Some(self.second.saturating_sub(left))
+    }
+
     fn rooms(&self, alloc: Global) -> Result<String, AllocError> {
         let mut out = begin_rooms(alloc)?;
         for place in 0..MAX_ROOMS as usize {
@@ -129,6 +145,7 @@ impl AdminView<'_> {
                 revision: room.revision,
                 sessions: room.sessions as u64,
                 weight: room.weight,
+                empty: self.empty_for(place, room.sessions),
             };
             write_room(&mut out, &row)?;
         }

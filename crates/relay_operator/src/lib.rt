@@ -1,10 +1,12 @@
-//! The operator's half of a server: the port at which an operator asks how it is and stops it, what
-//! the replies say, and the readiness of all the server's sockets, the port's among them.
+//! The operator's half of a server: the port at which an operator asks how it is, forgets rooms and
+//! stops it, what the replies say, and the readiness of all the server's sockets, the port's among
+//! them.
 //!
-//! The promise: no request changes the hub, or anything else of its server. The port sees both
-//! through references that nothing is written through ([`AdminView`]), and of a stop it only says
-//! that it was asked ([`AdminTurn`]). No round knows of the port, since [`AdminReadiness`] takes
-//! the port's events out before a round sees them.
+//! The promise: the port changes neither the hub nor anything else of its server. It sees both
+//! through references that nothing is written through ([`AdminView`]). Of a stop it only says that it
+//! was asked ([`AdminTurn`]), and of a room that it is to be forgotten
+//! ([`AdminPort::room_to_forget`]): the server does it, and says what came of it. No round knows of
+//! the port, since [`AdminReadiness`] takes the port's events out before a round sees them.
 //!
 //! No link is known here. What a server's log says of links, the server counts ([`Counters`]).
 #![tactic(auto)]
@@ -17,7 +19,7 @@ mod counters;
 mod longest_round;
 mod readiness;
 
-pub use admin_port::{AdminPort, AdminTurn};
+pub use admin_port::{AdminPort, AdminTurn, MAX_CONNECTIONS};
 pub use admin_readiness::{ADMIN_LISTENER, AdminReadiness};
 pub use admin_view::AdminView;
 pub use counters::Counters;

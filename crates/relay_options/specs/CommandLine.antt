@@ -69,9 +69,14 @@ turns_option = number_option (codes "turns") 1 MAX_TURNS (codes "1000000000000" 
 abbrev pub output_option : Rule
 output_option = number_option (codes "max-output-mib") 1 MAX_OUTPUT_MIB (codes "256" ∷ [])
 
--- a flag: it takes no value
+-- flags: they take no value
+
 abbrev pub log_option : Rule
 log_option = record (new_rule (codes "log")) { long = Some (codes "log"); action = Some SetTrue }
+
+abbrev pub forget_rooms_option : Rule
+forget_rooms_option =
+    record (new_rule (codes "forget-rooms")) { long = Some (codes "forget-rooms"); action = Some SetTrue }
 
 -- ---- the commands
 
@@ -94,10 +99,10 @@ scripted name = with_script_options (new_app name)
 
 -- a server: its epoch has no default, and its weights have bounds
 abbrev pub with_server_options : App → App
-with_server_options command = with_rule (with_rule (with_rule (with_rule (with_rule (with_weights
+with_server_options command = with_rule (with_rule (with_rule (with_rule (with_rule (with_rule (with_weights
     (codes "262144" ∷ []) (codes "65536" ∷ []) (codes "1048576" ∷ []) (codes "16384" ∷ [])
     (with_rule (with_settings command) (epoch_option [])))
-    port_option) admin_option) turns_option) log_option) output_option
+    port_option) admin_option) turns_option) log_option) forget_rooms_option) output_option
 
 abbrev pub served : Text → App
 served name = with_server_options (new_app name)
@@ -163,9 +168,10 @@ abbrev pub IsJobOf : Text → List Row → Option ℕ → Job → Type 0
 IsJobOf name rows now (Script settings) = (name ≡ codes "script") × AreSettingsOf rows None settings
 IsJobOf name rows now (Loop settings) = (name ≡ codes "loop") × AreSettingsOf rows None settings
 IsJobOf name rows now Follow = name ≡ codes "follow"
-IsJobOf name rows now (Serve port admin turns log output_mib settings) = (name ≡ codes "serve")
+IsJobOf name rows now (Serve port admin turns log forget_rooms output_mib settings) = (name ≡ codes "serve")
     × (number_in (codes "port") rows ≡ Some port) × (number_in (codes "admin") rows ≡ admin)
     × (number_in (codes "turns") rows ≡ Some turns) × IsFlagIn (codes "log") rows log
+    × IsFlagIn (codes "forget-rooms") rows forget_rooms
     × (number_in (codes "max-output-mib") rows ≡ Some output_mib) × AreSettingsOf rows now settings
 
 -- the same for what the words name, if they name a subcommand

@@ -36,4 +36,5 @@ abbrev pub IsPossible : Job → Type 0
 IsPossible (Script settings) = AreSettings settings
 IsPossible (Loop settings) = AreSettings settings
 IsPossible Follow = ⊤
-IsPossible (Serve port admin turns log output_mib settings) = (port ≤ MAX_PORT) × IsAdmin port admin × (1 ≤ turns) × (turns ≤ MAX_TURNS) × (1 ≤ output_mib) × (output_mib ≤ MAX_OUTPUT_MIB) × AreSettings settings
+IsPossible (Serve port admin turns log forget_rooms output_mib settings) = (port ≤ MAX_PORT) × IsAdmin port admin
+    × (1 ≤ turns) × (turns ≤ MAX_TURNS) × (1 ≤ output_mib) × (output_mib ≤ MAX_OUTPUT_MIB) × AreSettings settings

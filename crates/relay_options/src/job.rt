@@ -21,6 +21,9 @@ pub enum Job {
         turns: u64,
         /// Whether the server logs its connections.
         log: bool,
+        /// Whether the room that has been empty for the longest time is forgotten once all places
+        /// are taken.
+        forget_rooms: bool,
         /// How much output is held for all connections together, in MiB: 1 to 2^20.
         output_mib: u64,
         settings: Settings,

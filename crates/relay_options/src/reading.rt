@@ -6,6 +6,7 @@ ghost use Rattle.clap.specs.Words.{app_of, found_of, new_app, rows_of, rule_of};
 ghost use Rattle.clap.specs.Words.{subcommand_of, subcommand_rows_of};
 ghost use Rattle.relay_options.specs.CommandLine.{AreSettingsOf, AskFor, IsChosenBy, IsFlagIn};
 ghost use Rattle.relay_options.specs.CommandLine.{IsJobOf, admin_option, epoch_option};
+ghost use Rattle.relay_options.specs.CommandLine.{forget_rooms_option};
 ghost use Rattle.relay_options.specs.CommandLine.{history_option, history_weight_option};
 ghost use Rattle.relay_options.specs.CommandLine.{log_option, number_in, number_option};
 ghost use Rattle.relay_options.specs.CommandLine.{outbox_option, output_option, port_option};
@@ -195,6 +196,7 @@ fn with_server_options<'a>(alloc: Global, command: Command<'a>) -> Result<Comman
         .arg(admin(alloc))?
         .arg(turns(alloc))?
         .arg(log(alloc))?
+        .arg(forget_rooms(alloc))?
         .arg(output(alloc))?;
     Ok(command)
 }
@@ -332,6 +334,17 @@ fn log<'a>(alloc: Global) -> Arg<'a>
         .action(ArgAction::SetTrue)
 }
 
+fn forget_rooms<'a>(alloc: Global) -> Arg<'a>
+    ensures { rule_of result ≡ forget_rooms_option }
+{
+    Arg::new(alloc, "forget-rooms")
+        .long("forget-rooms")
+        .help(
+            "Forgets the room that has been empty for the longest time, with its document, when --rooms are taken and another is asked for",
+        )
+        .action(ArgAction::SetTrue)
+}
+
 fn output<'a>(alloc: Global) -> Arg<'a>
     ensures { rule_of result ≡ output_option }
 {
@@ -389,6 +402,7 @@ fn serve_of(alloc: Global, given: &ArgMatches<'_>, now: Option<u64>) -> Result<J
         admin: admin_of(alloc, given, port)?,
         turns: number_of(alloc, given, "turns", 1, MAX_TURNS)?,
         log: is_set(given, "log"),
+        forget_rooms: is_set(given, "forget-rooms"),
         output_mib: number_of(alloc, given, "max-output-mib", 1, MAX_OUTPUT_MIB)?,
         settings: settings_of(alloc, given, now)?,
     })

@@ -1,5 +1,5 @@
 -- The numbers of a request that was read, and of a refusal, are counts.
-use Rattle.std.proofs.Common.{◌≡◌, ℕ, ◌≤◌, pos, List, length, Bool, true, false, Option, Some, None, Result, Ok, Err, nat_lt, nat_le, bytes_eq, option_map, option_and_then, if◌then◌else◌, refl, subst, arith, IfOk, IfErr, IfSome, MatchResult, codes}
+use Rattle.std.proofs.Common.{◌≡◌, ℕ, ◌≤◌, pos, List, length, Bool, true, false, Option, Some, None, Result, Ok, Err, is_some, nat_lt, nat_le, bytes_eq, option_map, option_and_then, if◌then◌else◌, refl, subst, arith, IfOk, IfErr, IfSome, MatchResult, codes}
 use Rattle.std.proofs.lemmas.Bool.Decides.{nat_tests}
 use Rattle.serde_json.specs.Data.{Data}
 use Rattle.serde_json.specs.Read as json
@@ -13,6 +13,10 @@ use Rattle.relay_pointer.specs.Spelling.{path_of_text}
 use Rattle.relay_patch.proofs.Places.{place, patch_of-length, patch_of-place}
 use Rattle.relay_tree.specs.Part.{text_in}
 use Rattle.relay_patch.specs.Form.{patch_of}
+use Rattle.relay_patch.specs.Weight.{ops_weight}
+use Rattle.relay_tree.specs.Budget.{paid}
+use Rattle.relay_tree.specs.declared.budget.Budget.TheVariants.{Left}
+use Rattle.relay_proto.specs.declared.word.Word.TheVariants.{Shape, TooHeavy}
 use Rattle.relay_patch.specs.declared.limits.PatchFault.{PatchFault}
 use Rattle.relay_patch.specs.declared.limits.PatchFault.TheVariants as patch
 use Rattle.relay_patch.specs.declared.limits.TheConstants.PatchLimits.{REQUEST}
@@ -25,14 +29,14 @@ use Rattle.relay_view.specs.declared.fault.ViewFault.{ViewFault}
 use Rattle.relay_view.specs.declared.fault.ViewFault.TheVariants as view
 use Rattle.relay_view.specs.declared.view.TheConstants.{MAX_SLOTS}
 use Rattle.relay_pointer.specs.declared.reading.TheConstants.{MAX_TOKENS}
-use Rattle.relay_proto.specs.declared.reading.TheConstants.{MAX_REQUEST}
+use Rattle.relay_proto.specs.declared.reading.TheConstants.{MAX_REQUEST, MAX_WILL_WEIGHT}
 use Rattle.relay_proto.specs.Optional.{optional_count, optional_count_in}
-use Rattle.relay_proto.specs.Request.{with_part, and_then, patch_refusal, patch_read, patch_in, view_refusal, view_read, view_in, edit_of, resume_of, asked, request_of, request_of_tree, request_of_json, request_of_text}
+use Rattle.relay_proto.specs.Request.{with_part, and_then, refusal, patch_refusal, patch_read, patch_in, view_refusal, view_read, view_in, edit_of, light_will, will_of, resume_of, asked, request_of, request_of_tree, request_of_json, request_of_text}
 use Rattle.relay_proto.specs.Written.{IsCount, IsCountOrNull, HasCounts}
 use Rattle.relay_proto.specs.declared.refusal.Refusal.{Refusal}
 use Rattle.relay_proto.specs.declared.reply.Reply.TheVariants.{Refused}
 use Rattle.relay_proto.specs.declared.request.Request.{Request}
-use Rattle.relay_proto.specs.declared.request.Request.TheVariants.{Edit, Watch, Resume, Unwatch}
+use Rattle.relay_proto.specs.declared.request.Request.TheVariants.{Edit, Will, Watch, Resume, Unwatch}
 use Rattle.relay_tree.proofs.Each.{IsBelow, few-length, few-place}
 
 abbrev pub IsShort : View → Type 0
@@ -41,6 +45,7 @@ IsShort pointers = length pointers ≤ MAX_SLOTS
 -- a request's numbers are counts, and it has at most as many operations or slots as the limit allows
 abbrev pub IsRequest : Request → Type 0
 IsRequest (Edit id base ops) = IsCount id × IsCountOrNull base × (length ops ≤ REQUEST.ops)
+IsRequest (Will id ops) = IsCount id × (length ops ≤ REQUEST.ops)
 IsRequest (Watch id pointers) = IsCount id × IsShort pointers
 IsRequest (Resume id epoch rev pointers) = IsCount id × IsCount epoch × IsCount rev × IsShort pointers
 IsRequest (Unwatch id) = IsCount id
@@ -180,6 +185,18 @@ edit_reads id d counts =
     part_reads IsCountOrNull IsRequest (Some id) (optional_count_in d (codes "base")) _ counts (optional_count_in_is d (codes "base")) (λ base is_base.
     then_reads (λ ops. length ops ≤ REQUEST.ops) IsRequest (patch_in id d) _ (patch_reads id d counts) (λ ops short. (counts, is_base, short)))
 
+light_will_reads : (id : ℕ) (ops : List Op) → IsCount id → length ops ≤ REQUEST.ops → Reads IsRequest (light_will id ops)
+light_will_reads id ops counts short =
+    either_reads IsRequest (is_some (paid (ops_weight ops) (Left MAX_WILL_WEIGHT)))
+    (Ok (Will id ops)) (Err (refusal TooHeavy (Some id) None)) (counts, short) (counts, tt, tt)
+
+will_reads : (id : ℕ) (d : Document) → IsCount id → Reads IsRequest (will_of id d)
+will_reads id d counts =
+    either_reads IsRequest (is_some (object_member d (codes "base")))
+    (Err (refusal Shape (Some id) None)) (and_then (patch_in id d) (light_will id)) (counts, tt, tt)
+    (then_reads (λ ops. length ops ≤ REQUEST.ops) IsRequest (patch_in id d) (light_will id)
+    (patch_reads id d counts) (λ ops. light_will_reads id ops counts))
+
 resume_reads : (id : ℕ) (d : Document) → IsCount id → Reads IsRequest (resume_of id d)
 resume_reads id d counts =
     part_reads IsCount IsRequest (Some id) (count_in d (codes "epoch")) _ counts (count_in_is d (codes "epoch")) (λ epoch is_epoch.
@@ -189,9 +206,10 @@ resume_reads id d counts =
 asked_reads : (name : List ℕ) (id : ℕ) (d : Document) → IsCount id → Reads IsRequest (asked name id d)
 asked_reads name id d counts =
     either_reads IsRequest (bytes_eq name (codes "edit")) _ _ (edit_reads id d counts)
+    (either_reads IsRequest (bytes_eq name (codes "will")) _ _ (will_reads id d counts)
     (either_reads IsRequest (bytes_eq name (codes "watch")) _ _ (then_reads IsShort IsRequest (view_in id d) _ (view_reads id d counts) (λ v few. (counts, few)))
     (either_reads IsRequest (bytes_eq name (codes "resume")) _ _ (resume_reads id d counts)
-    (either_reads IsRequest (bytes_eq name (codes "unwatch")) _ _ counts (counts, tt, tt))))
+    (either_reads IsRequest (bytes_eq name (codes "unwatch")) _ _ counts (counts, tt, tt)))))
 
 request_reads : (d : Document) → Reads IsRequest (request_of d)
 request_reads d =

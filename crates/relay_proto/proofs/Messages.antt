@@ -37,6 +37,7 @@ reply_back (reply.Welcome epoch rev session) h = rw (count_back epoch h.0, count
 reply_back (reply.Done id rev) h = rw (count_back id h.0, count_back rev h.1) refl
 reply_back (reply.Refused id fault at None) h = rw (nullable_back id h.0, word_back fault, nullable_back at h.1) refl
 reply_back (reply.Refused id fault at (Some rev)) h = rw (nullable_back id h.0, word_back fault, nullable_back at h.1, count_back rev h.2) refl
+reply_back (reply.Willing id) h = rw (count_back id h) refl
 reply_back (reply.Watching id) h = rw (count_back id h) refl
 reply_back (reply.Resumed id how) h = rw (count_back id h, how_back how) refl
 reply_back (reply.Unwatched id) h = rw (count_back id h) refl

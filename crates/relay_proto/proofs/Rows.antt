@@ -9,7 +9,7 @@ use Rattle.relay_proto.specs.MessageRead.{message_of}
 use Rattle.relay_proto.specs.Request.{refusal, request_of}
 use Rattle.relay_proto.specs.declared.message.Message.TheVariants.{Reply}
 use Rattle.relay_proto.specs.declared.reply.Reply.TheVariants.{Refused}
-use Rattle.relay_proto.specs.declared.request.Request.TheVariants.{Edit, Unwatch}
+use Rattle.relay_proto.specs.declared.request.Request.TheVariants.{Edit, Will, Unwatch}
 use Rattle.relay_proto.specs.declared.word.Word.TheVariants.{Shape, Stale}
 
 -- Requests.
@@ -30,7 +30,17 @@ null_base = refl
 base_below_zero : request_of (object (member (codes "base") (whole (negsuc 0)) edit)) ≡ Err (refusal Shape (Some 9) None)
 base_below_zero = refl
 
--- no other request has a base
+-- a will has no base, not even null
+abbrev will : Members
+will = member (codes "do") (text (codes "will")) (member (codes "id") (count 9) (member (codes "patch") (list no_items) no_members))
+
+empty_will : request_of (object will) ≡ Ok (Will 9 [])
+empty_will = refl
+
+will_with_null_base : request_of (object (member (codes "base") null will)) ≡ Err (refusal Shape (Some 9) None)
+will_with_null_base = refl
+
+-- other requests ignore a base
 unwatch_with_null_base : request_of (object (member (codes "base") null (member (codes "do") (text (codes "unwatch")) (member (codes "id") (count 9) no_members)))) ≡ Ok (Unwatch 9)
 unwatch_with_null_base = refl
 

@@ -57,6 +57,9 @@ reply_reads (reply.Refused id fault at (Some rev)) h =
     let a = nullable_reads at h.1 in
     let r = count_reads rev h.2 in
     record { numbers = (a.numbers, (tt, (i.numbers, (tt, (r.numbers, tt))))); back = record { written = rw (i.back.written, a.back.written, r.back.written) refl; read = rw (i.back.read, a.back.read, r.back.read) refl } }
+reply_reads (reply.Willing id) h =
+    let i = count_reads id h in
+    record { numbers = (i.numbers, (tt, tt)); back = record { written = rw i.back.written refl; read = rw i.back.read refl } }
 reply_reads (reply.Watching id) h =
     let i = count_reads id h in
     record { numbers = (i.numbers, (tt, tt)); back = record { written = rw i.back.written refl; read = rw i.back.read refl } }

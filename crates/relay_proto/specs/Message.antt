@@ -27,6 +27,7 @@ reply_members (reply.Welcome epoch rev session) =
 reply_members (reply.Done id rev) = member (codes "id") (count id) (member (codes "kind") (text (codes "done")) (member (codes "rev") (count rev) no_members))
 reply_members (reply.Refused id fault at rev) =
     member (codes "at") (count_or_null at) (member (codes "fault") (text (word_text fault)) (member (codes "id") (count_or_null id) (member (codes "kind") (text (codes "refused")) (revision_members rev))))
+reply_members (reply.Willing id) = member (codes "id") (count id) (member (codes "kind") (text (codes "willing")) no_members)
 reply_members (reply.Watching id) = member (codes "id") (count id) (member (codes "kind") (text (codes "watching")) no_members)
 reply_members (reply.Resumed id how) = member (codes "how") (text (how_text how)) (member (codes "id") (count id) (member (codes "kind") (text (codes "resumed")) no_members))
 reply_members (reply.Unwatched id) = member (codes "id") (count id) (member (codes "kind") (text (codes "unwatched")) no_members)

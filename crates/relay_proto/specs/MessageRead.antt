@@ -12,7 +12,7 @@ use Rattle.relay_proto.specs.declared.message.Message.{Message}
 use Rattle.relay_proto.specs.declared.message.Message.TheVariants as message
 use Rattle.relay_proto.specs.declared.reply.ResumeOutcome.{ResumeOutcome}
 use Rattle.relay_proto.specs.declared.reply.Reply.{Reply}
-use Rattle.relay_proto.specs.declared.reply.Reply.TheVariants.{Welcome, Done, Refused, Watching, Resumed, Unwatched}
+use Rattle.relay_proto.specs.declared.reply.Reply.TheVariants.{Welcome, Done, Refused, Willing, Watching, Resumed, Unwatched}
 use Rattle.relay_proto.specs.declared.word.Word.{Word}
 use Rattle.relay_proto.specs.Optional.{optional_count_in}
 use Rattle.relay_proto.specs.Words.{word_of_text, how_of_text}
@@ -55,6 +55,9 @@ refused_in d =
     with_form (nullable_in d (codes "at")) (λ at.
     with_form (optional_count_in d (codes "rev")) (λ rev. Some (Refused id fault at rev)))))
 
+abbrev pub willing_in : Document → Option Reply
+willing_in d = with_form (count_in d (codes "id")) (λ id. Some (Willing id))
+
 abbrev pub watching_in : Document → Option Reply
 watching_in d = with_form (count_in d (codes "id")) (λ id. Some (Watching id))
 
@@ -70,6 +73,7 @@ reply_in kind d =
     if bytes_eq kind (codes "welcome") then welcome_in d else
     if bytes_eq kind (codes "done") then done_in d else
     if bytes_eq kind (codes "refused") then refused_in d else
+    if bytes_eq kind (codes "willing") then willing_in d else
     if bytes_eq kind (codes "watching") then watching_in d else
     if bytes_eq kind (codes "resumed") then resumed_in d else
     if bytes_eq kind (codes "unwatched") then unwatched_in d else None

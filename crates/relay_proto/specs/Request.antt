@@ -1,13 +1,16 @@
 -- The request that a text reads as, or its first fault: the checks come in the order of docs/PROTOCOL.md, "Requests".
-use Rattle.std.specs.Prelude.{◌≡◌, ℕ, List, length, codes, bytes_eq, nat_lt, Option, Some, None, Result, Ok, Err, if◌then◌else◌}
+use Rattle.std.specs.Prelude.{◌≡◌, ℕ, List, length, codes, bytes_eq, is_some, nat_lt, Option, Some, None, Result, Ok, Err, if◌then◌else◌}
 use Rattle.serde_json.specs.Data.{Data}
 use Rattle.serde_json.specs.Read as json
+use Rattle.relay_tree.specs.Budget.{paid}
 use Rattle.relay_tree.specs.Document.{Document}
 use Rattle.relay_tree.specs.Count.{count_in}
 use Rattle.relay_tree.specs.Part.{object_member, text_in}
 use Rattle.relay_tree.specs.Text.{tree_of}
+use Rattle.relay_tree.specs.declared.budget.Budget.TheVariants.{Left}
 use Rattle.relay_view.specs.View.{View}
 use Rattle.relay_patch.specs.Form.{patch_of}
+use Rattle.relay_patch.specs.Weight.{ops_weight}
 use Rattle.relay_patch.specs.declared.limits.PatchFault.{PatchFault}
 use Rattle.relay_patch.specs.declared.limits.PatchFault.TheVariants as patch
 use Rattle.relay_patch.specs.declared.limits.TheConstants.PatchLimits.{REQUEST}
@@ -16,14 +19,14 @@ use Rattle.relay_view.specs.Form.{view_of}
 use Rattle.relay_view.specs.declared.fault.ViewFault.{ViewFault}
 use Rattle.relay_view.specs.declared.fault.ViewFault.TheVariants as view
 use Rattle.relay_proto.specs.Optional.{optional_count_in}
-use Rattle.relay_proto.specs.declared.reading.TheConstants.{MAX_REQUEST}
+use Rattle.relay_proto.specs.declared.reading.TheConstants.{MAX_REQUEST, MAX_WILL_WEIGHT}
 use Rattle.relay_proto.specs.declared.refusal.Refusal.{Refusal}
 use Rattle.relay_proto.specs.declared.refusal.RequestFault.{RequestFault}
 use Rattle.relay_proto.specs.declared.refusal.RequestFault.TheVariants.{Refused, NoMemory}
 use Rattle.relay_proto.specs.declared.request.Request.{Request}
-use Rattle.relay_proto.specs.declared.request.Request.TheVariants.{Edit, Watch, Resume, Unwatch}
+use Rattle.relay_proto.specs.declared.request.Request.TheVariants.{Edit, Will, Watch, Resume, Unwatch}
 use Rattle.relay_proto.specs.declared.word.Word.{Word}
-use Rattle.relay_proto.specs.declared.word.Word.TheVariants.{TooLong, NotJson, Number, Shape, TooMany, UnknownOp, Pointer}
+use Rattle.relay_proto.specs.declared.word.Word.TheVariants.{TooLong, NotJson, Number, Shape, TooMany, UnknownOp, Pointer, TooHeavy}
 
 abbrev pub refusal : Word → Option ℕ → Option ℕ → Refusal
 refusal fault id at = record { fault = fault; id = id; at = at }
@@ -71,6 +74,18 @@ edit_of id d =
     with_part (Some id) (optional_count_in d (codes "base")) (λ base.
     and_then (patch_in id d) (λ p. Ok (Edit id base p)))
 
+-- a will whose patch weighs no more than the limit
+abbrev pub light_will : ℕ → List Op → Result Request Refusal
+light_will id p =
+    if is_some (paid (ops_weight p) (Left MAX_WILL_WEIGHT)) then Ok (Will id p)
+    else Err (refusal TooHeavy (Some id) None)
+
+-- a will is done at any revision, so it has no `base`
+abbrev pub will_of : ℕ → Document → Result Request Refusal
+will_of id d =
+    if is_some (object_member d (codes "base")) then Err (refusal Shape (Some id) None)
+    else and_then (patch_in id d) (light_will id)
+
 abbrev pub resume_of : ℕ → Document → Result Request Refusal
 resume_of id d =
     with_part (Some id) (count_in d (codes "epoch")) (λ epoch.
@@ -81,6 +96,7 @@ resume_of id d =
 abbrev pub asked : List ℕ → ℕ → Document → Result Request Refusal
 asked name id d =
     if bytes_eq name (codes "edit") then edit_of id d else
+    if bytes_eq name (codes "will") then will_of id d else
     if bytes_eq name (codes "watch") then and_then (view_in id d) (λ v. Ok (Watch id v)) else
     if bytes_eq name (codes "resume") then resume_of id d else
     if bytes_eq name (codes "unwatch") then Ok (Unwatch id) else Err (refusal Shape (Some id) None)

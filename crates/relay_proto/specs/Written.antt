@@ -28,6 +28,7 @@ abbrev pub HasCounts : Reply → Type 0
 HasCounts (reply.Welcome epoch rev session) = IsCount epoch × IsCount rev × IsCount session
 HasCounts (reply.Done id rev) = IsCount id × IsCount rev
 HasCounts (reply.Refused id fault at rev) = IsCountOrNull id × IsCountOrNull at × IsCountOrNull rev
+HasCounts (reply.Willing id) = IsCount id
 HasCounts (reply.Watching id) = IsCount id
 HasCounts (reply.Resumed id how) = IsCount id
 HasCounts (reply.Unwatched id) = IsCount id

@@ -20,7 +20,7 @@ mod word;
 pub use access::Access;
 pub use message::Message;
 pub use message_reading::MessageFault;
-pub use reading::MAX_REQUEST;
+pub use reading::{MAX_REQUEST, MAX_WILL_WEIGHT};
 pub use refusal::{Refusal, RequestFault};
 pub use reply::{Reply, ResumeOutcome};
 pub use request::Request;

@@ -131,6 +131,9 @@ fn reply_of(kind: &str, tree: &Tree) -> Option<Reply>
             rev: tree.count_at("rev")?,
         }),
         "refused" => refused_of(tree),
+        "willing" => Some(Reply::Willing {
+            id: tree.count_at("id")?,
+        }),
         "watching" => Some(Reply::Watching {
             id: tree.count_at("id")?,
         }),

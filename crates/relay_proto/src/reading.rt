@@ -2,19 +2,22 @@
 //! its numbers, an object with `id`, then `do`, the counts that the request requires or allows, and then its patch or its view.
 ghost use Rattle.std.specs.Prelude.{◌≡◌, ◌≤◌, Ok, Err, IfOk, IfErr, IsErrOf, length};
 ghost use Rattle.relay_proto.specs.declared.reading.TheConstants.{MAX_REQUEST};
-ghost use Rattle.relay_proto.specs.Request.{request_of_text, request_of, edit_of, resume_of, patch_in, view_in, refusal, IsRefusedAs};
+ghost use Rattle.relay_proto.specs.Request.{request_of_text, request_of, edit_of, will_of, light_will, resume_of, patch_in, view_in, refusal, IsRefusedAs};
 
 use crate::optional::optional_count_at;
 use crate::refusal::{Refusal, RequestFault};
 use crate::request::Request;
 use crate::word::Word;
 use relay_patch::{Patch, PatchFault, PatchLimits};
-use relay_tree::{Scratch, Tree, TreeFault};
+use relay_tree::{Budget, Scratch, Tree, TreeFault};
 use relay_view::{View, ViewFault};
 use std::alloc::Global;
 
 /// The most bytes of the text of a request.
 pub const MAX_REQUEST: u64 = 1_048_576;
+
+/// The most that the patch of a will may weigh.
+pub const MAX_WILL_WEIGHT: u64 = 65_536;
 
 impl Request {
     /// Reads a request from its text, or returns the first fault. Members that a request does not need are ignored. `NoMemory` comes
@@ -60,6 +63,7 @@ fn of_tree(alloc: Global, tree: Tree) -> Result<Request, RequestFault>
     };
     match tree.text_at("do") {
         Some("edit") => edit_of(alloc, id, tree),
+        Some("will") => will_of(alloc, id, tree),
         Some("watch") => Ok(Request::Watch {
             id,
             view: view_of(alloc, id, &tree)?,
@@ -82,6 +86,26 @@ fn edit_of(alloc: Global, id: u64, tree: Tree) -> Result<Request, RequestFault>
         base,
         patch: patch_of(alloc, id, tree)?,
     })
+}
+
+fn will_of(alloc: Global, id: u64, tree: Tree) -> Result<Request, RequestFault>
+    ensures ok { IfOk result (λ request. will_of id tree ≡ Ok request) }
+    ensures refused { IfErr result (λ fault. IsRefusedAs fault (will_of id tree)) }
+{
+    if tree.member("base").is_some() {
+        return refuse(Word::Shape, Some(id), None);
+    }
+    light_will(id, patch_of(alloc, id, tree)?)
+}
+
+fn light_will(id: u64, patch: Patch) -> Result<Request, RequestFault>
+    ensures ok { IfOk result (λ request. light_will id patch ≡ Ok request) }
+    ensures refused { IfErr result (λ fault. IsRefusedAs fault (light_will id patch)) }
+{
+    match patch.pay(Budget::Left(MAX_WILL_WEIGHT)) {
+        Some(_) => Ok(Request::Will { id, patch }),
+        None => refuse(Word::TooHeavy, Some(id), None),
+    }
 }
 
 fn resume_of(alloc: Global, id: u64, tree: &Tree) -> Result<Request, RequestFault>

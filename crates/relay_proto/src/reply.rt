@@ -62,6 +62,10 @@ pub enum Reply {
         at: Option<u64>,
         rev: Option<u64>,
     },
+    /// The patch is kept for when the session has ended.
+    Willing {
+        id: u64,
+    },
     /// The view is held; a snapshot is due.
     Watching {
         id: u64,

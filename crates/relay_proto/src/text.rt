@@ -31,6 +31,7 @@ impl Reply {
                 "{{\"id\":{id},\"kind\":\"done\",\"rev\":{rev}}}"
             ),
             Reply::Refused { id, fault, at, rev } => refused_text(alloc, id, fault, at, rev),
+            Reply::Willing { id } => format!(in alloc; "{{\"id\":{id},\"kind\":\"willing\"}}"),
             Reply::Watching { id } => format!(in alloc; "{{\"id\":{id},\"kind\":\"watching\"}}"),
             Reply::Resumed { id, how } => {
                 let how = how.text();

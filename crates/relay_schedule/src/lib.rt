@@ -15,6 +15,7 @@
 #![tactic(auto)]
 
 mod credit;
+mod empty_rooms;
 mod key_queue;
 mod output;
 mod queues;
@@ -23,6 +24,7 @@ mod room_share;
 mod spending;
 
 pub use credit::{Credit, ENTRY_DEBT, ROUND_CREDIT};
+pub use empty_rooms::EmptyRooms;
 pub use key_queue::KeyQueue;
 pub use output::{LinkOutput, OutputTotal, PATIENCE};
 pub use queues::{Output, Queues, Wants};

@@ -101,7 +101,7 @@ JobEnds (job.Script settings) status input left old new =
     EndsAs HubAnswers (new_stage (config_of settings)) (BadLimits (config_of settings)) status input left old new
 JobEnds job.Follow status input left old new = EndsAs follow.Answers None ⊥ status input left old new
 JobEnds (job.Loop settings) status input left old new = EndsBy (λ ended. LoopEnds ended input left old new) settings status
-JobEnds (job.Serve port admin turns log output_mib settings) status input left old new = (left ≡ input) × EndsBy (λ ended. ServesUpTo admin turns ended old new) settings status
+JobEnds (job.Serve port admin turns log forget_rooms output_mib settings) status input left old new = (left ≡ input) × EndsBy (λ ended. ServesUpTo admin turns ended old new) settings status
 
 -- the text was written, or a prefix of it if the writer failed
 abbrev pub Shows : List ℕ → Status → Option (List ℕ) → Option (List ℕ) → Type 0

@@ -88,6 +88,7 @@ pub fn carry_out<N: Clock + Net, R: Read, W: Write, E: Write>(
             admin,
             turns,
             log,
+            forget_rooms,
             output_mib,
             settings,
         } => {
@@ -96,6 +97,7 @@ pub fn carry_out<N: Clock + Net, R: Read, W: Write, E: Write>(
                 admin,
                 turns,
                 log,
+                forget_rooms,
                 output_mib,
             };
             let ended = serve(alloc, net, writer, errors, served, settings);

@@ -27,7 +27,8 @@ use std::time::Clock;
 /// How many bytes a MiB has.
 const MIB: u64 = 1_048_576;
 
-/// Where a server listens, how long it runs, whether it logs, and how much output it holds.
+/// Where a server listens, how long it runs, whether it logs and forgets rooms, and how much output it
+/// holds.
 #[derive(Clone, Copy, Debug, PartialEq, Eq)]
 pub struct Served {
     /// The port. For 0 the system chooses one.
@@ -38,6 +39,9 @@ pub struct Served {
     pub turns: u64,
     /// Whether it logs its connections.
     pub log: bool,
+    /// Whether the room that has been empty for the longest time is forgotten once all places are
+    /// taken.
+    pub forget_rooms: bool,
     /// How much output its links hold together, in MiB.
     pub output_mib: u64,
 }
@@ -103,15 +107,14 @@ fn serve_hub<N: Clock + Net, W: Write, J: ConnectionLog>(
 {
     let entrance = entrance::open(net, served.port)?;
     let polling = entrance::poll(alloc, net, &entrance.listener)?;
-    let most_output = served.output_mib.saturating_mul(MIB);
     let Some(admin) = served.admin else {
         let readiness = AdminReadiness::without_port(polling, net);
-        let mut server = Server::new(alloc, hub, readiness, most_output);
+        let mut server = server_of(alloc, hub, readiness, served);
         return host(alloc, writer, log, &mut server, &entrance, served.turns);
     };
     let admin = entrance::open_admin(net, admin, &polling)?;
     let readiness = AdminReadiness::new(polling, net);
-    let mut server = Server::new(alloc, hub, readiness, most_output);
+    let mut server = server_of(alloc, hub, readiness, served);
     host_administered(
         alloc,
         writer,
@@ -121,6 +124,21 @@ fn serve_hub<N: Clock + Net, W: Write, J: ConnectionLog>(
         &mut AdminPort::new(alloc, admin),
         served.turns,
     )
+}
+
+/// The server of a hub, as it is asked for.
+fn server_of<S: Read + Write + OpenStream + Drop, R: Readiness<S>>(
+    alloc: Global,
+    hub: Hub,
+    readiness: R,
+    served: Served,
+) -> Server<S, R> {
+    let most_output = served.output_mib.saturating_mul(MIB);
+    let mut server = Server::new(alloc, hub, readiness, most_output);
+    if served.forget_rooms {
+        server.forget_rooms();
+    }
+    server
 }
 
 /// Prints the port, runs the rounds, ends every connection, and prints the number of rounds.

@@ -48,6 +48,7 @@ const SERVE: Job = Job::Serve {
     admin: None,
     turns: 1,
     log: false,
+    forget_rooms: false,
     output_mib: 256,
     settings: Settings {
         epoch: 2,

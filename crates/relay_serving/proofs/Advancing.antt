@@ -8,7 +8,7 @@ use Rattle.relay_hub.proofs.Shedding.{shed_stands}
 use Rattle.relay_hub.proofs.Stands.{step_stands}
 use Rattle.relay_hub.proofs.Watchers.{exactly_held, each_held}
 use Rattle.relay_link.specs.Follows.{Point, Rooms, Follows, stays as none, makes, with_events}
-use Rattle.relay_serving.specs.Advances.{Links, Advances, stays, turns, adds, removes, sheds, with_turns}
+use Rattle.relay_serving.specs.Advances.{Links, Advances, stays, turns, adds, removes, sheds, acts, with_turns}
 use Rattle.relay_serving.specs.Rounds.{Rounds}
 use Rattle.relay_serving.proofs.Owners.{connected_after}
 
@@ -20,6 +20,8 @@ module _ {S : Type 0} {remaining : S → Option (List ℕ)} where
   advances_same (adds before key had has others fresh) same = adds before key had (same key ∙ has) (λ other apart. same other ∙ others other apart) fresh
   advances_same (removes before key had has others bare) same = removes before key had (same key ∙ has) (λ other apart. same other ∙ others other apart) bare
   advances_same (sheds before) same = sheds (advances_same before same)
+  advances_same (acts before event answer of_house step) same =
+      acts (advances_same before same) event answer of_house step
 
   -- one after the other
   pub advances_then : {hub mid next : State} {old held new : Links S} → Advances remaining hub old mid held → Advances remaining mid held next new → Advances remaining hub old next new
@@ -28,6 +30,8 @@ module _ {S : Type 0} {remaining : S → Option (List ℕ)} where
   advances_then before (adds after key had has others fresh) = adds (advances_then before after) key had has others fresh
   advances_then before (removes after key had has others bare) = removes (advances_then before after) key had has others bare
   advances_then before (sheds after) = sheds (advances_then before after)
+  advances_then before (acts after event answer of_house step) =
+      acts (advances_then before after) event answer of_house step
 
 -- after a link's events the hub stands for the log with their entries
 follows_stand : (b : HubConfig) (E : Log) {rooms : Rooms} {p q : Point} → StandsFor b E p.hub → (follows : Follows rooms p q) → StandsFor b (with_events follows E) q.hub
@@ -42,6 +46,8 @@ module _ {S : Type 0} {remaining : S → Option (List ℕ)} where
   advances_stand b E stands (adds before key had has others fresh) = advances_stand b E stands before
   advances_stand b E stands (removes before key had has others bare) = advances_stand b E stands before
   advances_stand b E stands (sheds {mid = mid} before) = shed_stands b (with_turns before E) mid (advances_stand b E stands before)
+  advances_stand b E stands (acts {mid = mid} {next = next} before event answer of_house step) =
+      step_stands b (with_turns before E) mid next event answer (advances_stand b E stands before) step
 
 -- and each client that watches holds what is so
 module _ {S : Type 0} {remaining : S → Option (List ℕ)} {hub next : State} {old new : Links S} (advances : Advances remaining hub old next new) (b : HubConfig) (E : Log) (stands : StandsFor b E hub) where

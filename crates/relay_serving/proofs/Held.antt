@@ -1,12 +1,17 @@
 -- What changes of the slab mean for the links of its connections.
-use Rattle.std.proofs.Common.{◌≡◌, ◌≢◌, ℕ, List, [], Option, Some, None, refl, sym, ◌∙◌, ap, subst, inl, inr, option_map, arith, ◌<◌, ◌≤◌, length, cond, is_some, get_or}
+use Rattle.std.proofs.Common.{◌≡◌, ◌≢◌, ℕ, Result, List, [], Option, Some, None, refl, sym, ◌∙◌, ap, subst, inl, inr, option_map, arith, ◌<◌, ◌≤◌, length, cond, is_some, get_or}
 use Rattle.std.proofs.lemmas.Bool.{cases_eq}
 use Rattle.std.proofs.lemmas.List.Sums.{sum_by-set}
+use Rattle.std.specs.declared.alloc.AllocError.{AllocError}
 use Rattle.slab.specs.Slab.{Slab, get, slab_len, with_value, Updates}
 use Rattle.slab.proofs.SlabLemmas.{Updates-with_value, ContainsKey-within}
+use Rattle.relay_hub.specs.Call.{StepIf, doing_will, forgetting}
 use Rattle.relay_hub.specs.Shed.{shed}
 use Rattle.relay_hub.specs.State.{State}
+use Rattle.relay_hub.specs.declared.event.Answer.{Answer}
 use Rattle.relay_hub.specs.declared.event.Event.{Event}
+use Rattle.relay_hub.specs.declared.event.Event.TheVariants.{DoWill, Forget}
+use Rattle.relay_hub.specs.declared.fault.ForgetFault.{ForgetFault}
 use Rattle.relay_link.specs.Asks.{asked_by, IsFresh, Receives}
 use Rattle.relay_link.specs.Follows.{Follows, at, no_room, closing_of}
 use Rattle.relay_link.specs.Hears.{PassesTexts}
@@ -16,7 +21,7 @@ use Rattle.relay_link.specs.Stage.{stage_of, session_of}
 use Rattle.relay_link.specs.declared.stage.Stage.TheVariants as stage
 use Rattle.relay_link.specs.declared.state.State.{State as Link}
 use Rattle.relay_link.specs.declared.state.State.TheVariants.{Head, Replying, Open, Closing, Gone}
-use Rattle.relay_serving.specs.Advances.{Links, IsNew, links_of, Advances, stays, turns, adds, removes, sheds}
+use Rattle.relay_serving.specs.Advances.{Links, IsNew, links_of, Advances, stays, turns, adds, removes, sheds, acts, IsOfHouse}
 use Rattle.relay_serving.specs.declared.connection.Connection.{Connection}
 use Rattle.relay_serving.specs.declared.ready.Watched.{Watched}
 
@@ -116,3 +121,25 @@ removed held new key was hub there gone updates =
 -- The hub gave memory back.
 pub shed_back : {S : Type 0} {remaining : S → Option (List ℕ)} (hub : State) (links : Links S) → Advances remaining hub links (shed hub) links
 shed_back hub links = sheds (stays (λ key. refl))
+
+-- An event of the house, if it was carried out.
+acted : {S : Type 0} {remaining : S → Option (List ℕ)} (hub next : State) (links : Links S)
+    (event : Event) (answer : Option Answer) → IsOfHouse event → StepIf hub event answer next
+    → Advances remaining hub links next links
+acted {remaining = remaining} hub next links event (Some answer) of_house step =
+    acts (stays (λ key. refl)) event answer of_house step
+acted {remaining = remaining} hub next links event None of_house step =
+    subst (λ h. Advances remaining hub links h links) (sym step) (stays (λ key. refl))
+
+-- A will was done, or memory was refused.
+pub willed : {S : Type 0} {remaining : S → Option (List ℕ)} (hub next : State) (links : Links S)
+    (result : Result (Option ℕ) AllocError) → StepIf hub DoWill (doing_will result) next
+    → Advances remaining hub links next links
+willed hub next links result step = acted hub next links DoWill (doing_will result) tt step
+
+-- A room was forgotten, or not.
+pub forgotten : {S : Type 0} {remaining : S → Option (List ℕ)} (hub next : State) (links : Links S)
+    (name : List ℕ) (result : Result ℕ ForgetFault)
+    → StepIf hub (Forget name) (forgetting result) next → Advances remaining hub links next links
+forgotten hub next links name result step =
+    acted hub next links (Forget name) (forgetting result) tt step

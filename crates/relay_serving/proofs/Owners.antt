@@ -1,14 +1,15 @@
 -- Each open session stays that of exactly one connection.
-use Rattle.std.proofs.Common.{◌≡◌, ◌≢◌, ◌⊎◌, ℕ, ◌==◌, List, [], Option, Some, None, refl, sym, ◌∙◌, ap, subst, inl, inr, arith, slice_get, nat_eq, IsSome, if◌then◌else◌, option_and_then}
+use Rattle.std.proofs.Common.{◌≡◌, ◌≢◌, ◌⊎◌, ℕ, ◌==◌, List, [], ◌∷◌, Option, Some, None, refl, sym, ◌∙◌, ap, subst, inl, inr, arith, slice_get, nat_eq, IsSome, if◌then◌else◌, option_and_then}
 use Rattle.std.proofs.lemmas.Bool.Decides.{eqb_tells}
 use Rattle.std.specs.Map.{lookup}
 use Rattle.relay_hub.specs.Session.{Session}
 use Rattle.relay_hub.specs.State.{State, RoomSessions, Home, IsHub, place_of, session_in}
-use Rattle.relay_hub.specs.Step.{Step, AtPlace, InRoom, ClosesIn, ClosesAt}
+use Rattle.relay_hub.specs.Step.{Step, AtPlace, InRoom, ClosesIn, ClosesAt, DoesWill}
 use Rattle.relay_hub.specs.declared.event.Answer.{Answer}
-use Rattle.relay_hub.specs.declared.event.Answer.TheVariants.{Opened, NotOpened, Closed}
+use Rattle.relay_hub.specs.declared.event.Answer.TheVariants.{Opened, NotOpened, Closed, WillDone, NoWill, Forgotten, NotForgotten}
 use Rattle.relay_hub.specs.declared.event.Event.{Event}
-use Rattle.relay_hub.specs.declared.event.Event.TheVariants.{Open, Receive, Draw, Close}
+use Rattle.relay_hub.specs.declared.will.Will.{Will}
+use Rattle.relay_hub.specs.declared.event.Event.TheVariants.{Open, Receive, Draw, Close, DoWill, Forget}
 use Rattle.relay_hub.proofs.Members.{step_is_hub}
 use Rattle.relay_hub.proofs.Cases.{by_number}
 use Rattle.relay_hub.proofs.Shedding.{shed_is_hub}
@@ -16,7 +17,7 @@ use Rattle.relay_link.specs.Follows.{Point, Rooms, Follows, stays as none, makes
 use Rattle.relay_link.specs.Stage.{session_of}
 use Rattle.relay_link.specs.declared.state.State.{State as Link}
 use Rattle.relay_link.specs.declared.state.State.TheVariants.{Head, Replying, Open as Opening, Closing, Gone}
-use Rattle.relay_serving.specs.Advances.{Links, IsNew, Sessions, sessions_in, Advances, stays, turns, adds, removes, sheds}
+use Rattle.relay_serving.specs.Advances.{Links, IsNew, IsOfHouse, Sessions, sessions_in, Advances, stays, turns, adds, removes, sheds, acts}
 use Rattle.relay_serving.specs.Rounds.{OneEach, Connected}
 
 -- the same sessions, but for one key's
@@ -61,6 +62,29 @@ closed s (Some place) old new answer is at some step =
     let same : Some place ≡ Some home.room.place = sym at ∙ home.at in
     closed_home s old new answer home (subst (λ o. ClosesAt s o old answer new) same step)
 closed s None old new answer is at some step = absurd (cc some)
+
+-- No session's place changes by an event of the house.
+
+will_homes : (wills : List Will) (old new : State) (answer : Answer) → DoesWill wills old answer new
+    → (t : ℕ) → place_of new t ≡ place_of old t
+will_homes [] old new NoWill step t = ap (λ hub. place_of hub t) step
+will_homes [] old new answer step t = absurd step
+will_homes (w ∷ wills) old new (WillDone short) step t =
+    ap (λ hub. place_of hub t) step.1
+    ∙ in_room_homes w.place (slice_get old.rooms w.place) old step.0 (WillDone short) _ step.2 t
+will_homes (w ∷ wills) old new answer step t = absurd step
+
+forget_homes : (name : List ℕ) (old new : State) (answer : Answer) → Step old (Forget name) answer new
+    → (t : ℕ) → place_of new t ≡ place_of old t
+forget_homes name old new (Forgotten rev) step t = ap (λ hub. place_of hub t) step.1.begins
+forget_homes name old new (NotForgotten fault) step t = ap (λ hub. place_of hub t) step.1
+forget_homes name old new answer step t = absurd step
+
+house_homes : (event : Event) (answer : Answer) (old new : State) → IsOfHouse event
+    → Step old event answer new → (t : ℕ) → place_of new t ≡ place_of old t
+house_homes DoWill answer old new of_house step = will_homes old.wills old new answer step
+house_homes (Forget name) answer old new of_house step = forget_homes name old new answer step
+house_homes event answer old new of_house step = absurd of_house
 
 -- One link's event.
 
@@ -177,6 +201,7 @@ module _ (key : ℕ) (sessions : Sessions) where
       let some = each.opened key s (mine_there mine ∙ own) in
       closes s old new (closed s (place_of old s) old new answer is refl some step) (subst (λ session. OneEach old (with_session key session sessions)) own each)
   one_event rooms mine (Open name access) answer old new is own step each = absurd step
+  one_event rooms mine event answer old new is own step each = absurd own
 
   -- several events of a link
   one_link : {rooms : Rooms} {p q : Point} → Follows rooms p q → IsHub p.hub → OneEach p.hub (with_session key p.session sessions) → IsHub q.hub × OneEach q.hub (with_session key q.session sessions)
@@ -227,6 +252,10 @@ module _ {S : Type 0} {remaining : S → Option (List ℕ)} where
   advance_each (sheds {mid = mid} before) is each =
       let earlier = advance_each before is each in
       (shed_is_hub mid earlier.0, one_each_same (λ t. refl) (λ k. refl) earlier.1)
+  advance_each (acts {mid = mid} {next = next} before event answer of_house step) is each =
+      let earlier = advance_each before is each in
+      let same = house_homes event answer mid next of_house step in
+      (step_is_hub mid next event answer earlier.0 step, one_each_same same (λ k. refl) earlier.1)
 
   pub connected_after : {hub next : State} {old new : Links S} → Advances remaining hub old next new → Connected hub (sessions_in old) → Connected next (sessions_in new)
   connected_after advances was = advance_each advances was.0 was.1

@@ -1,11 +1,15 @@
--- What a server does to its hub and to its connections' links: turns of links, one after another, and giving memory back when it was
--- refused. Between turns links are added and removed, and none changes.
-use Rattle.std.specs.Prelude.{ℕ, ◌≡◌, ◌≢◌, ◌≤◌, List, [], Option, Some, None, option_map, option_and_then}
+-- What a server does to its hub and to its connections' links: turns of links, one after another, its
+-- own events, and giving memory back when it was refused. Between turns links are added and removed,
+-- and none changes.
+use Rattle.std.specs.Prelude.{ℕ, ⊤, ◌≡◌, ◌≢◌, ◌≤◌, List, [], ◌∷◌, Option, Some, None, option_map, option_and_then}
 use Rattle.slab.specs.Slab.{Slab, get}
-use Rattle.relay_hub.specs.Log.{Log}
+use Rattle.relay_hub.specs.Log.{Log, entry}
 use Rattle.relay_hub.specs.Shed.{shed}
 use Rattle.relay_hub.specs.State.{State}
+use Rattle.relay_hub.specs.Step.{Step}
+use Rattle.relay_hub.specs.declared.event.Answer.{Answer}
 use Rattle.relay_hub.specs.declared.event.Event.{Event}
+use Rattle.relay_hub.specs.declared.event.Event.TheVariants.{DoWill, Forget}
 use Rattle.relay_link.specs.Asks.{asked_by, Receives}
 use Rattle.relay_link.specs.Follows.{Follows, at, with_events}
 use Rattle.relay_link.specs.Hears.{PassesTexts}
@@ -41,11 +45,20 @@ IsNew _ = ⊥
 abbrev pub Others : {S : Type 0} → ℕ → Links S → Links S → Type 0
 Others key old new = (other : ℕ) → other ≢ key → new other ≡ old other
 
+-- an event of the house, which is no link's: a will that a closed session left is done, or a room is
+-- forgotten
+abbrev pub IsOfHouse : Event → Type 0
+IsOfHouse DoWill = ⊤
+IsOfHouse (Forget name) = ⊤
+IsOfHouse event = ⊥
+
 module _ {S : Type 0} (remaining : S → Option (List ℕ)) where
-  -- The second hub, with its links, is reached from the first. The hub changes by turns of links alone, whose events are each the link's
-  -- own, and by giving memory back. A session is opened only in the room that the link's head asks for. The head is what the link has
-  -- received since it was added, and then what the turn reads. A text of a session is one that its link read from its WebSocket, which
-  -- reads on from turn to turn, and reads nothing while the hub may not hear the session.
+  -- The second hub, with its links, is reached from the first. The hub changes by turns of links, whose
+  -- events are each the link's own, by events of the house, and by giving memory back alone. A session
+  -- is opened only in the room that the link's head asks for. The head is what the link has received
+  -- since it was added, and then what the turn reads. A text of a session is one that its link read from
+  -- its WebSocket, which reads on from turn to turn, and reads nothing while the hub may not hear the
+  -- session.
   pub data Advances : State → Links S → State → Links S → Type 0 where
     stays : {hub : State} {old new : Links S} → ((key : ℕ) → new key ≡ old key) → Advances hub old hub new
     turns : {hub mid next : State} {old held new : Links S} {was is : Link S} → Advances hub old mid held → (key : ℕ) (made : List Event)
@@ -56,6 +69,8 @@ module _ {S : Type 0} (remaining : S → Option (List ℕ)) where
     removes : {hub mid : State} {old held new : Links S} {was : Link S} → Advances hub old mid held → (key : ℕ)
         → held key ≡ Some was → new key ≡ None → Others key held new → session_of was ≡ None → Advances hub old mid new
     sheds : {hub mid : State} {old new : Links S} → Advances hub old mid new → Advances hub old (shed mid) new
+    acts : {hub mid next : State} {old new : Links S} → Advances hub old mid new → (event : Event) (answer : Answer)
+        → IsOfHouse event → Step mid event answer next → Advances hub old next new
 
 module _ {S : Type 0} {remaining : S → Option (List ℕ)} where
   -- a log with the entries of all events
@@ -65,6 +80,7 @@ module _ {S : Type 0} {remaining : S → Option (List ℕ)} where
   with_turns (adds before key had has others fresh) E = with_turns before E
   with_turns (removes before key had has others bare) E = with_turns before E
   with_turns (sheds before) E = with_turns before E
+  with_turns (acts before event answer of_house step) E = entry event answer ∷ with_turns before E
 
 module _ {S R : Type 0} (remaining : S → Option (List ℕ)) where
   -- from one server to another: the hub advances, and the limit on connections stays

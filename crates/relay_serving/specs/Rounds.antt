@@ -20,7 +20,8 @@ pub record OneEach (hub : State) (sessions : Sessions) : Type 0 where
 abbrev pub Connected : State → Sessions → Type 0
 Connected hub sessions = IsHub hub × OneEach hub sessions
 
--- From one hub, with its connections' links, to another. The log that the hub stands for grows by the entries of the links' events.
+-- From one hub, with its connections' links, to another. The log that the hub stands for grows by the
+-- entries of the links' events, and of those of the house.
 pub record Rounds {S : Type 0} (remaining : S → Option (List ℕ)) (hub : State) (old : Links S) (next : State) (new : Links S) : Type 0 where
   pub advances : Advances remaining hub old next new
   pub stands : (b : HubConfig) (E : Log) → StandsFor b E hub → StandsFor b (with_turns advances E) next

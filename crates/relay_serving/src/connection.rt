@@ -69,6 +69,7 @@ impl<S: Read + Write + Drop> Connection<S> {
     ) -> Result<Connection<S>, AllocError>
         ensures { IfOk result (λ connection. IsNew connection.link) }
     {
+        let room = String::with_capacity(alloc, MAX_NAME)?;
         let (stream, known) = Watched::new(alloc, stream)?;
         Ok(Connection {
             link: Link::new(alloc, stream)?,
@@ -84,7 +85,7 @@ impl<S: Read + Write + Drop> Connection<S> {
             }),
             peer,
             opened: None,
-            room: String::with_capacity(alloc, MAX_NAME)?,
+            room,
             room_place: None,
             fault: None,
         })
@@ -278,6 +279,8 @@ fn replies_after(before: u64, turn: &Turn) -> u64 {
             Event::Receive { .. } => replies.saturating_add(1),
             Event::Draw { .. } => replies.saturating_sub(1),
             Event::Close { .. } => 0,
+            // These are no link's.
+            Event::DoWill | Event::Forget { .. } => replies,
         };
     }
     replies

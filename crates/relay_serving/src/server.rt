@@ -8,13 +8,16 @@ ghost use Rattle.relay_serving.specs.Rounds.{RoundsOf, ConnectedOf};
 mod accepting;
 mod administering;
 mod ending;
+mod forgetting;
 mod polling;
 mod queueing;
 mod reading;
+mod wills;
 mod writing;
 
 use crate::connection::Connection;
 use crate::connection_log::ConnectionLog;
+use forgetting::RoomPlaces;
 use indexmap::IndexMap;
 use relay_hub::{Hub, HubConfig};
 use relay_operator::{Readiness, ReadyEvent};
@@ -50,10 +53,13 @@ pub struct Server<S: Write + Drop, R> {
     queues: Queues,
     /// How far each room is read ahead.
     rooms: RoomShares,
+    /// Which rooms make place for others.
+    places: RoomPlaces,
     /// What all links hold of output.
     output: OutputTotal,
-    /// How many texts were passed to the hub.
+    /// How many texts were passed to the hub, and how many wills were done.
     texts: u64,
+    wills: u64,
     /// The key of the connection that has a session, by the session's number.
     sessions: IndexMap<u64, usize>,
     rounds: u64,
@@ -87,8 +93,10 @@ impl<S: Read + Write + OpenStream + Drop, R: Readiness<S>> Server<S, R> {
             failed: false,
             queues: Queues::new(alloc),
             rooms: RoomShares::new(alloc, share_limits(config)),
+            places: RoomPlaces::new(alloc),
             output: OutputTotal::within(most_output),
             texts: 0,
+            wills: 0,
             sessions: IndexMap::new(alloc),
             rounds: 0,
             seconds: 0,
@@ -119,7 +127,12 @@ impl<S: Read + Write + OpenStream + Drop, R: Readiness<S>> Server<S, R> {
     ///   starting with the one that has waited longest. Once the first pass has drawn 256 KiB, or
     ///   the second as much, the others wait for the next one;
     /// - reads likewise from connections that owe, from one at least, until the turns of the round
-    ///   have cost 5 ms, and writes again.
+    ///   have cost 5 ms;
+    /// - does the wills of the sessions that were closed: one at least, and others until the turns
+    ///   of the round have cost 5 ms, or the last one's room has no place. What is left is done in
+    ///   the next round, which does not wait. Out of memory leaves a will likewise;
+    /// - writes again, if anything was read or done since;
+    /// - forgets a room, if no place is left for another one ([`Server::forget_rooms`]).
     ///
     /// A turn takes what it cost from the credit of its connection, and each round of credit gives
     /// the same to all ([`relay_schedule::ReadyQueue`]). A room has place if less was said there
@@ -150,6 +163,7 @@ impl<S: Read + Write + OpenStream + Drop, R: Readiness<S>> Server<S, R> {
         let spending = self.read(alloc, log);
         self.write(alloc, log);
         self.exchange_owing(alloc, spending, log);
+        self.make_place(alloc, log);
     }
 
     /// Runs that many rounds, and ends every connection as [`Server::end`] does.

@@ -36,6 +36,15 @@ body => [{"name":"r","revision":0,"sessions":1,"weight":8}]
 client-signs => 101 welcome going-away
 sent-away => true
 
+# Of a room in which nobody is it is told for how long nobody has been.
+client asks 13 /rooms/r
+client writes fail
+operator line GET /rooms HTTP/1.1
+operator line Host: localhost
+operator line
+run 3 => 3
+body => [{"name":"r","revision":0,"sessions":0,"weight":8,"empty":0}]
+
 # What the log says is counted.
 client line GET /nowhere HTTP/1.1
 client line Host: localhost
@@ -47,6 +56,7 @@ run 3 => 3
 metric relay_handshakes_refused_total{status="404"} 1 => true
 metric relay_handshakes_refused_total{status="400"} 0 => true
 metric relay_sessions_opened_total 0 => true
+metric relay_wills_total 0 => true
 metric relay_replies_total 0 => true
 metric relay_refusals_total{fault="too-long"} 0 => true
 metric relay_refusals_total{fault="future"} 0 => true
@@ -74,6 +84,35 @@ operator line Origin: null
 operator line
 run 5 => 5
 body => pages may not ask\n
+
+# A room in which a session is stays.
+client asks 13 /rooms/r
+operator line DELETE /rooms/r HTTP/1.1
+operator line Host: localhost
+operator line
+run 5 => 5
+status => 409
+body => a session is in the room\n
+client-signs => 101 welcome going-away
+
+# A room in which nobody is is forgotten.
+client asks 13 /rooms/r
+client writes fail
+operator line DELETE /rooms/r HTTP/1.1
+operator line Host: localhost
+operator line
+run 5 => 5
+status => 204
+body =>
+
+# There is no room of that name.
+client asks 13 /rooms/r
+operator line DELETE /rooms/s HTTP/1.1
+operator line Host: localhost
+operator line
+run 5 => 5
+status => 404
+body => there is no such room\n
 
 # A head that is not complete holds up nothing, and has no reply.
 client asks 13 /rooms/r
@@ -113,7 +152,7 @@ impl<R: AllocGlobal> Subject<R> for Port<'_> {
     ///
     /// - `client ACT` and `operator ACT` do an act of a wire;
     /// - `run N` runs a server for at most so many rounds, and tells how many were run;
-    /// - `body` tells the body of the reply to the operator, with `\n` for the end of a line, and `metric LINE` whether it has this line;
+    /// - `status` and `body` tell the status and the body of the reply to the operator, with `\n` for the end of a line, and `metric LINE` whether it has this line;
     /// - `unanswered` tells whether the operator got nothing at all;
     /// - `client-signs` tells what the client was sent, and `sent-away` whether the last of it is a close frame with 1001.
     fn act(&mut self, rt: &R, act: &str) -> Option<String> {
@@ -124,6 +163,7 @@ impl<R: AllocGlobal> Subject<R> for Port<'_> {
             "operator" => done(alloc, self.operator, rest),
             "run" => self.run(alloc, rest.parse::<u64>().ok()?),
             "body" => body(alloc, self.operator),
+            "status" => status(alloc, self.operator),
             "unanswered" => is_unanswered(alloc, self.operator),
             "metric" => has_line(alloc, self.operator, rest),
             "client-signs" => signs(alloc, self.client),
@@ -180,6 +220,12 @@ fn body(alloc: Global, wire: &RefCell<Wire>) -> Option<String> {
     let text = str::from_utf8(wire.output.as_slice()).ok()?;
     let (_, body) = text.split_once("\r\n\r\n")?;
     body.replace(alloc, "\n", "\\n").ok()
+}
+
+fn status(alloc: Global, wire: &RefCell<Wire>) -> Option<String> {
+    let wire = lent(wire)?;
+    let text = str::from_utf8(wire.output.as_slice()).ok()?;
+    text.get(9..12)?.to_owned(alloc).ok()
 }
 
 fn is_unanswered(alloc: Global, wire: &RefCell<Wire>) -> Option<String> {

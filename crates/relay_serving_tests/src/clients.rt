@@ -102,7 +102,7 @@ pub(crate) struct Clients<'a> {
 impl<R: AllocGlobal> Subject<R> for Clients<'_> {
     /// Does an act, and tells what came of it. `K` is a wire, counted from 0:
     ///
-    /// - `server FIELD=N ..` is a new server of a hub with this configuration;
+    /// - `server FIELD=N ..` is a new server of a hub with this configuration, and `forget-rooms` has it forget rooms;
     /// - `connect K` has a client connect, `arrive K` runs a round then, and `enter K` has it ask for the room `r`, and runs three rounds;
     /// - `wire K ACT` does an act of the wire, and `send K ACT` announces that it is readable, too; `each N ACT` does an act of each of the
     ///   first wires;
@@ -198,6 +198,7 @@ impl<'a> Clients<'a> {
     fn change(&mut self, alloc: Global, word: &str, rest: &str) -> Option<()> {
         match word {
             "server" => self.begin(alloc, config(rest)?),
+            "forget-rooms" => self.forget_rooms(),
             "arrive" => self.arrive(alloc, rest),
             "enter" => self.enter(alloc, rest),
             "each" => self.each(alloc, cut(rest)),
@@ -227,6 +228,11 @@ impl<'a> Clients<'a> {
     /// Begins anew, with a server of another hub.
     fn begin(&mut self, alloc: Global, config: HubConfig) -> Option<()> {
         self.server = MemoryServer::new(alloc, self.script, config)?;
+        Some(())
+    }
+
+    fn forget_rooms(&mut self) -> Option<()> {
+        self.server.server.forget_rooms();
         Some(())
     }
 

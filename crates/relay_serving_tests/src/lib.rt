@@ -12,6 +12,8 @@ mod crowd;
 #[cfg(test)]
 mod forgotten;
 #[cfg(test)]
+mod forgotten_rooms;
+#[cfg(test)]
 mod logging;
 #[cfg(test)]
 mod loopback;
@@ -27,3 +29,5 @@ mod rounds;
 mod schedules;
 #[cfg(test)]
 mod turns;
+#[cfg(test)]
+mod wills;

@@ -1,13 +1,15 @@
-//! A server that an operator may ask, and stop.
+//! A server that an operator may ask, have forget a room, and stop.
 ghost use Rattle.std.specs.Prelude.{◌≡◌, ◌≤◌};
 ghost use Rattle.relay_serving.specs.Advances.{KeepsFewer, KeepsWithin};
 ghost use Rattle.relay_serving.specs.Connections.{connections_of, limit_of};
 ghost use Rattle.relay_serving.specs.Rounds.{RoundsOf};
 
 use super::Server;
+use super::reading::ROUND_COST;
 use crate::connection_log::ConnectionLog;
 use crate::counted::Counted;
-use relay_operator::{AdminPort, AdminReadiness, AdminView, Readiness};
+use relay_operator::{AdminPort, AdminReadiness, AdminView, MAX_CONNECTIONS, Readiness};
+use relay_schedule::Spending;
 use std::alloc::Global;
 use std::io::{Read, Write};
 use std::net::{OpenListener, OpenStream};
@@ -25,10 +27,11 @@ where
     R: Readiness<S> + Drop,
     C: Clock,
 {
-    /// Runs rounds as [`Server::run`], and after each round answers the requests at the admin port, none of which changes the hub. Ends
-    /// after that many rounds, or once a stop was asked: then nobody is accepted and nothing is read any more, and what waits for the
-    /// sessions is written for at most five seconds. At last it ends every connection, an open one with a close frame 1001. Returns how
-    /// many rounds were run.
+    /// Runs rounds as [`Server::run`], and after each round answers the requests at the admin port,
+    /// and forgets the rooms that it asks to be forgotten ([`relay_hub::Hub::forget`]). Ends after that
+    /// many rounds, or once a stop was asked: then nobody is accepted and nothing is read any more,
+    /// and what waits for the sessions is written for at most five seconds. At last it ends every
+    /// connection, an open one with a close frame 1001. Returns how many rounds were run.
     #[tactic(auto, using(crate::proofs::Rules::rounds))]
     pub fn run_administered<L: OpenListener<Stream = S>, J: ConnectionLog>(
         &mut self,
@@ -88,16 +91,41 @@ where
         let has_more = admin.accept(alloc, &mut self.readiness);
         let view = AdminView {
             hub: &self.hub,
+            left: self.places.empty.as_slice(),
+            second: self.seconds,
             connections: self.connections.len() as u64,
             max_connections: self.most as u64,
+            wills: self.wills,
             rounds: self.rounds,
             longest_round: self.readiness.longest_round(),
         };
         let turn = admin.turn(alloc, &view);
-        if has_more || turn.has_more {
+        let is_told = self.forget_asked(alloc, admin);
+        if has_more || turn.has_more || !is_told {
             self.readiness.ready_again();
         }
         turn.is_stopping
+    }
+
+    /// Forgets each room that the admin port asks to be forgotten, in which nobody is. Returns
+    /// whether each reply is sent, as far as its stream takes it.
+    #[tactic(auto, using(crate::proofs::Rules::house))]
+    fn forget_asked<L: OpenListener<Stream = S>>(
+        &mut self,
+        alloc: Global,
+        admin: &mut AdminPort<L>,
+    ) -> bool
+        ensures { KeepsFewer S.remaining self.old self.new }
+    {
+        let mut is_told = true;
+        for _ in 0..MAX_CONNECTIONS {
+            let Some(room) = admin.room_to_forget() else {
+                return is_told;
+            };
+            let forgotten = self.hub.forget(alloc, room);
+            is_told = admin.answer_forget(alloc, forgotten) && is_told;
+        }
+        is_told
     }
 
     /// Writes what waits for the sessions, for at most five seconds. Accepts and reads nothing.
@@ -113,6 +141,7 @@ where
             if !self.has_waiting() || self.readiness.now() >= until {
                 return;
             }
+            self.do_wills(alloc, Spending::within(ROUND_COST), log);
             self.write(alloc, log);
             self.accept_ready = false;
             self.poll();

@@ -22,8 +22,8 @@ const MAX_ENDS: u32 = 64;
 const SHED_ROUNDS: u64 = 1_024;
 
 impl<S: Read + Write + OpenStream + Drop, R: Readiness<S>> Server<S, R> {
-    /// Ends every connection, by rising key. If memory is refused for the end of one, it stays,
-    /// with its session.
+    /// Ends every connection, by rising key, and does the wills that are left. If memory is refused
+    /// for the end of one, it stays, with its session; if it is refused for a will, that is left.
     #[tactic(auto, using(crate::proofs::Rules::rounds))]
     pub fn end<J: ConnectionLog>(&mut self, alloc: Global, log: &mut J)
         ensures rounds { RoundsOf S.remaining self.old self.new }
@@ -33,6 +33,7 @@ impl<S: Read + Write + OpenStream + Drop, R: Readiness<S>> Server<S, R> {
         for key in 0..self.keys() {
             self.end_link(alloc, key, Cause::Ended, log);
         }
+        let _ = self.finish_wills(alloc, log);
     }
 
     /// Ends a link for a cause. Out of memory leaves it as it is, with its session.
@@ -147,6 +148,7 @@ impl<S: Read + Write + OpenStream + Drop, R: Readiness<S>> Server<S, R> {
             }
             (Some(Event::Close { session }), None) => {
                 let _ = self.sessions.swap_remove(session);
+                self.note_left(key);
             }
             (_, None) => {}
         }
@@ -172,8 +174,22 @@ impl<S: Read + Write + OpenStream + Drop, R: Readiness<S>> Server<S, R> {
         connection.note_opened(room, place);
     }
 
+    /// Notes that the session of a connection left its room.
+    #[tactic(auto, using(crate::proofs::Rules::advances))]
+    fn note_left(&mut self, key: usize)
+        ensures { KeepsFewer S.remaining self.old self.new }
+    {
+        let Some(connection) = self.connections.get(key) else {
+            return;
+        };
+        if let Some(place) = connection.room_place() {
+            self.places.empty.note_left(place, self.seconds);
+        }
+        self.places.have_changed = true;
+    }
+
     /// Puts the session of a connection into the map, if it has one, for which there is memory.
-    /// Takes the memory for its room's share; returns whether there was some.
+    /// Takes the memory for what is kept of its room; returns whether there was some.
     #[tactic(auto, using(crate::proofs::Rules::advances))]
     fn index_opened(&mut self, key: usize) -> bool
         ensures { KeepsFewer S.remaining self.old self.new }
@@ -184,8 +200,11 @@ impl<S: Read + Write + OpenStream + Drop, R: Readiness<S>> Server<S, R> {
         if let Some(session) = connection.link.session() {
             let _ = self.sessions.insert(session, key);
         }
+        self.places.have_changed = true;
         match connection.room_place() {
-            Some(place) => self.rooms.admit(place).is_ok(),
+            Some(place) => {
+                self.rooms.admit(place).is_ok() && self.places.empty.admit(place).is_ok()
+            }
             None => true,
         }
     }

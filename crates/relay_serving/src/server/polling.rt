@@ -41,6 +41,7 @@ impl<S: Read + Write + OpenStream + Drop, R: Readiness<S>> Server<S, R> {
     /// Whether there is work without further events.
     fn has_work(&self) -> bool {
         self.accept_ready
+            || self.hub.has_wills()
             || !self.queues.is_empty()
             || (self.queues.held_back() > 0 && !self.output.is_full())
     }

@@ -2,8 +2,8 @@
 //!
 //! After each round every connection that wants a turn is queued for it ([`Server::unqueued`]).
 //! What it wants changes by its own turns and events, after which it is queued again; and by the
-//! texts of other sessions, which bring it messages. Of these the hub says whom they told something
-//! ([`relay_hub::Hub::told`]), so no other connection is looked at.
+//! texts and wills of other sessions, which bring it messages. Of these the hub says whom they told
+//! something ([`relay_hub::Hub::told`]), so no other connection is looked at.
 //!
 //! A room counts its connections that are queued to be written to. It may be said more than its
 //! share only once there are none.
@@ -57,10 +57,46 @@ impl<S: Read + Write + OpenStream + Drop, R: Readiness<S>> Server<S, R> {
         if let Some(room) = self.room_place(key) {
             self.rooms.add_text(room, turn.received());
         }
+        self.queue_each_told();
+    }
+
+    /// Notes a will that was done: if it told somebody something, its room was said more, and those
+    /// are queued for a write turn. It counts as a text without bytes, since the hub does not say
+    /// how long it is.
+    #[tactic(auto, using(crate::proofs::Rules::advances))]
+    pub(super) fn queue_told_by_will(&mut self)
+        ensures { KeepsFewer S.remaining self.old self.new }
+    {
+        if let Some(room) = self.told_room() {
+            self.rooms.add_text(room, 0);
+        }
+        self.queue_each_told();
+    }
+
+    /// Queues each connection that the last text or will told something for a write turn.
+    #[tactic(auto, using(crate::proofs::Rules::advances))]
+    fn queue_each_told(&mut self)
+        ensures { KeepsFewer S.remaining self.old self.new }
+    {
         for place in 0..self.told() {
             if let Some(key) = self.told_at(place) {
                 self.queue_writer(key);
             }
+        }
+    }
+
+    /// The place of the room of those whom the last text or will told something, if it told
+    /// somebody, and memory sufficed to find out whom.
+    fn told_room(&self) -> Option<usize> {
+        let told = self.hub.told();
+        self.hub.room_of(*told.sessions.first()?)
+    }
+
+    /// Whether that room may be said more.
+    pub(super) fn told_has_place(&self) -> bool {
+        match self.told_room() {
+            Some(room) => self.rooms.has_place(room),
+            None => true,
         }
     }
 
@@ -69,7 +105,8 @@ impl<S: Read + Write + OpenStream + Drop, R: Readiness<S>> Server<S, R> {
         self.connections.get(key)?.room_place()
     }
 
-    /// How many connections the last text may have told something, besides the one that sent it.
+    /// How many connections the last text or will may have told something, besides the one that
+    /// sent it.
     fn told(&self) -> usize {
         let told = self.hub.told();
         if told.all {

@@ -10,9 +10,9 @@ use std::alloc::Global;
 use std::io::{Read, Write};
 use std::net::OpenStream;
 
-/// What the read turns of connections with credit may cost in a round, but for the last one, in
-/// microseconds.
-const ROUND_COST: u64 = 5_000;
+/// What the read turns of connections with credit, and wills, may cost in a round, but for the last
+/// one, in microseconds.
+pub(super) const ROUND_COST: u64 = 5_000;
 
 /// What a turn costs at least, in microseconds.
 pub(super) const TURN_COST: u64 = 2;
@@ -66,7 +66,7 @@ impl<S: Read + Write + OpenStream + Drop, R: Readiness<S>> Server<S, R> {
         spending
     }
 
-    /// Reads from the connections that owe, in order, and sends what came of it.
+    /// Reads from the connections that owe, in order, does wills, and sends what came of it.
     #[tactic(auto, using(crate::proofs::Rules::advances))]
     pub(super) fn exchange_owing<J: ConnectionLog>(
         &mut self,
@@ -76,7 +76,8 @@ impl<S: Read + Write + OpenStream + Drop, R: Readiness<S>> Server<S, R> {
     )
         ensures { KeepsFewer S.remaining self.old self.new }
     {
-        if self.read_those_owing(alloc, before, log) != before {
+        let read = self.read_those_owing(alloc, before, log);
+        if self.do_wills(alloc, read, log) != before {
             self.write(alloc, log);
         }
     }

@@ -28,4 +28,5 @@ returns c =
     let seven = option_added _ _ _ _ _ six c.admin.ensures refl c.in_ok-arg-7.ensures in
     let eight = option_added _ _ _ _ _ seven c.turns.ensures refl c.in_ok-arg-8.ensures in
     let nine = option_added _ _ _ _ _ eight c.log.ensures refl c.in_ok-arg-9.ensures in
-    option_added _ _ _ _ _ nine c.output.ensures refl c.in_ok-command.ensures
+    let ten = option_added _ _ _ _ _ nine c.forget_rooms.ensures refl c.in_ok-arg-10.ensures in
+    option_added _ _ _ _ _ ten c.output.ensures refl c.in_ok-command.ensures

@@ -16,14 +16,14 @@ step c =
     draws c.self.inside c.args.session c.in-Some.place.now g (left c) (sym c.in-Some.ensures.value) (sym c.in-Some-get_index_mut.ensures.value) (drawing c.draw.result) c.draw.ensures.step
 
 pub unreachable-requires : goal.unreachable-requires
-unreachable-requires c = never_missing c.self.inside c.args.session c.in-Some.place.now c.self.invariant (sym c.in-Some.ensures.value) (sym c.in_default-get_index_mut.ensures.value)
+unreachable-requires c = never_missing c.self.inside c.args.session c.in-Some.place.now c.self.invariant.0 (sym c.in-Some.ensures.value) (sym c.in_default-get_index_mut.ensures.value)
 
 pub draw-requires : goal.draw-requires
 draw-requires c =
-    is_there c.self.inside c.args.session c.in-Some.place.now c.self.invariant (sym c.in-Some.ensures.value) c.in-Some-get_index_mut.room_sessions.now (sym c.in-Some-get_index_mut.ensures.value)
+    is_there c.self.inside c.args.session c.in-Some.place.now c.self.invariant.0 (sym c.in-Some.ensures.value) c.in-Some-get_index_mut.room_sessions.now (sym c.in-Some-get_index_mut.ensures.value)
 
 pub invariant_of-self : goal.invariant_of-self
-invariant_of-self c = stays_hub (hub_of c.self.inside) (hub_with c.self.inside c.in-Some.place.now (left c)) (Draw c.args.session) (drawing c.draw.result) c.self.invariant (step c)
+invariant_of-self c = (stays_hub (hub_of c.self.inside) (hub_with c.self.inside c.in-Some.place.now (left c)) (Draw c.args.session) (drawing c.draw.result) c.self.invariant.0 (step c), c.self.invariant.1)
 
 pub returns : goal.returns
 returns c =
@@ -32,6 +32,6 @@ returns c =
     rw (← c.self.view_is) (record {
       step = step c;
       stands = λ b E h. call_stands b E old new (Draw c.args.session) (drawing c.draw.result) h (step c);
-      no_memory = λ e. rw (session_is c.self.inside c.args.session c.in-Some.place.now c.self.invariant (sym c.in-Some.ensures.value) c.in-Some-get_index_mut.room_sessions.now (sym c.in-Some-get_index_mut.ensures.value))
+      no_memory = λ e. rw (session_is c.self.inside c.args.session c.in-Some.place.now c.self.invariant.0 (sym c.in-Some.ensures.value) c.in-Some-get_index_mut.room_sessions.now (sym c.in-Some-get_index_mut.ensures.value))
           (c.draw.ensures.no_memory e);
     })

@@ -18,7 +18,7 @@ above-requires c =
     let rooms = rooms_of c.self.inside.rooms.entries in
     let g = c.in-Some-get_index.room_sessions.now in
     let i = c.in-Some.vacant in
-    let v = vacant c.self.inside.made.rooms rooms i (sym c.in-Some.ensures) in
+    let v = vacant c.self.inside.made.rooms c.self.inside.wills.items rooms i (sym c.in-Some.ensures) in
     let at = room_at c.self.inside.rooms.entries i c.in-Some-get_index.field-0-0.now g (sym c.in-Some-get_index.ensures.entry) in
     rw (same_room rooms i _ v.name g v.room_sessions at v.there) (vacant_makes rooms i v)
 
@@ -35,5 +35,5 @@ returns-clause-count c =
     let i = c.in-Some.vacant in
     let at = room_at c.self.inside.rooms.entries i c.in-Some-get_index.field-0-0.now g (sym c.in-Some-get_index.ensures.entry) in
     let is = floor_is (hub_of c.self.inside) c.args.place i _ g (sym c.if-is_some.ensures) (sym c.in-Some.ensures) at in
-    let count = floor_count (hub_of c.self.inside) c.args.place c.self.invariant.floor in
+    let count = floor_count (hub_of c.self.inside) c.args.place c.self.invariant.0.floor in
     rw (c.max.ensures, c.above.ensures) (rw is at count)

@@ -7,6 +7,7 @@ use Rattle.relay_hub.specs.declared.event.Opening.{Opening}
 use Rattle.relay_hub.specs.declared.event.Answer.TheVariants.{Opened}
 use Rattle.relay_hub.specs.declared.event.Event.TheVariants.{Open}
 use Rattle.relay_hub.proofs.Members.{step_is_hub}
+use Rattle.relay_hub.proofs.OpenFaults.{enters_at}
 use Rattle.relay_hub.proofs.Stands.{step_stands, call_stands}
 use Rattle.relay_hub.proofs.hub.Hub.open.Goals as goal
 
@@ -29,14 +30,15 @@ step c =
         made = refl;
         floor = rw (← c.self.view_is, named) at c.floor_after.ensures.floor;
         place = c.in-Ok.place;
-        enters = rw (← named) c.in-Ok.ensures.ok;
+        enters = enters_at (hub_of c.self.inside) c.args.room.now c.args.access (opening c) c.in_ok-place.place c.vacant_for.result c.in-Ok.place (entered c) (rw (← c.self.view_is) at c.vacant_for.ensures.new) named c.in-Ok.ensures.ok;
         home = search rules;
         count = search rules;
+        wills = refl;
       },
     )
 
 pub invariant_of-self-2 : goal.invariant_of-self-2
-invariant_of-self-2 c = step_is_hub (hub_of c.self.inside) (entered c) (Open c.args.room.now c.args.access) (Opened (opening c)) c.self.invariant (step c)
+invariant_of-self-2 c = (step_is_hub (hub_of c.self.inside) (entered c) (Open c.args.room.now c.args.access) (Opened (opening c)) c.self.invariant.0 (step c), c.self.invariant.1)
 
 pub returns-clause-stands : goal.returns-clause-stands
 returns-clause-stands c =
@@ -44,3 +46,6 @@ returns-clause-stands c =
 
 pub returns-in_err-place-clause-stands : goal.returns-in_err-place-clause-stands
 returns-in_err-place-clause-stands c = λ b E h. call_stands b E c.args.self.now c.args.self.now (Open c.args.room.now c.args.access) (opening_as c.from_residual.result) h (search rules)
+
+pub returns-clause-step : goal.returns-clause-step
+returns-clause-step c = rw (← c.self.view_is) (step c)

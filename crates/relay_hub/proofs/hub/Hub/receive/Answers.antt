@@ -17,14 +17,14 @@ step c =
     receives c.self.inside c.args.session c.in-Some.place.now g (left c) (sym c.in-Some.ensures.value) (sym c.in-Some-get_index_mut.ensures.value) c.args.text.now (receiving c.receive.result) c.receive.ensures.step
 
 pub unreachable-requires : goal.unreachable-requires
-unreachable-requires c = never_missing c.self.inside c.args.session c.in-Some.place.now c.self.invariant (sym c.in-Some.ensures.value) (sym c.in_default-get_index_mut.ensures.value)
+unreachable-requires c = never_missing c.self.inside c.args.session c.in-Some.place.now c.self.invariant.0 (sym c.in-Some.ensures.value) (sym c.in_default-get_index_mut.ensures.value)
 
 pub receive-requires : goal.receive-requires
 receive-requires c =
-    is_there c.self.inside c.args.session c.in-Some.place.now c.self.invariant (sym c.in-Some.ensures.value) c.in-Some-get_index_mut.room_sessions.now (sym c.in-Some-get_index_mut.ensures.value)
+    is_there c.self.inside c.args.session c.in-Some.place.now c.self.invariant.0 (sym c.in-Some.ensures.value) c.in-Some-get_index_mut.room_sessions.now (sym c.in-Some-get_index_mut.ensures.value)
 
 pub invariant_of-self : goal.invariant_of-self
-invariant_of-self c = stays_hub (hub_of c.self.inside) (hub_with c.self.inside c.in-Some.place.now (left c)) (Receive c.args.session c.args.text.now) (receiving c.receive.result) c.self.invariant (step c)
+invariant_of-self c = (stays_hub (hub_of c.self.inside) (hub_with c.self.inside c.in-Some.place.now (left c)) (Receive c.args.session c.args.text.now) (receiving c.receive.result) c.self.invariant.0 (step c), c.self.invariant.1)
 
 pub returns : goal.returns
 returns c =
@@ -35,6 +35,6 @@ returns c =
       step = step c;
       stands = λ b E h. call_stands b E old new event (receiving c.receive.result) h (step c);
       refused = refuses_edits old new c.args.session c.args.text.now c.receive.result (step c);
-      no_memory = λ e. hears c.self.inside c.args.session c.in-Some.place.now c.self.invariant (sym c.in-Some.ensures.value) c.in-Some-get_index_mut.room_sessions.now (sym c.in-Some-get_index_mut.ensures.value)
+      no_memory = λ e. hears c.self.inside c.args.session c.in-Some.place.now c.self.invariant.0 (sym c.in-Some.ensures.value) c.in-Some-get_index_mut.room_sessions.now (sym c.in-Some-get_index_mut.ensures.value)
           (c.receive.ensures.no_memory e);
     })

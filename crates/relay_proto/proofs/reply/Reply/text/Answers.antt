@@ -30,6 +30,14 @@ returns-in-Refused-clause-text c = if_ok c.refused_text.result c.refused_text.en
 pub returns-in-Refused-clause-reads_back : goal.returns-in-Refused-clause-reads_back
 returns-in-Refused-clause-reads_back c = if_ok c.refused_text.result c.refused_text.ensures (λ s h counts. ap message_of_text (h ∙ ap (λ r. text_of (reply_document r)) (sym c.in-Refused.is)) ∙ reply_text_back c.args.self.now counts)
 
+pub returns-in-Willing-clause-text : goal.returns-in-Willing-clause-text
+unfolding escape_byte
+returns-in-Willing-clause-text c = if_ok c.format-in-Willing.result c.format-in-Willing.ensures.ok (λ s h. h ∙ ap (λ r. text_of (reply_document r)) (sym c.in-Willing.is))
+
+pub returns-in-Willing-clause-reads_back : goal.returns-in-Willing-clause-reads_back
+unfolding escape_byte
+returns-in-Willing-clause-reads_back c = if_ok c.format-in-Willing.result c.format-in-Willing.ensures.ok (λ s h counts. ap message_of_text (h ∙ ap (λ r. text_of (reply_document r)) (sym c.in-Willing.is)) ∙ reply_text_back c.args.self.now counts)
+
 pub returns-in-Watching-clause-text : goal.returns-in-Watching-clause-text
 unfolding escape_byte
 returns-in-Watching-clause-text c = if_ok c.format-in-Watching.result c.format-in-Watching.ensures.ok (λ s h. h ∙ ap (λ r. text_of (reply_document r)) (sym c.in-Watching.is))

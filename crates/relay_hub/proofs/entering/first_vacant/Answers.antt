@@ -6,7 +6,7 @@ use Rattle.relay_hub.specs.Representation.{named, rooms_of}
 use Rattle.relay_hub.specs.State.{RoomSessions, makes_place}
 use Rattle.relay_hub.proofs.Lists.{position_first, position_none}
 use Rattle.relay_hub.proofs.Representation.{room_at}
-use Rattle.relay_hub.proofs.entering.vacant_place.Goals as goal
+use Rattle.relay_hub.proofs.entering.first_vacant.Goals as goal
 
 pub loop-place-init : goal.loop-place-init
 loop-place-init c = λ p room less at. absurd (omega (arith, less))
@@ -16,10 +16,8 @@ returns-then-makes_place c =
     let es = c.args.rooms.now.entries in
     let g = c.in-Some.room_sessions.now in
     let at = room_at es c.loop-place.place c.in-Some.field-0-0.now g (sym c.in-Some.ensures.entry) in
-    let len : c.len.result ≡ length es = c.len.ensures.len in
-    let full : nat_le c.args.most (length (rooms_of es)) ≡ true = grind (arith, nat_tests, c.if-len-most.false, len, length-map es named) in
     let passes : makes_place g ≡ true = sym c.if-makes_place.ensures in
-    rw full (sym (position_first (λ (room : List ℕ × RoomSessions). makes_place room.1) (rooms_of es) c.loop-place.place (named (c.in-Some.field-0-0.now, g)) c.loop-place.invariant at passes))
+    sym (position_first (λ (room : List ℕ × RoomSessions). makes_place room.1) (rooms_of es) c.loop-place.place (named (c.in-Some.field-0-0.now, g)) c.loop-place.invariant at passes)
 
 pub loop-place-preserved : goal.loop-place-preserved
 loop-place-preserved c = λ p room less is.
@@ -37,8 +35,6 @@ loop-place-preserved c = λ p room less is.
 pub returns : goal.returns
 returns c =
     let es = c.args.rooms.now.entries in
-    let len : c.len.result ≡ length es = c.len.ensures.len in
     let end : c.len-place-end.result ≡ length es = c.len-place-end.ensures.len in
-    let full : nat_le c.args.most (length (rooms_of es)) ≡ true = grind (arith, nat_tests, c.if-len-most.false, len, length-map es named) in
-    rw full (sym (position_none (λ (room : List ℕ × RoomSessions). makes_place room.1) (rooms_of es)
-    (λ p room is. c.loop-place.invariant p room (omega (arith, slice_get_within (rooms_of es) p room is, c.loop-place-test.false, end, length-map es named)) is)))
+    sym (position_none (λ (room : List ℕ × RoomSessions). makes_place room.1) (rooms_of es)
+    (λ p room is. c.loop-place.invariant p room (omega (arith, slice_get_within (rooms_of es) p room is, c.loop-place-test.false, end, length-map es named)) is))

@@ -1,0 +1,104 @@
+//! Tests of wills, and of rooms that are forgotten.
+use crate::calls::play_on_hubs;
+
+const ROWS: &str = r#"
+# A will is done once its session is closed: an edit of which nobody gets a reply.
+new
+begin a => Ok(Opening { session: 1, rev: 0 })
+begin a => Ok(Opening { session: 2, rev: 0 })
+say 2 {"do":"watch","id":1,"view":[""]} => Ok(Answered { short: 0 })
+say 1 {"do":"will","id":1,"patch":[{"op":"replace","path":"","value":7}]} => Ok(Answered { short: 0 })
+draw 1 => {"epoch":1,"kind":"welcome","rev":0,"session":1}
+draw 1 => {"id":1,"kind":"willing"}
+do-will => Ok(None)
+has-wills => false
+truth 2 => 0 [[null]]
+close 1 => Ok(())
+has-wills => true
+truth 2 => 0 [[null]]
+do-will => Ok(Some(0))
+told => [2]
+has-wills => false
+do-will => Ok(None)
+truth 2 => 1 [[7]]
+draw 2 => {"epoch":1,"kind":"welcome","rev":0,"session":2}
+draw 2 => {"id":1,"kind":"watching"}
+draw 2 => {"kind":"snapshot","rev":1,"view":[[7]]}
+
+# A later one replaces it, and an empty one withdraws it. The oldest that is left is done first.
+begin a => Ok(Opening { session: 3, rev: 1 })
+begin a => Ok(Opening { session: 4, rev: 1 })
+begin a => Ok(Opening { session: 5, rev: 1 })
+say 3 {"do":"will","id":1,"patch":[{"op":"replace","path":"","value":8}]} => Ok(Answered { short: 0 })
+say 3 {"do":"will","id":2,"patch":[{"op":"replace","path":"","value":9}]} => Ok(Answered { short: 0 })
+say 4 {"do":"will","id":1,"patch":[{"op":"replace","path":"","value":10}]} => Ok(Answered { short: 0 })
+say 5 {"do":"will","id":1,"patch":[{"op":"replace","path":"","value":11}]} => Ok(Answered { short: 0 })
+say 4 {"do":"will","id":2,"patch":[]} => Ok(Answered { short: 0 })
+close 5 => Ok(())
+close 4 => Ok(())
+close 3 => Ok(())
+do-will => Ok(Some(0))
+truth 2 => 2 [[11]]
+do-will => Ok(Some(0))
+truth 2 => 3 [[9]]
+do-will => Ok(None)
+
+# One that its room refuses changes nothing, and is done.
+begin a => Ok(Opening { session: 6, rev: 3 })
+say 6 {"do":"will","id":1,"patch":[{"op":"replace","path":"","value":1},{"op":"test","path":"","value":2}]} => Ok(Answered { short: 0 })
+close 6 => Ok(())
+do-will => Ok(Some(0))
+has-wills => false
+truth 2 => 3 [[9]]
+
+# One that is refused when it is read leaves the one before.
+begin a => Ok(Opening { session: 7, rev: 3 })
+say 7 {"do":"will","id":1,"patch":[{"op":"replace","path":"","value":12}]} => Ok(Answered { short: 0 })
+say 7 {"do":"will","id":2,"patch":[{"op":"nothing","path":""}]} => Ok(Answered { short: 0 })
+close 7 => Ok(())
+do-will => Ok(Some(0))
+truth 2 => 4 [[12]]
+
+# Who only watches leaves none.
+open-to-watch a => Ok(8)
+draw 8 => {"epoch":1,"kind":"welcome","rev":4,"session":8}
+say 8 {"do":"will","id":1,"patch":[]} => Ok(Answered { short: 0 })
+draw 8 => {"at":null,"fault":"read-only","id":1,"kind":"refused"}
+
+# A will that is left counts as a session, and while it is left no room makes place.
+new sessions=2 rooms=1
+begin a => Ok(Opening { session: 1, rev: 0 })
+say 1 {"do":"will","id":1,"patch":[{"op":"replace","path":"","value":null}]} => Ok(Answered { short: 0 })
+close 1 => Ok(())
+begin b => Err(RoomsFull)
+begin a => Ok(Opening { session: 2, rev: 0 })
+begin a => Err(SessionsFull)
+close 2 => Ok(())
+do-will => Ok(Some(0))
+begin b => Ok(Opening { session: 3, rev: 2 })
+
+# A room in which nobody is can be forgotten: it is null at the next revision, and remembers nothing.
+new rooms=1
+forget a => Err(NoRoom)
+begin a => Ok(Opening { session: 1, rev: 0 })
+say 1 {"do":"edit","id":1,"patch":[{"op":"replace","path":"","value":7}]} => Ok(Answered { short: 0 })
+forget a => Err(Occupied)
+close 1 => Ok(())
+begin b => Err(RoomsFull)
+forget a => Ok(2)
+begin a => Ok(Opening { session: 2, rev: 2 })
+say 2 {"do":"resume","id":1,"epoch":1,"rev":1,"view":[""]} => Ok(Answered { short: 0 })
+truth 2 => 2 [[null]]
+draw 2 => {"epoch":1,"kind":"welcome","rev":2,"session":2}
+draw 2 => {"how":"snapshot","id":1,"kind":"resumed"}
+draw 2 => {"kind":"snapshot","rev":2,"view":[[null]]}
+close 2 => Ok(())
+forget a => Ok(3)
+begin b => Ok(Opening { session: 3, rev: 4 })
+forget a => Err(NoRoom)
+"#;
+
+#[test]
+fn wills_are_done_and_rooms_forgotten(rt: HostRuntime) {
+    play_on_hubs(&rt, ROWS);
+}
