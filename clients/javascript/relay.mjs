@@ -36,10 +36,7 @@ const errorsModule = (() => {
   /** The board was closed, and what was asked for was not sent. */
   class Closed extends Error {
     name = "Closed";
-
-    constructor() {
-      super("the board is closed");
-    }
+    message = "the board is closed";
   }
 
   /** @type {Record<number, string>} */
@@ -136,14 +133,14 @@ const editModule = (() => {
 
     /** What is sent. */
     get request() {
-      const own = this.#refusal === null ? this.#own.patch : [];
-      const patch = this.#counter === null ? own : [...this.#counter.raise, ...own];
-      return this.#hasBase ? { do: "edit", base: this.#base, patch } : { do: "edit", patch };
+      const own = this.#refusal ? [] : this.#own.patch;
+      const patch = [...(this.#counter?.raise ?? []), ...own];
+      return { do: "edit", base: this.#base, patch }; // without a base JSON leaves that out
     }
 
     /** What is kept of it while it waits, so that another board can send it. */
     get kept() {
-      const once = this.#counter === null ? undefined : true;
+      const once = this.#counter ? true : undefined;
       return { patch: this.#own.patch, base: this.#base, epoch: this.#epoch, once };
     }
 
@@ -161,7 +158,7 @@ const editModule = (() => {
      * @param {Welcome} welcome
      */
     ahead(welcome) {
-      return this.#hasEnded ? null : this.#counter?.ahead(this, welcome) ?? null;
+      return this.#hasEnded ? null : this.#counter?.ahead(this, welcome);
     }
 
     /**
@@ -282,7 +279,7 @@ const pointerModule = (() => {
    * @param {string} token
    */
   function index(token) {
-    return /^(0|[1-9][0-9]*)$/.test(token) ? Number(token) : null;
+    return /^(0|[1-9]\d*)$/.test(token) ? Number(token) : null;
   }
 
   /**
@@ -346,13 +343,13 @@ const jsonModule = (() => {
 
   /** @param {number} value @param {readonly (string | number)[]} path */
   function whole(value, path) {
-    if (!Number.isSafeInteger(value)) throw wrong(path, `is ${value}, and numbers are whole and within 2^53: scale it, or send a text`);
+    if (!Number.isSafeInteger(value)) throw wrong(path, `is ${value}, no whole number within 2^53: scale it, or send a text`);
     return value === 0 ? 0 : value;
   }
 
   /** @param {string} text @param {readonly (string | number)[]} path */
   function wellFormed(text, path) {
-    if (/\p{Surrogate}/u.test(text)) throw wrong(path, "is a text with half a surrogate pair");
+    if (/\p{Surrogate}/u.test(text)) throw wrong(path, "has half a surrogate pair");
     return text;
   }
 
@@ -1290,8 +1287,8 @@ const handshakeModule = (() => {
    * @param {{ message?: string } | null} event of the socket
    */
   async function failure(url, event) {
-    const told = /\b[45][0-9]{2}\b/.exec(event?.message ?? "");
-    if (told !== null) return new HandshakeFailed("refused", url, Number(told[0]));
+    const told = /\b[45]\d\d\b/.exec(event?.message ?? "");
+    if (told) return new HandshakeFailed("refused", url, Number(told[0]));
     const ending = new AbortController();
     const timer = setTimeout(() => ending.abort(), LONGEST);
     try {
@@ -1299,18 +1296,12 @@ const handshakeModule = (() => {
       const address = new URL(url.replace(/^ws/, "http"), location?.href);
       const mode = location && location.origin !== address.origin ? "no-cors" : "cors";
       const { status } = await fetch(address, { mode, redirect: "manual", cache: "no-store", signal: ending.signal });
-      return new HandshakeFailed("refused", url, meant(status));
+      return new HandshakeFailed("refused", url, status === NO_HANDSHAKE ? NO_PLACE : status || null);
     } catch {
       return new HandshakeFailed("unreachable", url);
     } finally {
       clearTimeout(timer);
     }
-  }
-
-  /** @param {number} status 0 where the platform hides it */
-  function meant(status) {
-    if (status === 0) return null;
-    return status === NO_HANDSHAKE ? NO_PLACE : status;
   }
 
   /**
@@ -1319,7 +1310,7 @@ const handshakeModule = (() => {
    */
   function checkRoom(url) {
     const name = new URL(url, globalThis.location?.href).pathname.split("/").at(-1) ?? "";
-    if (!/^[A-Za-z0-9_-]{1,64}$/.test(name)) {
+    if (!/^[\w-]{1,64}$/.test(name)) {
       throw new RangeError(`"${name}" is no room's name: 1 to 64 ASCII letters, digits, "-" and "_"`);
     }
   }
@@ -1398,21 +1389,13 @@ const onceModule = (() => {
       const path = this.#parent + spelled([newId()]);
       const answered = (/** @type {any} */ reply) => {
         this.#adding = null;
-        if (reply.kind === "done") this.#stands(path, welcome.epoch);
-        else edit.fail(new Refused({ fault: reply.fault }, this.#advice));
+        const advice = `\`once\` needs an object at "${this.#parent}", as \`begin\` makes it`;
+        if (reply.kind !== "done") return edit.fail(new Refused({ fault: reply.fault }, advice));
+        this.#path = path;
+        this.#value = 0;
+        this.#epoch = welcome.epoch;
       };
       return { request: { do: "edit", patch: [{ op: "add", path, value: 0 }] }, answered };
-    }
-
-    /** @param {string} path @param {number} epoch */
-    #stands(path, epoch) {
-      this.#path = path;
-      this.#value = 0;
-      this.#epoch = epoch;
-    }
-
-    get #advice() {
-      return `\`once\` needs an object at "${this.#parent}", as \`begin\` makes it`;
     }
 
     /** @returns {Operation[]} */
@@ -1440,9 +1423,7 @@ const onceModule = (() => {
      * @param {Edit} edit
      */
     lost(edit) {
-      if (this.#edit !== edit) return;
-      this.#edit = null;
-      this.#epoch = null;
+      if (this.#edit === edit) this.#edit = this.#epoch = null;
     }
   }
 
@@ -1482,7 +1463,7 @@ const linkModule = (() => {
    *   request: object,
    *   id?: number,
    *   answered: (reply: any) => void,
-   *   ahead?: (welcome: Welcome) => Asked | typeof WAITS | null,
+   *   ahead?: (welcome: Welcome) => Asked | typeof WAITS | null | undefined,
    *   goesTo?: (welcome: Welcome) => boolean,
    *   lost?: () => boolean,
    *   dropped?: () => void,
@@ -1846,7 +1827,7 @@ const touchModule = (() => {
    */
   function touches(whole, patch, view) {
     const draft = new Draft(whole);
-    return patch.filter((operation) => changed(draft, operation).some((place) => view.some((shown) => touch(shown, place)))).length > 0;
+    return patch.flatMap((operation) => changed(draft, operation)).some((place) => view.some((shown) => touch(shown, place)));
   }
 
   /**
@@ -1993,8 +1974,8 @@ const overlayModule = (() => {
 
     /** @param {Held} held */
     #known({ view, slots }) {
-      if (this.#base?.slots !== slots || this.#base === null) this.#base = { slots, whole: knownBy(view, slots ?? []) };
-      return this.#base.whole;
+      if (this.#base?.slots !== slots) this.#base = { slots, whole: knownBy(view, slots ?? []) };
+      return /** @type {{ whole: Part }} */ (this.#base).whole;
     }
 
     // Whether a patch will come for an edit that was done: of one that only might touch a slot none may ever come.
@@ -2064,8 +2045,7 @@ const elementsModule = (() => {
    */
   function followed(list, at) {
     const before = shown(list());
-    const isThere = Number.isSafeInteger(at) && at >= 0 && at < before.length;
-    if (!isThere) throw new RangeError(`no element ${at}`);
+    if (!(Number.isSafeInteger(at) && at in before)) throw new RangeError(`no element ${at}`);
     const wanted = before[at];
     return () => {
       const places = shown(list()).flatMap((value, place) => (same(value, wanted) ? [place] : []));
@@ -2373,7 +2353,7 @@ const placeModule = (() => {
 
   /** @param {any} value @param {string} name */
   function nested(value, name) {
-    return Object.fromEntries([[name, value]]);
+    return { [name]: value };
   }
 
   /** @param {readonly any[]} slot @param {string} token @returns {readonly any[]} */
@@ -2484,7 +2464,7 @@ const queueModule = (() => {
      * @param {import("../relay.js").Store | null} [storage]
      * @param {string} [key]
      */
-    constructor(mode = "all", storage = null, key = "relay") {
+    constructor(mode = "all", storage = null, key = "") {
       if (mode !== "all" && mode !== "guarded") throw new RangeError(`no queue: ${mode}`);
       this.#mode = mode;
       this.#storage = storage;
@@ -2633,12 +2613,12 @@ const nodeModule = (() => {
 
     #open() {
       const { part } = this;
-      const isList = part.is === "value" && Array.isArray(this.#value);
+      const isList = Array.isArray(this.#value);
       const parts = part.is === "container" ? part.children : partsOf(this.#value);
       const there = [...parts].filter(([, { is }]) => is === "value" || is === "container");
       const kids = there.map(([token, part]) => this.#kid(part, token, isList));
       this.#before = isList ? kids : new Map(there.map(([token], k) => [token, kids[k]]));
-      this.#kids = Array.isArray(this.#before) ? [...this.#before] : new Map(this.#before);
+      this.#kids = isList ? [...kids] : new Map(/** @type {Map<string, Node>} */ (this.#before));
     }
 
     /** @param {Part} part @param {string} token @param {boolean} isList */
@@ -2988,19 +2968,19 @@ const draftModule = (() => {
       get(_, key, receiver) {
         if (key === "length") return own.length();
         if (key === Symbol.iterator) return own.values;
-        const at = typeof key === "string" ? index(key) : null;
+        const at = placeAt(key);
         if (at !== null) return own.at(at);
         return Object.hasOwn(own, key) ? own[key] : Reflect.get(Array.prototype, key, receiver);
       },
       set(_, key, value) {
-        const at = typeof key === "string" ? index(key) : null;
+        const at = placeAt(key);
         if (at !== null) own.set(at, value);
         else if (key === "length") own.cut(value);
         else throw new TypeError(`a list has no member ${String(key)}`);
         return true;
       },
       has(_, key) {
-        const at = typeof key === "string" ? index(key) : null;
+        const at = placeAt(key);
         return at === null ? Reflect.has(Array.prototype, key) : at < own.length();
       },
       deleteProperty() {
@@ -3008,9 +2988,8 @@ const draftModule = (() => {
       },
       ownKeys: () => [...Array.from({ length: own.length() }, (_, k) => String(k)), "length"],
       getOwnPropertyDescriptor(target, key) {
-        const length = Reflect.getOwnPropertyDescriptor(target, "length");
-        if (key === "length") return { ...length, value: own.length() };
-        const at = typeof key === "string" ? index(key) : null;
+        if (key === "length") return { ...Reflect.getOwnPropertyDescriptor(target, key), value: own.length() };
+        const at = placeAt(key);
         return at === null || at >= own.length() ? undefined : member(own.at(at));
       },
     };
@@ -3034,9 +3013,8 @@ const draftModule = (() => {
     const traps = {
       ...SHUT,
       get(_, key, receiver) {
-        if (typeof key === "symbol") return Reflect.get(Object.prototype, key, receiver);
-        if (node.members.has(key) || !(key in Object.prototype)) return get(key);
-        return Reflect.get(Object.prototype, key, receiver);
+        const isOwn = typeof key !== "symbol" && (node.members.has(key) || !(key in Object.prototype));
+        return isOwn ? get(key) : Reflect.get(Object.prototype, key, receiver);
       },
       set(_, key, value) {
         setMember(draft, node, String(key), value);
@@ -3085,7 +3063,13 @@ const draftModule = (() => {
   /** @param {Node} node @param {string} name @param {boolean} isReplaced */
   function checkPlace(node, name, isReplaced) {
     if (!node.isPartial || isReplaced || (index(name) === null && name !== "-")) return;
-    throw new RangeError("the view does not show the whole list");
+    throw new RangeError("the view does not show all elements");
+  }
+
+  // A symbol names no element.
+  /** @param {string | symbol} key */
+  function placeAt(key) {
+    return typeof key === "string" ? index(key) : null;
   }
 
   /** @param {any} value */
@@ -4779,8 +4763,7 @@ const relayModule = (() => {
   }
 
   const NO_SOCKETS =
-    "no WebSocket: take Node 22, start Node with --experimental-websocket, " +
-    "or hand in that of the package `ws` as an option";
+    "no WebSocket: take Node 22, --experimental-websocket, or that of the package `ws`";
 
   /** @param {any} options */
   function checkSockets(options) {

@@ -122,19 +122,19 @@ function listProxy(draft, node) {
     get(_, key, receiver) {
       if (key === "length") return own.length();
       if (key === Symbol.iterator) return own.values;
-      const at = typeof key === "string" ? index(key) : null;
+      const at = placeAt(key);
       if (at !== null) return own.at(at);
       return Object.hasOwn(own, key) ? own[key] : Reflect.get(Array.prototype, key, receiver);
     },
     set(_, key, value) {
-      const at = typeof key === "string" ? index(key) : null;
+      const at = placeAt(key);
       if (at !== null) own.set(at, value);
       else if (key === "length") own.cut(value);
       else throw new TypeError(`a list has no member ${String(key)}`);
       return true;
     },
     has(_, key) {
-      const at = typeof key === "string" ? index(key) : null;
+      const at = placeAt(key);
       return at === null ? Reflect.has(Array.prototype, key) : at < own.length();
     },
     deleteProperty() {
@@ -142,9 +142,8 @@ function listProxy(draft, node) {
     },
     ownKeys: () => [...Array.from({ length: own.length() }, (_, k) => String(k)), "length"],
     getOwnPropertyDescriptor(target, key) {
-      const length = Reflect.getOwnPropertyDescriptor(target, "length");
-      if (key === "length") return { ...length, value: own.length() };
-      const at = typeof key === "string" ? index(key) : null;
+      if (key === "length") return { ...Reflect.getOwnPropertyDescriptor(target, key), value: own.length() };
+      const at = placeAt(key);
       return at === null || at >= own.length() ? undefined : member(own.at(at));
     },
   };
@@ -168,9 +167,8 @@ function objectProxy(draft, node) {
   const traps = {
     ...SHUT,
     get(_, key, receiver) {
-      if (typeof key === "symbol") return Reflect.get(Object.prototype, key, receiver);
-      if (node.members.has(key) || !(key in Object.prototype)) return get(key);
-      return Reflect.get(Object.prototype, key, receiver);
+      const isOwn = typeof key !== "symbol" && (node.members.has(key) || !(key in Object.prototype));
+      return isOwn ? get(key) : Reflect.get(Object.prototype, key, receiver);
     },
     set(_, key, value) {
       setMember(draft, node, String(key), value);
@@ -219,7 +217,13 @@ function dropMember(draft, node, name) {
 /** @param {Node} node @param {string} name @param {boolean} isReplaced */
 function checkPlace(node, name, isReplaced) {
   if (!node.isPartial || isReplaced || (index(name) === null && name !== "-")) return;
-  throw new RangeError("the view does not show the whole list");
+  throw new RangeError("the view does not show all elements");
+}
+
+// A symbol names no element.
+/** @param {string | symbol} key */
+function placeAt(key) {
+  return typeof key === "string" ? index(key) : null;
 }
 
 /** @param {any} value */

@@ -55,14 +55,14 @@ export class Edit {
 
   /** What is sent. */
   get request() {
-    const own = this.#refusal === null ? this.#own.patch : [];
-    const patch = this.#counter === null ? own : [...this.#counter.raise, ...own];
-    return this.#hasBase ? { do: "edit", base: this.#base, patch } : { do: "edit", patch };
+    const own = this.#refusal ? [] : this.#own.patch;
+    const patch = [...(this.#counter?.raise ?? []), ...own];
+    return { do: "edit", base: this.#base, patch }; // without a base JSON leaves that out
   }
 
   /** What is kept of it while it waits, so that another board can send it. */
   get kept() {
-    const once = this.#counter === null ? undefined : true;
+    const once = this.#counter ? true : undefined;
     return { patch: this.#own.patch, base: this.#base, epoch: this.#epoch, once };
   }
 
@@ -80,7 +80,7 @@ export class Edit {
    * @param {Welcome} welcome
    */
   ahead(welcome) {
-    return this.#hasEnded ? null : this.#counter?.ahead(this, welcome) ?? null;
+    return this.#hasEnded ? null : this.#counter?.ahead(this, welcome);
   }
 
   /**

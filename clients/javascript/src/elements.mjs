@@ -10,8 +10,7 @@ import { isObject, same } from "./json.mjs";
  */
 export function followed(list, at) {
   const before = shown(list());
-  const isThere = Number.isSafeInteger(at) && at >= 0 && at < before.length;
-  if (!isThere) throw new RangeError(`no element ${at}`);
+  if (!(Number.isSafeInteger(at) && at in before)) throw new RangeError(`no element ${at}`);
   const wanted = before[at];
   return () => {
     const places = shown(list()).flatMap((value, place) => (same(value, wanted) ? [place] : []));

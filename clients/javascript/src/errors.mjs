@@ -33,10 +33,7 @@ export class Unknown extends Error {
 /** The board was closed, and what was asked for was not sent. */
 export class Closed extends Error {
   name = "Closed";
-
-  constructor() {
-    super("the board is closed");
-  }
+  message = "the board is closed";
 }
 
 /** @type {Record<number, string>} */

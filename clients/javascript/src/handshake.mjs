@@ -12,8 +12,8 @@ const LONGEST = 2000;
  * @param {{ message?: string } | null} event of the socket
  */
 export async function failure(url, event) {
-  const told = /\b[45][0-9]{2}\b/.exec(event?.message ?? "");
-  if (told !== null) return new HandshakeFailed("refused", url, Number(told[0]));
+  const told = /\b[45]\d\d\b/.exec(event?.message ?? "");
+  if (told) return new HandshakeFailed("refused", url, Number(told[0]));
   const ending = new AbortController();
   const timer = setTimeout(() => ending.abort(), LONGEST);
   try {
@@ -21,18 +21,12 @@ export async function failure(url, event) {
     const address = new URL(url.replace(/^ws/, "http"), location?.href);
     const mode = location && location.origin !== address.origin ? "no-cors" : "cors";
     const { status } = await fetch(address, { mode, redirect: "manual", cache: "no-store", signal: ending.signal });
-    return new HandshakeFailed("refused", url, meant(status));
+    return new HandshakeFailed("refused", url, status === NO_HANDSHAKE ? NO_PLACE : status || null);
   } catch {
     return new HandshakeFailed("unreachable", url);
   } finally {
     clearTimeout(timer);
   }
-}
-
-/** @param {number} status 0 where the platform hides it */
-function meant(status) {
-  if (status === 0) return null;
-  return status === NO_HANDSHAKE ? NO_PLACE : status;
 }
 
 /**
@@ -41,7 +35,7 @@ function meant(status) {
  */
 export function checkRoom(url) {
   const name = new URL(url, globalThis.location?.href).pathname.split("/").at(-1) ?? "";
-  if (!/^[A-Za-z0-9_-]{1,64}$/.test(name)) {
+  if (!/^[\w-]{1,64}$/.test(name)) {
     throw new RangeError(`"${name}" is no room's name: 1 to 64 ASCII letters, digits, "-" and "_"`);
   }
 }

@@ -37,13 +37,13 @@ function members(value, path) {
 
 /** @param {number} value @param {readonly (string | number)[]} path */
 function whole(value, path) {
-  if (!Number.isSafeInteger(value)) throw wrong(path, `is ${value}, and numbers are whole and within 2^53: scale it, or send a text`);
+  if (!Number.isSafeInteger(value)) throw wrong(path, `is ${value}, no whole number within 2^53: scale it, or send a text`);
   return value === 0 ? 0 : value;
 }
 
 /** @param {string} text @param {readonly (string | number)[]} path */
 function wellFormed(text, path) {
-  if (/\p{Surrogate}/u.test(text)) throw wrong(path, "is a text with half a surrogate pair");
+  if (/\p{Surrogate}/u.test(text)) throw wrong(path, "has half a surrogate pair");
   return text;
 }
 

@@ -30,7 +30,7 @@ const REPLIES = ["done", "refused", "watching", "resumed", "unwatched"];
  *   request: object,
  *   id?: number,
  *   answered: (reply: any) => void,
- *   ahead?: (welcome: Welcome) => Asked | typeof WAITS | null,
+ *   ahead?: (welcome: Welcome) => Asked | typeof WAITS | null | undefined,
  *   goesTo?: (welcome: Welcome) => boolean,
  *   lost?: () => boolean,
  *   dropped?: () => void,

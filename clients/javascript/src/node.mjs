@@ -89,12 +89,12 @@ export class Node {
 
   #open() {
     const { part } = this;
-    const isList = part.is === "value" && Array.isArray(this.#value);
+    const isList = Array.isArray(this.#value);
     const parts = part.is === "container" ? part.children : partsOf(this.#value);
     const there = [...parts].filter(([, { is }]) => is === "value" || is === "container");
     const kids = there.map(([token, part]) => this.#kid(part, token, isList));
     this.#before = isList ? kids : new Map(there.map(([token], k) => [token, kids[k]]));
-    this.#kids = Array.isArray(this.#before) ? [...this.#before] : new Map(this.#before);
+    this.#kids = isList ? [...kids] : new Map(/** @type {Map<string, Node>} */ (this.#before));
   }
 
   /** @param {Part} part @param {string} token @param {boolean} isList */

@@ -54,21 +54,13 @@ export class Counter {
     const path = this.#parent + spelled([newId()]);
     const answered = (/** @type {any} */ reply) => {
       this.#adding = null;
-      if (reply.kind === "done") this.#stands(path, welcome.epoch);
-      else edit.fail(new Refused({ fault: reply.fault }, this.#advice));
+      const advice = `\`once\` needs an object at "${this.#parent}", as \`begin\` makes it`;
+      if (reply.kind !== "done") return edit.fail(new Refused({ fault: reply.fault }, advice));
+      this.#path = path;
+      this.#value = 0;
+      this.#epoch = welcome.epoch;
     };
     return { request: { do: "edit", patch: [{ op: "add", path, value: 0 }] }, answered };
-  }
-
-  /** @param {string} path @param {number} epoch */
-  #stands(path, epoch) {
-    this.#path = path;
-    this.#value = 0;
-    this.#epoch = epoch;
-  }
-
-  get #advice() {
-    return `\`once\` needs an object at "${this.#parent}", as \`begin\` makes it`;
   }
 
   /** @returns {Operation[]} */
@@ -96,8 +88,6 @@ export class Counter {
    * @param {Edit} edit
    */
   lost(edit) {
-    if (this.#edit !== edit) return;
-    this.#edit = null;
-    this.#epoch = null;
+    if (this.#edit === edit) this.#edit = this.#epoch = null;
   }
 }

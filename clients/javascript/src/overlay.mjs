@@ -85,8 +85,8 @@ export class Overlay {
 
   /** @param {Held} held */
   #known({ view, slots }) {
-    if (this.#base?.slots !== slots || this.#base === null) this.#base = { slots, whole: knownBy(view, slots ?? []) };
-    return this.#base.whole;
+    if (this.#base?.slots !== slots) this.#base = { slots, whole: knownBy(view, slots ?? []) };
+    return /** @type {{ whole: Part }} */ (this.#base).whole;
   }
 
   // Whether a patch will come for an edit that was done: of one that only might touch a slot none may ever come.

@@ -203,7 +203,7 @@ export class Place {
 
 /** @param {any} value @param {string} name */
 function nested(value, name) {
-  return Object.fromEntries([[name, value]]);
+  return { [name]: value };
 }
 
 /** @param {readonly any[]} slot @param {string} token @returns {readonly any[]} */

@@ -32,7 +32,7 @@ export function spelled(path) {
  * @param {string} token
  */
 export function index(token) {
-  return /^(0|[1-9][0-9]*)$/.test(token) ? Number(token) : null;
+  return /^(0|[1-9]\d*)$/.test(token) ? Number(token) : null;
 }
 
 /**

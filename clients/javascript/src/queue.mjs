@@ -16,7 +16,7 @@ export class Queue {
    * @param {import("../relay.js").Store | null} [storage]
    * @param {string} [key]
    */
-  constructor(mode = "all", storage = null, key = "relay") {
+  constructor(mode = "all", storage = null, key = "") {
     if (mode !== "all" && mode !== "guarded") throw new RangeError(`no queue: ${mode}`);
     this.#mode = mode;
     this.#storage = storage;

@@ -37,8 +37,7 @@ export function overlaid(view, slots, patch) {
 }
 
 const NO_SOCKETS =
-  "no WebSocket: take Node 22, start Node with --experimental-websocket, " +
-  "or hand in that of the package `ws` as an option";
+  "no WebSocket: take Node 22, --experimental-websocket, or that of the package `ws`";
 
 /** @param {any} options */
 function checkSockets(options) {

@@ -18,7 +18,7 @@ import { Draft, goesOn, pathOf, placeOf, read } from "./known.mjs";
  */
 export function touches(whole, patch, view) {
   const draft = new Draft(whole);
-  return patch.filter((operation) => changed(draft, operation).some((place) => view.some((shown) => touch(shown, place)))).length > 0;
+  return patch.flatMap((operation) => changed(draft, operation)).some((place) => view.some((shown) => touch(shown, place)));
 }
 
 /**
