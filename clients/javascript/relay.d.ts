@@ -111,8 +111,8 @@ export interface Options<V extends readonly Shown[] = readonly Shown[], Slots = 
   begin?: Writable;
   /**
    * Enters the room only to watch it, by its address with `/watch` behind the name. Each edit fails
-   * at once, as `read-only`, and nothing is sent: so do `change`, `end`, `undo` and `redo`. `begin`
-   * is not written. A relay that does not know the address refuses it with 404.
+   * at once, as `read-only`, and nothing is sent: so do `change`, `end`, `will`, `undo` and `redo`.
+   * `begin` is not written. A relay that does not know the address refuses it with 404.
    */
   readOnly?: boolean;
   /** Told after each change of the slots, and of how many edits wait. */
@@ -338,6 +338,22 @@ export interface Board<D = Json, V extends readonly Shown[] = readonly Shown[]> 
    */
   end(): Promise<number>;
   /**
+   * Leaves a will: a patch that the relay does when this session ends, however it ends, by `close`,
+   * by a page that is closed or killed, or by a lost connection. It is done as an edit without a
+   * base that nobody is answered: where it is refused, nothing happens. A later will replaces it,
+   * and `[]` withdraws it. Each new connection leaves it again, before the edits that wait. The
+   * session that was lost has done its own by then, or does it once the relay finds out: so guard
+   * by a `test` what a later session may have written anew.
+   *
+   * Comes back when the relay has it; without a connection, once there is one. Fails with
+   * `Refused`, and the will before stays: as `shape` by a relay that knows no wills, as `too-heavy`
+   * where it weighs more than 65,536; and with `Closed`.
+   *
+   * A session has one will. What boards that share a connection leave, and `presence`, is put
+   * together with it, and done whole or not at all.
+   */
+  will(patch: readonly Operation[]): Promise<void>;
+  /**
    * Takes back the newest edit of this board that was done, and gives the revision of that; null where there is none. It waits until all
    * edits before it are shown. Refused, as `changed`, where somebody changed what the edit did; then the edit before it is the newest. Edits
    * of what the slots did not show are not taken back.
@@ -382,14 +398,20 @@ export interface Room<D = Json> {
 /** Several views of a room over as few connections as they need. `onConnections` is told how many they are, with each new one. */
 export function room<D = Json>(url: string, options?: Omit<Options, "view" | "onChange"> & { onConnections?: (count: number) => void }): Room<D>;
 
+/**
+ * What is written of somebody: `session` names the session that wrote it, and `beat` counts its
+ * renewals where the relay knows no wills.
+ */
+export type Present<E extends object> = E & { readonly session: string; readonly beat?: number };
+
 export interface Presence<E extends object> {
   readonly id: string;
   /** The entries of all who are here, by their ids. What is no object is left out. */
-  readonly people: Readonly<Record<string, E & { readonly beat: number }>>;
+  readonly people: Readonly<Record<string, Present<E>>>;
   /** When the entry is written for the first time. Fails where the board is closed before, only watches, or does not show the pointer. */
   readonly ready: Promise<void>;
   /** Tells who is here with each change. Gives its end. */
-  subscribe(listener: (people: Readonly<Record<string, E & { readonly beat: number }>>) => void): () => void;
+  subscribe(listener: (people: Readonly<Record<string, Present<E>>>) => void): () => void;
   /** Shows another entry of this client from now on; without a connection, once it is there again. The promise need not be looked at. */
   set(entry: E): Promise<void>;
   /** Takes this client's entry away. */
@@ -397,10 +419,17 @@ export interface Presence<E extends object> {
 }
 
 /**
- * Keeps an entry of this client in the object at a pointer of the board's view: makes the object if there is none, writes the entry each
- * time that the board is `open`, renews it every 20 seconds (`every`), and takes away entries that were not renewed for 150 seconds (`gone`),
- * by this client's clock. Where it is refused, as in a room that has no document yet, it is tried again when the document changes. Each
- * renewal is an edit: a revision of the room, told to every watcher of the object, and it makes an edit with an earlier `base` stale.
+ * Keeps an entry of this client in the object at a pointer of the board's view: makes the object if
+ * there is none, leaves a will that takes the entry away, and writes it each time that the board is
+ * `open`, or that somebody else took it away. Where it is refused, as in a room that has no document
+ * yet, it is tried again when the document changes. The entry goes when the relay finds that the
+ * session has ended: of a machine that lost its network that may take as long as the system or a
+ * proxy keeps the connection.
+ *
+ * To a relay that knows no wills the entry is renewed every 20 seconds (`every`), and entries that
+ * were not renewed for 150 seconds (`gone`), by this client's clock, are taken away. Each renewal is
+ * an edit: a revision of the room, told to every watcher of the object, and it makes an edit with an
+ * earlier `base` stale.
  */
 export function presence<E extends object>(
   board: Board<any, any> | SharedBoard<any, any>,

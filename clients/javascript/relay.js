@@ -1453,7 +1453,7 @@
     const TOO_LONG = { kind: "refused", fault: "too-long", at: null };
 
     // What answers a request. The welcome does not.
-    const REPLIES = ["done", "refused", "watching", "resumed", "unwatched"];
+    const REPLIES = ["done", "refused", "watching", "resumed", "willing"];
 
     /**
      * A request: what is sent, the id with which it was, and what becomes of it. Only an edit has the
@@ -1505,6 +1505,8 @@
       /** @type {ReturnType<typeof setTimeout> | undefined} */
       #patience;
       #closed = false;
+      /** @type {Asked | undefined} */
+      will; // that the relay took last: it goes with its connection, so the next one leaves it again
 
       /** @param {string} url @param {Options} options @param {Hearer} on */
       constructor(url, options, on) {
@@ -1664,7 +1666,7 @@
       #listen() {
         clearTimeout(this.#timer);
         if (this.#socket === null || this.#isDue) return;
-        this.#timer = setTimeout(() => this.ask({ request: {}, answered: () => {} }), this.#options.quiet);
+        this.#timer = setTimeout(() => this.ask({ request: {}, answered() {} }), this.#options.quiet);
       }
 
       // One value of a place is on its way at a time. The next one waits until that is answered, or
@@ -1678,9 +1680,9 @@
       #send() {
         while (this.#welcome !== null && this.#sent.length < ON_THE_WAY && this.#unsent.length > 0) {
           if (this.#isHeld) break;
-          const ahead = this.#unsent[0].ahead?.(this.#welcome) ?? null;
+          const ahead = this.#unsent[0].ahead?.(this.#welcome);
           if (ahead === WAITS) break;
-          if (ahead !== null) this.#unsent.unshift(ahead);
+          if (ahead) this.#unsent.unshift(ahead);
           const asked = /** @type {Asked} */ (this.#unsent.shift());
           // What is kept elsewhere ends there before it is sent, so that it is never sent twice.
           if (asked.dropped) this.#on.waiting(this.#unsent);
@@ -1725,6 +1727,7 @@
         this.#welcome = welcome;
         this.#failures = 0;
         clearTimeout(this.#patience);
+        if (this.will) this.askFirst(this.will);
         this.#on.entered(welcome);
       }
 
@@ -2501,6 +2504,52 @@
     return { Queue };
   })();
 
+  const willModule = (() => {
+    // What the relay is to do when this client's session ends (docs/PROTOCOL.md, "Wills"). A will goes
+    // with its session, so each connection leaves it again. A session has one: what the parts of a page
+    // leave is put together.
+    const { Closed, Refused } = errorsModule;
+    const { checked } = jsonModule;
+
+    /** @typedef {import("../relay.js").Operation} Operation */
+    /** @typedef {import("./link.mjs").Asked} Asked */
+
+    /** @param {import("./link.mjs").Link} link */
+    function wills(link) {
+      /** @type {Map<unknown, Operation[]>} */
+      let parts = new Map(); // by whose they are
+
+      /**
+       * In place of what was left before for the same part.
+       * @param {readonly Operation[]} patch @param {unknown} of
+       * @returns {Promise<void>}
+       */
+      return (patch, of) =>
+        new Promise((resolve, reject) => {
+          const before = parts;
+          const own = (parts = new Map(before).set(of, checked(patch)));
+          /** @type {Asked} */
+          const asked = {
+            request: { do: "will", patch: [...own.values()].flat() },
+            answered(reply) {
+              if (reply.kind === "willing") {
+                link.will = asked;
+                resolve();
+              } else {
+                if (parts === own) parts = before;
+                reject(new Refused(reply));
+              }
+            },
+            lost: () => link.will !== asked,
+            dropped: () => reject(new Closed()),
+          };
+          link.ask(asked);
+        });
+    }
+
+    return { wills };
+  })();
+
   const beginModule = (() => {
     // The document that a room begins with: each connection writes it before anything else, and the relay refuses that if the room has one.
     const { Refused } = errorsModule;
@@ -2989,7 +3038,9 @@
         },
         ownKeys: () => [...Array.from({ length: own.length() }, (_, k) => String(k)), "length"],
         getOwnPropertyDescriptor(target, key) {
-          if (key === "length") return { ...Reflect.getOwnPropertyDescriptor(target, key), value: own.length() };
+          if (key === "length") {
+            return { ...Reflect.getOwnPropertyDescriptor(target, key), value: own.length() };
+          }
           const at = placeAt(key);
           return at === null || at >= own.length() ? undefined : member(own.at(at));
         },
@@ -3789,6 +3840,7 @@
     const { Places } = placesModule;
     const { Counter } = onceModule;
     const { Queue } = queueModule;
+    const { wills } = willModule;
     const { beginning } = beginModule;
     const { change } = changeModule;
     const { checked } = jsonModule;
@@ -3841,11 +3893,11 @@
       #said = new Set(); // what was asked for, and has not ended
       /** @type {Counter | null} */
       #counter;
+      #will;
 
       /** @param {string} url @param {any} options */
       constructor(url, { view, begin = null, once = null, ...options }) {
-        const own = { WebSocket: globalThis.WebSocket, onState: warning(), onTakenBack: null };
-        this.#options = { ...own, ...DEFAULTS, ...options };
+        this.#options = { WebSocket: globalThis.WebSocket, onState: warning(), ...DEFAULTS, ...options };
         this.#counter = once === null ? null : new Counter(once);
         if (options.onChange) this.#changes.add(options.onChange);
         const { readOnly } = options;
@@ -3864,6 +3916,7 @@
           connecting: () => this.#enter("connecting", null),
           waiting: (asked) => this.#queue.keep(asked),
         });
+        this.#will = wills(this.#link);
         this.#follower = new Follower(view, this.#link, {
           took: (before, patch) => this.#took(before, patch),
           present: () => this.#present(),
@@ -4015,6 +4068,16 @@
           if (this.slots === null) await this.ready;
           return this.edit([{ op: "replace", path: "", value: null }], { base: this.rev });
         });
+      }
+
+      /**
+       * What the relay is to do when this session ends.
+       * @param {readonly Operation[]} patch
+       * @param {unknown} [of] the part of a page that leaves it
+       * @returns {Promise<void>}
+       */
+      will(patch, of = this) {
+        return this.said(() => this.#will(patch, of));
       }
 
       undo() {
@@ -4242,7 +4305,7 @@
      */
     function revision(base) {
       if (base === undefined || base === null) return undefined;
-      if (!Number.isSafeInteger(base) || Number(base) < 0) throw new TypeError(`a base is a revision, and not ${base}`);
+      if (!Number.isSafeInteger(base) || Number(base) < 0) throw new TypeError(`a base is a revision, not ${base}`);
       return Number(base);
     }
 
@@ -4466,6 +4529,11 @@
         return this.#shared.board.end();
       }
 
+      /** @param {readonly import("../relay.js").Operation[]} patch @param {unknown} [of] */
+      will(patch, of = this) {
+        return this.#shared.board.will(patch, of);
+      }
+
       undo() {
         return this.#shared.board.undo();
       }
@@ -4517,19 +4585,81 @@
     return { inspected };
   })();
 
+  const renewalModule = (() => {
+    // Who is here, told to a relay that knows no wills: each entry is renewed while its client is here,
+    // and whoever sees that one was not renewed takes it away. Each renewal is an edit: a revision, told
+    // to every watcher of the object.
+
+    // A page in the background has its timers run once a minute: an entry outlives two such renewals.
+    const DEFAULTS = { every: 20_000, gone: 150_000 };
+
+    class Renewal {
+      #options;
+      #renew;
+      #beat = 0;
+      /** @type {ReturnType<typeof setInterval> | undefined} */
+      #timer;
+      /** @type {Map<string, { beat: unknown, since: number }>} */
+      #seen = new Map(); // since when each entry has not been renewed, by this client's clock
+
+      /** @param {{ every?: number, gone?: number }} options @param {() => void} renew */
+      constructor(options, renew) {
+        this.#options = { ...DEFAULTS, ...options };
+        this.#renew = renew;
+      }
+
+      begin() {
+        this.#timer ??= setInterval(this.#renew, this.#options.every);
+      }
+
+      end() {
+        clearInterval(this.#timer);
+        this.#timer = undefined;
+      }
+
+      /** What an entry has besides. */
+      get mark() {
+        if (this.#timer === undefined) return {};
+        this.#beat += 1;
+        return { beat: this.#beat };
+      }
+
+      /**
+       * Those that were not renewed for too long.
+       * @param {Record<string, { beat?: unknown }>} others by their ids
+       * @returns {string[]}
+       */
+      gone(others) {
+        if (this.#timer === undefined) return [];
+        const now = Date.now();
+        this.#seen = new Map(Object.entries(others).map(([id, { beat }]) => {
+          const before = this.#seen.get(id);
+          return [id, before !== undefined && before.beat === beat ? before : { beat, since: now }];
+        }));
+        const isGone = (/** @type {{ since: number }} */ { since }) => now - since >= this.#options.gone;
+        return [...this.#seen].flatMap(([id, seen]) => (isGone(seen) ? [id] : []));
+      }
+    }
+
+    return { Renewal };
+  })();
+
   const presenceModule = (() => {
-    // Who is here: an entry of this client in an object of the document, renewed while it is here, and taken away where it was not renewed.
-    // The relay has no such thing by itself, so each renewal is an edit: a revision, told to every watcher of the object.
+    // Who is here: an entry of this client in an object of the document. A will takes it away when the
+    // session ends, however it ends. A relay that knows no wills is told by renewals in its place
+    // (renewal.mjs).
+    //
+    // The will is left before the entry is written, so that no entry is ever there without one. It tests
+    // which session wrote the entry: where a later session of this client is here already, the late will
+    // of an earlier one is refused, and leaves the entry.
     const { Closed, Refused, Unknown } = errorsModule;
+    const { Renewal } = renewalModule;
     const { newId } = idModule;
     const { checked, isObject } = jsonModule;
     const { spelled, tokens } = pointerModule;
 
-    /** @typedef {{ beat: number } & Record<string, unknown>} Entry */
+    /** @typedef {{ session: string, beat?: number } & Record<string, unknown>} Entry */
     /** @typedef {{ resolve: () => void, reject: (cause: unknown) => void }} Waiter */
-
-    // A page in the background has its timers run once a minute, so an entry outlives two such renewals.
-    const DEFAULTS = { every: 20_000, gone: 150_000 };
 
     // What the client does by itself: nothing to be undone, and nothing to tell the application of where it is refused.
     const BY_ITSELF = { optimistic: true, undo: false, silent: true };
@@ -4538,19 +4668,17 @@
       #board;
       #path;
       #place;
-      #options;
       #id;
       #entry;
-      #beat = 0;
+      #renewal;
       /** @type {{ value: unknown, people: Record<string, Entry> }} */
       #shown = { value: undefined, people: {} };
-      /** @type {Map<string, { beat: unknown, since: number }>} */
-      #seen = new Map(); // since when each entry has not been renewed, by this client's clock
-      #isHere = false; // whether the entry was written on this connection
-      /** @type {Promise<void> | null} */
-      #entering = null; // while the entry is being written
+      #session = ""; // a name of the present one, with its run in front; empty while there is none
+      #willed = ""; // the session whose will was asked for
+      #written = ""; // the session that wrote the entry last
+      #isEntering = false; // while the entry is being written
       /** @type {unknown} */
-      #failedOn = null; // the slots on which it could not be written
+      #failedOn = null; // the slots on which it was tried in vain
       /** @type {Waiter[]} */
       #waiters = []; // each is told when the entry is written
       /** @type {(() => void)[]} */
@@ -4567,14 +4695,14 @@
         this.#board = board;
         this.#path = path;
         this.#place = board.at(path);
-        this.#options = { ...DEFAULTS, ...options };
         this.#id = id;
         this.#entry = checked(entry);
-        this.ready = this.#written();
-        const timer = setInterval(() => this.#renew(), this.#options.every);
+        this.#renewal = new Renewal(options, () => this.#enter());
+        this.ready = this.#here();
         const states = board.states((/** @type {string} */ state) => this.#turned(state));
         const changes = board.subscribe(() => this.#changed());
-        this.#ends = [() => clearInterval(timer), states, changes];
+        const values = this.#place.subscribe(() => this.#returned());
+        this.#ends = [() => this.#renewal.end(), states, changes, values];
         this.#turned(board.state);
       }
 
@@ -4600,9 +4728,13 @@
        */
       set(entry) {
         this.#entry = checked(entry);
-        if (!this.#isHere) return this.#written();
-        const done = this.#write();
-        done.catch(() => this.#fail());
+        if (!this.#isHere) return this.#here();
+        const { confirmed } = this.#board;
+        const done = this.#write(this.#session);
+        done.catch(() => {
+          this.#fail(confirmed);
+          this.#changed();
+        });
         return done;
       }
 
@@ -4610,21 +4742,29 @@
       async leave() {
         if (this.#left) return;
         this.#end(new Closed());
-        await this.#board.edit([{ op: "remove", path: this.#own }], BY_ITSELF).catch(() => {});
+        const removed = this.#board.edit([{ op: "remove", path: this.#own }], BY_ITSELF);
+        // Behind it: a session that ends in between leaves no entry.
+        const withdrawn = this.#willed && this.#board.will([], this);
+        await Promise.allSettled([removed, withdrawn]);
       }
 
       get #own() {
         return this.#path + spelled([this.#id]);
       }
 
+      // Whether the entry was written by the present session.
+      get #isHere() {
+        return this.#session !== "" && this.#written === this.#session;
+      }
+
       /** @returns {Promise<void>} */
-      #written() {
-        const written = new Promise((resolve, reject) => {
+      #here() {
+        const here = new Promise((resolve, reject) => {
           if (this.#left) reject(new Closed());
           else this.#waiters.push({ resolve: () => resolve(undefined), reject });
         });
-        written.catch(() => {});
-        return /** @type {Promise<void>} */ (written);
+        here.catch(() => {});
+        return /** @type {Promise<void>} */ (here);
       }
 
       /** @param {unknown} cause */
@@ -4634,46 +4774,60 @@
         for (const { reject } of this.#waiters.splice(0)) reject(cause);
       }
 
-      // A connection that is new may lead to a document without the entry.
+      // A connection that is new is another session.
       /** @param {string} state */
       #turned(state) {
-        this.#isHere = false;
-        if (state === "open") this.#enter();
+        this.#session = state === "open" ? `${this.#board.epoch}.${newId()}` : "";
+        this.#failedOn = null;
         if (state === "closed") this.#end(new Closed());
+        else this.#enter();
       }
 
       // Where the entry could not be written, as in a room that has not begun, another document is another try.
       #changed() {
-        if (!this.#isHere && this.#board.state === "open" && this.#board.confirmed !== this.#failedOn) this.#enter();
+        if (!this.#isHere && this.#board.confirmed !== this.#failedOn) this.#enter();
       }
 
-      #renew() {
-        if (this.#board.state === "open") this.#enter();
+      // Somebody took the entry away: by another document, or by the will of another window that has the
+      // same id.
+      #returned() {
+        if (this.#isHere && !Object.hasOwn(this.people, this.#id)) this.#enter();
       }
 
       // One try at a time. It fails for nobody: what is refused is tried again.
       #enter() {
-        this.#entering ??= this.#try().finally(() => (this.#entering = null));
+        const session = this.#session;
+        if (this.#isEntering || this.#left || session === "") return;
+        this.#isEntering = true;
+        this.#try(session).finally(() => {
+          this.#isEntering = false;
+          // Meanwhile the document may have become another one, or the session.
+          this.#changed();
+        });
       }
 
-      async #try() {
+      /** @param {string} session */
+      async #try(session) {
+        const { confirmed } = this.#board;
         try {
           await this.#makeObject();
-          await this.#write();
-          this.#isHere = this.#board.state === "open";
+          if (this.#willed !== session) await this.#will(session);
+          await this.#write(session);
+          this.#written = session;
           for (const { resolve } of this.#waiters.splice(0)) resolve();
           for (const id of this.#gone()) this.#remove(id);
         } catch (error) {
-          this.#fail();
+          this.#fail(confirmed);
           const isRefused = error instanceof Refused && error.fault !== "read-only";
           if (isRefused || error instanceof Unknown) return;
           for (const { reject } of this.#waiters.splice(0)) reject(error);
         }
       }
 
-      #fail() {
-        this.#isHere = false;
-        this.#failedOn = this.#board.confirmed;
+      /** @param {unknown} confirmed the slots on which it was tried */
+      #fail(confirmed) {
+        this.#written = "";
+        this.#failedOn = confirmed;
       }
 
       // Whoever comes first makes the object, which no patch can do without wiping one that is there: so it is made on what was seen.
@@ -4681,23 +4835,42 @@
         return this.#place.update((/** @type {unknown} */ people) => (isObject(people) ? undefined : {}), { undo: false });
       }
 
-      async #write() {
+      /** @param {string} session */
+      async #will(session) {
+        const path = this.#own;
+        const patch = [{ op: "test", path: `${path}/session`, value: session }, { op: "remove", path }];
+        this.#willed = session;
+        try {
+          await this.#board.will(patch, this);
+          this.#renewal.end();
+        } catch (error) {
+          if (error instanceof Refused && error.fault === "shape") return this.#renewal.begin();
+          this.#willed = "";
+          throw error;
+        }
+      }
+
+      /** @param {string} session */
+      async #write(session) {
         if (this.#left) throw new Closed();
-        this.#beat += 1;
-        await this.#board.edit([{ op: "add", path: this.#own, value: { ...this.#entry, beat: this.#beat } }], BY_ITSELF);
+        const value = { ...this.#entry, ...this.#renewal.mark, session };
+        await this.#board.edit([{ op: "add", path: this.#own, value }], BY_ITSELF);
       }
 
+      // Of the others' entries those that no will takes away: which were not renewed, or are of an
+      // earlier run, as a keeper puts them back.
       #gone() {
-        const now = Date.now();
-        const others = Object.entries(this.people).filter(([id]) => id !== this.#id);
-        this.#seen = new Map(others.map(([id, { beat }]) => {
-          const before = this.#seen.get(id);
-          return [id, before?.beat === beat ? before : { beat, since: now }];
-        }));
-        return [...this.#seen].filter(([, { since }]) => now - since >= this.#options.gone).map(([id]) => id);
+        const { [this.#id]: own, ...others } = this.people;
+        const run = `${this.#board.epoch}.`;
+        const isEarlier = (/** @type {string} */ id) => {
+          const { session } = others[id];
+          return typeof session === "string" && !session.startsWith(run);
+        };
+        const earlier = Object.keys(others).filter(isEarlier);
+        return new Set([...earlier, ...this.#renewal.gone(others)]);
       }
 
-      // Others do it too: whoever is first does it, and an entry that was renewed in between stays.
+      // Others do it too: whoever is first does it. An entry that was written anew in between stays.
       /** @param {string} id */
       #remove(id) {
         const path = this.#path + spelled([id]);

@@ -3,12 +3,108 @@ import assert from "node:assert/strict";
 import { spawn } from "node:child_process";
 import { test } from "node:test";
 import { connect, presence } from "../../clients/javascript/relay.mjs";
-import { begunRoom, boards, boardsOf, newRoom, pause, restartable, until } from "./rooms.mjs";
+import { WithoutWills, begunRoom, boards, boardsOf, cuttable, newRoom, pause, restartable, until } from "./rooms.mjs";
 
 const names = (here) => Object.values(here.people).map(({ name }) => name).sort().join();
 
 test("who is here, and who is not any more", async (t) => {
-  const [ann, bob] = await boards(t, ["/here"], ["/here"]);
+  const sent = [];
+  const counting = class extends WebSocket {
+    send(text) {
+      sent.push(JSON.parse(text).do);
+      super.send(text);
+    }
+  };
+  const [ann, bob] = await boardsOf(t, await begunRoom({ here: {} }), { view: ["/here"], WebSocket: counting }, ["/here"]);
+  const first = presence(ann, "/here", { name: "Ann" }, { every: 20 });
+  const second = presence(bob, "/here", { name: "Bob" });
+  await Promise.all([first.ready, second.ready]);
+  await until(() => names(first) === "Ann,Bob" && names(second) === "Ann,Bob");
+  await first.set({ name: "Anne" });
+  await until(() => names(second) === "Anne,Bob");
+  bob.close();
+  await until(() => names(first) === "Anne");
+  await pause(60);
+  // The will first; nothing is renewed.
+  assert.deepEqual(sent, ["watch", "will", "edit", "edit"]);
+  await first.leave();
+  await until(() => names(first) === "");
+  assert.deepEqual([sent, ann.undoable], [["watch", "will", "edit", "edit", "edit", "will"], 0]);
+  await assert.rejects(first.set({ name: "Ann" }), { name: "Closed" });
+});
+
+test("a connection that is lost takes its entry away, and the next one writes it again", async (t) => {
+  const sockets = cuttable();
+  const views = [{ view: ["/here"], WebSocket: sockets }, ["/here"]];
+  const [ann, bob] = await boardsOf(t, await begunRoom({ here: {} }), ...views);
+  const [first, second] = [presence(ann, "/here", { name: "Ann" }), presence(bob, "/here", { name: "Bob" })];
+  await Promise.all([first.ready, second.ready]);
+  await until(() => names(second) === "Ann,Bob");
+  const { session } = second.people[first.id];
+  sockets.cut(true);
+  await until(() => names(second) === "Bob");
+  sockets.cut(false);
+  await until(() => names(second) === "Ann,Bob");
+  assert.notEqual(second.people[first.id].session, session);
+});
+
+test("the will of an earlier session leaves the entry of a later one", async (t) => {
+  const wills = [];
+  const silent = class extends WebSocket {
+    send(text) {
+      const { patch, ...request } = JSON.parse(text);
+      if (request.do === "will") wills.push(patch);
+      super.send(text);
+    }
+  };
+  const [ann, bob] = await boardsOf(t, await begunRoom({ here: {} }), { view: ["/here"], WebSocket: silent }, ["/here"]);
+  const here = presence(ann, "/here", { name: "Ann" });
+  await here.ready;
+  await bob.edit([{ op: "replace", path: `/here/${here.id}/session`, value: "another" }]);
+  await assert.rejects(bob.edit(wills[0]), { fault: "test-failed" });
+  await until(() => here.people[here.id].session === "another");
+});
+
+test("two windows with one id are here until both have left", async (t) => {
+  const [ann, bob, other] = await boards(t, ["/here"], ["/here"], ["/here"]);
+  const [first, second] = [ann, bob].map((board) => presence(board, "/here", { name: "Ann" }, { id: "ann" }));
+  await Promise.all([first.ready, second.ready]);
+  await second.set({ name: "Anne" });
+  bob.close();
+  await until(() => names(first) === "Ann");
+  ann.close();
+  await until(() => Object.keys(other.at("/here").value).length === 0);
+});
+
+test("an entry of an earlier run, as a keeper puts it back, is taken away", async (t) => {
+  const old = { bob: { name: "Bob", session: "7.x" }, eve: { name: "Eve" } };
+  const [ann] = await boardsOf(t, await begunRoom({ here: old }), ["/here"]);
+  const here = presence(ann, "/here", { name: "Ann" });
+  await until(() => names(here) === "Ann,Eve");
+});
+
+test("what several parts of a page leave is done together", async (t) => {
+  const [ann, other] = await boards(t, ["/here", "/there"], [""]);
+  const [one, two] = [presence(ann, "/here", { name: "Ann" }), presence(ann, "/there", { name: "Ann" })];
+  await ann.will([{ op: "add", path: "/title", value: "left" }]);
+  await Promise.all([one.ready, two.ready]);
+  await assert.rejects(ann.will([{ op: "add", path: "", value: "x".repeat(70_000) }]), { fault: "too-heavy" });
+  await two.leave();
+  ann.close();
+  await until(() => other.at("/title").value === "left");
+  assert.deepEqual([other.at("/here").value, other.at("/there").value], [{}, {}]);
+});
+
+test("who is here, told to a relay that knows no wills", async (t) => {
+  let asked = 0;
+  const counting = class extends WithoutWills {
+    send(text) {
+      asked += JSON.parse(text).do === "will";
+      super.send(text);
+    }
+  };
+  const old = { view: ["/here"], WebSocket: counting };
+  const [ann, bob] = await boardsOf(t, await begunRoom({ here: {} }), old, old);
   const waits = { every: 30, gone: 150 };
   const first = presence(ann, "/here", { name: "Ann" }, waits);
   const second = presence(bob, "/here", { name: "Bob" }, waits);
@@ -18,7 +114,8 @@ test("who is here, and who is not any more", async (t) => {
   await until(() => names(second) === "Anne,Bob");
   bob.close();
   await pause(100);
-  assert.equal(names(first), "Anne,Bob");
+  // Each session asks once.
+  assert.deepEqual([names(first), asked], ["Anne,Bob", 2]);
   await until(() => names(first) === "Anne");
   assert.equal(ann.undoable, 0);
   await first.leave();
@@ -74,22 +171,22 @@ test("in a document that is full it waits for another one, and asks for nothing 
   const [ann, other] = await boardsOf(t, url, { view: ["", "/here"], WebSocket: counting }, [""]);
   const here = presence(ann, "/here", { name: "Ann", more: "y".repeat(100) });
   // The answer is slow: the document is as large as one can be.
-  await until(() => sent === 2 && ann.pending === 0);
+  await until(() => sent === 3 && ann.pending === 0);
   await pause(50);
-  assert.deepEqual([sent, names(here)], [2, ""]);
+  assert.deepEqual([sent, names(here)], [3, ""]);
   // What is laid over it and taken back is no other document.
   await ann.edit([{ op: "remove", path: "/nothing" }], { optimistic: true }).catch(() => {});
   await pause(50);
-  assert.equal(sent, 3);
+  assert.equal(sent, 4);
   await other.edit([{ op: "replace", path: "/text", value: "" }]);
   await here.ready;
-  assert.deepEqual([sent, names(here)], [4, "Ann"]);
+  assert.deepEqual([sent, names(here)], [5, "Ann"]);
 });
 
 test("what is no object is replaced, and what is no entry is left out", async (t) => {
   for (const here of [null, 5, "text", ["a"]]) {
     const [ann, other] = await boardsOf(t, await begunRoom({ here }), ["/here"], ["/here"]);
-    const shown = presence(ann, "/here", { name: "Ann" }, { every: 20 });
+    const shown = presence(ann, "/here", { name: "Ann" });
     await shown.ready;
     await until(() => names(shown) === "Ann");
     await other.edit(["x", "y", "z"].map((id, k) => ({ op: "add", path: `/here/${id}`, value: [null, 7, [1]][k] })));
@@ -98,7 +195,7 @@ test("what is no object is replaced, and what is no entry is left out", async (t
     assert.equal(shown.people, shown.people);
     await pause(50);
     const isBack = () => Object.keys(ann.confirmed[0][0] ?? {}).includes(shown.id);
-    // A client that spoils it: it is there again with the next renewal.
+    // A client that spoils it: it is there again at once.
     await other.edit([{ op: "replace", path: "/here", value: here }]);
     await until(isBack);
     await other.edit([{ op: "remove", path: "/here" }]);
@@ -106,8 +203,9 @@ test("what is no object is replaced, and what is no entry is left out", async (t
   }
 });
 
-test("an entry lives 150 seconds, so that one renewal in a minute keeps it", async (t) => {
-  const [ann, other] = await boardsOf(t, await begunRoom({ here: {} }), ["/here"], ["/here"]);
+test("without wills an entry lives 150 seconds, so that one renewal in a minute keeps it", async (t) => {
+  const old = { view: ["/here"], WebSocket: WithoutWills };
+  const [ann, other] = await boardsOf(t, await begunRoom({ here: {} }), old, ["/here"]);
   t.mock.timers.enable({ apis: ["setInterval", "Date"] });
   const here = presence(ann, "/here", { name: "Ann" });
   await here.ready;

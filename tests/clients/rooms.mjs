@@ -96,6 +96,13 @@ export function cuttable() {
   };
 }
 
+/** Sockets to a relay that knows no wills: it is asked for a word that it does not know either. */
+export class WithoutWills extends WebSocket {
+  send(text) {
+    super.send(text.replace('"do":"will"', '"do":"unheard-of"'));
+  }
+}
+
 /** A class of sockets to a relay that welcomes, and then answers as `answer` says, or not. */
 export function scripted(answer) {
   return class Scripted {

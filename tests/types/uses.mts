@@ -81,6 +81,8 @@ use<boolean | undefined>(shared.view(["/cards"]).at("/cards/0/done").value);
 use<number>(shared.view(["/cards"]).pending);
 use<Promise<number | null>>(shared.view(["/cards"]).undo());
 use<Promise<number>>(shared.view(["/cards"]).end());
+use<Promise<void>>(whole.will([{ op: "remove", path: "/here/ann" }]));
+use<Promise<void>>(shared.view(["/cards"]).will([]));
 use<Promise<number>>(connect<Plan>(url, { view, readOnly: true }).end());
 use<number>(room<Plan>(url, { readOnly: true }).connections);
 use<Promise<readonly [readonly [value?: Card[]]]>>(shared.view(["/cards"]).sync());

@@ -3,6 +3,7 @@ import type {
   ChangeOptions,
   Draft,
   Json,
+  Present,
   SharedBoard,
   Shown,
   State,
@@ -62,4 +63,4 @@ export function usePresence<E extends object>(
   board: Source<any>,
   pointer: string,
   entry: E,
-): Readonly<Record<string, E & { readonly beat: number }>>;
+): Readonly<Record<string, Present<E>>>;

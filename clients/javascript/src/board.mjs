@@ -11,6 +11,7 @@ import { Place, compareAndSet } from "./place.mjs";
 import { Places } from "./places.mjs";
 import { Counter } from "./once.mjs";
 import { Queue } from "./queue.mjs";
+import { wills } from "./will.mjs";
 import { beginning } from "./begin.mjs";
 import { change } from "./change.mjs";
 import { checked } from "./json.mjs";
@@ -63,11 +64,11 @@ export class Board {
   #said = new Set(); // what was asked for, and has not ended
   /** @type {Counter | null} */
   #counter;
+  #will;
 
   /** @param {string} url @param {any} options */
   constructor(url, { view, begin = null, once = null, ...options }) {
-    const own = { WebSocket: globalThis.WebSocket, onState: warning(), onTakenBack: null };
-    this.#options = { ...own, ...DEFAULTS, ...options };
+    this.#options = { WebSocket: globalThis.WebSocket, onState: warning(), ...DEFAULTS, ...options };
     this.#counter = once === null ? null : new Counter(once);
     if (options.onChange) this.#changes.add(options.onChange);
     const { readOnly } = options;
@@ -86,6 +87,7 @@ export class Board {
       connecting: () => this.#enter("connecting", null),
       waiting: (asked) => this.#queue.keep(asked),
     });
+    this.#will = wills(this.#link);
     this.#follower = new Follower(view, this.#link, {
       took: (before, patch) => this.#took(before, patch),
       present: () => this.#present(),
@@ -237,6 +239,16 @@ export class Board {
       if (this.slots === null) await this.ready;
       return this.edit([{ op: "replace", path: "", value: null }], { base: this.rev });
     });
+  }
+
+  /**
+   * What the relay is to do when this session ends.
+   * @param {readonly Operation[]} patch
+   * @param {unknown} [of] the part of a page that leaves it
+   * @returns {Promise<void>}
+   */
+  will(patch, of = this) {
+    return this.said(() => this.#will(patch, of));
   }
 
   undo() {
@@ -464,6 +476,6 @@ function made(given) {
  */
 function revision(base) {
   if (base === undefined || base === null) return undefined;
-  if (!Number.isSafeInteger(base) || Number(base) < 0) throw new TypeError(`a base is a revision, and not ${base}`);
+  if (!Number.isSafeInteger(base) || Number(base) < 0) throw new TypeError(`a base is a revision, not ${base}`);
   return Number(base);
 }

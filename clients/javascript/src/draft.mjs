@@ -142,7 +142,9 @@ function listProxy(draft, node) {
     },
     ownKeys: () => [...Array.from({ length: own.length() }, (_, k) => String(k)), "length"],
     getOwnPropertyDescriptor(target, key) {
-      if (key === "length") return { ...Reflect.getOwnPropertyDescriptor(target, key), value: own.length() };
+      if (key === "length") {
+        return { ...Reflect.getOwnPropertyDescriptor(target, key), value: own.length() };
+      }
       const at = placeAt(key);
       return at === null || at >= own.length() ? undefined : member(own.at(at));
     },

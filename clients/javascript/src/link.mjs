@@ -19,7 +19,7 @@ const DOUBLINGS = 3;
 const TOO_LONG = { kind: "refused", fault: "too-long", at: null };
 
 // What answers a request. The welcome does not.
-const REPLIES = ["done", "refused", "watching", "resumed", "unwatched"];
+const REPLIES = ["done", "refused", "watching", "resumed", "willing"];
 
 /**
  * A request: what is sent, the id with which it was, and what becomes of it. Only an edit has the
@@ -71,6 +71,8 @@ export class Link {
   /** @type {ReturnType<typeof setTimeout> | undefined} */
   #patience;
   #closed = false;
+  /** @type {Asked | undefined} */
+  will; // that the relay took last: it goes with its connection, so the next one leaves it again
 
   /** @param {string} url @param {Options} options @param {Hearer} on */
   constructor(url, options, on) {
@@ -230,7 +232,7 @@ export class Link {
   #listen() {
     clearTimeout(this.#timer);
     if (this.#socket === null || this.#isDue) return;
-    this.#timer = setTimeout(() => this.ask({ request: {}, answered: () => {} }), this.#options.quiet);
+    this.#timer = setTimeout(() => this.ask({ request: {}, answered() {} }), this.#options.quiet);
   }
 
   // One value of a place is on its way at a time. The next one waits until that is answered, or
@@ -244,9 +246,9 @@ export class Link {
   #send() {
     while (this.#welcome !== null && this.#sent.length < ON_THE_WAY && this.#unsent.length > 0) {
       if (this.#isHeld) break;
-      const ahead = this.#unsent[0].ahead?.(this.#welcome) ?? null;
+      const ahead = this.#unsent[0].ahead?.(this.#welcome);
       if (ahead === WAITS) break;
-      if (ahead !== null) this.#unsent.unshift(ahead);
+      if (ahead) this.#unsent.unshift(ahead);
       const asked = /** @type {Asked} */ (this.#unsent.shift());
       // What is kept elsewhere ends there before it is sent, so that it is never sent twice.
       if (asked.dropped) this.#on.waiting(this.#unsent);
@@ -291,6 +293,7 @@ export class Link {
     this.#welcome = welcome;
     this.#failures = 0;
     clearTimeout(this.#patience);
+    if (this.will) this.askFirst(this.will);
     this.#on.entered(welcome);
   }
 

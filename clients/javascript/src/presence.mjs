@@ -1,15 +1,18 @@
-// Who is here: an entry of this client in an object of the document, renewed while it is here, and taken away where it was not renewed.
-// The relay has no such thing by itself, so each renewal is an edit: a revision, told to every watcher of the object.
+// Who is here: an entry of this client in an object of the document. A will takes it away when the
+// session ends, however it ends. A relay that knows no wills is told by renewals in its place
+// (renewal.mjs).
+//
+// The will is left before the entry is written, so that no entry is ever there without one. It tests
+// which session wrote the entry: where a later session of this client is here already, the late will
+// of an earlier one is refused, and leaves the entry.
 import { Closed, Refused, Unknown } from "./errors.mjs";
+import { Renewal } from "./renewal.mjs";
 import { newId } from "./id.mjs";
 import { checked, isObject } from "./json.mjs";
 import { spelled, tokens } from "./pointer.mjs";
 
-/** @typedef {{ beat: number } & Record<string, unknown>} Entry */
+/** @typedef {{ session: string, beat?: number } & Record<string, unknown>} Entry */
 /** @typedef {{ resolve: () => void, reject: (cause: unknown) => void }} Waiter */
-
-// A page in the background has its timers run once a minute, so an entry outlives two such renewals.
-const DEFAULTS = { every: 20_000, gone: 150_000 };
 
 // What the client does by itself: nothing to be undone, and nothing to tell the application of where it is refused.
 const BY_ITSELF = { optimistic: true, undo: false, silent: true };
@@ -18,19 +21,17 @@ export class Presence {
   #board;
   #path;
   #place;
-  #options;
   #id;
   #entry;
-  #beat = 0;
+  #renewal;
   /** @type {{ value: unknown, people: Record<string, Entry> }} */
   #shown = { value: undefined, people: {} };
-  /** @type {Map<string, { beat: unknown, since: number }>} */
-  #seen = new Map(); // since when each entry has not been renewed, by this client's clock
-  #isHere = false; // whether the entry was written on this connection
-  /** @type {Promise<void> | null} */
-  #entering = null; // while the entry is being written
+  #session = ""; // a name of the present one, with its run in front; empty while there is none
+  #willed = ""; // the session whose will was asked for
+  #written = ""; // the session that wrote the entry last
+  #isEntering = false; // while the entry is being written
   /** @type {unknown} */
-  #failedOn = null; // the slots on which it could not be written
+  #failedOn = null; // the slots on which it was tried in vain
   /** @type {Waiter[]} */
   #waiters = []; // each is told when the entry is written
   /** @type {(() => void)[]} */
@@ -47,14 +48,14 @@ export class Presence {
     this.#board = board;
     this.#path = path;
     this.#place = board.at(path);
-    this.#options = { ...DEFAULTS, ...options };
     this.#id = id;
     this.#entry = checked(entry);
-    this.ready = this.#written();
-    const timer = setInterval(() => this.#renew(), this.#options.every);
+    this.#renewal = new Renewal(options, () => this.#enter());
+    this.ready = this.#here();
     const states = board.states((/** @type {string} */ state) => this.#turned(state));
     const changes = board.subscribe(() => this.#changed());
-    this.#ends = [() => clearInterval(timer), states, changes];
+    const values = this.#place.subscribe(() => this.#returned());
+    this.#ends = [() => this.#renewal.end(), states, changes, values];
     this.#turned(board.state);
   }
 
@@ -80,9 +81,13 @@ export class Presence {
    */
   set(entry) {
     this.#entry = checked(entry);
-    if (!this.#isHere) return this.#written();
-    const done = this.#write();
-    done.catch(() => this.#fail());
+    if (!this.#isHere) return this.#here();
+    const { confirmed } = this.#board;
+    const done = this.#write(this.#session);
+    done.catch(() => {
+      this.#fail(confirmed);
+      this.#changed();
+    });
     return done;
   }
 
@@ -90,21 +95,29 @@ export class Presence {
   async leave() {
     if (this.#left) return;
     this.#end(new Closed());
-    await this.#board.edit([{ op: "remove", path: this.#own }], BY_ITSELF).catch(() => {});
+    const removed = this.#board.edit([{ op: "remove", path: this.#own }], BY_ITSELF);
+    // Behind it: a session that ends in between leaves no entry.
+    const withdrawn = this.#willed && this.#board.will([], this);
+    await Promise.allSettled([removed, withdrawn]);
   }
 
   get #own() {
     return this.#path + spelled([this.#id]);
   }
 
+  // Whether the entry was written by the present session.
+  get #isHere() {
+    return this.#session !== "" && this.#written === this.#session;
+  }
+
   /** @returns {Promise<void>} */
-  #written() {
-    const written = new Promise((resolve, reject) => {
+  #here() {
+    const here = new Promise((resolve, reject) => {
       if (this.#left) reject(new Closed());
       else this.#waiters.push({ resolve: () => resolve(undefined), reject });
     });
-    written.catch(() => {});
-    return /** @type {Promise<void>} */ (written);
+    here.catch(() => {});
+    return /** @type {Promise<void>} */ (here);
   }
 
   /** @param {unknown} cause */
@@ -114,46 +127,60 @@ export class Presence {
     for (const { reject } of this.#waiters.splice(0)) reject(cause);
   }
 
-  // A connection that is new may lead to a document without the entry.
+  // A connection that is new is another session.
   /** @param {string} state */
   #turned(state) {
-    this.#isHere = false;
-    if (state === "open") this.#enter();
+    this.#session = state === "open" ? `${this.#board.epoch}.${newId()}` : "";
+    this.#failedOn = null;
     if (state === "closed") this.#end(new Closed());
+    else this.#enter();
   }
 
   // Where the entry could not be written, as in a room that has not begun, another document is another try.
   #changed() {
-    if (!this.#isHere && this.#board.state === "open" && this.#board.confirmed !== this.#failedOn) this.#enter();
+    if (!this.#isHere && this.#board.confirmed !== this.#failedOn) this.#enter();
   }
 
-  #renew() {
-    if (this.#board.state === "open") this.#enter();
+  // Somebody took the entry away: by another document, or by the will of another window that has the
+  // same id.
+  #returned() {
+    if (this.#isHere && !Object.hasOwn(this.people, this.#id)) this.#enter();
   }
 
   // One try at a time. It fails for nobody: what is refused is tried again.
   #enter() {
-    this.#entering ??= this.#try().finally(() => (this.#entering = null));
+    const session = this.#session;
+    if (this.#isEntering || this.#left || session === "") return;
+    this.#isEntering = true;
+    this.#try(session).finally(() => {
+      this.#isEntering = false;
+      // Meanwhile the document may have become another one, or the session.
+      this.#changed();
+    });
   }
 
-  async #try() {
+  /** @param {string} session */
+  async #try(session) {
+    const { confirmed } = this.#board;
     try {
       await this.#makeObject();
-      await this.#write();
-      this.#isHere = this.#board.state === "open";
+      if (this.#willed !== session) await this.#will(session);
+      await this.#write(session);
+      this.#written = session;
       for (const { resolve } of this.#waiters.splice(0)) resolve();
       for (const id of this.#gone()) this.#remove(id);
     } catch (error) {
-      this.#fail();
+      this.#fail(confirmed);
       const isRefused = error instanceof Refused && error.fault !== "read-only";
       if (isRefused || error instanceof Unknown) return;
       for (const { reject } of this.#waiters.splice(0)) reject(error);
     }
   }
 
-  #fail() {
-    this.#isHere = false;
-    this.#failedOn = this.#board.confirmed;
+  /** @param {unknown} confirmed the slots on which it was tried */
+  #fail(confirmed) {
+    this.#written = "";
+    this.#failedOn = confirmed;
   }
 
   // Whoever comes first makes the object, which no patch can do without wiping one that is there: so it is made on what was seen.
@@ -161,23 +188,42 @@ export class Presence {
     return this.#place.update((/** @type {unknown} */ people) => (isObject(people) ? undefined : {}), { undo: false });
   }
 
-  async #write() {
+  /** @param {string} session */
+  async #will(session) {
+    const path = this.#own;
+    const patch = [{ op: "test", path: `${path}/session`, value: session }, { op: "remove", path }];
+    this.#willed = session;
+    try {
+      await this.#board.will(patch, this);
+      this.#renewal.end();
+    } catch (error) {
+      if (error instanceof Refused && error.fault === "shape") return this.#renewal.begin();
+      this.#willed = "";
+      throw error;
+    }
+  }
+
+  /** @param {string} session */
+  async #write(session) {
     if (this.#left) throw new Closed();
-    this.#beat += 1;
-    await this.#board.edit([{ op: "add", path: this.#own, value: { ...this.#entry, beat: this.#beat } }], BY_ITSELF);
+    const value = { ...this.#entry, ...this.#renewal.mark, session };
+    await this.#board.edit([{ op: "add", path: this.#own, value }], BY_ITSELF);
   }
 
+  // Of the others' entries those that no will takes away: which were not renewed, or are of an
+  // earlier run, as a keeper puts them back.
   #gone() {
-    const now = Date.now();
-    const others = Object.entries(this.people).filter(([id]) => id !== this.#id);
-    this.#seen = new Map(others.map(([id, { beat }]) => {
-      const before = this.#seen.get(id);
-      return [id, before?.beat === beat ? before : { beat, since: now }];
-    }));
-    return [...this.#seen].filter(([, { since }]) => now - since >= this.#options.gone).map(([id]) => id);
+    const { [this.#id]: own, ...others } = this.people;
+    const run = `${this.#board.epoch}.`;
+    const isEarlier = (/** @type {string} */ id) => {
+      const { session } = others[id];
+      return typeof session === "string" && !session.startsWith(run);
+    };
+    const earlier = Object.keys(others).filter(isEarlier);
+    return new Set([...earlier, ...this.#renewal.gone(others)]);
   }
 
-  // Others do it too: whoever is first does it, and an entry that was renewed in between stays.
+  // Others do it too: whoever is first does it. An entry that was written anew in between stays.
   /** @param {string} id */
   #remove(id) {
     const path = this.#path + spelled([id]);

@@ -214,6 +214,11 @@ class SharedBoard {
     return this.#shared.board.end();
   }
 
+  /** @param {readonly import("../relay.js").Operation[]} patch @param {unknown} [of] */
+  will(patch, of = this) {
+    return this.#shared.board.will(patch, of);
+  }
+
   undo() {
     return this.#shared.board.undo();
   }
