@@ -63,8 +63,8 @@ class Board:
 
     A board that is `read_only` enters the room only to watch it, by its address with `/watch`
     behind the name. Each edit fails at once with `Refused`, as `read-only`, and nothing is sent: so
-    do `change`, `end`, `undo` and `redo`. `begin` is not written. A relay that does not know the
-    address refuses it with 404.
+    do `change`, `end`, `will`, `undo` and `redo`. `begin` is not written. A relay that does not
+    know the address refuses it with 404.
 
     `once` is a pointer to an object of the document, as `begin` makes it, in which this client
     keeps a counter for its edits that are `once`.
@@ -347,6 +347,24 @@ class Board:
                 await self.ready
             return await self.edit([{"op": "replace", "path": "", "value": None}], base=self.rev)
 
+    def will(self, patch: Patch) -> "asyncio.Future[None]":
+        """Leaves a will: a patch that the relay does when this session ends, however it ends, by
+        `close`, by the end of the program, or by a lost connection. It is done as an edit without a
+        base that nobody is answered: if it is refused, nothing happens. A later will replaces it,
+        and an empty patch withdraws it. Each new connection leaves it again, before the edits that
+        wait. The session that was lost has done its own by then, or does it once the relay finds
+        out: so guard by a `test` what a later session may have written anew.
+
+        Gives a future that is done when the relay has it; without a connection, once there is one.
+        Fails with `Refused`, and the will before stays: as `shape` by a relay that knows no wills,
+        as `too-heavy` if it weighs more than 65,536; and with `Closed`."""
+        if self._read_only:
+            return _read_only()
+        left = self._link.leave(_checked(patch))
+        over = self._said.begin()
+        left.add_done_callback(lambda left: over())
+        return left
+
     async def undo(self) -> Optional[int]:
         """Undoes the newest edit of this client that the slots showed and that is not undone. It
         shows at once. Gives the new revision; None if there is no such edit. Fails as `edit` does:
@@ -558,9 +576,9 @@ class Board:
         return Change(self._shown, held.slots, held.rev, self.pending, patch)
 
 
-def _read_only() -> "asyncio.Future[int]":
+def _read_only() -> "asyncio.Future[Any]":
     """An edit of who only watches."""
-    refused: "asyncio.Future[int]" = asyncio.get_running_loop().create_future()
+    refused: "asyncio.Future[Any]" = asyncio.get_running_loop().create_future()
     refused.set_exception(Refused("read-only"))
     return refused
 

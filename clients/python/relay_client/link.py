@@ -15,7 +15,8 @@ from .patience import Patience
 from .pointers import overlap
 from .requests import Asked, Edit, Message, Setting
 from .transport import Link, LinkLost, OpenLink
-from .values import State
+from .values import Patch, State
+from .will import Will
 
 ON_THE_WAY = 31
 """With one request more on the way 32 replies could wait, and the relay would read nothing from
@@ -24,7 +25,7 @@ this client until it drew one."""
 TOO_LONG: Message = {"kind": "refused", "fault": "too-long", "at": None}
 """As the relay refuses a text that it still reads."""
 
-REPLIES = ("done", "refused", "watching", "resumed", "unwatched")
+REPLIES = ("done", "refused", "watching", "resumed", "willing")
 """What answers a request. The welcome does not."""
 
 
@@ -74,6 +75,7 @@ class RoomLink:
         self._slots_came = 0.0  # when they came that were due last
         self._unsent: Deque[Asked] = deque()
         self._sent: Deque[Asked] = deque()  # requests without an answer, oldest first
+        self._will: Optional[Will] = None  # that the relay took last
         self._ids = 0
         self._failures = 0
         self._to_send = asyncio.Event()
@@ -98,6 +100,18 @@ class RoomLink:
             edit.fail(Refused("away", None))
         else:
             self.ask(edit)
+
+    def leave(self, patch: Patch) -> "asyncio.Future[None]":
+        """A will in place of the one before."""
+        will = Will(patch, self._left)
+        if self.is_closed:
+            will.drop()
+        else:
+            self.ask(will)
+        return will.answer
+
+    def _left(self, will: Will) -> None:
+        self._will = will
 
     def unsent(self, setting: Setting) -> Optional[Edit]:
         """The edit that sets the same place and was not sent yet, if all that was asked for since
@@ -166,17 +180,26 @@ class RoomLink:
         self._on.lost()
         sent, self._sent = self._sent, deque()
         unsent, self._unsent = self._unsent, deque()
-        self._unsent.extend(asked for asked in sent if isinstance(asked, Edit) and asked.lost())
+        self._unsent.extend(asked for asked in sent if self._is_again(asked))
         for asked in unsent:
             if isinstance(asked, Edit):
                 self.edit(asked)
+            elif isinstance(asked, Will) and asked is not self._will:
+                self._unsent.append(asked)
         if self.is_closed:
             self._drop()
+
+    def _is_again(self, asked: Asked) -> bool:
+        """Whether it is sent on the next connection as well. A will that was taken is left there
+        anyhow."""
+        if isinstance(asked, Will):
+            return asked is not self._will
+        return isinstance(asked, Edit) and asked.lost()
 
     def _drop(self) -> None:
         unsent, self._unsent = self._unsent, deque()
         for asked in unsent:
-            if isinstance(asked, Edit):
+            if isinstance(asked, (Edit, Will)):
                 asked.drop()
 
     async def _wait(self, cause: Optional[Exception]) -> None:
@@ -294,6 +317,8 @@ class RoomLink:
         if self.welcome is not None:
             raise Astray()
         self.welcome, self._welcomed, self._away = welcome, True, False
+        if self._will is not None:
+            self.ask_first(self._will)
         self._on.entered()
 
     def _tell(self, message: Message) -> None:
