@@ -22,8 +22,8 @@ type Options struct {
 	// the room has a document, the board ends.
 	Begin any
 	// ReadOnly enters the room only to watch it, by its WatchAddress. Each edit fails at once with
-	// *Refused, as read-only, and nothing is sent: so do Change, End, Undo and Redo. Begin is not
-	// added. A relay that does not know the address refuses it with 404.
+	// *Refused, as read-only, and nothing is sent: so do Change, End, Will, Undo and Redo. Begin is
+	// not added. A relay that does not know the address refuses it with 404.
 	ReadOnly bool
 	// OnChange is told of each change of what is shown.
 	OnChange func(Change)

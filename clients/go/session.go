@@ -60,8 +60,29 @@ type asking struct {
 type request struct {
 	id       int64
 	members  map[string]any
-	edit     *edit // nil if it is of one connection
+	edit     *edit // nil if it is none
+	will     *will // nil if it is none: what is neither is of one connection
 	answered func(*message)
+}
+
+// goesTo says whether it goes to the run of this connection. Else it has ended.
+func (r *request) goesTo(s *session) bool { return r.will != nil || r.edit.goesTo(s, s.welcome) }
+
+// isSentAgain says whether it is when its connection was lost. A will that was taken is left again
+// anyhow.
+func (r *request) isSentAgain(s *session) bool {
+	if r.will != nil {
+		return r != s.left
+	}
+	return r.edit != nil && r.edit.isSentAgain(s)
+}
+
+func (r *request) drop(s *session) {
+	if r.will != nil {
+		r.will.end(ErrClosed)
+	} else {
+		r.edit.drop(s)
+	}
 }
 
 // held is what the relay has shown.
@@ -101,6 +122,8 @@ type session struct {
 	resumed  bool     // by a patch, which comes next
 	welcome  *message // of this connection
 	begun    bool     // the room was given its document on this connection, or had one
+	left     *request // the will that the relay took last
+	isLeft   bool     // on this connection
 	away     bool     // a connection was lost, and no other one is there
 	socket   Socket
 	unsent   []*request
@@ -165,8 +188,9 @@ func (s *session) leave() {
 	s.away = s.away || s.welcome != nil
 	s.socket, s.welcome, s.asked, s.taken, s.sent, s.unsent = nil, nil, nil, nil, nil, nil
 	s.begun, s.resumed = false, false
+	s.isLeft = false
 	for _, one := range sent {
-		if one.edit != nil && one.edit.isSentAgain(s) {
+		if one.isSentAgain(s) {
 			s.unsent = append(s.unsent, one)
 		}
 	}
@@ -188,7 +212,7 @@ func (s *session) end(cause error) {
 	unsent := s.unsent
 	s.unsent = nil
 	for _, one := range unsent {
-		one.edit.drop(s)
+		one.drop(s)
 	}
 }
 
@@ -197,14 +221,14 @@ func (s *session) watch(number int, view []Shown) {
 	s.proceed()
 }
 
-// ask has an edit wait to be sent.
+// ask has an edit or a will wait to be sent.
 func (s *session) ask(one *request) {
 	switch {
-	case s.takes(one.edit):
+	case s.state == Closed:
+		one.drop(s)
+	case one.will != nil || s.takes(one.edit):
 		s.unsent = append(s.unsent, one)
 		s.proceed()
-	case s.state == Closed:
-		one.edit.drop(s)
 	default:
 		s.fail(one.edit, &Refused{Fault: "away"})
 	}
@@ -220,8 +244,8 @@ func (s *session) fail(one *edit, err error) {
 	s.hearer.ended(one)
 }
 
-// proceed sends what there is to send: what begins the room, then what asks for the slots, then
-// edits.
+// proceed sends what there is to send: what begins the room, then what asks for the slots, then the
+// will that each connection leaves again, then what waits.
 func (s *session) proceed() {
 	for s.welcome != nil && len(s.sent) < onTheWay {
 		switch {
@@ -230,10 +254,13 @@ func (s *session) proceed() {
 			s.send(s.beginning())
 		case s.asked != s.wanted:
 			s.send(s.askForSlots())
+		case s.left != nil && !s.isLeft:
+			s.isLeft = true
+			s.send(s.left)
 		case len(s.unsent) > 0:
 			one := s.unsent[0]
 			s.unsent = s.unsent[1:]
-			if one.edit.goesTo(s, s.welcome) {
+			if one.goesTo(s) {
 				s.send(one)
 			}
 		default:
@@ -356,7 +383,7 @@ func (s *session) take(told *message) error {
 		return s.takePatch(told)
 	}
 	switch told.Kind {
-	case "done", "refused", "watching", "resumed":
+	case "done", "refused", "watching", "resumed", "willing":
 		return s.answer(told)
 	}
 	return errAstray // none comes that was not asked for by something new

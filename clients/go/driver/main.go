@@ -104,6 +104,8 @@ func (d *driver) do(words line) error {
 		d.edit(words)
 	case "endRoom":
 		d.endRoom(words)
+	case "will":
+		d.will(words)
 	case "watch":
 		d.watch(words)
 	case "look":
@@ -157,6 +159,28 @@ func (d *driver) edit(words line) {
 		return
 	}
 	d.pending[words.Key] = func() map[string]any { return answered(answer) }
+}
+
+func (d *driver) will(words line) {
+	willing, err := d.board.SendWill(words.Patch)
+	if err != nil {
+		d.write(map[string]any{"ends": words.Key, "invalid": err.Error()})
+		return
+	}
+	d.pending[words.Key] = func() map[string]any { return left(willing) }
+}
+
+// left is the end of a will; nil if it has none yet.
+func left(willing *relay.Willing) map[string]any {
+	select {
+	case <-willing.Done():
+	default:
+		return nil
+	}
+	if err := willing.Wait(context.Background()); err != nil {
+		return failed(err)
+	}
+	return map[string]any{"willing": true}
 }
 
 // answered is the end of an edit; nil if it has none yet.
@@ -228,7 +252,7 @@ func (d *driver) tellEnds() {
 func main() {
 	d := &driver{opens: make(chan *link), rests: make(chan struct{}), out: json.NewEncoder(os.Stdout)}
 	d.pending = map[int]func() map[string]any{}
-	d.tell("traits", []string{"optimistic", "read-only", "end-room"})
+	d.tell("traits", []string{"optimistic", "read-only", "end-room", "wills"})
 	lines := bufio.NewReader(os.Stdin)
 	for {
 		text, err := lines.ReadString('\n')
