@@ -60,7 +60,7 @@ public final class Driver implements Connector {
 
     public static void main(String[] words) throws Exception {
         ArrayNode traits = NODES.arrayNode();
-        for (String one : List.of("optimistic", "late", "read-only", "end-room")) traits.add(one);
+        List.of("optimistic", "late", "read-only", "end-room", "wills").forEach(traits::add);
         tell(NODES.objectNode().set("traits", traits));
         Driver driver = new Driver();
         InputStreamReader input = new InputStreamReader(System.in, StandardCharsets.UTF_8);
@@ -92,6 +92,7 @@ public final class Driver implements Connector {
             case "cut" -> cut();
             case "edit" -> edit(words);
             case "endRoom" -> ends(words, "done", board.end().thenApply(NODES::numberNode));
+            case "will" -> will(words);
             case "watch" -> ends(words, "shown", board.watch(view(words)).thenApply(Driver::slots));
             case "look" -> look();
             case "end" -> board.close();
@@ -131,6 +132,11 @@ public final class Driver implements Connector {
             how = new EditOptions(isOptimistic, words.get("base").longValue(), null, true);
         }
         ends(words, "done", board.edit(patch, how).thenApply(NODES::numberNode));
+    }
+
+    private void will(JsonNode words) {
+        CompletableFuture<Void> left = board.will(Patch.of(words.get("patch")));
+        ends(words, "willing", left.thenApply(none -> NODES.booleanNode(true)));
     }
 
     private static List<Shown> view(JsonNode words) {

@@ -244,6 +244,29 @@ public final class Board implements AutoCloseable {
     }
 
     /**
+     * Leaves a will: a patch that the relay does when this session ends, however it ends, by
+     * {@link #close}, by the end of the program, or by a lost connection. It is done as an edit
+     * without a base that nobody is answered: if it is refused, nothing happens. A later will
+     * replaces it, and an empty patch withdraws it.
+     *
+     * <p>Each new connection leaves it again, before the edits that wait. The session that was lost
+     * has done its own by then, or does it once the relay finds out: so guard by a {@code test}
+     * what a later session may have written anew.
+     *
+     * <p>The future completes when the relay has it; without a connection, once there is one. It
+     * fails with {@code Refused}, and the will before stays: as {@code shape} by a relay that knows
+     * no wills, as {@code too-heavy} if it weighs more than 65,536; and with {@code Closed}.
+     */
+    public CompletableFuture<Void> will(Patch patch) {
+        if (options.isReadOnly) return readOnly();
+        synchronized (lock) {
+            Will will = new Will(patch, this::ended);
+            session.will(will);
+            return will.answer;
+        }
+    }
+
+    /**
      * Undoes the newest edit of this client that the slots showed and that is not undone. It shows
      * at once. Gives the new revision; empty if there is no such edit. Fails as an edit does, and
      * with {@code Refused}, as {@code changed}, if somebody changed what it left: then it is passed
@@ -329,6 +352,12 @@ public final class Board implements AutoCloseable {
             tell(() -> options.onTakenBack.accept(edit.patch, cause));
         }
         becomeQuiet();
+    }
+
+    private void ended(Will will) {
+        RelayException cause = will.cause;
+        if (cause == null) tell(() -> will.answer.complete(null));
+        else tell(() -> will.answer.completeExceptionally(cause));
     }
 
     /** Edits that are done and may touch no slot are not waited for. */

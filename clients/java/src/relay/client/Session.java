@@ -30,7 +30,7 @@ final class Session {
 
     private static final int DOUBLINGS = 5;
     private static final Set<String> REPLIES =
-            Set.of("done", "refused", "watching", "resumed", "unwatched");
+            Set.of("done", "refused", "watching", "resumed", "willing");
     private static final JsonNode TOO_LONG =
             Json.NODES.objectNode().put("kind", "refused").put("fault", "too-long");
     private static final ScheduledExecutorService TIMERS =
@@ -88,6 +88,8 @@ final class Session {
     private boolean isResumedByPatch;
     /** Slots were promised, and are on their way. */
     private boolean isDue;
+    /** The will that the relay took last. */
+    private Will left;
     private Line line;
     private JsonNode welcome;
     /** A connection was lost, and no other one is there. */
@@ -140,12 +142,20 @@ final class Session {
         else ask(edit);
     }
 
+    void will(Will will) {
+        if (isClosed()) will.drop();
+        else ask(will);
+    }
+
     void close(RelayException cause) {
         if (isClosed()) return;
         Line last = line;
         enter(State.CLOSED, cause);
         leave();
-        for (Request request : dropAll()) ((Edit) request).drop();
+        for (Request request : dropAll()) {
+            if (request instanceof Edit edit) edit.drop();
+            if (request instanceof Will will) will.drop();
+        }
         if (last != null) last.abort();
     }
 
@@ -224,9 +234,18 @@ final class Session {
         List<Request> lost = new ArrayList<>(sent);
         sent.clear();
         Deque<Request> waiting = dropAll();
-        lost.removeIf(one -> !(one instanceof Edit edit) || !edit.isSentAgain());
+        lost.removeIf(one -> !isSentAgain(one));
         unsent.addAll(lost);
-        for (Request one : waiting) if (one instanceof Edit edit) edit(edit);
+        for (Request one : waiting) {
+            if (one instanceof Edit edit) edit(edit);
+            if (one instanceof Will && one != left) unsent.add(one);
+        }
+    }
+
+    /** A will that was taken is left again anyhow. */
+    private boolean isSentAgain(Request one) {
+        if (one instanceof Will) return one != left;
+        return one instanceof Edit edit && edit.isSentAgain();
     }
 
     /** The slots that are held may be wrong: the next connection asks for them anew. */
@@ -390,13 +409,17 @@ final class Session {
         else throw new Misfit("none comes that was not asked for by something new");
     }
 
-    /** What begins the room goes first, then what asks for the slots, then edits. */
+    /**
+     * What begins the room goes first, then what asks for the slots, then the will that each
+     * connection leaves again, then what waits.
+     */
     private void enterRoom(JsonNode message) {
         count(message, "epoch");
         count(message, "rev");
         welcome = message;
         failures = 0;
         isAway = false;
+        if (left != null) unsent.addFirst(left);
         unsent.addFirst(held != null && held.of == wanted ? resuming() : watching());
         if (options.begin != null && !options.isReadOnly) unsent.addFirst(beginning());
     }
@@ -416,6 +439,7 @@ final class Session {
         if (kindOf(reply).equals("done")) count(reply, "rev");
         sent.poll();
         oldest.answered(reply);
+        if (oldest instanceof Will will && will.cause == null) left = will;
     }
 
     private void takeSnapshot(JsonNode message) {
