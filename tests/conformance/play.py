@@ -114,14 +114,15 @@ class Play:
         self.driver.hear_late(words_of(message))
 
     def talk(self, rounds=20):
-        """Both say what they have to say, until nobody says more. Connections that the client leaves are opened anew."""
+        """Both say what they have to say, until nobody says more. Connections that the client leaves are opened anew. Gives the requests."""
+        requests = []
         for _ in range(rounds):
-            self.heard()
+            requests += self.heard()
             if self.driver.left:
                 self.resumes_of = self.held()
                 self.accept()
             elif not self.draw():
-                return
+                return requests
         raise Failed("it goes on saying something")
 
     # What an application asks.
@@ -134,6 +135,17 @@ class Play:
     def end_room(self):
         self.keys += 1
         self.driver.tell(do="endRoom", key=self.keys)
+        return self.keys
+
+    def will(self, *patch):
+        self.keys += 1
+        self.driver.tell(do="will", key=self.keys, patch=list(patch))
+        return self.keys
+
+    def present(self, path, entry):
+        """The application is to be seen at a path, by an entry."""
+        self.keys += 1
+        self.driver.tell(do="present", key=self.keys, path=path, entry=entry)
         return self.keys
 
     def watch(self, view):

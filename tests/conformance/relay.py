@@ -6,11 +6,15 @@ from driver import Failed, short
 LARGEST = 2**53 - 1
 HISTORY = 8
 """Revisions that the room can be resumed from."""
+HEAVIEST = 65536
+"""What a will weighs at most, about as many bytes as its text has."""
 ON_THE_WAY = 31
 """Requests without a reply: with one more 32 replies could wait, and the relay would read nothing until one was drawn."""
 
 
 class Relay:
+    knows_wills = True
+
     def __init__(self, document=None, epoch=7, rev=1):
         self.epoch, self.rev, self.documents = epoch, rev, {rev: document}
         self.close()
@@ -20,8 +24,8 @@ class Relay:
         return self.documents[self.rev]
 
     def close(self):
-        """The session ends with its connection."""
-        self.view, self.replies, self.patches, self.due = None, [], [], False
+        """The session ends with its connection. What is to become of its will, a case says."""
+        self.view, self.replies, self.patches, self.due, self.will = None, [], [], False, []
 
     def open(self):
         self.close()
@@ -51,7 +55,7 @@ class Relay:
             raise Failed(f"a request whose id is no count: {short(text)}")
         if len(self.replies) >= ON_THE_WAY:
             raise Failed(f"a request while {ON_THE_WAY} are without a reply: {short(text)}")
-        answers = {"edit": self._edit, "watch": self._watch, "resume": self._resume, "unwatch": self._unwatch}
+        answers = {"edit": self._edit, "watch": self._watch, "resume": self._resume, "unwatch": self._unwatch, "will": self._will}
         answers.get(request.get("do"), self._nothing)(number, request)
         return request
 
@@ -92,16 +96,35 @@ class Relay:
     def _edit(self, number, request):
         if request.get("base", self.rev) != self.rev:
             return self._refuse(number, "stale", rev=self.rev)
-        try:
-            document = jsonpatch.apply_patch(self.document, request["patch"])
-        except jsonpatch.JsonPatchTestFailed:
-            return self._refuse(number, "test-failed", 0)
-        except (jsonpatch.JsonPatchException, jsonpatch.JsonPointerException):
-            return self._refuse(number, "missing", 0)
-        self.become(document)
+        fault = self._do(request["patch"])
+        if fault is not None:
+            return self._refuse(number, fault, 0)
         self.replies.append({"id": number, "kind": "done", "rev": self.rev})
 
+    def _will(self, number, request):
+        if not self.knows_wills or "base" in request:
+            return self._refuse(number, "shape")
+        if len(text(request["patch"])) > HEAVIEST:
+            return self._refuse(number, "too-heavy")
+        self.will = request["patch"]
+        self.replies.append({"id": number, "kind": "willing"})
+
     # Edits.
+
+    def _do(self, patch):
+        """Gives the fault by which it is refused; None if it is done."""
+        try:
+            self.become(jsonpatch.apply_patch(self.document, patch))
+        except jsonpatch.JsonPatchTestFailed:
+            return "test-failed"
+        except (jsonpatch.JsonPatchException, jsonpatch.JsonPointerException):
+            return "missing"
+        return None
+
+    def do_will(self, patch):
+        """Of a session that has ended: an edit that nobody is answered."""
+        if patch:
+            self._do(patch)
 
     def edit(self, *operations):
         """Another client's edit."""

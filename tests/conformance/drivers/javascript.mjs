@@ -5,7 +5,7 @@ import { pathToFileURL } from "node:url";
 
 const root = new URL("../../../", import.meta.url);
 const { JAVASCRIPT: file } = process.env;
-const { connect } = await import(file ? pathToFileURL(file) : new URL("clients/javascript/relay.mjs", root));
+const { connect, presence } = await import(file ? pathToFileURL(file) : new URL("clients/javascript/relay.mjs", root));
 
 // No time is played, so none may pass: neither before another connection, nor until the client asks whether the relay is there.
 const HOUR = 3_600_000;
@@ -54,6 +54,8 @@ const does = {
   },
   edit: ({ key, patch, ...options }) => ends(key, "done", board.edit(patch, options)),
   endRoom: ({ key }) => ends(key, "done", board.end()),
+  will: ({ key, patch }) => ends(key, "willing", board.will(patch).then(() => true)),
+  present: ({ key, path, entry }) => ends(key, "here", presence(board, path, entry).ready.then(() => true)),
   watch: ({ key, view }) => ends(key, "shown", board.watch(view)),
   look: () => {
     const { view, confirmed: slots, rev, epoch, slots: shown } = board;
@@ -62,7 +64,7 @@ const does = {
   end: () => board.close(),
 };
 
-tell({ traits: ["optimistic", "rounding", "late", "read-only", "end-room"] });
+tell({ traits: ["optimistic", "rounding", "late", "read-only", "end-room", "wills", "presence"] });
 for await (const line of createInterface({ input: process.stdin })) {
   const words = JSON.parse(line);
   does[words.do](words);

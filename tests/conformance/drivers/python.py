@@ -81,6 +81,13 @@ class Driver:
     async def endRoom(self, key):
         asyncio.ensure_future(self.ends(key, "done", self.board.end()))
 
+    async def will(self, key, patch):
+        asyncio.ensure_future(self.ends(key, "willing", self.left(patch)))
+
+    async def left(self, patch):
+        await self.board.will(patch)
+        return True
+
     async def watch(self, key, view):
         asyncio.ensure_future(self.ends(key, "shown", self.board.watch(view)))
 
@@ -104,7 +111,7 @@ class Driver:
 
 async def main():
     driver = Driver()
-    tell(traits=["optimistic", "late", "read-only", "end-room"])
+    tell(traits=["optimistic", "late", "read-only", "end-room", "wills"])
     while line := await asyncio.to_thread(sys.stdin.readline):
         words = json.loads(line)
         await getattr(driver, words.pop("do"))(**words)
