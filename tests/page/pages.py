@@ -79,6 +79,20 @@ async def a_lobby_shows_how_many_sit_at_each_table_and_who_is_here(place):
     assert lobby["tables"]["north"]["players"] == {}, lobby
 
 
+@shows
+async def a_tab_that_is_killed_is_gone_from_the_lobby_its_seat_and_its_match(place):
+    ann, bob = await place.two("lobby")
+    for window in (ann, bob):
+        await window.until(f"{text_of('#people')}.slice(0, 6)", "2 here")
+        await window.press("#tables button")
+    await bob.until(f"{text_of('#match h2')}.length", len("north: Ann, Bob"))
+    await ann.kill()
+    await bob.until(text_of("#people"), "1 here: Bob")
+    await bob.until(text_of("#tables p"), "1 of 2 players")
+    await bob.until(text_of("#match h2"), "north: Bob")
+    await bob.leave()
+
+
 async def both_play_a_match(place, ann, bob):
     for window in (ann, bob):
         await window.until(f"{text_of('#match h2')}.length", len("north: Ann, Bob"))

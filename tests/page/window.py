@@ -60,6 +60,12 @@ class Window(Page):
         same(self.told.get("Runtime.exceptionThrown"), None)
         await super().leave()
 
+    async def kill(self):
+        """As the system does it: the page can say nothing more."""
+        crashed = asyncio.ensure_future(self.say("Page.crash"))
+        await asyncio.sleep(0.1)
+        crashed.cancel()
+
     async def middle(self, place):
         """Where a thing is when it has come to rest. A window behind another one has no frames."""
         await self.say("Page.bringToFront")
