@@ -47,6 +47,7 @@ async def main() -> None:
         pending: int = board.pending
         confirmed: Optional[relay_client.Slots] = board.confirmed
         print(pending, confirmed)
+        await board.will([{"op": "remove", "path": "/cards/0"}])
         rev = await board.end()
     async with relay_client.connect(url, view=view, read_only=True) as screen:
         slots = await screen.ready

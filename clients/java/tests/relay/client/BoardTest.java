@@ -121,6 +121,31 @@ final class BoardTest {
         board.close();
     }
 
+    static void aWillOfABoardThatIsClosedFails() {
+        Played relay = new Played();
+        Board board = relay.begun(relay.options(), "/cards", CARDS);
+        CompletableFuture<Void> left = board.will(Patch.of());
+        JsonNode request = relay.request();
+        equal("will", request.get("do").textValue());
+        equal(json("[]"), request.get("patch"));
+        board.close();
+        fails(RelayException.Closed.class, left::join);
+        fails(RelayException.Closed.class, () -> board.will(Patch.of()).join());
+    }
+
+    static void aWillIsLeftAgainBehindWhatAsksForTheSlots() {
+        Played relay = new Played();
+        Board board = relay.begun(relay.options(), "/cards", CARDS);
+        CompletableFuture<Void> left = board.will(Patch.of().remove("/cards/0"));
+        relay.reply("'kind':'willing'");
+        left.join();
+        relay.cut();
+        relay.accept(7, 1);
+        equal("resume", relay.request().get("do").textValue());
+        equal("will", relay.request().get("do").textValue());
+        board.close();
+    }
+
     private static String shown(Board board) {
         List<JsonNode> slots = new ArrayList<>();
         board.shown().orElseThrow().slots().forEach(slot -> slot.ifPresent(slots::add));
