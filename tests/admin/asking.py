@@ -30,8 +30,14 @@ def ask(port, *parts):
     reply = Reply(int(status), dict(field.split(": ", 1) for field in fields), body)
     assert reply.fields["Connection"] == "close", reply
     assert reply.fields["X-Content-Type-Options"] == "nosniff", reply
-    assert int(reply.fields["Content-Length"]) == len(body), reply
+    # A reply without content has no length.
+    assert (status == "204") == ("Content-Length" not in reply.fields), reply
+    assert int(reply.fields.get("Content-Length", 0)) == len(body), reply
     return reply
+
+
+def delete(port, room):
+    return ask(port, head(f"DELETE /rooms/{room} HTTP/1.1"))
 
 
 def get(port, path):

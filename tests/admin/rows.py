@@ -5,6 +5,7 @@ from asking import head
 
 HEALTH = "GET /health HTTP/1.1"
 STOP = "POST /stop HTTP/1.1"
+FORGET = "DELETE /rooms/none HTTP/1.1"
 
 HERE = [
     "localhost",
@@ -41,8 +42,9 @@ def rows():
     for host in ELSEWHERE:
         yield f"Host {host}", head(HEALTH, host=host), 403, None
         yield f"stop, Host {host}", head(STOP, host=host), 403, None
+        yield f"forget, Host {host}", head(FORGET, host=host), 403, None
     for origin in ORIGINS:
-        for line in (HEALTH, STOP, "GET /metrics HTTP/1.1", "GET /rooms HTTP/1.1"):
+        for line in (HEALTH, STOP, FORGET, "GET /metrics HTTP/1.1", "GET /rooms HTTP/1.1"):
             yield f"Origin {origin}: {line}", head(line, f"Origin: {origin}"), 403, None
     yield "oRiGiN", head(STOP, "oRiGiN: http://localhost"), 403, None
     yield "no Host", head(STOP, host=None), 400, None
@@ -67,6 +69,11 @@ def rows():
             yield f"{method} {path}", head(f"{method} {path} HTTP/1.1"), 405, "GET"
     for method in ("GET", "HEAD", "OPTIONS", "DELETE"):
         yield f"{method} /stop", head(f"{method} /stop HTTP/1.1"), 405, "POST"
+    for method in ("GET", "HEAD", "PUT", "PATCH", "POST", "delete"):
+        line = f"{method} /rooms/none HTTP/1.1"
+        yield line, head(line), 405, "DELETE"
+    yield "no such room", head(FORGET), 404, None
+    yield "a room without a name", head("DELETE /rooms/ HTTP/1.1"), 404, None
     yield "32 fields", head(HEALTH, *["X: x"] * 31), 200, None
     yield "33 fields", head(HEALTH, *["X: x"] * 32), 431, None
     whole = head(HEALTH, "X: ")

@@ -5,6 +5,7 @@ import heavy
 from attackers import Wrong, attack
 from support import relay, wire
 
+LEAVING = 220
 WATCHERS = 36
 ROOMS = 9
 EDITS_A_ROOM = 40
@@ -113,6 +114,18 @@ def removals(attackers):
     read."""
     editors = begun(attackers, lambda editor: heavy.set_document(editor, heavy.OBJECT))
     attackers.pour(editors, heavy.EDIT_MEMBERS)
+
+
+@attack
+def wills(attackers):
+    """The heaviest edits are the wills of 220 sessions of one room, which all end at once."""
+    editor = attackers.open("heavy")
+    heavy.begin(editor)
+    copies = heavy.edit_heaviest(editor)
+    for client in attackers.open_many(["heavy"] * LEAVING):
+        heavy.leave(client, copies)
+    attackers.leave()
+    attackers.stay(5)
 
 
 @attack

@@ -24,6 +24,13 @@ def edit(copies):
     return wire.request("edit", patch=[COPY] * copies)
 
 
+def leave(client, copies):
+    """So many copies are done once the client's session is closed."""
+    reply = client.ask(wire.request("will", patch=[COPY] * copies))
+    if reply["kind"] != "willing":
+        raise Wrong(f"the will is answered {reply}")
+
+
 def begin(client, items=ITEMS):
     """Makes the document; the list is in its room from here on."""
     set_document(client, {"a": [0] * items, "t": {}})

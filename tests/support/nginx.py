@@ -25,8 +25,8 @@ class Nginx:
     """Runs in a folder, in front of relays on these ports. Of one worker it is known that it deals
     connections in turn where no rule says where they go."""
 
-    def __init__(self, folder, relays, connections=512, workers=1):
-        self.folder, self.port = pathlib.Path(folder), free_port()
+    def __init__(self, folder, relays, connections=512, workers=1, address="127.0.0.1"):
+        self.folder, self.port, self.address = pathlib.Path(folder), free_port(), address
         self.certificate = self.folder / "relay.pem"
         self._certify()
         self._set_password()
@@ -34,7 +34,7 @@ class Nginx:
         path = f"{os.environ['PATH']}:/usr/sbin"
         words = [shutil.which("nginx", path=path), "-p", folder, "-c", self.folder / "nginx.conf"]
         self.process = subprocess.Popen(words, stderr=subprocess.DEVNULL)
-        until(lambda: listens(self.port) or self.process.poll() is not None)
+        until(lambda: listens(self.port, address) or self.process.poll() is not None)
         if self.process.poll() is not None:
             error = (self.folder / "error.log").read_text()
             raise SystemExit(f"nginx does not start: {error}")
@@ -74,7 +74,7 @@ class Nginx:
         servers = "".join(f"    server 127.0.0.1:{port} max_fails=0;\n" for port in relays)
         conf = (ROOT / "docs/running/nginx.conf").read_text()
         conf = re.sub(r"( *server 127\.0\.0\.1:\d+ max_fails=0;\n)+", servers, conf)
-        conf = conf.replace("listen 443", f"listen 127.0.0.1:{self.port}")
+        conf = conf.replace("listen 443", f"listen {self.address}:{self.port}")
         for folder in ("/etc/ssl/", "/etc/nginx/"):
             conf = conf.replace(folder, f"{self.folder}/")
         (self.folder / "relay.conf").write_text(conf)
