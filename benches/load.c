@@ -2,14 +2,21 @@
 // the way, and idle connections.
 //
 //     load PORT deliver WATCHERS SECONDS [PID [KIB]]
-//         edits and patches a second; 4 editors, 8 edits of 1 KiB on the way for each; what the
-// process PID, the server, took of a CPU meanwhile; in a document that weighs so many KiB, 64 at
-// most, besides what is edited load PORT answer IDLE EDITS microseconds from an edit to its own
-// patch, IDLE links beside load PORT idle LINKS opens links, says so, and waits for the end of its
-// input load PORT single WATCHERS EDITS EDITS edits of one editor, each told to all before the next
+//         edits, patches and snapshots a second in one room, of four editors who keep eight edits
+//         of 1 KiB on the way each; what the process PID, the server, took of a CPU meanwhile; in a
+//         document that weighs so many KiB, 64 at most, besides what is edited
+//     load PORT rooms ROOMS SECONDS [PID [KIB]]
+//         the same in so many rooms, each with four watchers and one editor who keeps four edits on
+//         the way
+//     load PORT answer IDLE EDITS
+//         microseconds from an edit to its own patch, IDLE links beside
+//     load PORT idle LINKS
+//         opens links, says so, and waits for the end of its input
+//     load PORT single WATCHERS EDITS
+//         EDITS edits of one editor, each told to all before the next
 //
-// Three threads read what is told to watchers, so that counting is not the limit: a frame is a
-// header and a length to skip.
+// Three threads read what is told to watchers, and up to four serve editors, so that counting is
+// not the limit: a frame is a header and a length to skip.
 #include "client.h"
 
 #include <netinet/tcp.h>
@@ -18,14 +25,21 @@
 #include <sys/epoll.h>
 #include <unistd.h>
 
-enum { EDITORS = 4, ON_THE_WAY = 8, TEXT = 1024, READERS = 3, ROOM = 1 << 18, SESSIONS = 250 };
+enum { TEXT = 1024, READERS = 3, WRITERS = 4, ROOM = 1 << 18, SESSIONS = 250 };
 
 typedef struct {
     int fd;
     size_t len, skip; // bytes kept of a frame that is not whole; bytes of a long one still to come
     unsigned char *kept;
     uint64_t patches, snapshots, replies;
+    uint64_t asked; // replies that came or are to come
 } Link;
+
+// What is kept busy: so many rooms, each with editors and watchers; each editor keeps some edits on
+// the way.
+typedef struct {
+    int rooms, editors, watchers, on_the_way;
+} Busy;
 
 static int port;
 static volatile int stopped;
@@ -119,43 +133,55 @@ static Link watching(const char *room, const char *view) {
     return link;
 }
 
+// What one thread serves: links that edit if some edits are to be on the way, and only read else.
 typedef struct {
     Link *links;
-    int count;
+    int count, on_the_way;
 } Share;
 
-static void *read_share(void *arg) {
+static void edit_more(Link *link, int on_the_way) {
+    while (link->asked < link->replies + on_the_way) edit(link->fd, link->asked++);
+}
+
+static void *serve_share(void *arg) {
     Share *share = arg;
     unsigned char *room = malloc(ROOM);
     int poll = epoll_create1(0);
     for (int i = 0; i < share->count; i++) {
-        struct epoll_event event = {.events = EPOLLIN, .data.ptr = &share->links[i]};
-        epoll_ctl(poll, EPOLL_CTL_ADD, share->links[i].fd, &event);
+        Link *link = &share->links[i];
+        struct epoll_event event = {.events = EPOLLIN, .data.ptr = link};
+        epoll_ctl(poll, EPOLL_CTL_ADD, link->fd, &event);
+        link->asked = link->replies;
+        edit_more(link, share->on_the_way);
     }
     struct epoll_event events[64];
     while (!stopped) {
         int n = epoll_wait(poll, events, 64, 100);
-        for (int i = 0; i < n; i++) read_some(events[i].data.ptr, room);
+        for (int i = 0; i < n; i++) {
+            read_some(events[i].data.ptr, room);
+            edit_more(events[i].data.ptr, share->on_the_way);
+        }
     }
     return 0;
 }
 
-static void *edit_on(void *arg) {
-    Link *link = arg;
-    unsigned char *room = malloc(ROOM);
-    uint64_t first = link->replies, said = 0;
-    while (!stopped) {
-        while (said - (link->replies - first) < ON_THE_WAY) edit(link->fd, said++);
-        read_some(link, room);
+// Starts threads that serve the links among them.
+static void serve_links(Link *links, int count, int threads, int on_the_way) {
+    for (int i = 0, from = 0; i < threads; i++) {
+        int to = (int)((long)count * (i + 1) / threads);
+        Share *share = malloc(sizeof *share);
+        *share = (Share){links + from, to - from, on_the_way};
+        pthread_t thread;
+        pthread_create(&thread, 0, serve_share, share);
+        from = to;
     }
-    return 0;
 }
 
 // An editor who began the document: the text that is edited, and a list of texts of eight bytes,
 // which weigh 16 each.
-static Link begun(int kibibytes) {
+static Link begun(const char *room, int kibibytes) {
     static char text[1 << 16];
-    Link link = opened("bench");
+    Link link = opened(room);
     strcpy(text, "{\"do\":\"edit\",\"id\":1,\"patch\":["
                  "{\"op\":\"add\",\"path\":\"\",\"value\":{\"x\":\"\",\"rest\":[0");
     char *end = text + strlen(text);
@@ -179,28 +205,29 @@ static double cpu_time(int pid) {
     return (double)(user + system) / sysconf(_SC_CLK_TCK);
 }
 
-static void deliver(int watchers, int seconds, int server, int kibibytes) {
-    Link *links = calloc(watchers, sizeof *links), editors[EDITORS];
-    for (int i = 0; i < EDITORS; i++) editors[i] = i ? opened("bench") : begun(kibibytes);
-    for (int i = 1; i < EDITORS; i++) read_replies(&editors[i], 1);
-    for (int i = 0; i < watchers; i++) links[i] = watching("bench", "/x");
-    pthread_t threads[READERS + EDITORS];
-    Share shares[READERS];
-    for (int i = 0, from = 0; i < READERS; i++) {
-        int to = watchers * (i + 1) / READERS;
-        shares[i] = (Share){links + from, to - from};
-        pthread_create(&threads[i], 0, read_share, &shares[i]);
-        from = to;
+static void deliver(Busy busy, int seconds, int server, int kibibytes) {
+    int all_editors = busy.rooms * busy.editors, all_watchers = busy.rooms * busy.watchers;
+    Link *editors = calloc(all_editors, sizeof *editors), *editor = editors;
+    Link *watchers = calloc(all_watchers, sizeof *watchers), *watcher = watchers;
+    for (int n = 0; n < busy.rooms; n++) {
+        char room[32];
+        snprintf(room, sizeof room, "bench%d", n);
+        *editor++ = begun(room, kibibytes);
+        for (int i = 1; i < busy.editors; i++, editor++) {
+            *editor = opened(room);
+            read_replies(editor, 1);
+        }
+        for (int i = 0; i < busy.watchers; i++) *watcher++ = watching(room, "/x");
     }
-    pthread_t *editing = threads + READERS;
-    for (int i = 0; i < EDITORS; i++) pthread_create(&editing[i], 0, edit_on, &editors[i]);
+    serve_links(watchers, all_watchers, READERS, 0);
+    serve_links(editors, all_editors, WRITERS, busy.on_the_way);
     uint64_t patches = 0, snapshots = 0, edits = 0;
     double begin = 0, used = 0;
     for (int round = 0; round < 2; round++) { // the first second only warms up
         usleep(round ? seconds * 1000000 : 1000000);
         uint64_t p = 0, s = 0, e = 0;
-        for (int i = 0; i < watchers; i++) p += links[i].patches, s += links[i].snapshots;
-        for (int i = 0; i < EDITORS; i++) e += editors[i].replies;
+        for (int i = 0; i < all_watchers; i++) p += watchers[i].patches, s += watchers[i].snapshots;
+        for (int i = 0; i < all_editors; i++) e += editors[i].replies;
         if (round) {
             double took = now() - begin;
             double done = (e - edits) / took, more = (p - patches) / took;
@@ -235,7 +262,7 @@ static int by_size(const void *a, const void *b) {
 static void answer(int links, int edits) {
     static unsigned char room[ROOM];
     idle(links);
-    Link writer = begun(0);
+    Link writer = begun("bench", 0);
     close(writer.fd);
     Link link = watching("bench", "/x");
     double *took = calloc(edits, sizeof *took), all = 0;
@@ -255,7 +282,7 @@ static void answer(int links, int edits) {
 
 static void single(int watchers, int edits) {
     static unsigned char room[ROOM];
-    Link writer = begun(0), *links = calloc(watchers, sizeof *links);
+    Link writer = begun("bench", 0), *links = calloc(watchers, sizeof *links);
     for (int i = 0; i < watchers; i++) links[i] = watching("bench", "/x");
     printf("ready\n");
     fflush(stdout);
@@ -275,12 +302,14 @@ static void single(int watchers, int edits) {
 int main(int argc, char **argv) {
     int server = argc > 5 ? atoi(argv[5]) : 0, kibibytes = argc > 6 ? atoi(argv[6]) : 0;
     if (argc < 4 || kibibytes > 64) {
-        fputs("usage: load PORT deliver|answer|idle|single NUMBER [NUMBER [PID [KIB]]]\n", stderr);
+        fputs("usage: load PORT deliver|rooms|answer|idle|single NUMBER [NUMBER [PID [KIB]]]\n",
+              stderr);
         return 2;
     }
     port = atoi(argv[1]);
     int first = atoi(argv[3]), second = argc > 4 ? atoi(argv[4]) : 1000;
-    if (!strcmp(argv[2], "deliver")) deliver(first, second, server, kibibytes);
+    if (!strcmp(argv[2], "deliver")) deliver((Busy){1, 4, first, 8}, second, server, kibibytes);
+    else if (!strcmp(argv[2], "rooms")) deliver((Busy){first, 1, 4, 4}, second, server, kibibytes);
     else if (!strcmp(argv[2], "answer")) answer(first, second);
     else if (!strcmp(argv[2], "single")) single(first, second);
     else {

@@ -11,10 +11,12 @@ leave() {
 }
 trap leave EXIT
 
-# start PROGRAM: starts a server, and sets serve and port.
+# start PROGRAM [OPTION..]: starts a server, and sets serve and port.
 start() {
+  local program=$1
+  shift
   : >"$work/port"
-  "$1" serve --port 0 --epoch 1 >"$work/port" 2>"$work/errors" &
+  "$program" serve --port 0 --epoch 1 "$@" >"$work/port" 2>"$work/errors" &
   serve=$!
   until grep -q listening "$work/port"; do
     if ! kill -0 "$serve" 2>/dev/null; then
