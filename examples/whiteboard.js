@@ -43,7 +43,7 @@ function pointerOf(...keys) {
   return SHAPES + relay.pointer(...keys);
 }
 
-/** In the middle of what is seen of the plane, each a little further than the one before. */
+/** At the centre of what is seen of the plane, each a little further than the one before. */
 function add(kind) {
   const id = Date.now().toString(36) + Math.random().toString(36).slice(2, 8);
   const { scrollLeft, scrollTop, clientWidth, clientHeight } = at("main");
