@@ -5,7 +5,7 @@ use Rattle.std.specs.List.{starts_with}
 use Rattle.std.specs.Str.Pattern.{FindsTextPrefix, StripsPrefix}
 use Rattle.std.proofs.lemmas.Bool.Decides.{Decides-eqb}
 use Rattle.std.proofs.lemmas.Slice.Eq.{starts_is}
-use Rattle.relay_admin.specs.Route.{behind}
+use Rattle.relay_admin.specs.Cut.{behind}
 
 -- if the text does not begin with the prefix, nothing is behind it
 none_behind : (prefix text : List ℕ) → ((rest : List ℕ) → text ≢ prefix ++ rest)
@@ -27,3 +27,23 @@ stripped prefix text (Some rest) (n, (same, splits, boundary), is, len) =
     let starts : starts_with nat_eq text prefix ≡ true =
     (starts_is Decides-eqb text prefix _ refl).1 _ splits in
     rw starts (ap Some (is ∙ ap (λ k. drop k text) same))
+
+-- the text behind a prefix
+pub behind_is : (prefix text rest : List ℕ) → behind prefix text ≡ Some rest → text ≡ prefix ++ rest
+behind_is prefix text rest e = by_test (starts_with nat_eq text prefix) refl e
+  where
+    by_test : (starts : Bool) → starts ≡ starts_with nat_eq text prefix
+        → (if starts then Some (drop (length prefix) text) else None) ≡ Some rest
+        → text ≡ prefix ++ rest
+    by_test true s e =
+        let same : drop (length prefix) text ≡ rest = cc e in
+        (starts_is Decides-eqb text prefix true s).0 refl ∙ ap (λ r. prefix ++ r) same
+    by_test false s e = absurd (cc e)
+
+-- if nothing is behind a prefix, the text does not begin with it
+pub never_behind : (prefix text rest : List ℕ) → behind prefix text ≡ None → text ≢ prefix ++ rest
+never_behind prefix text rest none e =
+    let starts : starts_with nat_eq text prefix ≡ true =
+    (starts_is Decides-eqb text prefix _ refl).1 rest e in
+    let found : behind prefix text ≡ Some (drop (length prefix) text) = rw starts refl in
+    absurd (cc (sym none ∙ found))

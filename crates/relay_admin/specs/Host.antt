@@ -12,8 +12,11 @@ is_port (b ∷ digits) = (b == 58) && nat_lt 0 (length digits) && list_all is_as
 -- the name in any case, alone or with a port
 abbrev pub names : List ℕ → List ℕ → Bool
 names name value =
-    nat_le (length name) (length value) && str_eq_ignore_ascii_case (take (length name) value) name && is_port (drop (length name) value)
+    nat_le (length name) (length value) && str_eq_ignore_ascii_case (take (length name) value) name
+    && is_port (drop (length name) value)
 
 -- a name or an address of the loopback
 abbrev pub is_loopback : List ℕ → Bool
-is_loopback value = names (codes "localhost") value || names (codes "127.0.0.1") value || names (codes "[::1]") value
+is_loopback value =
+    names (codes "localhost") value || names (codes "127.0.0.1") value
+    || names (codes "[::1]") value

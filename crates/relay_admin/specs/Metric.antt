@@ -1,4 +1,5 @@
--- A metric in the text format of Prometheus: a line that says what it is, one that says its kind, and then a line for each value.
+-- A metric in the text format of Prometheus: a line that says what it is, one that says its kind,
+-- and then a line for each value.
 use Rattle.std.specs.Prelude.{ℕ, List, [], ◌++◌, map, codes, decimal}
 use Rattle.std.specs.Borrow.{Bor}
 use Rattle.std.specs.List.{flat_map}
@@ -15,7 +16,9 @@ kind_name Gauge = codes "gauge"
 -- the lines before the values
 abbrev pub family_text : List ℕ → Kind → List ℕ → List ℕ
 family_text name kind help =
-    codes "# HELP " ++ (name ++ (codes " " ++ (help ++ (codes "\n# TYPE " ++ (name ++ (codes " " ++ (kind_name kind ++ codes "\n")))))))
+    codes "# HELP " ++ (name
+    ++ (codes " " ++ (help
+    ++ (codes "\n# TYPE " ++ (name ++ (codes " " ++ (kind_name kind ++ codes "\n")))))))
 
 -- the line of a value without a label, with its exponent
 abbrev pub value_text : List ℕ → ℕ → List ℕ → List ℕ
@@ -23,7 +26,9 @@ value_text name value exponent = name ++ (codes " " ++ (decimal value ++ (expone
 
 -- the line of a value for a word of a label
 abbrev pub labelled_text : List ℕ → List ℕ → List ℕ × ℕ → List ℕ
-labelled_text name label (word, count) = name ++ (codes "{" ++ (label ++ (codes "=\"" ++ (word ++ (codes "\"} " ++ (decimal count ++ codes "\n"))))))
+labelled_text name label (word, count) =
+    name ++ (codes "{" ++ (label ++ (codes "=\"" ++ (word ++ (codes "\"} "
+    ++ (decimal count ++ codes "\n"))))))
 
 -- a gauge with one value
 abbrev pub gauge : List ℕ → List ℕ → ℕ → List ℕ
@@ -39,7 +44,8 @@ counter name help value = family_text name Counter help ++ value_text name value
 
 -- a counter with a value for each of these words of a label
 abbrev pub labelled_counter : List ℕ → List ℕ → List ℕ → List (List ℕ × ℕ) → List ℕ
-labelled_counter name help label counts = family_text name Counter help ++ flat_map (λ count. labelled_text name label count) counts
+labelled_counter name help label counts =
+    family_text name Counter help ++ flat_map (λ count. labelled_text name label count) counts
 
 -- a word and its value, as the code has them
 abbrev pub word_and_count : Bor (List ℕ) × ℕ → List ℕ × ℕ
@@ -49,7 +55,8 @@ word_and_count pair = (pair.0.now, pair.1)
 abbrev pub values_text : List ℕ → Values → List ℕ
 values_text name (One value) = value_text name value []
 values_text name (Micros value) = value_text name value (codes "e-6")
-values_text name (Labelled label counts) = flat_map (λ count. labelled_text name label.now count) (map word_and_count counts.now)
+values_text name (Labelled label counts) =
+    flat_map (λ count. labelled_text name label.now count) (map word_and_count counts.now)
 
 -- a metric, as the code has it
 abbrev pub metric_text : Metric → List ℕ

@@ -15,7 +15,8 @@ hub_text m = concat
     ∷ gauge (codes "relay_rooms_limit") (codes "Rooms that there may be.") m.max_rooms
     ∷ gauge (codes "relay_sessions") (codes "Sessions that are open.") m.sessions
     ∷ gauge (codes "relay_sessions_limit") (codes "Sessions that may be open.") m.max_sessions
-    ∷ counter (codes "relay_edits_total") (codes "Edits accepted, the sum of the revisions of all rooms.") m.edits
+    ∷ counter (codes "relay_edits_total")
+    (codes "Edits accepted, the sum of the revisions of all rooms.") m.edits
     ∷ counter (codes "relay_wills_total") (codes "Wills of closed sessions that were done.") m.wills
     ∷ [])
 
@@ -23,21 +24,28 @@ hub_text m = concat
 abbrev pub weights_text : Metrics → List ℕ
 weights_text m = concat
     (gauge (codes "relay_document_weight") (codes "Weight of all documents together.") m.weight
-    ∷ gauge (codes "relay_history_weight") (codes "Weight of the changes that rooms hold for resumes, together.") m.history_weight
-    ∷ gauge (codes "relay_waiting_weight") (codes "Weight of the patches that wait for sessions, together; 0 if it is not bounded.") m.waiting_weight
+    ∷ gauge (codes "relay_history_weight")
+    (codes "Weight of the changes that rooms hold for resumes, together.") m.history_weight
+    ∷ gauge (codes "relay_waiting_weight")
+    (codes "Weight of the patches that wait for sessions, together; 0 if it is not bounded.")
+    m.waiting_weight
     ∷ [])
 
 -- the connections, and the sessions that they opened
 abbrev pub connections_text : Metrics → List ℕ
 connections_text m = concat
-    (gauge (codes "relay_connections") (codes "Connections that are held, with and without a session.") m.connections
-    ∷ gauge (codes "relay_connections_limit") (codes "Connections that may be held.") m.max_connections
+    (gauge (codes "relay_connections")
+    (codes "Connections that are held, with and without a session.") m.connections
+    ∷ gauge (codes "relay_connections_limit") (codes "Connections that may be held.")
+    m.max_connections
     ∷ counter (codes "relay_sessions_opened_total") (codes "Sessions that were opened.") m.opened
     ∷ [])
 
 -- the handshakes that were refused
 abbrev pub refused_text : RefusedBy → List ℕ
-refused_text r = labelled_counter (codes "relay_handshakes_refused_total") (codes "Handshakes refused, by the status.") (codes "status")
+refused_text r =
+    labelled_counter (codes "relay_handshakes_refused_total")
+    (codes "Handshakes refused, by the status.") (codes "status")
     ((codes "400", r.bad_request)
     ∷ (codes "404", r.not_found)
     ∷ (codes "405", r.method)
@@ -48,7 +56,9 @@ refused_text r = labelled_counter (codes "relay_handshakes_refused_total") (code
 
 -- the connections that ended
 abbrev pub ended_text : EndedBy → List ℕ
-ended_text e = labelled_counter (codes "relay_connections_ended_total") (codes "Connections ended, by the cause.") (codes "cause")
+ended_text e =
+    labelled_counter (codes "relay_connections_ended_total")
+    (codes "Connections ended, by the cause.") (codes "cause")
     ((codes "peer", e.peer)
     ∷ (codes "binary", e.binary)
     ∷ (codes "broken", e.broken)
@@ -62,13 +72,18 @@ ended_text e = labelled_counter (codes "relay_connections_ended_total") (codes "
 -- the replies that were drawn for sessions
 abbrev pub replies_text : DrawnMessages → List ℕ
 replies_text d = concat
-    (counter (codes "relay_replies_total") (codes "Replies drawn for sessions, refusals among them.") d.replies
-    ∷ labelled_counter (codes "relay_refusals_total") (codes "Refusals drawn for sessions, by the fault.") (codes "fault") (map word_and_count d.refusals.now)
+    (counter (codes "relay_replies_total")
+    (codes "Replies drawn for sessions, refusals among them.") d.replies
+    ∷ labelled_counter (codes "relay_refusals_total")
+    (codes "Refusals drawn for sessions, by the fault.") (codes "fault")
+    (map word_and_count d.refusals.now)
     ∷ [])
 
 -- the snapshots that were drawn for sessions
 abbrev pub snapshots_text : SnapshotsBy → List ℕ
-snapshots_text s = labelled_counter (codes "relay_snapshots_total") (codes "Snapshots drawn for sessions, by what made them due.") (codes "cause")
+snapshots_text s =
+    labelled_counter (codes "relay_snapshots_total")
+    (codes "Snapshots drawn for sessions, by what made them due.") (codes "cause")
     ((codes "watch", s.watch)
     ∷ (codes "resume", s.resume)
     ∷ (codes "edit", s.edit)
@@ -79,16 +94,23 @@ snapshots_text s = labelled_counter (codes "relay_snapshots_total") (codes "Snap
 
 -- the patches and the snapshots that were drawn for sessions
 abbrev pub updates_text : DrawnMessages → List ℕ
-updates_text d = concat (counter (codes "relay_patches_total") (codes "Patches drawn for sessions.") d.patches ∷ snapshots_text d.snapshots ∷ [])
+updates_text d =
+    concat (counter (codes "relay_patches_total") (codes "Patches drawn for sessions.") d.patches
+    ∷ snapshots_text d.snapshots ∷ [])
 
 -- the rounds, and what went wrong in them
 abbrev pub rounds_text : Metrics → List ℕ
 rounds_text m = concat
-    (counter (codes "relay_out_of_memory_total") (codes "Entries of the log that memory was refused, at most one in 1024 rounds.") m.shed
+    (counter (codes "relay_out_of_memory_total")
+    (codes "Entries of the log that memory was refused, at most one in 1024 rounds.") m.shed
     ∷ counter (codes "relay_rounds_total") (codes "Rounds of the server.") m.rounds
-    ∷ gauge_of_micros (codes "relay_longest_round_seconds") (codes "How long the longest round of the last minute worked.") m.longest_round
+    ∷ gauge_of_micros (codes "relay_longest_round_seconds")
+    (codes "How long the longest round of the last minute worked.") m.longest_round
     ∷ [])
 
 -- the whole text
 abbrev pub metrics_text : Metrics → List ℕ
-metrics_text m = ((((((hub_text m ++ weights_text m) ++ connections_text m) ++ refused_text m.refused) ++ ended_text m.ended) ++ replies_text m.drawn) ++ updates_text m.drawn) ++ rounds_text m
+metrics_text m =
+    ((((((hub_text m ++ weights_text m) ++ connections_text m) ++ refused_text m.refused)
+    ++ ended_text m.ended) ++ replies_text m.drawn) ++ updates_text m.drawn)
+    ++ rounds_text m

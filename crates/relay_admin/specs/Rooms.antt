@@ -10,10 +10,12 @@ begun = begin_array ∷ []
 abbrev pub with_number : List ℕ → ℕ → List Token → List Token
 with_number name value tokens = tokens ++ key name ∷ number (decimal value) ∷ []
 
--- tokens, and behind them a room's revision, how many sessions are open in it, and the weight of its document
+-- tokens, and behind them a room's revision, how many sessions are open in it, and the weight of
+-- its document
 abbrev pub with_numbers : ℕ → ℕ → ℕ → List Token → List Token
 with_numbers revision sessions weight tokens =
-    with_number (codes "weight") weight (with_number (codes "sessions") sessions (with_number (codes "revision") revision tokens))
+    with_number (codes "weight") weight
+    (with_number (codes "sessions") sessions (with_number (codes "revision") revision tokens))
 
 -- tokens, and behind them for how many seconds nobody has been in a room, if nobody is
 abbrev pub with_empty : Option ℕ → List Token → List Token
@@ -24,5 +26,6 @@ with_empty None tokens = tokens
 abbrev pub with_room : List ℕ → ℕ → ℕ → ℕ → Option ℕ → List Token → List Token
 with_room name revision sessions weight empty tokens =
     with_empty empty
-    (with_numbers revision sessions weight (tokens ++ begin_object ∷ key (codes "name") ∷ string name ∷ []))
+    (with_numbers revision sessions weight (tokens ++ begin_object ∷ key (codes "name")
+    ∷ string name ∷ []))
     ++ end_object ∷ []

@@ -1,6 +1,7 @@
 //! The answer to the bytes of a request.
-use crate::refusal::Refusal;
+use crate::admin_fault::AdminFault;
 use crate::request::AdminRequest;
+use crate::room::{EditRequest, PartRequest};
 
 /// The answer to the bytes received so far.
 #[derive(Debug, Drop)]
@@ -10,8 +11,15 @@ pub enum Ask {
     /// An accepted request.
     Request(AdminRequest),
     /// An accepted `DELETE /rooms/NAME`: that the room of this name is forgotten. The name may be
-    /// anything. Its reply is [`crate::Reply::Forgotten`] or [`crate::Reply::NotForgotten`].
+    /// anything. Its response is [`crate::Response::Forgotten`] or
+    /// [`crate::Response::NotForgotten`].
     Forget(String),
-    /// A refused one. Its reply is [`crate::Reply::Refused`].
-    Refused(Refusal),
+    /// An accepted `GET /rooms/NAME`: for a part of that room's document. What is said to a hub
+    /// for it is [`crate::watch_text`].
+    Read(PartRequest),
+    /// An accepted `PATCH /rooms/NAME`, of which the body is still to be received. What is said to
+    /// a hub for it is [`crate::edit_text`].
+    Edit(EditRequest),
+    /// A refused one. Its response is [`crate::Response::Refused`].
+    Refused(AdminFault),
 }

@@ -4,7 +4,8 @@ ghost use Rattle.std.specs.List.{list_all};
 ghost use Rattle.std.specs.Char.{is_ascii_digit};
 ghost use Rattle.relay_admin.specs.Host.{is_loopback, names, is_port};
 
-/// Whether the value of a field `Host` is `localhost`, `127.0.0.1` or `[::1]`, in any case, alone or with a port.
+/// Whether the value of a field `Host` is `localhost`, `127.0.0.1` or `[::1]`, in any case, alone
+/// or with a port.
 pub(crate) fn is_loopback(host: &[u8]) -> bool
     ensures { result ≡ is_loopback host.now }
 {
@@ -31,7 +32,7 @@ fn is_port(bytes: &[u8]) -> bool
     }
 }
 
-fn are_digits(bytes: &[u8]) -> bool
+pub(crate) fn are_digits(bytes: &[u8]) -> bool
     ensures { result ≡ list_all is_ascii_digit bytes.now }
 {
     bytes.iter().all(|byte| byte.is_ascii_digit())

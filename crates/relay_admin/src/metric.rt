@@ -51,7 +51,8 @@ pub(crate) fn write_metrics(
     text: &mut String,
     metrics: &[Metric<'_>],
 ) -> Result<(), AllocError>
-    ensures { OnOk result (string_bytes text.new ≡ string_bytes text.old ++ flat_map metric_text metrics.now) }
+    ensures { OnOk result (string_bytes text.new
+        ≡ string_bytes text.old ++ flat_map metric_text metrics.now) }
 {
     for metric in metrics {
         write_metric(alloc, text, metric)?;
@@ -59,13 +60,15 @@ pub(crate) fn write_metrics(
     Ok(())
 }
 
-/// Adds the lines of a metric to a text: what it is, its kind, and its values. If memory runs out, some of them may already be written.
+/// Adds the lines of a metric to a text: what it is, its kind, and its values. If memory runs out,
+/// some of them may already be written.
 pub(crate) fn write_metric(
     alloc: Global,
     text: &mut String,
     metric: &Metric<'_>,
 ) -> Result<(), AllocError>
-    ensures { OnOk result (string_bytes text.new ≡ string_bytes text.old ++ metric_text metric.now) }
+    ensures { OnOk result (string_bytes text.new
+        ≡ string_bytes text.old ++ metric_text metric.now) }
 {
     let (name, help) = (metric.name, metric.help);
     let kind = metric.kind.name();
@@ -80,7 +83,8 @@ fn write_values(
     name: &str,
     values: Values<'_>,
 ) -> Result<(), AllocError>
-    ensures { OnOk result (string_bytes text.new ≡ string_bytes text.old ++ values_text name.now values.entry) }
+    ensures { OnOk result (string_bytes text.new
+        ≡ string_bytes text.old ++ values_text name.now values.entry) }
 {
     match values {
         Values::One(value) => write_value(alloc, text, name, value, ""),
@@ -97,7 +101,8 @@ fn write_value(
     value: u64,
     exponent: &str,
 ) -> Result<(), AllocError>
-    ensures { OnOk result (string_bytes text.new ≡ string_bytes text.old ++ value_text name.now value exponent.now) }
+    ensures { OnOk result (string_bytes text.new
+        ≡ string_bytes text.old ++ value_text name.now value exponent.now) }
 {
     let line = format!(in alloc; "{name} {value}{exponent}\n")?;
     text.push_str(line.as_str())
@@ -110,7 +115,8 @@ fn write_counts(
     label: &str,
     counts: &[(&str, u64)],
 ) -> Result<(), AllocError>
-    ensures { OnOk result (string_bytes text.new ≡ string_bytes text.old ++ flat_map (λ count. labelled_text name.now label.now count) (map word_and_count counts.now)) }
+    ensures { OnOk result (string_bytes text.new ≡ string_bytes text.old ++ flat_map (λ count.
+        labelled_text name.now label.now count) (map word_and_count counts.now)) }
 {
     for (word, count) in counts {
         write_labelled(alloc, text, name, label, word, *count)?;
@@ -127,7 +133,8 @@ fn write_labelled(
     word: &str,
     count: u64,
 ) -> Result<(), AllocError>
-    ensures { OnOk result (string_bytes text.new ≡ string_bytes text.old ++ labelled_text name.now label.now (word.now, count)) }
+    ensures { OnOk result (string_bytes text.new
+        ≡ string_bytes text.old ++ labelled_text name.now label.now (word.now, count)) }
 {
     let line = format!(in alloc; "{name}{{{label}=\"{word}\"}} {count}\n")?;
     text.push_str(line.as_str())

@@ -16,7 +16,8 @@ pub struct Metrics<'a> {
     pub max_sessions: u64,
     pub connections: u64,
     pub max_connections: u64,
-    /// The sum of the rooms' revisions. It never falls, since only a room at revision 0 gives its place to another.
+    /// The sum of the rooms' revisions. It never falls, since only a room at revision 0 gives its
+    /// place to another.
     pub edits: u64,
     /// How many wills of closed sessions were done.
     pub wills: u64,
@@ -65,7 +66,8 @@ pub struct EndedBy {
     pub memory: u64,
     pub full: u64,
     pub silent: u64,
-    /// Ended by the relay: it was the oldest without a session when a place was needed, or the relay ends.
+    /// Ended by the relay: it was the oldest without a session when a place was needed, or the
+    /// relay ends.
     pub relay: u64,
 }
 
@@ -74,8 +76,8 @@ pub struct EndedBy {
 pub struct DrawnMessages<'a> {
     /// The refusals are among them.
     pub replies: u64,
-    /// The refusals, by the fault: its word and how many there were, in the order in which they are written. A word is written as it is,
-    /// so it has no `"`, no `\` and no line end.
+    /// The refusals, by the fault: its word and how many there were, in the order in which they are
+    /// written. A word is written as it is, so it has no `"`, no `\` and no line end.
     pub refusals: &'a [(&'static str, u64)],
     pub patches: u64,
     pub snapshots: SnapshotsBy,
@@ -98,7 +100,8 @@ pub struct SnapshotsBy {
     pub memory: u64,
 }
 
-/// Returns the text of all numbers. If memory runs out, it returns `AllocError` and leaves nothing behind.
+/// Returns the text of all numbers. If memory runs out, it returns `AllocError` and leaves nothing
+/// behind.
 pub fn metrics_text(alloc: Global, metrics: &Metrics<'_>) -> Result<String, AllocError>
     ensures { IfOk result (λ text. string_bytes text ≡ metrics_text metrics.now) }
 {
@@ -161,7 +164,8 @@ fn write_hub(alloc: Global, text: &mut String, metrics: &Metrics<'_>) -> Result<
 
 /// What is held for clients.
 fn write_weights(alloc: Global, text: &mut String, metrics: &Metrics<'_>) -> Result<(), AllocError>
-    ensures { OnOk result (string_bytes text.new ≡ string_bytes text.old ++ weights_text metrics.now) }
+    ensures { OnOk result (string_bytes text.new
+        ≡ string_bytes text.old ++ weights_text metrics.now) }
 {
     let rows = [
         Metric {
@@ -192,7 +196,8 @@ fn write_connections(
     text: &mut String,
     metrics: &Metrics<'_>,
 ) -> Result<(), AllocError>
-    ensures { OnOk result (string_bytes text.new ≡ string_bytes text.old ++ connections_text metrics.now) }
+    ensures { OnOk result (string_bytes text.new
+        ≡ string_bytes text.old ++ connections_text metrics.now) }
 {
     let rows = [
         Metric {
@@ -219,7 +224,8 @@ fn write_connections(
 
 /// The handshakes that were refused.
 fn write_refused(alloc: Global, text: &mut String, refused: &RefusedBy) -> Result<(), AllocError>
-    ensures { OnOk result (string_bytes text.new ≡ string_bytes text.old ++ refused_text refused.now) }
+    ensures { OnOk result (string_bytes text.new
+        ≡ string_bytes text.old ++ refused_text refused.now) }
 {
     let counts = [
         ("400", refused.bad_request),
@@ -267,7 +273,8 @@ fn write_replies(
     text: &mut String,
     drawn: &DrawnMessages<'_>,
 ) -> Result<(), AllocError>
-    ensures { OnOk result (string_bytes text.new ≡ string_bytes text.old ++ replies_text drawn.now) }
+    ensures { OnOk result (string_bytes text.new
+        ≡ string_bytes text.old ++ replies_text drawn.now) }
 {
     let rows = [
         Metric {
@@ -292,7 +299,8 @@ fn write_updates(
     text: &mut String,
     drawn: &DrawnMessages<'_>,
 ) -> Result<(), AllocError>
-    ensures { OnOk result (string_bytes text.new ≡ string_bytes text.old ++ updates_text drawn.now) }
+    ensures { OnOk result (string_bytes text.new
+        ≡ string_bytes text.old ++ updates_text drawn.now) }
 {
     let snapshots = [
         ("watch", drawn.snapshots.watch),
@@ -321,7 +329,8 @@ fn write_updates(
 
 /// The rounds, and what went wrong in them.
 fn write_rounds(alloc: Global, text: &mut String, metrics: &Metrics<'_>) -> Result<(), AllocError>
-    ensures { OnOk result (string_bytes text.new ≡ string_bytes text.old ++ rounds_text metrics.now) }
+    ensures { OnOk result (string_bytes text.new
+        ≡ string_bytes text.old ++ rounds_text metrics.now) }
 {
     let rows = [
         Metric {

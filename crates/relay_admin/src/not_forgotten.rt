@@ -1,6 +1,6 @@
 //! Why a room is not forgotten.
 ghost use Rattle.std.specs.Prelude.{◌≡◌};
-ghost use Rattle.relay_admin.specs.Refusals.{kept_status, kept_why};
+ghost use Rattle.relay_admin.specs.AdminFaults.{kept_status, kept_why};
 
 use http::StatusCode;
 
@@ -18,7 +18,7 @@ pub enum NotForgotten {
 }
 
 impl NotForgotten {
-    /// The status of the reply.
+    /// The status of the response.
     pub(crate) fn status(self) -> StatusCode
         ensures { result ≡ kept_status self }
     {
@@ -29,7 +29,7 @@ impl NotForgotten {
         }
     }
 
-    /// The body of the reply.
+    /// The body of the response.
     pub(crate) fn why(self) -> &'static str
         ensures { result.now ≡ kept_why self }
     {

@@ -11,6 +11,8 @@ pub enum AdminRequest {
     Metrics,
     /// `GET /rooms`: its rooms, as JSON.
     Rooms,
+    /// `POST /open`: that a relay which was started closed lets clients in.
+    Open,
     /// `POST /stop`: that it ends.
     Stop,
 }
@@ -21,7 +23,7 @@ impl AdminRequest {
         ensures { result.now ≡ method_of self }
     {
         match self {
-            AdminRequest::Stop => "POST",
+            AdminRequest::Open | AdminRequest::Stop => "POST",
             AdminRequest::Health | AdminRequest::Metrics | AdminRequest::Rooms => "GET",
         }
     }

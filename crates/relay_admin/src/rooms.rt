@@ -31,7 +31,9 @@ pub fn begin_rooms(alloc: Global) -> Result<Writer, AllocError>
 
 /// Adds a room to a list. If memory runs out, some of the room's tokens may already be written.
 pub fn write_room(out: &mut Writer, room: &RoomRow<'_>) -> Result<(), AllocError>
-    ensures tokens { OnOk result (out.new.tokens ≡ with_room room.now.name.now room.now.revision room.now.sessions room.now.weight room.now.empty out.old.tokens) }
+    ensures tokens { OnOk result (out.new.tokens
+        ≡ with_room room.now.name.now room.now.revision room.now.sessions room.now.weight
+        room.now.empty out.old.tokens) }
     ensures before { out.new.before ≡ out.old.before }
 {
     begin_room(out, room.name)?;
@@ -41,7 +43,8 @@ pub fn write_room(out: &mut Writer, room: &RoomRow<'_>) -> Result<(), AllocError
 }
 
 fn begin_room(out: &mut Writer, name: &str) -> Result<(), AllocError>
-    ensures tokens { OnOk result (out.new.tokens ≡ out.old.tokens ++ begin_object ∷ key (codes "name") ∷ string name.now ∷ []) }
+    ensures tokens { OnOk result (out.new.tokens
+        ≡ out.old.tokens ++ begin_object ∷ key (codes "name") ∷ string name.now ∷ []) }
     ensures before { out.new.before ≡ out.old.before }
 {
     out.begin_object()?;
@@ -50,7 +53,8 @@ fn begin_room(out: &mut Writer, name: &str) -> Result<(), AllocError>
 }
 
 fn write_numbers(out: &mut Writer, room: &RoomRow<'_>) -> Result<(), AllocError>
-    ensures tokens { OnOk result (out.new.tokens ≡ with_numbers room.now.revision room.now.sessions room.now.weight out.old.tokens) }
+    ensures tokens { OnOk result (out.new.tokens
+        ≡ with_numbers room.now.revision room.now.sessions room.now.weight out.old.tokens) }
     ensures before { out.new.before ≡ out.old.before }
 {
     write_number(out, "revision", room.revision)?;
@@ -76,12 +80,13 @@ fn write_number(out: &mut Writer, name: &str, value: u64) -> Result<(), AllocErr
     out.u64(value)
 }
 
-/// Ends a list, and returns its text, which reads back as the tokens written. If memory runs out, it returns `AllocError`, and the list is
-/// gone.
+/// Ends a list, and returns its text, which reads back as the tokens written. If memory runs out,
+/// it returns `AllocError`, and the list is gone.
 pub fn end_rooms(mut out: Writer) -> Result<String, AllocError>
     requires { out.before ≡ [] }
     ensures text { IfOk result (λ text. string_bytes text ≡ print (out.tokens ++ end_array ∷ [])) }
-    ensures reads_back { IfOk result (λ text. tokens (string_bytes text) ≡ out.tokens ++ end_array ∷ []) }
+    ensures reads_back { IfOk result (λ text. tokens (string_bytes text)
+        ≡ out.tokens ++ end_array ∷ []) }
 {
     out.end_array()?;
     let Ok(text) = String::from_utf8(out.into_inner()) else {

@@ -22,11 +22,13 @@ pub(crate) fn request_at(alloc: Global, target: &str) -> Result<Option<AdminRequ
 }
 
 fn routes(alloc: Global) -> Result<Router<AdminRequest>, InsertError>
-    ensures { IfOk result (λ router. (path : List ℕ) → option_map (λ route. route.value) (first router path) ≡ request_at path) }
+    ensures { IfOk result (λ router. (path : List ℕ)
+        → option_map (λ route. route.value) (first router path) ≡ request_at path) }
 {
     let mut router = Router::new(alloc);
     router.insert("/health", AdminRequest::Health)?;
     router.insert("/metrics", AdminRequest::Metrics)?;
+    router.insert("/open", AdminRequest::Open)?;
     router.insert("/rooms", AdminRequest::Rooms)?;
     router.insert("/stop", AdminRequest::Stop)?;
     Ok(router)

@@ -1,14 +1,15 @@
 //! Tests of which requests are accepted, and why the others are refused.
 use crate::shared::shown;
-use relay_admin::{MAX_HEAD, ask};
-use relay_wire::{Subject, cut, play};
+use relay_admin::{Ask, MAX_BODY, MAX_HEAD, RevisionTag, ask};
+use relay_test_stream::{Subject, cut, play};
 use std::alloc::{AllocGlobal, Global};
 
 const ROWS: &str = r#"
-# Accepts four requests, of HTTP/1.0 too, and whatever comes behind the head.
+# Accepts five requests, of HTTP/1.0 too, and whatever comes behind the head.
 ask GET /health HTTP/1.1\r\nHost: localhost\r\n\r\n => Request(Health)
 ask GET /metrics HTTP/1.1\r\nHost: localhost\r\n\r\n => Request(Metrics)
 ask GET /rooms HTTP/1.1\r\nHost: localhost\r\n\r\n => Request(Rooms)
+ask POST /open HTTP/1.1\r\nHost: localhost\r\n\r\n => Request(Open)
 ask POST /stop HTTP/1.1\r\nHost: localhost\r\n\r\n => Request(Stop)
 ask GET /health HTTP/1.0\r\nHost: localhost\r\n\r\n => Request(Health)
 ask GET /health HTTP/1.1\r\nHost: localhost\r\nContent-Length: 3\r\n\r\nabc => Request(Health)
@@ -54,9 +55,12 @@ ask POST /health HTTP/1.1\r\nHost: localhost\r\n\r\n => Refused(OnlyGet)
 ask HEAD /health HTTP/1.1\r\nHost: localhost\r\n\r\n => Refused(OnlyGet)
 ask get /health HTTP/1.1\r\nHost: localhost\r\n\r\n => Refused(OnlyGet)
 ask GET /stop HTTP/1.1\r\nHost: localhost\r\n\r\n => Refused(OnlyPost)
+ask GET /open HTTP/1.1\r\nHost: localhost\r\n\r\n => Refused(OnlyPost)
+ask POST /open/ HTTP/1.1\r\nHost: localhost\r\n\r\n => Refused(NoPath)
+ask POST /open HTTP/1.1\r\nHost: localhost\r\nOrigin: null\r\n\r\n => Refused(Origin)
 ask GET /health HTTP/2.0\r\nHost: localhost\r\n\r\n => Refused(NoHead)
 
-# Accepts a request to forget a room, whatever its name is, by one method.
+# Accepts a request to forget a room, whatever its name is.
 ask DELETE /rooms/r HTTP/1.1\r\nHost: localhost\r\n\r\n => Forget("r")
 ask DELETE /rooms/ HTTP/1.1\r\nHost: localhost\r\n\r\n => Forget("")
 ask DELETE /rooms/a/b?c HTTP/1.1\r\nHost: localhost\r\n\r\n => Forget("a/b?c")
@@ -64,16 +68,120 @@ ask DELETE /rooms/r HTTP/1.1\r\nHost: localhost\r\nContent-Length: 3\r\n\r\nabc 
 ask DELETE /rooms HTTP/1.1\r\nHost: localhost\r\n\r\n => Refused(OnlyGet)
 ask DELETE /room/r HTTP/1.1\r\nHost: localhost\r\n\r\n => Refused(NoPath)
 ask DELETE rooms/r HTTP/1.1\r\nHost: localhost\r\n\r\n => Refused(NoPath)
-ask GET /rooms/r HTTP/1.1\r\nHost: localhost\r\n\r\n => Refused(OnlyDelete)
-ask POST /rooms/r HTTP/1.1\r\nHost: localhost\r\n\r\n => Refused(OnlyDelete)
-ask delete /rooms/r HTTP/1.1\r\nHost: localhost\r\n\r\n => Refused(OnlyDelete)
 ask DELETE /rooms/r HTTP/1.1\r\n\r\n => Refused(NoHost)
 ask DELETE /rooms/r HTTP/1.1\r\nHost: evil\r\n\r\n => Refused(OtherHost)
 ask DELETE /rooms/r HTTP/1.1\r\nHost: localhost\r\nOrigin: null\r\n\r\n => Refused(Origin)
 
-# Bounds the head: it may have 4,096 bytes, here with 4,050 of them in a field. A star stands for 64 bytes.
-ask GET /health HTTP/1.1\r\nHost: localhost\r\nX: ***************************************************************xxxxxxxxxxxxxxxxxx\r\n\r\n => Request(Health)
-ask GET /health HTTP/1.1\r\nHost: localhost\r\nX: ***************************************************************xxxxxxxxxxxxxxxxxxx\r\n\r\n => Refused(TooLong)
+# Takes three methods for a room, and no other.
+ask POST /rooms/r HTTP/1.1\r\nHost: localhost\r\n\r\n => Refused(OnlyRoomMethods)
+ask PUT /rooms/r?x HTTP/1.1\r\nHost: localhost\r\n\r\n => Refused(OnlyRoomMethods)
+ask HEAD /rooms/r HTTP/1.1\r\nHost: localhost\r\n\r\n => Refused(OnlyRoomMethods)
+ask get /rooms/r HTTP/1.1\r\nHost: localhost\r\n\r\n => Refused(OnlyRoomMethods)
+ask patch /rooms/r HTTP/1.1\r\nHost: localhost\r\n\r\n => Refused(OnlyRoomMethods)
+ask delete /rooms/r HTTP/1.1\r\nHost: localhost\r\n\r\n => Refused(OnlyRoomMethods)
+
+# Accepts a request for a part of a room, by a pointer in its query.
+ask GET /rooms/r HTTP/1.1\r\nHost: localhost\r\n\r\n => Read(PartRequest { room: "r", at: "", if_none_match: EntityTags { list: [] } })
+ask GET /rooms/r?at= HTTP/1.1\r\nHost: localhost\r\n\r\n => Read(PartRequest { room: "r", at: "", if_none_match: EntityTags { list: [] } })
+ask GET /rooms/r?at=/a/0 HTTP/1.1\r\nHost: localhost\r\n\r\n => Read(PartRequest { room: "r", at: "/a/0", if_none_match: EntityTags { list: [] } })
+ask GET /rooms/r?at=%2Fa%7e1%2520+b=c HTTP/1.1\r\nHost: localhost\r\n\r\n => Read(PartRequest { room: "r", at: "/a~1%20+b=c", if_none_match: EntityTags { list: [] } })
+ask GET /rooms/r?at=/%C3%A4 HTTP/1.1\r\nHost: localhost\r\n\r\n => Read(PartRequest { room: "r", at: "/ä", if_none_match: EntityTags { list: [] } })
+ask GET /rooms/r?at=/ä HTTP/1.1\r\nHost: localhost\r\n\r\n => Read(PartRequest { room: "r", at: "/ä", if_none_match: EntityTags { list: [] } })
+ask GET /rooms/a/b?at=/x?y HTTP/1.1\r\nHost: localhost\r\n\r\n => Read(PartRequest { room: "a/b", at: "/x?y", if_none_match: EntityTags { list: [] } })
+ask GET /rooms/ HTTP/1.1\r\nHost: localhost\r\n\r\n => Read(PartRequest { room: "", at: "", if_none_match: EntityTags { list: [] } })
+ask GET /rooms/?at=a HTTP/1.1\r\nHost: localhost\r\n\r\n => Read(PartRequest { room: "", at: "a", if_none_match: EntityTags { list: [] } })
+ask GET /rooms/%72 HTTP/1.1\r\nHost: localhost\r\n\r\n => Read(PartRequest { room: "%72", at: "", if_none_match: EntityTags { list: [] } })
+ask GET /rooms/r?at=/a%26b HTTP/1.1\r\nHost: localhost\r\n\r\n => Read(PartRequest { room: "r", at: "/a&b", if_none_match: EntityTags { list: [] } })
+
+# Refuses another query, once all else of the head is right.
+ask GET /rooms/r? HTTP/1.1\r\nHost: localhost\r\n\r\n => Refused(BadQuery)
+ask GET /rooms/r?at HTTP/1.1\r\nHost: localhost\r\n\r\n => Refused(BadQuery)
+ask GET /rooms/r?AT=/a HTTP/1.1\r\nHost: localhost\r\n\r\n => Refused(BadQuery)
+ask GET /rooms/r?to=/a HTTP/1.1\r\nHost: localhost\r\n\r\n => Refused(BadQuery)
+ask GET /rooms/r?at=/a&at=/b HTTP/1.1\r\nHost: localhost\r\n\r\n => Refused(BadQuery)
+ask GET /rooms/r?at=/a&x=1 HTTP/1.1\r\nHost: localhost\r\n\r\n => Refused(BadQuery)
+ask GET /rooms/r?x=1&at=/a HTTP/1.1\r\nHost: localhost\r\n\r\n => Refused(BadQuery)
+ask GET /rooms/r?at=% HTTP/1.1\r\nHost: localhost\r\n\r\n => Refused(BadQuery)
+ask GET /rooms/r?at=%2 HTTP/1.1\r\nHost: localhost\r\n\r\n => Refused(BadQuery)
+ask GET /rooms/r?at=%2g HTTP/1.1\r\nHost: localhost\r\n\r\n => Refused(BadQuery)
+ask GET /rooms/r?at=%zz HTTP/1.1\r\nHost: localhost\r\n\r\n => Refused(BadQuery)
+ask GET /rooms/r?at=%ff HTTP/1.1\r\nHost: localhost\r\n\r\n => Refused(BadQuery)
+ask GET /rooms/r?at=/a?at=% HTTP/1.1\r\nHost: localhost\r\n\r\n => Refused(BadQuery)
+ask GET /rooms/r? HTTP/1.1\r\n\r\n => Refused(NoHost)
+ask GET /rooms/r? HTTP/1.1\r\nHost: localhost\r\nOrigin: null\r\n\r\n => Refused(Origin)
+
+# Accepts an edit of a room, whatever has come of its body.
+ask PATCH /rooms/r HTTP/1.1\r\nHost: localhost\r\nContent-Type: application/json-patch+json\r\nContent-Length: 2\r\n\r\n[] => Edit(EditRequest { room: "r", if_match: EntityTags { list: [] }, head: 106, length: 2 })
+ask PATCH /rooms/r HTTP/1.1\r\nHost: localhost\r\nContent-Type: application/json-patch+json\r\nContent-Length: 2\r\n\r\n => Edit(EditRequest { room: "r", if_match: EntityTags { list: [] }, head: 106, length: 2 })
+ask PATCH /rooms/r HTTP/1.1\r\nHost: localhost\r\nContent-Type: application/json-patch+json\r\nContent-Length: 2\r\n\r\n[] more => Edit(EditRequest { room: "r", if_match: EntityTags { list: [] }, head: 106, length: 2 })
+ask PATCH /rooms/a/%20 HTTP/1.1\r\nHost: localhost\r\nContent-Type: application/json-patch+json\r\nContent-Length: 2\r\n\r\n[] => Edit(EditRequest { room: "a/%20", if_match: EntityTags { list: [] }, head: 110, length: 2 })
+ask PATCH /rooms/r HTTP/1.1\r\nHost: localhost\r\ncontent-TYPE: Application/JSON-Patch+JSON\r\nContent-Length: 2\r\n\r\n[] => Edit(EditRequest { room: "r", if_match: EntityTags { list: [] }, head: 106, length: 2 })
+ask PATCH /rooms/r HTTP/1.1\r\nHost: localhost\r\nContent-Type: application/json-patch+json; charset=utf-8\r\nContent-Length: 2\r\n\r\n[] => Edit(EditRequest { room: "r", if_match: EntityTags { list: [] }, head: 121, length: 2 })
+ask PATCH /rooms/r HTTP/1.1\r\nHost: localhost\r\nContent-Type: application/json-patch+json ;v=1\r\nContent-Length: 2\r\n\r\n[] => Edit(EditRequest { room: "r", if_match: EntityTags { list: [] }, head: 111, length: 2 })
+ask PATCH /rooms/r HTTP/1.1\r\nHost: localhost\r\nContent-Type: application/json-patch+json\r\nContent-Length: 002\r\n\r\n[] => Edit(EditRequest { room: "r", if_match: EntityTags { list: [] }, head: 108, length: 2 })
+ask PATCH /rooms/r HTTP/1.1\r\nHost: localhost\r\nContent-Type: application/json-patch+json\r\nContent-Length: 0\r\n\r\n => Edit(EditRequest { room: "r", if_match: EntityTags { list: [] }, head: 106, length: 0 })
+ask PATCH /rooms/r HTTP/1.1\r\nHost: localhost\r\nContent-Type: application/json-patch+json\r\nContent-Length: 1048576\r\n\r\n => Edit(EditRequest { room: "r", if_match: EntityTags { list: [] }, head: 112, length: 1048576 })
+
+# Refuses an edit for the first reason, in this order.
+ask PATCH /rooms/r?at=/a HTTP/1.1\r\nHost: localhost\r\nExpect: 100-continue\r\n\r\n => Refused(NoPath)
+ask PATCH /rooms/r? HTTP/1.1\r\nHost: localhost\r\nContent-Type: application/json-patch+json\r\nContent-Length: 2\r\n\r\n => Refused(NoPath)
+ask PATCH /rooms/r HTTP/1.1\r\nHost: localhost\r\nExpect: 100-continue\r\n\r\n => Refused(Expectation)
+ask PATCH /rooms/r HTTP/1.1\r\nHost: localhost\r\nContent-Type: application/json-patch+json\r\nContent-Length: 2\r\nexpect:\r\n\r\n => Refused(Expectation)
+ask PATCH /rooms/r HTTP/1.1\r\nHost: localhost\r\nTransfer-Encoding: chunked\r\n\r\n => Refused(MediaType)
+ask PATCH /rooms/r HTTP/1.1\r\nHost: localhost\r\nContent-Type: application/json\r\nContent-Length: 2\r\n\r\n => Refused(MediaType)
+ask PATCH /rooms/r HTTP/1.1\r\nHost: localhost\r\nContent-Type: application/json-patch+jsonx\r\nContent-Length: 2\r\n\r\n => Refused(MediaType)
+ask PATCH /rooms/r HTTP/1.1\r\nHost: localhost\r\nContent-Type: application/json-patch+json, text/plain\r\nContent-Length: 2\r\n\r\n => Refused(MediaType)
+ask PATCH /rooms/r HTTP/1.1\r\nHost: localhost\r\nContent-Type: application/json-patch\r\nContent-Length: 2\r\n\r\n => Refused(MediaType)
+ask PATCH /rooms/r HTTP/1.1\r\nHost: localhost\r\nContent-Type: application/json-patch+json\r\nContent-Type: application/json-patch+json\r\nContent-Length: 2\r\n\r\n => Refused(MediaType)
+ask PATCH /rooms/r HTTP/1.1\r\nHost: localhost\r\nContent-Length: 2\r\n\r\n => Refused(MediaType)
+ask PATCH /rooms/r HTTP/1.1\r\nHost: localhost\r\nContent-Type: application/json-patch+json\r\n\r\n => Refused(NoLength)
+ask PATCH /rooms/r HTTP/1.1\r\nHost: localhost\r\nContent-Type: application/json-patch+json\r\nTransfer-Encoding: chunked\r\n\r\n => Refused(NoLength)
+ask PATCH /rooms/r HTTP/1.1\r\nHost: localhost\r\nContent-Type: application/json-patch+json\r\nTransfer-Encoding: chunked\r\nContent-Length: 2\r\n\r\n => Refused(NoLength)
+ask PATCH /rooms/r HTTP/1.1\r\nHost: localhost\r\nContent-Type: application/json-patch+json\r\nTransfer-Encoding:\r\nContent-Length: 2\r\n\r\n => Refused(NoLength)
+ask PATCH /rooms/r HTTP/1.1\r\nHost: localhost\r\nContent-Type: application/json-patch+json\r\nContent-Length: 2\r\nContent-Length: 2\r\n\r\n => Refused(BadLength)
+ask PATCH /rooms/r HTTP/1.1\r\nHost: localhost\r\nContent-Type: application/json-patch+json\r\nContent-Length: 2, 2\r\n\r\n => Refused(BadLength)
+ask PATCH /rooms/r HTTP/1.1\r\nHost: localhost\r\nContent-Type: application/json-patch+json\r\nContent-Length: -2\r\n\r\n => Refused(BadLength)
+ask PATCH /rooms/r HTTP/1.1\r\nHost: localhost\r\nContent-Type: application/json-patch+json\r\nContent-Length: +2\r\n\r\n => Refused(BadLength)
+ask PATCH /rooms/r HTTP/1.1\r\nHost: localhost\r\nContent-Type: application/json-patch+json\r\nContent-Length: 0x2\r\n\r\n => Refused(BadLength)
+ask PATCH /rooms/r HTTP/1.1\r\nHost: localhost\r\nContent-Type: application/json-patch+json\r\nContent-Length: 2.0\r\n\r\n => Refused(BadLength)
+ask PATCH /rooms/r HTTP/1.1\r\nHost: localhost\r\nContent-Type: application/json-patch+json\r\nContent-Length:\r\n\r\n => Refused(BadLength)
+ask PATCH /rooms/r HTTP/1.1\r\nHost: localhost\r\nContent-Type: application/json-patch+json\r\nContent-Length: 1048577\r\n\r\n => Refused(BodyTooLong)
+ask PATCH /rooms/r HTTP/1.1\r\nHost: localhost\r\nContent-Type: application/json-patch+json\r\nContent-Length: 18446744073709551616\r\n\r\n => Refused(BodyTooLong)
+ask PATCH /rooms/r HTTP/1.1\r\nHost: localhost\r\nContent-Type: application/json-patch+json\r\nContent-Length: 18446744073709551618000000000000\r\n\r\n => Refused(BodyTooLong)
+ask PATCH /rooms/r HTTP/1.1\r\nContent-Type: application/json-patch+json\r\nContent-Length: 2\r\n\r\n => Refused(NoHost)
+ask PATCH /rooms/r HTTP/1.1\r\nHost: localhost\r\nOrigin: null\r\nContent-Type: application/json-patch+json\r\nContent-Length: 2\r\n\r\n => Refused(Origin)
+ask PATCH /rooms HTTP/1.1\r\nHost: localhost\r\nContent-Type: application/json-patch+json\r\nContent-Length: 2\r\n\r\n => Refused(OnlyGet)
+
+# Holds at the tag "5-7" exactly if If-Match is not there, or is `*`, or lists this tag alone.
+if_match  => true
+if_match If-Match: *\r\n => true
+if_match If-Match: "5-7"\r\n => true
+if_match if-match:   "5-7"  \r\n => true
+if_match If-Match: "5-8"\r\n => false
+if_match If-Match: "5-07"\r\n => false
+if_match If-Match: 5-7\r\n => false
+if_match If-Match: W/"5-7"\r\n => false
+if_match If-Match: "5-6", "5-7"\r\n => false
+if_match If-Match: "5-7"\r\nIf-Match: "5-7"\r\n => false
+if_match If-Match:\r\n => false
+if_match If-None-Match: "5-8"\r\n => true
+
+# Names that tag exactly if If-None-Match lists `*` or the tag, strong or weak.
+if_none_match  => false
+if_none_match If-None-Match: *\r\n => true
+if_none_match If-None-Match: "5-7"\r\n => true
+if_none_match If-None-Match: W/"5-7"\r\n => true
+if_none_match If-None-Match: "5-6" ,W/"5-7", "x"\r\n => true
+if_none_match If-None-Match: "5-6"\r\nif-none-match: "5-7"\r\n => true
+if_none_match If-None-Match: "5-70"\r\n => false
+if_none_match If-None-Match: 5-7\r\n => false
+if_none_match If-None-Match: "a,5-7"\r\n => false
+if_none_match If-None-Match:\r\n => false
+if_none_match If-Match: "5-7"\r\n => false
+
+# Bounds the head: it may have 4,096 bytes, here with 4,050 of them in a field. A caret stands for 64 bytes.
+ask GET /health HTTP/1.1\r\nHost: localhost\r\nX: ^^^^^^^^^^^^^^^^^^^^^^^^^^^^^^^^^^^^^^^^^^^^^^^^^^^^^^^^^^^^^^^xxxxxxxxxxxxxxxxxx\r\n\r\n => Request(Health)
+ask GET /health HTTP/1.1\r\nHost: localhost\r\nX: ^^^^^^^^^^^^^^^^^^^^^^^^^^^^^^^^^^^^^^^^^^^^^^^^^^^^^^^^^^^^^^^xxxxxxxxxxxxxxxxxxx\r\n\r\n => Refused(TooLong)
 
 # Each part of a head but the whole leaves more to wait for.
 ask  => More
@@ -125,6 +233,8 @@ ask GET /health HTTP/1.1\r\nX: y\r\nX: y\r\nX: y\r\nX: y\r\nX: y\r\nX: y\r\nX: y
 
 const _: () = prove!(MAX_HEAD == 4096);
 
+const _: () = prove!(MAX_BODY == 1048576);
+
 #[test]
 fn requests_are_accepted_or_refused(rt: HostRuntime) {
     play(&rt, &mut Requests, ROWS).expect(&rt, "each row holds");
@@ -138,18 +248,50 @@ impl<R: AllocGlobal> Subject<R> for Requests {
     fn act(&mut self, rt: &R, act: &str) -> Option<String> {
         match cut(act) {
             ("ask", text) => answer_to(rt.alloc(), text),
+            ("if_match", fields) => holds(rt.alloc(), fields),
+            ("if_none_match", fields) => is_named(rt.alloc(), fields),
             _ => None,
         }
     }
 }
 
-// What a star stands for: 64 bytes.
-const STAR: &str = "xxxxxxxxxxxxxxxxxxxxxxxxxxxxxxxxxxxxxxxxxxxxxxxxxxxxxxxxxxxxxxxx";
+// What a caret stands for: 64 bytes.
+const CARET: &str = "xxxxxxxxxxxxxxxxxxxxxxxxxxxxxxxxxxxxxxxxxxxxxxxxxxxxxxxxxxxxxxxx";
+
+// The tag of the revision to which conditions are compared.
+const TAG: RevisionTag = RevisionTag { epoch: 5, rev: 7 };
 
 /// The answer to a text, whose ends of lines are written `\r` and `\n`.
 fn answer_to(alloc: Global, text: &str) -> Option<String> {
-    let text = text.replace(alloc, "*", STAR).ok()?;
+    shown(alloc, asked(alloc, text)?)
+}
+
+fn asked(alloc: Global, text: &str) -> Option<Ask> {
+    let text = text.replace(alloc, "^", CARET).ok()?;
     let text = text.as_str().replace(alloc, r"\r", "\r").ok()?;
     let text = text.as_str().replace(alloc, r"\n", "\n").ok()?;
-    shown(alloc, ask(alloc, text.as_str().as_bytes()).ok()?)
+    ask(alloc, text.as_str().as_bytes()).ok()
 }
+
+/// Whether `If-Match` of an edit with these fields holds.
+fn holds(alloc: Global, fields: &str) -> Option<String> {
+    let text = format!(in alloc; "{EDIT}{fields}\r\n").ok()?;
+    let Some(Ask::Edit(edit)) = asked(alloc, text.as_str()) else {
+        return None;
+    };
+    shown(alloc, edit.if_match.matches(alloc, TAG).ok()?)
+}
+
+/// Whether `If-None-Match` of a request with these fields names the revision.
+fn is_named(alloc: Global, fields: &str) -> Option<String> {
+    let text = format!(in alloc; "{READ}{fields}\r\n").ok()?;
+    let Some(Ask::Read(part)) = asked(alloc, text.as_str()) else {
+        return None;
+    };
+    shown(alloc, part.if_none_match.names(alloc, TAG).ok()?)
+}
+
+const EDIT: &str =
+    "PATCH /rooms/r HTTP/1.1\r\nHost: localhost\r\nContent-Type: application/json-patch+json\r\nContent-Length: 2\r\n";
+
+const READ: &str = "GET /rooms/r HTTP/1.1\r\nHost: localhost\r\n";

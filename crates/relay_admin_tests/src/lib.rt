@@ -1,5 +1,5 @@
-//! Tests of the requests of an operator: what no contract states, that the definitions mean HTTP, and that the calls succeed. Most are rows of
-//! text, since a row costs a proof next to nothing.
+//! Tests of the requests of an operator: what no contract states, that the definitions mean HTTP,
+//! and that the calls succeed. Most are rows of text, since a row costs a proof next to nothing.
 #![tactic(auto)]
 
 #[cfg(test)]
@@ -8,5 +8,7 @@ mod asking;
 mod metrics;
 #[cfg(test)]
 mod replying;
+#[cfg(test)]
+mod saying;
 #[cfg(test)]
 mod shared;

@@ -1,12 +1,13 @@
-//! Tests of the replies, and of the list of rooms.
+//! Tests of the responses, and of the list of rooms.
 use crate::shared::shown;
 use relay_admin::{
-    NotForgotten, Refusal, Reply, RoomRow, begin_rooms, end_rooms, reply_text, write_room,
+    AdminFault, NotForgotten, Response, RevisionTag, RoomRow, Unavailable, begin_rooms, end_rooms,
+    response_text, write_room,
 };
-use relay_wire::{Subject, cut, play};
+use relay_test_stream::{Subject, cut, play};
 use std::alloc::{AllocGlobal, Global};
 
-// Each reply of the list below and its bytes are written as their `Debug` texts.
+// Each response of the list below and its bytes are written as their `Debug` texts.
 const ROWS: &str = r#"
 # Replies to requests.
 reply 0 => (Healthy, "HTTP/1.1 200 OK\r\nContent-Type: text/plain; charset=utf-8\r\nContent-Length: 3\r\nCache-Control: no-store\r\nX-Content-Type-Options: nosniff\r\nConnection: close\r\n\r\nok\n")
@@ -33,40 +34,93 @@ reply 14 => (NotForgotten(NoRoom), "HTTP/1.1 404 Not Found\r\nContent-Type: text
 reply 15 => (NotForgotten(Occupied), "HTTP/1.1 409 Conflict\r\nContent-Type: text/plain; charset=utf-8\r\nContent-Length: 25\r\nCache-Control: no-store\r\nX-Content-Type-Options: nosniff\r\nConnection: close\r\n\r\na session is in the room\n")
 reply 16 => (NotForgotten(Exhausted), "HTTP/1.1 409 Conflict\r\nContent-Type: text/plain; charset=utf-8\r\nContent-Length: 20\r\nCache-Control: no-store\r\nX-Content-Type-Options: nosniff\r\nConnection: close\r\n\r\nno revision is left\n")
 reply 17 => (NotForgotten(NoMemory), "HTTP/1.1 503 Service Unavailable\r\nContent-Type: text/plain; charset=utf-8\r\nContent-Length: 19\r\nCache-Control: no-store\r\nX-Content-Type-Options: nosniff\r\nConnection: close\r\n\r\nmemory was refused\n")
-reply 18 => (Refused(OnlyDelete), "HTTP/1.1 405 Method Not Allowed\r\nContent-Type: text/plain; charset=utf-8\r\nContent-Length: 12\r\nAllow: DELETE\r\nCache-Control: no-store\r\nX-Content-Type-Options: nosniff\r\nConnection: close\r\n\r\nonly DELETE\n")
+reply 18 => (Refused(OnlyRoomMethods), "HTTP/1.1 405 Method Not Allowed\r\nContent-Type: text/plain; charset=utf-8\r\nContent-Length: 27\r\nAllow: GET, PATCH, DELETE\r\nCache-Control: no-store\r\nX-Content-Type-Options: nosniff\r\nConnection: close\r\n\r\nonly GET, PATCH and DELETE\n")
+reply 19 => (Opened, "HTTP/1.1 204 No Content\r\nCache-Control: no-store\r\nX-Content-Type-Options: nosniff\r\nConnection: close\r\n\r\n")
+
+# Replies to requests that read or edit a room.
+reply 20 => (Part { tag: RevisionTag { epoch: 1700000000, rev: 9007199254740991 }, value: "[1]" }, "HTTP/1.1 200 OK\r\nContent-Type: application/json\r\nContent-Length: 3\r\nETag: \"1700000000-9007199254740991\"\r\nCache-Control: no-store\r\nX-Content-Type-Options: nosniff\r\nConnection: close\r\n\r\n[1]")
+reply 21 => (NotModified(RevisionTag { epoch: 1700000000, rev: 9007199254740991 }), "HTTP/1.1 304 Not Modified\r\nETag: \"1700000000-9007199254740991\"\r\nCache-Control: no-store\r\nX-Content-Type-Options: nosniff\r\nConnection: close\r\n\r\n")
+reply 22 => (Edited { tag: RevisionTag { epoch: 1700000000, rev: 9007199254740991 }, reply: "{\"id\":1,\"kind\":\"done\",\"rev\":2}" }, "HTTP/1.1 200 OK\r\nContent-Type: application/json\r\nContent-Length: 30\r\nETag: \"1700000000-9007199254740991\"\r\nCache-Control: no-store\r\nX-Content-Type-Options: nosniff\r\nConnection: close\r\n\r\n{\"id\":1,\"kind\":\"done\",\"rev\":2}")
+reply 23 => (NoRoom, "HTTP/1.1 404 Not Found\r\nContent-Type: text/plain; charset=utf-8\r\nContent-Length: 22\r\nCache-Control: no-store\r\nX-Content-Type-Options: nosniff\r\nConnection: close\r\n\r\nthere is no such room\n")
+reply 24 => (NoValue, "HTTP/1.1 404 Not Found\r\nContent-Type: text/plain; charset=utf-8\r\nContent-Length: 23\r\nCache-Control: no-store\r\nX-Content-Type-Options: nosniff\r\nConnection: close\r\n\r\nthere is no such value\n")
+reply 25 => (OtherRevision(RevisionTag { epoch: 1700000000, rev: 9007199254740991 }), "HTTP/1.1 412 Precondition Failed\r\nContent-Type: text/plain; charset=utf-8\r\nContent-Length: 32\r\nETag: \"1700000000-9007199254740991\"\r\nCache-Control: no-store\r\nX-Content-Type-Options: nosniff\r\nConnection: close\r\n\r\nthe room is at another revision\n")
+reply 26 => (Malformed("{\"at\":0,\"fault\":\"missing\",\"id\":1,\"kind\":\"refused\"}"), "HTTP/1.1 400 Bad Request\r\nContent-Type: application/json\r\nContent-Length: 50\r\nCache-Control: no-store\r\nX-Content-Type-Options: nosniff\r\nConnection: close\r\n\r\n{\"at\":0,\"fault\":\"missing\",\"id\":1,\"kind\":\"refused\"}")
+reply 27 => (Unprocessable("{\"at\":0,\"fault\":\"missing\",\"id\":1,\"kind\":\"refused\"}"), "HTTP/1.1 422 Unprocessable Entity\r\nContent-Type: application/json\r\nContent-Length: 50\r\nCache-Control: no-store\r\nX-Content-Type-Options: nosniff\r\nConnection: close\r\n\r\n{\"at\":0,\"fault\":\"missing\",\"id\":1,\"kind\":\"refused\"}")
+reply 28 => (Unavailable(Rooms), "HTTP/1.1 503 Service Unavailable\r\nContent-Type: text/plain; charset=utf-8\r\nContent-Length: 20\r\nRetry-After: 1\r\nCache-Control: no-store\r\nX-Content-Type-Options: nosniff\r\nConnection: close\r\n\r\nall rooms are taken\n")
+reply 29 => (Unavailable(Sessions), "HTTP/1.1 503 Service Unavailable\r\nContent-Type: text/plain; charset=utf-8\r\nContent-Length: 23\r\nRetry-After: 1\r\nCache-Control: no-store\r\nX-Content-Type-Options: nosniff\r\nConnection: close\r\n\r\nall sessions are taken\n")
+reply 30 => (Unavailable(Memory), "HTTP/1.1 503 Service Unavailable\r\nContent-Type: text/plain; charset=utf-8\r\nContent-Length: 19\r\nRetry-After: 1\r\nCache-Control: no-store\r\nX-Content-Type-Options: nosniff\r\nConnection: close\r\n\r\nmemory was refused\n")
+
+# Replies to refused requests of that kind.
+reply 31 => (Refused(BadQuery), "HTTP/1.1 400 Bad Request\r\nContent-Type: text/plain; charset=utf-8\r\nContent-Length: 25\r\nCache-Control: no-store\r\nX-Content-Type-Options: nosniff\r\nConnection: close\r\n\r\nthe query is not one at=\n")
+reply 32 => (Refused(Expectation), "HTTP/1.1 417 Expectation Failed\r\nContent-Type: text/plain; charset=utf-8\r\nContent-Length: 17\r\nCache-Control: no-store\r\nX-Content-Type-Options: nosniff\r\nConnection: close\r\n\r\nno Expect is met\n")
+reply 33 => (Refused(MediaType), "HTTP/1.1 415 Unsupported Media Type\r\nContent-Type: text/plain; charset=utf-8\r\nContent-Length: 26\r\nAccept-Patch: application/json-patch+json\r\nCache-Control: no-store\r\nX-Content-Type-Options: nosniff\r\nConnection: close\r\n\r\nthe body is no JSON Patch\n")
+reply 34 => (Refused(NoLength), "HTTP/1.1 411 Length Required\r\nContent-Type: text/plain; charset=utf-8\r\nContent-Length: 27\r\nCache-Control: no-store\r\nX-Content-Type-Options: nosniff\r\nConnection: close\r\n\r\nthere is no Content-Length\n")
+reply 35 => (Refused(BadLength), "HTTP/1.1 400 Bad Request\r\nContent-Type: text/plain; charset=utf-8\r\nContent-Length: 37\r\nCache-Control: no-store\r\nX-Content-Type-Options: nosniff\r\nConnection: close\r\n\r\nthe Content-Length is not one number\n")
+reply 36 => (Refused(BodyTooLong), "HTTP/1.1 413 Payload Too Large\r\nContent-Type: text/plain; charset=utf-8\r\nContent-Length: 21\r\nCache-Control: no-store\r\nX-Content-Type-Options: nosniff\r\nConnection: close\r\n\r\nthe body is too long\n")
 
 # Lists rooms. Of an empty one it says for how long it has been empty.
 rooms => [{"name":"r","revision":0,"sessions":2,"weight":8},{"name":"\"","revision":18446744073709551615,"sessions":2,"weight":8,"empty":60}]
 "#;
 
-const REPLIES: [Reply<'static>; 19] = [
-    Reply::Healthy,
-    Reply::Unhealthy("tired\n"),
-    Reply::Stopping,
-    Reply::Metrics("a 1\n"),
-    Reply::Rooms("[]"),
-    Reply::Refused(Refusal::NoHead),
-    Reply::Refused(Refusal::TooLong),
-    Reply::Refused(Refusal::NoHost),
-    Reply::Refused(Refusal::OtherHost),
-    Reply::Refused(Refusal::Origin),
-    Reply::Refused(Refusal::NoPath),
-    Reply::Refused(Refusal::OnlyGet),
-    Reply::Refused(Refusal::OnlyPost),
-    Reply::Forgotten,
-    Reply::NotForgotten(NotForgotten::NoRoom),
-    Reply::NotForgotten(NotForgotten::Occupied),
-    Reply::NotForgotten(NotForgotten::Exhausted),
-    Reply::NotForgotten(NotForgotten::NoMemory),
-    Reply::Refused(Refusal::OnlyDelete),
+const REPLIES: [Response<'static>; 37] = [
+    Response::Healthy,
+    Response::Unhealthy("tired\n"),
+    Response::Stopping,
+    Response::Metrics("a 1\n"),
+    Response::Rooms("[]"),
+    Response::Refused(AdminFault::NoHead),
+    Response::Refused(AdminFault::TooLong),
+    Response::Refused(AdminFault::NoHost),
+    Response::Refused(AdminFault::OtherHost),
+    Response::Refused(AdminFault::Origin),
+    Response::Refused(AdminFault::NoPath),
+    Response::Refused(AdminFault::OnlyGet),
+    Response::Refused(AdminFault::OnlyPost),
+    Response::Forgotten,
+    Response::NotForgotten(NotForgotten::NoRoom),
+    Response::NotForgotten(NotForgotten::Occupied),
+    Response::NotForgotten(NotForgotten::Exhausted),
+    Response::NotForgotten(NotForgotten::NoMemory),
+    Response::Refused(AdminFault::OnlyRoomMethods),
+    Response::Opened,
+    Response::Part {
+        tag: TAG,
+        value: "[1]",
+    },
+    Response::NotModified(TAG),
+    Response::Edited {
+        tag: TAG,
+        reply: r#"{"id":1,"kind":"done","rev":2}"#,
+    },
+    Response::NoRoom,
+    Response::NoValue,
+    Response::OtherRevision(TAG),
+    Response::Malformed(MISSING),
+    Response::Unprocessable(MISSING),
+    Response::Unavailable(Unavailable::Rooms),
+    Response::Unavailable(Unavailable::Sessions),
+    Response::Unavailable(Unavailable::Memory),
+    Response::Refused(AdminFault::BadQuery),
+    Response::Refused(AdminFault::Expectation),
+    Response::Refused(AdminFault::MediaType),
+    Response::Refused(AdminFault::NoLength),
+    Response::Refused(AdminFault::BadLength),
+    Response::Refused(AdminFault::BodyTooLong),
 ];
+
+const TAG: RevisionTag = RevisionTag {
+    epoch: 1_700_000_000,
+    rev: 9_007_199_254_740_991,
+};
+
+const MISSING: &str = r#"{"at":0,"fault":"missing","id":1,"kind":"refused"}"#;
 
 #[test]
 fn replies_have_their_bytes(rt: HostRuntime) {
     play(&rt, &mut Replies, ROWS).expect(&rt, "each row holds");
 }
 
-/// Replies, by their places in the list.
+/// Responses, by their places in the list.
 #[derive(Clone, Copy)]
 struct Replies;
 
@@ -80,10 +134,10 @@ impl<R: AllocGlobal> Subject<R> for Replies {
     }
 }
 
-/// A reply of the list, and its bytes.
+/// A response of the list, and its bytes.
 fn reply_at(alloc: Global, index: &str) -> Option<String> {
     let reply = *REPLIES.get(index.parse::<usize>().ok()?)?;
-    shown(alloc, (reply, reply_text(alloc, &reply).ok()?))
+    shown(alloc, (reply, response_text(alloc, &reply).ok()?))
 }
 
 /// The list of two rooms.

@@ -9,7 +9,8 @@ use Rattle.relay_patch.specs.declared.change.Change.TheVariants as change
 use Rattle.relay_patch.specs.Change.{Makes, dropped, inserted}
 use Rattle.relay_patch.proofs.Carried.{CanMake, moves_as, move_made}
 
-module _ (c : Change) (d : Document) (from to : Place) (v b w : Document) (is : c ≡ change.Move from to v) (can : CanMake d c) (took : walk d from.path ≡ Ok w) where
+module _ (c : Change) (d : Document) (from to : Place) (v b w : Document) (is : c
+    ≡ change.Move from to v) (can : CanMake d c) (took : walk d from.path ≡ Ok w) where
   -- it is the value that the change names
   same_value : v ≡ w
   same_value =
@@ -22,7 +23,11 @@ module _ (c : Change) (d : Document) (from to : Place) (v b w : Document) (is : 
       let m = moves_as c d from to v is can in
       let both : Ok m.between ≡ Ok b = sym m.went ∙ went in
       let between : m.between ≡ b = cc in
-      is_ok_then _ can.0 (subst (λ x. inserted to x b ≡ Ok can.0) same_value (subst (λ x. inserted to v x ≡ Ok can.0) between m.came))
+      is_ok_then _ can.0 (subst (λ x.
+      inserted to x b ≡ Ok can.0) same_value (subst (λ x.
+      inserted to v x ≡ Ok can.0) between m.came))
 
   pub landed : (n : Document) → dropped from d ≡ Ok b → inserted to w b ≡ Ok n → Makes d c n
-  landed n went came = move_made c d from to v b n is can went (subst (λ x. inserted to x b ≡ Ok n) (sym same_value) came)
+  landed n went came =
+      move_made c d from to v b n is can went (subst (λ x.
+      inserted to x b ≡ Ok n) (sym same_value) came)

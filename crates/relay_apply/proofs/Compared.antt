@@ -9,10 +9,13 @@ use Rattle.relay_patch.specs.declared.op.Op.TheVariants.{Test}
 use Rattle.relay_tree.specs.Same.{same}
 use Rattle.relay_tree.proofs.Equal.{same-Decides}
 
-pub passed_test : (p : Path) (d v c : Document) → walk d p ≡ Ok c → c ≡ v → effect d (Test p v) ≡ Ok d
-passed_test p d v c there is = let t : same c v ≡ true = (same-Decides c v).1 is in rw (there, t) refl
+pub passed_test : (p : Path) (d v c : Document) → walk d p ≡ Ok c → c ≡ v
+    → effect d (Test p v) ≡ Ok d
+passed_test p d v c there is =
+    let t : same c v ≡ true = (same-Decides c v).1 is in rw (there, t) refl
 
-pub failed_test : (p : Path) (d v c : Document) → walk d p ≡ Ok c → (c ≡ v → ⊥) → effect d (Test p v) ≡ Err TestFailed
+pub failed_test : (p : Path) (d v c : Document) → walk d p ≡ Ok c → (c ≡ v → ⊥)
+    → effect d (Test p v) ≡ Err TestFailed
 failed_test p d v c there other = go (same c v) refl
   where
     go : (x : Bool) → same c v ≡ x → effect d (Test p v) ≡ Err TestFailed

@@ -23,7 +23,8 @@ use Rattle.relay_patch.proofs.Exchanges.{at_end, replaced-is, walk-replaced}
 use Rattle.relay_apply.proofs.Drops.{shorter, fewer}
 
 -- inserting an element that was dropped restores the list
-pub insert_item-drop : (ds : Items) (i : ℕ) (e : Document) (es : Items) → item_at ds i ≡ Some e → drop_item ds i ≡ Some es → insert_item es i e ≡ Some ds
+pub insert_item-drop : (ds : Items) (i : ℕ) (e : Document) (es : Items) → item_at ds i ≡ Some e
+    → drop_item ds i ≡ Some es → insert_item es i e ≡ Some ds
 insert_item-drop no_items i e es was h = cc
 insert_item-drop (item d ds) zero e es was h =
     let same : d ≡ e = cc in
@@ -31,7 +32,9 @@ insert_item-drop (item d ds) zero e es was h =
     rw (← same, ← rest) refl
 insert_item-drop (item d ds) (suc i) e es was h = go (drop_item ds i) refl (insert_item-drop ds i e)
   where
-    go : (o : Option Items) → drop_item ds i ≡ o → ((fs : Items) → item_at ds i ≡ Some e → drop_item ds i ≡ Some fs → insert_item fs i e ≡ Some ds) → insert_item es (suc i) e ≡ Some (item d ds)
+    go : (o : Option Items) → drop_item ds i ≡ o
+        → ((fs : Items) → item_at ds i ≡ Some e → drop_item ds i ≡ Some fs
+        → insert_item fs i e ≡ Some ds) → insert_item es (suc i) e ≡ Some (item d ds)
     go None f ih = let found : None ≡ Some es = rw f at h in cc
     go (Some fs) f ih =
         let found : Some (item d fs) ≡ Some es = rw f at h in
@@ -40,19 +43,23 @@ insert_item-drop (item d ds) (suc i) e es was h = go (drop_item ds i) refl (inse
 
 -- A list that is refilled, in terms of its queue.
 
-pub no_space : (xs : List Document) (capacity i : ℕ) (e : Document) → capacity ≤ length xs → items_of xs ≡ refilled_items capacity i e (items_of xs)
+pub no_space : (xs : List Document) (capacity i : ℕ) (e : Document) → capacity ≤ length xs
+    → items_of xs ≡ refilled_items capacity i e (items_of xs)
 no_space xs capacity i e full =
     let few : nat_lt (length xs) capacity ≡ false = grind (arith, nat_tests) in
     rw (items_length-items_of xs, few) refl
 
-pub past_end : (xs : List Document) (capacity i : ℕ) (e : Document) → length xs < i → items_of xs ≡ refilled_items capacity i e (items_of xs)
-past_end xs capacity i e past = rw (insert_item-past xs i e past) (go (nat_lt (items_length (items_of xs)) capacity))
+pub past_end : (xs : List Document) (capacity i : ℕ) (e : Document) → length xs < i
+    → items_of xs ≡ refilled_items capacity i e (items_of xs)
+past_end xs capacity i e past =
+    rw (insert_item-past xs i e past) (go (nat_lt (items_length (items_of xs)) capacity))
   where
     go : (x : Bool) → items_of xs ≡ (if x then items_of xs else items_of xs)
     go true = refl
     go false = refl
 
-pub with_space : (xs : List Document) (capacity i : ℕ) (e : Document) → length xs < capacity → i ≤ length xs → items_of (insert xs i e) ≡ refilled_items capacity i e (items_of xs)
+pub with_space : (xs : List Document) (capacity i : ℕ) (e : Document) → length xs < capacity
+    → i ≤ length xs → items_of (insert xs i e) ≡ refilled_items capacity i e (items_of xs)
 with_space xs capacity i e large inside =
     let fits : nat_lt (length xs) capacity ≡ true = grind (arith, nat_tests) in
     rw (items_length-items_of xs, fits, insert_item-items_of xs i e inside) refl
@@ -60,17 +67,21 @@ with_space xs capacity i e large inside =
 -- A container that is restored.
 
 -- a change that makes the container of what is left of it restores the document
-pub restored : (change : Document → Document) (before : Path) (c rest d d' : Document) → walk d before ≡ Ok c → replaced before rest d ≡ Ok d' → change rest ≡ c → with_part change before (at d' before) d' ≡ d
+pub restored : (change : Document → Document) (before : Path) (c rest d d' : Document)
+    → walk d before ≡ Ok c → replaced before rest d ≡ Ok d' → change rest ≡ c
+    → with_part change before (at d' before) d' ≡ d
 restored change before c rest d d' there new is =
     let r = replaced-is before rest d d' new in
     let was : at d before ≡ Some c = at_reached before d c there in
-    let now : at d' before ≡ Some rest = at_reached before d' rest (walk-replaced before rest d d' new) in
+    let now : at d' before ≡ Some rest =
+    at_reached before d' rest (walk-replaced before rest d d' new) in
     let again : put d' before c ≡ d = rw r.2 (put-back d before c rest was) in
     rw (now, is) again
 
 -- An element removed from its list.
 
-refills : (ds es : Items) (i capacity : ℕ) (e : Document) → drop_item ds i ≡ Some es → item_at ds i ≡ Some e → capacity ≡ items_length ds → refilled capacity i e (list es) ≡ list ds
+refills : (ds es : Items) (i capacity : ℕ) (e : Document) → drop_item ds i ≡ Some es
+    → item_at ds i ≡ Some e → capacity ≡ items_length ds → refilled capacity i e (list es) ≡ list ds
 refills ds es i capacity e went was large =
     let short = (drop_item-shorter ds i es went).0 in
     let fits : nat_lt (items_length es) capacity ≡ true = grind (arith, nat_tests) in
@@ -87,35 +98,68 @@ pub record Taken (before : Path) (t : Token) (d d' e : Document) : Type 0 where
   pub was : item_at items index ≡ Some e
   pub new : replaced before (list rest) d ≡ Ok d'
 
-taken_of : (before : Path) (t : Token) (c d d' e : Document) → walk d before ≡ Ok c → walk d (before ++ t ∷ []) ≡ Ok e → then_do (in_list drop_child t c) (λ c'. replaced before c' d) ≡ Ok d' → Taken before t d d' e
+taken_of : (before : Path) (t : Token) (c d d' e : Document) → walk d before ≡ Ok c
+    → walk d (before ++ t ∷ []) ≡ Ok e
+    → then_do (in_list drop_child t c) (λ c'. replaced before c' d) ≡ Ok d' → Taken before t d d' e
 taken_of before t (list ds) d d' e there was h =
     let a = then_ok (in_list drop_child t (list ds)) (λ c'. replaced before c' d) d' h in
     let n = at_index drop_child t (list ds) a.0 (index_of t) a.1 in
     let s = shorter ds t a.0 n.2 in
-    let found : step (list ds) t ≡ Ok e = sym (then_itself (step (list ds) t)) ∙ (rw there at (sym (walk-append before (t ∷ []) d) ∙ was)) in
+    let found : step (list ds) t ≡ Ok e =
+    sym (then_itself (step (list ds) t))
+    ∙ (rw there at (sym (walk-append before (t ∷ []) d) ∙ was)) in
     let at_it : item_at ds s.index ≡ Some e = ok_or_some _ Missing _ (rw s.named at found) in
-    record { items = ds; rest = s.items; index = s.index; there = there; named = s.named; went = s.gone; was = at_it; new = rw (← s.is) a.2 }
+    record {
+      items = ds;
+      rest = s.items;
+      index = s.index;
+      there = there;
+      named = s.named;
+      went = s.gone;
+      was = at_it;
+      new = rw (← s.is) a.2;
+    }
 taken_of before t _ d d' e there was h = cc
 
-pub taken : (before : Path) (t : Token) (d d' e : Document) → at_path (in_list drop_child) (before ++ t ∷ []) d ≡ Ok d' → walk d (before ++ t ∷ []) ≡ Ok e → Taken before t d d' e
+pub taken : (before : Path) (t : Token) (d d' e : Document)
+    → at_path (in_list drop_child) (before ++ t ∷ []) d ≡ Ok d' → walk d (before ++ t ∷ []) ≡ Ok e
+    → Taken before t d d' e
 taken before t d d' e h was =
-    let w = then_ok (walk d before) (λ c. then_do (in_list drop_child t c) (λ c'. replaced before c' d)) d' (sym (at_end (in_list drop_child) before t d) ∙ h) in
+    let w = then_ok (walk d before) (λ c.
+    then_do (in_list drop_child t c) (λ c'.
+    replaced before c' d)) d' (sym (at_end (in_list drop_child) before t d) ∙ h) in
     taken_of before t w.0 d d' e w.1 was w.2
 
-pub taken_again : (before : Path) (t : Token) (d d' e : Document) (capacity : ℕ) → (x : Taken before t d d' e) → capacity ≡ items_length x.items → with_part (refilled capacity x.index e) before (at d' before) d' ≡ d
-taken_again before t d d' e capacity x large = restored (refilled capacity x.index e) before (list x.items) (list x.rest) d d' x.there x.new (refills x.items x.rest x.index capacity e x.went x.was large)
+pub taken_again : (before : Path) (t : Token) (d d' e : Document) (capacity : ℕ)
+    → (x : Taken before t d d' e) → capacity ≡ items_length x.items
+    → with_part (refilled capacity x.index e) before (at d' before) d' ≡ d
+taken_again before t d d' e capacity x large =
+    restored (refilled capacity x.index e) before (list x.items) (list x.rest) d d' x.there x.new
+    (refills x.items x.rest x.index capacity e x.went x.was large)
 
 -- the same in terms of a path and numbers of 64 bits
-pub item_again : (path before : Path) (t : Token) (d d' e : Document) (n i capacity : ℕ) → path ≡ before ++ t ∷ [] → at_path (in_list drop_child) path d ≡ Ok d' → walk d path ≡ Ok e → n < 2 ^ 64 → ((ds : Items) → walk d before ≡ Ok (list ds) → n ≡ items_length ds) → capacity ≡ n → ((j : ℕ) → index_of t ≡ Some j → j < 2 ^ 64 → i ≡ j) → with_part (refilled capacity i e) before (at d' before) d' ≡ d
+pub item_again : (path before : Path) (t : Token) (d d' e : Document) (n i capacity : ℕ)
+    → path ≡ before ++ t ∷ [] → at_path (in_list drop_child) path d ≡ Ok d' → walk d path ≡ Ok e
+    → n < 2 ^ 64 → ((ds : Items) → walk d before ≡ Ok (list ds) → n ≡ items_length ds)
+    → capacity ≡ n → ((j : ℕ) → index_of t ≡ Some j → j < 2 ^ 64 → i ≡ j)
+    → with_part (refilled capacity i e) before (at d' before) d' ≡ d
 item_again path before t d d' e n i capacity is h was few long large at_it =
     let x = taken before t d d' e (rw is at h) (rw is at was) in
     let count = long x.items x.there in
-    let same : i ≡ x.index = at_it x.index x.named (omega (arith, few, count, (drop_item-shorter x.items x.index x.rest x.went).1)) in
+    let same : i ≡ x.index =
+    at_it x.index x.named (omega (
+      arith,
+      few,
+      count,
+      (drop_item-shorter x.items x.index x.rest x.went).1,
+    )) in
     rw same (taken_again before t d d' e capacity x (large ∙ count))
 
 -- A member removed from its object.
 
-rejoins : (ms ns : Members) (t : Token) (capacity : ℕ) (e : Document) → drop_member ms t ≡ Some ns → member_at ms t ≡ Some e → IsOrdered ms → members_length ms ≤ capacity → rejoined capacity t e (object ns) ≡ object ms
+rejoins : (ms ns : Members) (t : Token) (capacity : ℕ) (e : Document) → drop_member ms t ≡ Some ns
+    → member_at ms t ≡ Some e → IsOrdered ms → members_length ms ≤ capacity
+    → rejoined capacity t e (object ns) ≡ object ms
 rejoins ms ns t capacity e went was ordered large =
     let short = drop_member-shorter ms t ns went in
     let fits : nat_lt (members_length ns) capacity ≡ true = grind (arith, nat_tests) in
@@ -130,34 +174,59 @@ pub record Parted (before : Path) (t : Token) (d d' e : Document) : Type 0 where
   pub was : member_at members t ≡ Some e
   pub new : replaced before (object rest) d ≡ Ok d'
 
-parted_of : (before : Path) (t : Token) (c d d' e : Document) → walk d before ≡ Ok c → walk d (before ++ t ∷ []) ≡ Ok e → then_do (in_object drop_child t c) (λ c'. replaced before c' d) ≡ Ok d' → Parted before t d d' e
+parted_of : (before : Path) (t : Token) (c d d' e : Document) → walk d before ≡ Ok c
+    → walk d (before ++ t ∷ []) ≡ Ok e
+    → then_do (in_object drop_child t c) (λ c'. replaced before c' d) ≡ Ok d'
+    → Parted before t d d' e
 parted_of before t (object ms) d d' e there was h =
     let a = then_ok (in_object drop_child t (object ms)) (λ c'. replaced before c' d) d' h in
     let s = fewer ms t a.0 a.1 in
-    let found : step (object ms) t ≡ Ok e = sym (then_itself (step (object ms) t)) ∙ (rw there at (sym (walk-append before (t ∷ []) d) ∙ was)) in
+    let found : step (object ms) t ≡ Ok e =
+    sym (then_itself (step (object ms) t))
+    ∙ (rw there at (sym (walk-append before (t ∷ []) d) ∙ was)) in
     let at_it : member_at ms t ≡ Some e = ok_or_some _ Missing _ found in
-    record { members = ms; rest = s.members; there = there; went = s.gone; was = at_it; new = rw (← s.is) a.2 }
+    record {
+      members = ms;
+      rest = s.members;
+      there = there;
+      went = s.gone;
+      was = at_it;
+      new = rw (← s.is) a.2;
+    }
 parted_of before t _ d d' e there was h = cc
 
-pub parted : (before : Path) (t : Token) (d d' e : Document) → at_path (in_object drop_child) (before ++ t ∷ []) d ≡ Ok d' → walk d (before ++ t ∷ []) ≡ Ok e → Parted before t d d' e
+pub parted : (before : Path) (t : Token) (d d' e : Document)
+    → at_path (in_object drop_child) (before ++ t ∷ []) d ≡ Ok d'
+    → walk d (before ++ t ∷ []) ≡ Ok e → Parted before t d d' e
 parted before t d d' e h was =
-    let w = then_ok (walk d before) (λ c. then_do (in_object drop_child t c) (λ c'. replaced before c' d)) d' (sym (at_end (in_object drop_child) before t d) ∙ h) in
+    let w = then_ok (walk d before) (λ c.
+    then_do (in_object drop_child t c) (λ c'.
+    replaced before c' d)) d' (sym (at_end (in_object drop_child) before t d) ∙ h) in
     parted_of before t w.0 d d' e w.1 was w.2
 
 -- the same in terms of a path
-pub member_again : (path before : Path) (t : Token) (d d' e : Document) (n capacity : ℕ) → path ≡ before ++ t ∷ [] → at_path (in_object drop_child) path d ≡ Ok d' → walk d path ≡ Ok e
-    → ((ms : Members) → walk d before ≡ Ok (object ms) → n ≡ members_length ms) → ((ms : Members) → walk d before ≡ Ok (object ms) → IsOrdered ms) → n ≤ capacity → with_part (rejoined capacity t e) before (at d' before) d' ≡ d
+pub member_again : (path before : Path) (t : Token) (d d' e : Document) (n capacity : ℕ)
+    → path ≡ before ++ t ∷ [] → at_path (in_object drop_child) path d ≡ Ok d' → walk d path ≡ Ok e
+    → ((ms : Members) → walk d before ≡ Ok (object ms) → n ≡ members_length ms)
+    → ((ms : Members) → walk d before ≡ Ok (object ms) → IsOrdered ms) → n ≤ capacity
+    → with_part (rejoined capacity t e) before (at d' before) d' ≡ d
 member_again path before t d d' e n capacity is h was long ordered large =
     let x = parted before t d d' e (rw is at h) (rw is at was) in
     let count = long x.members x.there in
-    restored (rejoined capacity t e) before (object x.members) (object x.rest) d d' x.there x.new (rejoins x.members x.rest t capacity e x.went x.was (ordered x.members x.there) (omega (arith, count, large)))
+    restored (rejoined capacity t e) before (object x.members) (object x.rest) d d' x.there x.new
+    (rejoins x.members x.rest t capacity e x.went x.was (ordered x.members x.there)
+    (omega (arith, count, large)))
 
 -- Members that are rejoined, in terms of their entries.
 
-members_of-if : (x : Bool) (es fs : List Entry) → members_of (if x then es else fs) ≡ (if x then members_of es else members_of fs)
+members_of-if : (x : Bool) (es fs : List Entry)
+    → members_of (if x then es else fs) ≡ (if x then members_of es else members_of fs)
 members_of-if true es fs = refl
 members_of-if false es fs = refl
 
-pub rejoined_entries : (es : List Entry) (name : String Global) (v : Document) (capacity : ℕ) → object (members_of (refilled_entries capacity name v es)) ≡ rejoined capacity (string_bytes name) v (object (members_of es))
+pub rejoined_entries : (es : List Entry) (name : String Global) (v : Document) (capacity : ℕ)
+    → object (members_of (refilled_entries capacity name v es))
+    ≡ rejoined capacity (string_bytes name) v (object (members_of es))
 rejoined_entries es name v capacity =
-    ap object (members_of-if (nat_lt (length es) capacity) _ es) ∙ rw (members_length-members_of es, members_of-insert_entry es name v) refl
+    ap object (members_of-if (nat_lt (length es) capacity) _ es)
+    ∙ rw (members_length-members_of es, members_of-insert_entry es name v) refl

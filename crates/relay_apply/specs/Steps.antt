@@ -30,7 +30,8 @@ insertion_index n t = if is_dash t then Ok n else index_within n (index_of t)
 
 -- where a token inserts in a container
 abbrev pub landing_in : Document → Token → Result InsertTarget Cause
-landing_in (list ds) t = then_do (insertion_index (items_length ds) t) (λ i. Ok (insert_target.Item i))
+landing_in (list ds) t =
+    then_do (insertion_index (items_length ds) t) (λ i. Ok (insert_target.Item i))
 landing_in (object ms) t = Ok (insert_target.Member (is_some (member_at ms t)))
 landing_in _ t = Err NoContainer
 
@@ -64,13 +65,15 @@ is_item _ = false
 -- the place of an insertion at a path, given its target
 abbrev pub landed : InsertTarget → Path → Place
 landed s [] = record { path = []; item = is_item s }
-landed s (t ∷ path) = record { path = parent t path ++ final s (last t path) ∷ []; item = is_item s }
+landed s (t ∷ path) =
+    record { path = parent t path ++ final s (last t path) ∷ []; item = is_item s }
 
 abbrev pub shifted_index : ℕ → Option ℕ → Option ℕ → Option ℕ
 shifted_index n (Some i) (Some j) = if nat_le i j && nat_lt j n then Some (j + 1) else None
 shifted_index n _ _ = None
 
--- the present index of the element that the second token names after the one that the first names is removed, if the removal shifts it
+-- the present index of the element that the second token names after the one that the first names
+-- is removed, if the removal shifts it
 abbrev pub shifted : Document → Token → Token → Option ℕ
 shifted (list ds) gone t = shifted_index (items_length ds) (index_of gone) (index_of t)
 shifted _ gone t = None
@@ -88,7 +91,8 @@ abbrev pub ends : Result Document Cause → Token → Bool
 ends (Ok c) t = is_end c t
 ends (Err e) t = false
 
--- whether two tokens name the same place of a container, the second one after the part of the first is removed
+-- whether two tokens name the same place of a container, the second one after the part of the first
+-- is removed
 abbrev pub is_same_end : Result Document Cause → Token → Token → Bool
 is_same_end c t last = bytes_eq t last || (is_dash last && ends c t)
 
@@ -107,6 +111,10 @@ abbrev pub listed : Option Change → List Change
 listed None = []
 listed (Some c) = c ∷ []
 
--- why an operation is refused if its change weighs more than what is left: it fails its own checks, or it is too heavy
+-- why an operation is refused if its change weighs more than what is left: it fails its own checks,
+-- or it is too heavy
 abbrev pub IsOverspent : Document → Op → Budget → Cause → Type 0
-IsOverspent d op left cause = (effect d op ≡ Err cause) ⊎ ((cause ≡ TooHeavy) × IsOk (effect d op) × (paid (changes_weight (changes_of d op)) left ≡ None))
+IsOverspent d op left cause =
+    (effect d op ≡ Err cause)
+    ⊎ ((cause ≡ TooHeavy) × IsOk (effect d op)
+    × (paid (changes_weight (changes_of d op)) left ≡ None))

@@ -1,5 +1,6 @@
--- How changes are taken back: a replaced part is put back, an inserted one is dropped, a value that was removed is put into its place again,
--- also one that was moved elsewhere, and an element that slid within its list slides back.
+-- How changes are taken back: a replaced part is put back, an inserted one is dropped, a value that
+-- was removed is put into its place again, also one that was moved elsewhere, and an element that
+-- slid within its list slides back.
 use Rattle.std.specs.Prelude.{ℕ, List, [], ◌∷◌, Option, Some, None, option_map, option_and_then, Result, Ok, Err, nat_lt, if◌then◌else◌, vec_capacity, string_bytes}
 use Rattle.std.specs.Result.{result_ok}
 use Rattle.relay_tree.specs.Document.{Document, list, object, Items}
@@ -25,10 +26,19 @@ target (change.DropItem path) = None
 target (change.Move from to v) = None
 target (change.Copy from to v) = Some to.path
 
--- the record of a value that was put at the path: the part that it replaced, or that it was inserted
+-- the record of a value that was put at the path: the part that it replaced, or that it was
+-- inserted
 abbrev pub brought : Path → Option Document → Undo
 brought path (Some part) = undo.Part path part
 brought path None = undo.Inserted path
+
+-- the part that the change of which this is the record removed or replaced
+abbrev pub went : Undo → Option Document
+went (undo.Part path part) = Some part
+went (undo.Inserted path) = None
+went (undo.Removed gone) = Some gone.value
+went (undo.Moved place path part) = part
+went (undo.Slid path i j) = None
 
 abbrev pub or_same : Result Document Cause → Document → Document
 or_same (Ok e) d = e
@@ -38,23 +48,29 @@ abbrev pub or_items : Option Items → Items → Items
 or_items (Some es) ds = es
 or_items None ds = ds
 
--- the elements with e inserted at the index, if `capacity` has space for one more and the index is not past the end;
--- otherwise unchanged
+-- the elements with e inserted at the index, if `capacity` has space for one more and the index is
+-- not past the end; otherwise unchanged
 abbrev pub refilled_items : ℕ → ℕ → Document → Items → Items
-refilled_items capacity i e ds = if nat_lt (items_length ds) capacity then or_items (insert_item ds i e) ds else ds
+refilled_items capacity i e ds =
+    if nat_lt (items_length ds) capacity then or_items (insert_item ds i e) ds else ds
 
 abbrev pub refilled : ℕ → ℕ → Document → Document → Document
 refilled capacity i e (list ds) = list (refilled_items capacity i e ds)
 refilled capacity i e d = d
 
--- the object with v under a name that it lacks, if `capacity` has space for one more; otherwise unchanged
+-- the object with v under a name that it lacks, if `capacity` has space for one more; otherwise
+-- unchanged
 abbrev pub rejoined : ℕ → Token → Document → Document → Document
-rejoined capacity name v (object ms) = object (if nat_lt (members_length ms) capacity then add_member ms name v else ms)
+rejoined capacity name v (object ms) =
+    object (if nat_lt (members_length ms) capacity then add_member ms name v else ms)
 rejoined capacity name v d = d
 
--- the elements with the one at index i removed and inserted at index j of the others; unchanged if either index is past the end
+-- the elements with the one at index i removed and inserted at index j of the others; unchanged if
+-- either index is past the end
 abbrev pub slid_items : ℕ → ℕ → Items → Items
-slid_items i j ds = or_items (option_and_then (λ e. option_and_then (λ es. insert_item es j e) (drop_item ds i)) (item_at ds i)) ds
+slid_items i j ds =
+    or_items (option_and_then (λ e.
+    option_and_then (λ es. insert_item es j e) (drop_item ds i)) (item_at ds i)) ds
 
 abbrev pub slid : ℕ → ℕ → Document → Document
 slid i j (list ds) = list (slid_items i j ds)
@@ -67,13 +83,18 @@ with_part change path None d = d
 
 -- the document with a value at an empty place
 abbrev pub reseated : Seat → Document → Document → Document
-reseated (seat.Item path i e spare) v d = with_part (refilled (vec_capacity spare) i v) path (at d path) d
-reseated (seat.Member path name spare) v d = with_part (rejoined spare.capacity (string_bytes name) v) path (at d path) d
+reseated (seat.Item path i e spare) v d =
+    with_part (refilled (vec_capacity spare) i v) path (at d path) d
+reseated (seat.Member path name spare) v d =
+    with_part (rejoined spare.capacity (string_bytes name) v) path (at d path) d
 
--- the value at a path, and the document with the part there that it replaced, or without it if it replaced none
+-- the value at a path, and the document with the part there that it replaced, or without it if it
+-- replaced none
 abbrev pub lifted : Option Document → Path → Document → Option (Document × Document)
 lifted (Some part) path d = option_map (λ v. (v, put d path part)) (at d path)
-lifted None path d = option_and_then (λ e. option_map (λ v. (v, e)) (at d path)) (result_ok (at_path drop_child path d))
+lifted None path d =
+    option_and_then (λ e.
+    option_map (λ v. (v, e)) (at d path)) (result_ok (at_path drop_child path d))
 
 -- the document with the value that was lifted at the empty place
 abbrev pub moved_back : Seat → Option (Document × Document) → Document → Document

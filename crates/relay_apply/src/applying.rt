@@ -18,21 +18,31 @@ use relay_patch::{ApplyFault, Bounds, Change, Op, Patch};
 use relay_tree::Tree;
 use std::alloc::Global;
 
-/// Applies a patch to the tree (RFC 6902, section 5) and returns what it changed. The operations are applied in order, and
-/// after each the document, and the changes so far, must be within the bounds. If an operation is refused or memory runs out,
-/// the tree is as it was.
+/// Applies a patch to the tree (RFC 6902, section 5) and returns what it changed. The operations
+/// are applied in order, and after each the document, and the changes so far, must be within the
+/// bounds. If an operation is refused or memory runs out, the tree is as it was.
 ///
-/// The changes are those of the operations in order, with canonical paths. They lead from the old document to the new one.
-/// A `test`, and a `move` to its own place, change nothing. If the depth is bounded and the old document is within the
-/// bounds, no path of a change has more tokens than that bound and no value is deeper.
+/// The changes are those of the operations in order, with canonical paths. They lead from the old
+/// document to the new one. A `test`, and a `move` to its own place, change nothing. If the depth
+/// is bounded and the old document is within the bounds, no path of a change has more tokens than
+/// that bound and no value is deeper.
 ///
-/// The tree is changed in place. An operation costs its paths, what it removes, and two copies of its
-/// value: one in the change, and one in the tree; a move copies its value for the change alone. An
-/// insertion into a container, or a removal, moves the block of its parts behind that place. A near
-/// move within one list exchanges neighbours. If a later operation is refused, the earlier ones are
-/// taken back: for a removal, memory for that is taken before it, and hardly ever used. The document
-/// is measured once, as far as there are bounds, and again after the first change if it was outside
-/// them. After that, only what an operation changed is measured.
+/// The tree is changed in place. An operation costs its paths, what it removes, and two copies of
+/// its value: one in the change, and one in the tree; a move copies its value for the change alone.
+/// An insertion into a container, or a removal, moves the block of its parts behind that place. A
+/// near move within one list exchanges neighbours. If a later operation is refused, the earlier
+/// ones are taken back: for a removal, memory for that is taken before it, and hardly ever used.
+/// The document is measured once, as far as there are bounds, and again after the first change if
+/// it was outside them. After that, only what an operation changed is measured.
+///
+/// ```
+/// let mut board = read(alloc, r#"{"cards": ["a", "b"]}"#).ok()?;
+/// let ops = read(alloc, r#"[{"op": "remove", "path": "/cards/0"}]"#).ok()?;
+/// let patch = Patch::from_owned(alloc, ops, PatchLimits::REQUEST).ok()?;
+/// let changes = apply(alloc, &mut board, &patch, Bounds::DOCUMENT).ok()?;
+/// assert!(rt; board.text(alloc).ok()?.as_str() == r#"{"cards":["b"]}"#);
+/// assert!(rt; matches!(&changes[0], Change::DropItem { .. }));
+/// ```
 pub fn apply(
     alloc: Global,
     tree: &mut Tree,
@@ -41,11 +51,16 @@ pub fn apply(
 ) -> Result<Vec<Change>, ApplyFault>
     ensures document { OnOk result (after tree.old patch.now bounds ≡ Ok tree.new) }
     ensures changes { IfOk result (λ changes. changes.items ≡ all_changes tree.old patch.now) }
-    ensures paid { IfOk result (λ changes. IsSome (paid (changes_weight changes.items) bounds.changes)) }
+    ensures paid { IfOk result (λ changes.
+        IsSome (paid (changes_weight changes.items) bounds.changes)) }
     ensures led { IfOk result (λ changes. Leads tree.old changes.items tree.new) }
-    ensures sizes { IfOk result (λ changes. bounds.depth < 2 ^ 64 - 1 → within bounds tree.old ≡ Ok tree.old → AllByRecursion (ChangeFits bounds.depth bounds.depth) changes.items) }
-    ensures refused { IfErr result (λ fault. fault.cause ≢ NoMemory → after tree.old patch.now bounds ≡ Err fault) }
-    ensures memory { IfErr result (λ fault. fault.cause ≡ NoMemory → Reaches tree.old patch.now bounds fault.at) }
+    ensures sizes { IfOk result (λ changes. bounds.depth < 2 ^ 64 - 1
+        → within bounds tree.old ≡ Ok tree.old
+        → AllByRecursion (ChangeFits bounds.depth bounds.depth) changes.items) }
+    ensures refused { IfErr result (λ fault. fault.cause ≢ NoMemory
+        → after tree.old patch.now bounds ≡ Err fault) }
+    ensures memory { IfErr result (λ fault. fault.cause ≡ NoMemory
+        → Reaches tree.old patch.now bounds fault.at) }
     ensures unchanged { IfErr result (λ _. tree.new ≡ tree.old) }
 {
     match run(alloc, tree, None, patch.ops(), bounds) {
@@ -62,8 +77,17 @@ pub struct Applied {
     pub weight: u64,
 }
 
-/// Applies a patch as [`apply`] does, to a tree that is within the bounds and has the weight `known`. The document is not
-/// measured, so an edit costs only what it touches.
+/// Applies a patch as [`apply`] does, to a tree that is within the bounds and has the weight
+/// `known`. The document is not measured, so an edit costs only what it touches.
+///
+/// ```
+/// let mut count = read(alloc, r#"{"n": 1}"#).ok()?;
+/// let ops = read(alloc, r#"[{"op": "replace", "path": "/n", "value": 2}]"#).ok()?;
+/// let patch = Patch::from_owned(alloc, ops, PatchLimits::REQUEST).ok()?;
+/// let weight = count.weight();
+/// let applied = apply_within(alloc, &mut count, weight, &patch, Bounds::DOCUMENT).ok()?;
+/// assert!(rt; applied.weight == weight);
+/// ```
 pub fn apply_within(
     alloc: Global,
     tree: &mut Tree,
@@ -74,13 +98,19 @@ pub fn apply_within(
     requires fits { within bounds tree.old ≡ Ok tree.old }
     requires weighs { known ≡ weight tree.old }
     ensures document { OnOk result (after tree.old patch.now bounds ≡ Ok tree.new) }
-    ensures changes { IfOk result (λ applied. applied.changes.items ≡ all_changes tree.old patch.now) }
-    ensures paid { IfOk result (λ applied. IsSome (paid (changes_weight applied.changes.items) bounds.changes)) }
+    ensures changes { IfOk result (λ applied.
+        applied.changes.items ≡ all_changes tree.old patch.now) }
+    ensures paid { IfOk result (λ applied.
+        IsSome (paid (changes_weight applied.changes.items) bounds.changes)) }
     ensures led { IfOk result (λ applied. Leads tree.old applied.changes.items tree.new) }
-    ensures sizes { IfOk result (λ applied. bounds.depth < 2 ^ 64 - 1 → AllByRecursion (ChangeFits bounds.depth bounds.depth) applied.changes.items) }
-    ensures weight { IfOk result (λ applied. bounds.weight < 2 ^ 64 - 1 → applied.weight ≡ weight tree.new) }
-    ensures refused { IfErr result (λ fault. fault.cause ≢ NoMemory → after tree.old patch.now bounds ≡ Err fault) }
-    ensures memory { IfErr result (λ fault. fault.cause ≡ NoMemory → Reaches tree.old patch.now bounds fault.at) }
+    ensures sizes { IfOk result (λ applied. bounds.depth < 2 ^ 64 - 1
+        → AllByRecursion (ChangeFits bounds.depth bounds.depth) applied.changes.items) }
+    ensures weight { IfOk result (λ applied. bounds.weight < 2 ^ 64 - 1
+        → applied.weight ≡ weight tree.new) }
+    ensures refused { IfErr result (λ fault. fault.cause ≢ NoMemory
+        → after tree.old patch.now bounds ≡ Err fault) }
+    ensures memory { IfErr result (λ fault. fault.cause ≡ NoMemory
+        → Reaches tree.old patch.now bounds fault.at) }
     ensures unchanged { IfErr result (λ _. tree.new ≡ tree.old) }
 {
     match run(alloc, tree, Some(known), patch.ops(), bounds) {
@@ -111,9 +141,12 @@ fn run(
     ensures weighed { IfOk result (λ done. IsSome known → IsSome done.weight) }
     ensures document { OnOk result (after tree.old ops.now bounds ≡ Ok tree.new) }
     ensures changes { IfOk result (λ done. done.changes.items ≡ all_changes tree.old ops.now) }
-    ensures paid { IfOk result (λ done. paid (changes_weight done.changes.items) bounds.changes ≡ Some done.left) }
-    ensures refused { IfErr result (λ fault. fault.cause ≢ NoMemory → after tree.old ops.now bounds ≡ Err fault) }
-    ensures memory { IfErr result (λ fault. fault.cause ≡ NoMemory → Reaches tree.old ops.now bounds fault.at) }
+    ensures paid { IfOk result (λ done. paid (changes_weight done.changes.items) bounds.changes
+        ≡ Some done.left) }
+    ensures refused { IfErr result (λ fault. fault.cause ≢ NoMemory
+        → after tree.old ops.now bounds ≡ Err fault) }
+    ensures memory { IfErr result (λ fault. fault.cause ≡ NoMemory
+        → Reaches tree.old ops.now bounds fault.at) }
     ensures unchanged { IfErr result (λ _. tree.new ≡ tree.old) }
 {
     let mut kept = Vec::new(alloc);
@@ -141,10 +174,14 @@ fn run_keeping(
     ensures weighed { IfOk result (λ done. IsSome known → IsSome done.weight) }
     ensures document { OnOk result (after tree.old ops.now bounds ≡ Ok tree.new) }
     ensures changes { IfOk result (λ done. done.changes.items ≡ all_changes tree.old ops.now) }
-    ensures paid { IfOk result (λ done. paid (changes_weight done.changes.items) bounds.changes ≡ Some done.left) }
-    ensures refused { IfErr result (λ fault. fault.cause ≢ NoMemory → after tree.old ops.now bounds ≡ Err fault) }
-    ensures memory { IfErr result (λ fault. fault.cause ≡ NoMemory → Reaches tree.old ops.now bounds fault.at) }
-    ensures back { OnErr result (taken_back tree.new kept.new.items ≡ taken_back tree.old kept.old.items) }
+    ensures paid { IfOk result (λ done. paid (changes_weight done.changes.items) bounds.changes
+        ≡ Some done.left) }
+    ensures refused { IfErr result (λ fault. fault.cause ≢ NoMemory
+        → after tree.old ops.now bounds ≡ Err fault) }
+    ensures memory { IfErr result (λ fault. fault.cause ≡ NoMemory
+        → Reaches tree.old ops.now bounds fault.at) }
+    ensures back { OnErr result (taken_back tree.new kept.new.items
+        ≡ taken_back tree.old kept.old.items) }
 {
     let mut done = Done {
         changes: Vec::new(alloc),

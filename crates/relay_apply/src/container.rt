@@ -9,7 +9,8 @@ use relay_pointer::index_of;
 use relay_tree::{Element, Node, Tree, insert_member};
 use std::alloc::{AllocFailed, Global};
 
-/// Inserts a value at the place that the token names. If memory runs out, the container is unchanged, and the value comes back.
+/// Inserts a value at the place that the token names. If memory runs out, the container is
+/// unchanged, and the value comes back.
 pub(crate) fn insert_child(
     alloc: Global,
     container: &mut Tree,
@@ -35,7 +36,8 @@ fn insert_item(
     value: Tree,
 ) -> Result<(), AllocFailed<Tree>>
     requires { IsOk (insert_child value token.now (list (items_of items.old.items))) }
-    ensures ok { OnOk result (insert_child value token.now (list (items_of items.old.items)) ≡ Ok (list (items_of items.new.items))) }
+    ensures ok { OnOk result (insert_child value token.now (list (items_of items.old.items))
+        ≡ Ok (list (items_of items.new.items))) }
     ensures err { OnErr result (items.new.items ≡ items.old.items) }
     ensures given_back { IfErr result (λ back. back.value ≡ value) }
 {
@@ -84,7 +86,8 @@ pub(crate) fn drop_child(container: &mut Tree, token: &str) -> Tree
 fn drop_item(items: &mut Vec<Element>, token: &str) -> Tree
     requires { IsOk (step (list (items_of items.old.items)) token.now) }
     ensures value { step (list (items_of items.old.items)) token.now ≡ Ok result }
-    ensures rest { drop_child token.now (list (items_of items.old.items)) ≡ Ok (list (items_of items.new.items)) }
+    ensures rest { drop_child token.now (list (items_of items.old.items))
+        ≡ Ok (list (items_of items.new.items)) }
 {
     let index = index_of(token).unwrap() as usize;
     let element = items.remove(index);

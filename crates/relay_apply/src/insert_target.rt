@@ -1,4 +1,5 @@
-//! The place on which an operation acts, found by its checks. Nothing here changes a tree or allocates.
+//! The place on which an operation acts, found by its checks. Nothing here changes a tree or
+//! allocates.
 ghost use Rattle.std.specs.Prelude.{◌≡◌, ◌≢◌, ◌<◌, ◌≤◌, ◌-◌, ◌^◌, Ok, Err, IfOk, IfErr};
 ghost use Rattle.relay_pointer.specs.Path.{path_of};
 ghost use Rattle.relay_patch.specs.Place.{place_of};
@@ -68,7 +69,8 @@ pub(crate) fn insertion_index(length: usize, token: &str) -> Result<usize, Cause
     }
 }
 
-/// Returns whether the part at the path is an element of a list. The root is refused with `Cause::Root`.
+/// Returns whether the part at the path is an element of a list. The root is refused with
+/// `Cause::Root`.
 pub(crate) fn resolve_existing(tree: &Tree, path: &[String]) -> Result<bool, Cause>
     ensures item { result ≡ standing tree.now (path_of path.now) }
     ensures other { IfErr result (λ cause. cause ≢ NoMemory) }

@@ -1,13 +1,12 @@
-//! Changes that are made so that they can be taken back. Each step allocates all its memory, including space for its [`Undo`], before
-//! it changes the tree. A move that is not within one list is two steps; if the second runs out of memory, the value goes back.
-ghost use Rattle.std.specs.Prelude.{◌≡◌, ◌<◌, true, Ok, Some, OnOk, OnErr, IfOk, IfErr, IsOk, vec_len, vec_capacity};
+//! Changes that are made so that they can be taken back. Each step allocates all its memory,
+//! including space for its [`Undo`], before it changes the tree. A move that is not within one list
+//! is two steps; if the second runs out of memory, the value goes back.
+ghost use Rattle.std.specs.Prelude.{◌≡◌, ◌<◌, false, is_some, Ok, Some, OnOk, OnErr, IfOk, IfErr, IfSome, IsOk, vec_len, vec_capacity};
 ghost use Rattle.relay_tree.specs.Document.{Document};
-ghost use Rattle.relay_pointer.specs.Path.{path_of};
-ghost use Rattle.relay_patch.specs.Patch.{at_path, drop_child};
-ghost use Rattle.relay_patch.specs.Place.{in_one_list};
-ghost use Rattle.relay_patch.specs.Measure.{displaced};
-ghost use Rattle.relay_patch.specs.Change.{Makes, Moves, in_list, in_object, dropped, inserted};
-ghost use Rattle.relay_apply.specs.Undo.{target, reseated, taken_back};
+ghost use Rattle.relay_patch.specs.Measure.{displaced, gone, carries};
+ghost use Rattle.relay_patch.specs.Change.{Makes, inserted};
+ghost use Rattle.relay_patch.specs.declared.change.Change.TheVariants.{Move};
+ghost use Rattle.relay_apply.specs.Undo.{target, reseated, taken_back, undone, went};
 
 use crate::making::{make, put};
 use crate::seat::{Vacated, reseat, vacate, vacate_item, vacate_member};
@@ -29,20 +28,53 @@ pub(crate) fn make_keeping(
     ensures made { OnOk result (Makes tree.old change.now tree.new) }
     ensures back { taken_back tree.new kept.new.items ≡ taken_back tree.old kept.old.items }
 {
+    let Some((from, to)) = carried(change) else {
+        kept.reserve(1)?;
+        let undo = make_with_undo(alloc, tree, change)?;
+        kept.push_reserved(undo);
+        return Ok(());
+    };
+    let vacated = vacate(alloc, tree, from)?;
+    land(alloc, tree, kept, to, vacated)
+}
+
+/// The old and the new place of the value that a change carries: that it removes before it inserts
+/// it elsewhere. A move within one list carries nothing: the element slides.
+pub(crate) fn carried(change: &Change) -> Option<(&Place, &Place)>
+    ensures what { IfSome result (λ m. (v : Document) × (change.now ≡ Move m.0.now m.1.now v)) }
+    ensures carries { is_some result ≡ carries change.now }
+{
     match change {
-        Change::Set { path, .. } => bring(alloc, tree, kept, path, change),
-        Change::AddMember { path, .. } => bring(alloc, tree, kept, path, change),
-        Change::AddItem { path, .. } => bring(alloc, tree, kept, path, change),
-        Change::DropMember { path } => take_member(alloc, tree, kept, path.tokens()),
-        Change::DropItem { path } => take_item(alloc, tree, kept, path.tokens()),
-        Change::Move { from, to, .. } if in_one_list(from, to) => {
-            slide_kept(alloc, tree, kept, from, to)
+        Change::Move { from, to, .. } if !in_one_list(from, to) => Some((from, to)),
+        _ => None,
+    }
+}
+
+/// Makes a change that carries nothing, and returns what takes it back. If memory runs out, the
+/// tree is unchanged.
+#[tactic(auto, using(relay_patch::proofs::Walks::at_reached))]
+pub(crate) fn make_with_undo(
+    alloc: Global,
+    tree: &mut Tree,
+    change: &Change,
+) -> Result<Undo, AllocError>
+    requires makes { (next : Document) × Makes tree.old change.now next }
+    requires stays { carries change.now ≡ false }
+    ensures made { OnOk result (Makes tree.old change.now tree.new) }
+    ensures back { IfOk result (λ undo. undone undo tree.new ≡ tree.old) }
+    ensures went { IfOk result (λ undo. went undo ≡ gone tree.old change.now) }
+    ensures err { OnErr result (tree.new ≡ tree.old) }
+{
+    match change {
+        Change::Set { path, .. } => bring(alloc, tree, path, change),
+        Change::AddMember { path, .. } => bring(alloc, tree, path, change),
+        Change::AddItem { path, .. } => bring(alloc, tree, path, change),
+        Change::DropMember { path } => {
+            Ok(Undo::Removed(vacate_member(alloc, tree, path.tokens())?))
         }
-        Change::Move { from, to, .. } => {
-            let vacated = vacate(alloc, tree, from)?;
-            land(alloc, tree, kept, to, vacated)
-        }
-        Change::Copy { to, .. } => bring(alloc, tree, kept, &to.path, change),
+        Change::DropItem { path } => Ok(Undo::Removed(vacate_item(alloc, tree, path.tokens())?)),
+        Change::Move { from, to, .. } => slide(alloc, tree, from, to),
+        Change::Copy { to, .. } => bring(alloc, tree, &to.path, change),
     }
 }
 
@@ -50,77 +82,23 @@ pub(crate) fn make_keeping(
 fn bring(
     alloc: Global,
     tree: &mut Tree,
-    kept: &mut Vec<Undo>,
     path: &Pointer,
     change: &Change,
-) -> Result<(), AllocError>
+) -> Result<Undo, AllocError>
     requires makes { (next : Document) × Makes tree.old change.now next }
     requires here { target change.now ≡ Some path.now }
     ensures made { OnOk result (Makes tree.old change.now tree.new) }
-    ensures back { taken_back tree.new kept.new.items ≡ taken_back tree.old kept.old.items }
+    ensures back { IfOk result (λ undo. undone undo tree.new ≡ tree.old) }
+    ensures went { IfOk result (λ undo. went undo ≡ gone tree.old change.now) }
+    ensures err { OnErr result (tree.new ≡ tree.old) }
 {
     let path = path.copy()?;
-    kept.reserve(1)?;
     let part = make(alloc, tree, change)?;
-    kept.push_reserved(brought(path, part));
-    Ok(())
+    Ok(brought(path, part))
 }
 
-// Makes a move within one list.
-fn slide_kept(
-    alloc: Global,
-    tree: &mut Tree,
-    kept: &mut Vec<Undo>,
-    from: &Place,
-    to: &Place,
-) -> Result<(), AllocError>
-    requires list { in_one_list from.now to.now ≡ true }
-    requires moves { (v next : Document) × Moves tree.old from.now to.now v next }
-    ensures made { OnOk result ((v next : Document) → Moves tree.old from.now to.now v next → tree.new ≡ next) }
-    ensures back { taken_back tree.new kept.new.items ≡ taken_back tree.old kept.old.items }
-{
-    kept.reserve(1)?;
-    let back = slide(alloc, tree, from, to)?;
-    kept.push_reserved(back);
-    Ok(())
-}
-
-// Removes an element from its list.
-fn take_item(
-    alloc: Global,
-    tree: &mut Tree,
-    kept: &mut Vec<Undo>,
-    path: &[String],
-) -> Result<(), AllocError>
-    requires { IsOk (at_path (in_list drop_child) (path_of path.now) tree.old) }
-    ensures made { OnOk result (at_path (in_list drop_child) (path_of path.now) tree.old ≡ Ok tree.new) }
-    ensures back { taken_back tree.new kept.new.items ≡ taken_back tree.old kept.old.items }
-{
-    kept.reserve(1)?;
-    let vacated = vacate_item(alloc, tree, path)?;
-    kept.push_reserved(Undo::Removed(vacated));
-    Ok(())
-}
-
-// Removes a member from its object.
-fn take_member(
-    alloc: Global,
-    tree: &mut Tree,
-    kept: &mut Vec<Undo>,
-    path: &[String],
-) -> Result<(), AllocError>
-    requires { IsOk (at_path (in_object drop_child) (path_of path.now) tree.old) }
-    ensures made { OnOk result (at_path (in_object drop_child) (path_of path.now) tree.old ≡ Ok tree.new) }
-    ensures back { taken_back tree.new kept.new.items ≡ taken_back tree.old kept.old.items }
-{
-    kept.reserve(1)?;
-    let vacated = vacate_member(alloc, tree, path)?;
-    kept.push_reserved(Undo::Removed(vacated));
-    Ok(())
-}
-
-/// Puts a value that was removed at another place, without a copy, and keeps what takes the whole move back. If memory runs out, the
-/// value goes back to its old place.
+/// Puts a value that was removed at another place, without a copy, and keeps what takes the whole
+/// move back. If memory runs out, the value goes back to its old place.
 pub(crate) fn land(
     alloc: Global,
     tree: &mut Tree,
@@ -130,7 +108,8 @@ pub(crate) fn land(
 ) -> Result<(), AllocError>
     requires { IsOk (inserted place.now vacated.value tree.old) }
     ensures made { OnOk result (inserted place.now vacated.value tree.old ≡ Ok tree.new) }
-    ensures back { taken_back tree.new kept.new.items ≡ taken_back (reseated vacated.seat vacated.value tree.old) kept.old.items }
+    ensures back { taken_back tree.new kept.new.items
+        ≡ taken_back (reseated vacated.seat vacated.value tree.old) kept.old.items }
 {
     let Vacated { seat, value } = vacated;
     match settle(alloc, tree, kept, place, value) {
@@ -145,8 +124,8 @@ pub(crate) fn land(
     }
 }
 
-// Puts a value at a place, with space for its record, and returns the path and the part that it replaced, if any. If memory runs out,
-// the tree is unchanged, and the value comes back.
+// Puts a value at a place, with space for its record, and returns the path and the part that it
+// replaced, if any. If memory runs out, the tree is unchanged, and the value comes back.
 fn settle(
     alloc: Global,
     tree: &mut Tree,

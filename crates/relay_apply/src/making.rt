@@ -15,7 +15,8 @@ use relay_pointer::{child_mut, resolve};
 use relay_tree::Tree;
 use std::alloc::{AllocError, AllocFailed, Global};
 
-/// Makes a change that carries nothing, and returns the value that it removed or replaced. If memory runs out, the tree is unchanged.
+/// Makes a change that carries nothing, and returns the value that it removed or replaced. If
+/// memory runs out, the tree is unchanged.
 pub(crate) fn make(
     alloc: Global,
     tree: &mut Tree,
@@ -47,8 +48,8 @@ pub(crate) fn make(
     }
 }
 
-/// Puts a value at a place and returns the one that it replaced, if any. If memory runs out, the tree is unchanged, and the value comes
-/// back.
+/// Puts a value at a place and returns the one that it replaced, if any. If memory runs out, the
+/// tree is unchanged, and the value comes back.
 pub(crate) fn put(
     alloc: Global,
     tree: &mut Tree,

@@ -1,4 +1,5 @@
-//! Checks of the bounds on a document, which is measured as a whole or from what a change added and removed.
+//! Checks of the bounds on a document, which is measured as a whole or from what a change added and
+//! removed.
 ghost use Rattle.std.specs.Prelude.{◌≡◌, ◌≢◌, ◌<◌, ◌≤◌, ◌-◌, ◌+◌, ◌^◌, Some, Ok, Err, OnOk, IfOk, IfErr, IsOk, false, length, option_copied};
 ghost use Rattle.relay_tree.specs.Document.{Document, depth, weight, saturated};
 ghost use Rattle.relay_pointer.specs.Path.{path_of};
@@ -11,7 +12,8 @@ use relay_patch::{Bounds, Cause, Change, Place};
 use relay_pointer::{Pointer, resolve};
 use relay_tree::Tree;
 
-/// Returns the weight of a document that is within the bounds; 0 if the weight is not bounded. What is not bounded is not measured.
+/// Returns the weight of a document that is within the bounds; 0 if the weight is not bounded. What
+/// is not bounded is not measured.
 pub(crate) fn measure(tree: &Tree, bounds: Bounds) -> Result<u64, Cause>
     ensures ok { OnOk result (within bounds tree.now ≡ Ok tree.now) }
     ensures weight { IfOk result (λ n. bounds.weight < 2 ^ 64 - 1 → n ≡ weight tree.now) }
@@ -37,8 +39,9 @@ fn exceeds_depth(tree: &Tree, most: u64) -> bool
     most < u64::MAX && most < tree.depth()
 }
 
-/// Returns the weight of a document after a change, from its weight before and from what the change removes. The document
-/// before the change is within the bounds. Only the values that the change adds and removes are walked.
+/// Returns the weight of a document after a change, from its weight before and from what the change
+/// removes. The document before the change is within the bounds. Only the values that the change
+/// adds and removes are walked.
 pub(crate) fn weight_after(
     known: u64,
     change: &Change,
@@ -46,8 +49,12 @@ pub(crate) fn weight_after(
     bounds: Bounds,
 ) -> Result<u64, Cause>
     requires { (next : Document) × Became bounds (Some known) change.now (option_copied went) next }
-    ensures known { IfOk result (λ n. (next : Document) → Became bounds (Some known) change.now (option_copied went.entry) next → Known bounds next (Some n)) }
-    ensures err { IfErr result (λ cause. (next : Document) → Became bounds (Some known) change.now (option_copied went.entry) next → within bounds next ≡ Err cause) }
+    ensures known { IfOk result (λ n. (next : Document)
+        → Became bounds (Some known) change.now (option_copied went.entry) next
+        → Known bounds next (Some n)) }
+    ensures err { IfErr result (λ cause. (next : Document)
+        → Became bounds (Some known) change.now (option_copied went.entry) next
+        → within bounds next ≡ Err cause) }
     ensures other { IfErr result (λ cause. cause ≢ NoMemory) }
 {
     judge(known, change, went, bounds)
@@ -79,13 +86,20 @@ pub(crate) fn displaced<'t>(tree: &'t Tree, place: &Place) -> Option<&'t Tree>
     }
 }
 
-// The weight after a change, from the weight before it. The document before was within the bounds, so it is too deep after
-// the change exactly if the value that was added reaches too deep.
+// The weight after a change, from the weight before it. The document before was within the bounds,
+// so it is too deep after the change exactly if the value that was added reaches too deep.
 fn judge(weight: u64, change: &Change, went: Option<&Tree>, bounds: Bounds) -> Result<u64, Cause>
     requires { bounds.weight < 2 ^ 64 - 1 → lost change.now (option_copied went) ≤ weight }
-    ensures ok { OnOk result (IsOk (judged bounds change.now (weight - lost change.now (option_copied went.entry) + gained change.now (option_copied went.entry)))) }
-    ensures weight { IfOk result (λ n. bounds.weight < 2 ^ 64 - 1 → n ≡ weight - lost change.now (option_copied went.entry) + gained change.now (option_copied went.entry)) }
-    ensures err { IfErr result (λ cause. judged bounds change.now (weight - lost change.now (option_copied went.entry) + gained change.now (option_copied went.entry)) ≡ Err cause) }
+    ensures ok { OnOk result (IsOk (judged bounds change.now
+        (weight - lost change.now (option_copied went.entry)
+        + gained change.now (option_copied went.entry)))) }
+    ensures weight { IfOk result (λ n. bounds.weight < 2 ^ 64 - 1
+        → n ≡ weight - lost change.now (option_copied went.entry)
+        + gained change.now (option_copied went.entry)) }
+    ensures err { IfErr result (λ cause.
+        judged bounds change.now
+        (weight - lost change.now (option_copied went.entry)
+        + gained change.now (option_copied went.entry)) ≡ Err cause) }
     ensures other { IfErr result (λ cause. cause ≢ NoMemory) }
 {
     if exceeds_reach(change, bounds.depth) {

@@ -1,4 +1,5 @@
-//! The checks of a move. They find the target before the value is removed, so that a refusal leaves nothing to put back.
+//! The checks of a move. They find the target before the value is removed, so that a refusal leaves
+//! nothing to put back.
 ghost use Rattle.std.specs.Prelude.{◌≡◌, ◌≢◌, ◌<◌, ◌^◌, Ok, Err, false, IsOk, IfOk, IfErr, bytes_eq, length, string_bytes};
 ghost use Rattle.relay_tree.specs.Document.{Document};
 ghost use Rattle.relay_pointer.specs.Path.{path_of, is_proper_prefix, same_path};
@@ -22,7 +23,8 @@ pub(crate) fn resolve_insert_without(
 ) -> Result<InsertTarget, Cause>
     requires outside { is_proper_prefix (path_of from.now) (path_of path.now) ≡ false }
     requires elsewhere { same_path (path_of from.now) (path_of path.now) ≡ false }
-    ensures insert_target { (rest : Document) → at_path drop_child (path_of from.now) tree.now ≡ Ok rest → result ≡ landing rest (path_of path.now) }
+    ensures insert_target { (rest : Document) → at_path drop_child (path_of from.now) tree.now
+        ≡ Ok rest → result ≡ landing rest (path_of path.now) }
     ensures other { IfErr result (λ cause. cause ≢ NoMemory) }
 {
     let [gone, deeper @ ..] = from else {
@@ -59,7 +61,8 @@ pub(crate) fn resolve_insert_without(
 // Where a token would insert in a container after the part `gone` is removed.
 fn resolve_insert_beside(container: &Tree, gone: &str, token: &str) -> Result<InsertTarget, Cause>
     requires { bytes_eq gone.now token.now ≡ false }
-    ensures insert_target { (rest : Document) → drop_child gone.now container.now ≡ Ok rest → result ≡ landing_in rest token.now }
+    ensures insert_target { (rest : Document) → drop_child gone.now container.now ≡ Ok rest
+        → result ≡ landing_in rest token.now }
     ensures other { IfErr result (λ cause. cause ≢ NoMemory) }
 {
     match container.node.list_len() {
@@ -74,8 +77,10 @@ fn resolve_insert_beside(container: &Tree, gone: &str, token: &str) -> Result<In
 // The part that a token would name in a container after the part `gone` is removed.
 fn step_beside<'t>(container: &'t Tree, gone: &str, token: &str) -> Result<&'t Tree, Cause>
     requires { bytes_eq gone.now token.now ≡ false }
-    ensures ok { IfOk result (λ part. (rest : Document) → drop_child gone.now container.now ≡ Ok rest → step rest token.now ≡ Ok part.now) }
-    ensures err { IfErr result (λ cause. (rest : Document) → drop_child gone.now container.now ≡ Ok rest → step rest token.now ≡ Err cause) }
+    ensures ok { IfOk result (λ part. (rest : Document)
+        → drop_child gone.now container.now ≡ Ok rest → step rest token.now ≡ Ok part.now) }
+    ensures err { IfErr result (λ cause. (rest : Document)
+        → drop_child gone.now container.now ≡ Ok rest → step rest token.now ≡ Err cause) }
     ensures other { IfErr result (λ cause. cause ≢ NoMemory) }
 {
     match shifted(container, gone, token) {
@@ -84,7 +89,8 @@ fn step_beside<'t>(container: &'t Tree, gone: &str, token: &str) -> Result<&'t T
     }
 }
 
-// The present index of the element that `token` would name after the element `gone` is removed, if the removal shifts it.
+// The present index of the element that `token` would name after the element `gone` is removed, if
+// the removal shifts it.
 fn shifted(container: &Tree, gone: &str, token: &str) -> Option<usize>
     ensures { result ≡ shifted container.now gone.now token.now }
 {
@@ -98,9 +104,11 @@ fn shifted(container: &Tree, gone: &str, token: &str) -> Option<usize>
     }
 }
 
-/// Returns whether the path, after the part at `from` is removed, would name the place that the part had.
+/// Returns whether the path, after the part at `from` is removed, would name the place that the
+/// part had.
 pub(crate) fn stays(tree: &Tree, from: &[String], path: &[String]) -> bool
-    ensures place { (rest : Document) → at_path drop_child (path_of from.now) tree.now ≡ Ok rest → result ≡ same_path (path_of from.now) (place_of rest (path_of path.now)).path }
+    ensures place { (rest : Document) → at_path drop_child (path_of from.now) tree.now ≡ Ok rest
+        → result ≡ same_path (path_of from.now) (place_of rest (path_of path.now)).path }
     ensures elsewhere { result ≡ false → same_path (path_of from.now) (path_of path.now) ≡ false }
 {
     let [before @ .., token] = from else {
@@ -112,7 +120,8 @@ pub(crate) fn stays(tree: &Tree, from: &[String], path: &[String]) -> bool
     same_path(before, parent) && is_same_end(tree, before, token, last)
 }
 
-// Whether both tokens name the same place of the container at the path, the second one after the part of the first is removed.
+// Whether both tokens name the same place of the container at the path, the second one after the
+// part of the first is removed.
 fn is_same_end(tree: &Tree, path: &[String], token: &str, last: &str) -> bool
     ensures { result ≡ is_same_end (walk tree.now (path_of path.now)) token.now last.now }
 {

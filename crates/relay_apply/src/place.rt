@@ -45,7 +45,8 @@ fn final_token(
     insert_target: InsertTarget,
     token: &String,
 ) -> Result<String, AllocError>
-    ensures { IfOk result (λ copy. string_bytes copy ≡ final insert_target (string_bytes token.now)) }
+    ensures { IfOk result (λ copy. string_bytes copy
+        ≡ final insert_target (string_bytes token.now)) }
 {
     match insert_target {
         InsertTarget::Item { index } => canonical(alloc, index, token),
@@ -54,7 +55,8 @@ fn final_token(
 }
 
 fn canonical(alloc: Global, index: usize, token: &String) -> Result<String, AllocError>
-    ensures { IfOk result (λ copy. string_bytes copy ≡ (if is_dash (string_bytes token.now) then index_text index else string_bytes token.now)) }
+    ensures { IfOk result (λ copy. string_bytes copy
+        ≡ (if is_dash (string_bytes token.now) then index_text index else string_bytes token.now)) }
 {
     if is_dash(token) {
         index.to_string(alloc)

@@ -1,4 +1,5 @@
-//! The change that an operation makes: first the operation's own checks, then the parts of the change. The tree is not changed.
+//! The change that an operation makes: first the operation's own checks, then the parts of the
+//! change. The tree is not changed.
 ghost use Rattle.std.specs.Prelude.{◌≡◌, ◌≢◌, Ok, Err, IsOk, IfOk, IfErr, OnOk};
 ghost use Rattle.relay_patch.specs.Place.{place_of};
 ghost use Rattle.relay_patch.specs.Patch.{effect};
@@ -18,7 +19,8 @@ use relay_pointer::Pointer;
 use relay_tree::Tree;
 use std::alloc::{AllocError, Global};
 
-/// Returns the change that an operation makes, if any. Allocates only after the operation's own checks have passed.
+/// Returns the change that an operation makes, if any. Allocates only after the operation's own
+/// checks have passed.
 pub(crate) fn record(alloc: Global, tree: &Tree, op: &Op) -> Result<Option<Change>, Cause>
     ensures ok { OnOk result (IsOk (effect tree.now op.now)) }
     ensures changes { IfOk result (λ change. listed change ≡ changes_of tree.now op.now) }
@@ -41,7 +43,8 @@ fn record_add(
     value: &Tree,
 ) -> Result<Option<Change>, Cause>
     ensures ok { OnOk result (IsOk (effect tree.now (Add path.now value.now))) }
-    ensures changes { IfOk result (λ change. listed change ≡ changes_of tree.now (Add path.now value.now)) }
+    ensures changes { IfOk result (λ change.
+        listed change ≡ changes_of tree.now (Add path.now value.now)) }
     ensures err { IfErr result (Refuses (effect tree.now (Add path.now value.now))) }
 {
     let insert_target = resolve_insert(tree, path.tokens())?;
@@ -50,7 +53,8 @@ fn record_add(
 
 fn record_remove(tree: &Tree, path: &Pointer) -> Result<Option<Change>, Cause>
     ensures ok { OnOk result (IsOk (effect tree.now (Remove path.now))) }
-    ensures changes { IfOk result (λ change. listed change ≡ changes_of tree.now (Remove path.now)) }
+    ensures changes { IfOk result (λ change.
+        listed change ≡ changes_of tree.now (Remove path.now)) }
     ensures err { IfErr result (Refuses (effect tree.now (Remove path.now))) }
 {
     let item = resolve_existing(tree, path.tokens())?;
@@ -64,7 +68,8 @@ fn record_replace(
     value: &Tree,
 ) -> Result<Option<Change>, Cause>
     ensures ok { OnOk result (IsOk (effect tree.now (Replace path.now value.now))) }
-    ensures changes { IfOk result (λ change. listed change ≡ changes_of tree.now (Replace path.now value.now)) }
+    ensures changes { IfOk result (λ change.
+        listed change ≡ changes_of tree.now (Replace path.now value.now)) }
     ensures err { IfErr result (Refuses (effect tree.now (Replace path.now value.now))) }
 {
     walk(tree, path.tokens())?;
@@ -78,7 +83,8 @@ fn record_move(
     path: &Pointer,
 ) -> Result<Option<Change>, Cause>
     ensures ok { OnOk result (IsOk (effect tree.now (Move from.now path.now))) }
-    ensures changes { IfOk result (λ change. listed change ≡ changes_of tree.now (Move from.now path.now)) }
+    ensures changes { IfOk result (λ change.
+        listed change ≡ changes_of tree.now (Move from.now path.now)) }
     ensures err { IfErr result (Refuses (effect tree.now (Move from.now path.now))) }
 {
     let value = walk(tree, from.tokens())?;
@@ -100,7 +106,8 @@ fn record_copy(
     path: &Pointer,
 ) -> Result<Option<Change>, Cause>
     ensures ok { OnOk result (IsOk (effect tree.now (Copy from.now path.now))) }
-    ensures changes { IfOk result (λ change. listed change ≡ changes_of tree.now (Copy from.now path.now)) }
+    ensures changes { IfOk result (λ change.
+        listed change ≡ changes_of tree.now (Copy from.now path.now)) }
     ensures err { IfErr result (Refuses (effect tree.now (Copy from.now path.now))) }
 {
     let value = walk(tree, from.tokens())?;
@@ -110,7 +117,8 @@ fn record_copy(
 
 fn record_test(tree: &Tree, path: &Pointer, value: &Tree) -> Result<Option<Change>, Cause>
     ensures ok { OnOk result (IsOk (effect tree.now (Test path.now value.now))) }
-    ensures changes { IfOk result (λ change. listed change ≡ changes_of tree.now (Test path.now value.now)) }
+    ensures changes { IfOk result (λ change.
+        listed change ≡ changes_of tree.now (Test path.now value.now)) }
     ensures err { IfErr result (Refuses (effect tree.now (Test path.now value.now))) }
 {
     match walk(tree, path.tokens()) {
@@ -127,7 +135,8 @@ fn insertion(
     insert_target: InsertTarget,
     value: &Tree,
 ) -> Result<Change, AllocError>
-    ensures { IfOk result (λ made. made ≡ insertion insert_target (landed insert_target path.now).path value.now) }
+    ensures { IfOk result (λ made. made
+        ≡ insertion insert_target (landed insert_target path.now).path value.now) }
 {
     let Place { path, .. } = place(alloc, path, insert_target)?;
     let value = value.copy(alloc)?;
@@ -165,7 +174,9 @@ fn relocation(
     insert_target: InsertTarget,
     value: &Tree,
 ) -> Result<Change, AllocError>
-    ensures { IfOk result (λ made. made ≡ change.Move (record { path = from.now; item = item }) (landed insert_target path.now) value.now) }
+    ensures { IfOk result (λ made. made
+        ≡ change.Move (record { path = from.now; item = item }) (landed insert_target path.now)
+        value.now) }
 {
     let from = Place {
         path: from.copy()?,
@@ -183,7 +194,8 @@ fn duplication(
     insert_target: InsertTarget,
     value: &Tree,
 ) -> Result<Change, AllocError>
-    ensures { IfOk result (λ made. made ≡ change.Copy from.now (landed insert_target path.now) value.now) }
+    ensures { IfOk result (λ made. made
+        ≡ change.Copy from.now (landed insert_target path.now) value.now) }
 {
     let from = from.copy()?;
     let to = place(alloc, path, insert_target)?;

@@ -66,7 +66,8 @@ pub(crate) fn vacate_item(
     path: &[String],
 ) -> Result<Vacated, AllocError>
     requires { IsOk (at_path (in_list drop_child) (path_of path.now) tree.old) }
-    ensures made { OnOk result (at_path (in_list drop_child) (path_of path.now) tree.old ≡ Ok tree.new) }
+    ensures made { OnOk result (at_path (in_list drop_child) (path_of path.now) tree.old
+        ≡ Ok tree.new) }
     ensures value { IfOk result (λ gone. walk tree.old (path_of path.now) ≡ Ok gone.value) }
     ensures back { IfOk result (λ gone. reseated gone.seat gone.value tree.new ≡ tree.old) }
     ensures err { OnErr result (tree.new ≡ tree.old) }
@@ -90,7 +91,8 @@ pub(crate) fn vacate_item(
 
 // The number of elements of the list at the path.
 fn length_at(tree: &Tree, path: &[String]) -> usize
-    ensures { (ds : Items) → walk tree.now (path_of path.now) ≡ Ok (list ds) → result ≡ items_length ds }
+    ensures { (ds : Items) → walk tree.now (path_of path.now) ≡ Ok (list ds)
+        → result ≡ items_length ds }
 {
     match walk(tree, path) {
         Ok(part) => part.node.list_len().unwrap_or(0),
@@ -115,7 +117,8 @@ pub(crate) fn vacate_member(
     path: &[String],
 ) -> Result<Vacated, AllocError>
     requires { IsOk (at_path (in_object drop_child) (path_of path.now) tree.old) }
-    ensures made { OnOk result (at_path (in_object drop_child) (path_of path.now) tree.old ≡ Ok tree.new) }
+    ensures made { OnOk result (at_path (in_object drop_child) (path_of path.now) tree.old
+        ≡ Ok tree.new) }
     ensures value { IfOk result (λ gone. walk tree.old (path_of path.now) ≡ Ok gone.value) }
     ensures back { IfOk result (λ gone. reseated gone.seat gone.value tree.new ≡ tree.old) }
     ensures err { OnErr result (tree.new ≡ tree.old) }
@@ -137,8 +140,10 @@ pub(crate) fn vacate_member(
 
 // The number of members of the object at the path.
 fn members_at(tree: &Tree, path: &[String]) -> usize
-    ensures len { (ms : members_type) → walk tree.now (path_of path.now) ≡ Ok (object ms) → result ≡ members_length ms }
-    ensures ordered { (ms : members_type) → walk tree.now (path_of path.now) ≡ Ok (object ms) → IsOrdered ms }
+    ensures len { (ms : members_type) → walk tree.now (path_of path.now) ≡ Ok (object ms)
+        → result ≡ members_length ms }
+    ensures ordered { (ms : members_type) → walk tree.now (path_of path.now) ≡ Ok (object ms)
+        → IsOrdered ms }
 {
     match walk(tree, path) {
         Ok(part) => part.node.members_len().unwrap_or(0),
@@ -166,7 +171,8 @@ pub(crate) fn reseat(tree: &mut Tree, seat: Seat, value: Tree)
 }
 
 fn refill_at(tree: &mut Tree, path: &Pointer, index: usize, element: Element, spare: Vec<Element>)
-    ensures { tree.new ≡ with_part (refilled (vec_capacity spare) index element) path.now (at tree.old path.now) tree.old }
+    ensures { tree.new ≡ with_part (refilled (vec_capacity spare) index element) path.now
+        (at tree.old path.now) tree.old }
 {
     if let Some(node) = resolve_mut(tree, path) {
         refill(node, index, element, spare);
@@ -174,7 +180,8 @@ fn refill_at(tree: &mut Tree, path: &Pointer, index: usize, element: Element, sp
 }
 
 fn refill(node: &mut Node, index: usize, element: Element, spare: Vec<Element>)
-    ensures { document_of node.new ≡ refilled (vec_capacity spare) index element (document_of node.old) }
+    ensures { document_of node.new ≡ refilled (vec_capacity spare) index element
+        (document_of node.old) }
 {
     if let Node::List(items) = node {
         refill_items(items, index, element, spare);
@@ -184,7 +191,8 @@ fn refill(node: &mut Node, index: usize, element: Element, spare: Vec<Element>)
 // Inserts the element where the list has capacity for it, or else moves all elements into `spare`,
 // if its capacity is large enough and the index is not past the end.
 fn refill_items(items: &mut Vec<Element>, index: usize, element: Element, spare: Vec<Element>)
-    ensures { items_of items.new.items ≡ refilled_items (vec_capacity spare) index element (items_of items.old.items) }
+    ensures { items_of items.new.items
+        ≡ refilled_items (vec_capacity spare) index element (items_of items.old.items) }
 {
     if items.len() >= spare.capacity() || index > items.len() {
         return;
@@ -193,7 +201,8 @@ fn refill_items(items: &mut Vec<Element>, index: usize, element: Element, spare:
     items.insert(index, element).unwrap();
 }
 
-// Makes place for one more: moves all elements into another vector's place, unless there is place already.
+// Makes place for one more: moves all elements into another vector's place, unless there is place
+// already.
 fn make_room(items: &mut Vec<Element>, spare: Vec<Element>)
     requires { vec_len items.old < vec_capacity spare }
     ensures items { items.new.items ≡ items.old.items }
@@ -210,7 +219,8 @@ fn make_room(items: &mut Vec<Element>, spare: Vec<Element>)
 }
 
 fn rejoin_at(tree: &mut Tree, path: &Pointer, name: String, value: Tree, spare: Members)
-    ensures { tree.new ≡ with_part (rejoined spare.capacity (string_bytes name) value) path.now (at tree.old path.now) tree.old }
+    ensures { tree.new ≡ with_part (rejoined spare.capacity (string_bytes name) value) path.now
+        (at tree.old path.now) tree.old }
 {
     if let Some(node) = resolve_mut(tree, path) {
         rejoin(node, name, value, spare);
@@ -218,7 +228,8 @@ fn rejoin_at(tree: &mut Tree, path: &Pointer, name: String, value: Tree, spare: 
 }
 
 fn rejoin(node: &mut Node, name: String, value: Tree, spare: Members)
-    ensures { document_of node.new ≡ rejoined spare.capacity (string_bytes name) value (document_of node.old) }
+    ensures { document_of node.new ≡ rejoined spare.capacity (string_bytes name) value
+        (document_of node.old) }
 {
     if let Node::Members(members) = node {
         members.put_back(name, value, spare);

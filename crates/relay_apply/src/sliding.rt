@@ -1,6 +1,7 @@
-//! Moves within one list: an element slides from its place to another. No tree is moved or copied, only pointers to elements. Over a few
-//! places the element is exchanged with its neighbours; over more, the elements behind each place move as a block.
-ghost use Rattle.std.specs.Prelude.{◌≡◌, ◌<◌, ◌^◌, ℕ, true, Some, length, OnOk, OnErr, IfOk, vec_len};
+//! Moves within one list: an element slides from its place to another. No tree is moved or copied,
+//! only pointers to elements. Over a few places the element is exchanged with its neighbours; over
+//! more, the elements behind each place move as a block.
+ghost use Rattle.std.specs.Prelude.{◌≡◌, ◌<◌, ◌^◌, ℕ, true, Some, None, length, OnOk, OnErr, IfOk, vec_len};
 ghost use Rattle.relay_tree.specs.Document.{Document, list, Items, items_of};
 ghost use Rattle.relay_tree.specs.Part.{items_length};
 ghost use Rattle.relay_tree.specs.Seen.{document_of};
@@ -8,7 +9,7 @@ ghost use Rattle.relay_pointer.specs.Index.{index_of};
 ghost use Rattle.relay_pointer.specs.Path.{path_of, at};
 ghost use Rattle.relay_patch.specs.Place.{front, last_of, beside, in_one_list};
 ghost use Rattle.relay_patch.specs.Change.{Moves};
-ghost use Rattle.relay_apply.specs.Undo.{slid_items, slid, with_part, undone};
+ghost use Rattle.relay_apply.specs.Undo.{slid_items, slid, with_part, undone, went};
 
 use crate::seat::position;
 use crate::undo::Undo;
@@ -40,8 +41,8 @@ fn beside(path: &[String], other: &[String]) -> bool
     same_path(before, parent)
 }
 
-/// Makes a move within one list and returns what takes it back. Allocates only the list's path. If memory runs out, the tree
-/// is unchanged.
+/// Makes a move within one list and returns what takes it back. Allocates only the list's path. If
+/// memory runs out, the tree is unchanged.
 pub(crate) fn slide(
     alloc: Global,
     tree: &mut Tree,
@@ -50,8 +51,10 @@ pub(crate) fn slide(
 ) -> Result<Undo, AllocError>
     requires list { in_one_list from.now to.now ≡ true }
     requires moves { (v next : Document) × Moves tree.old from.now to.now v next }
-    ensures made { OnOk result ((v next : Document) → Moves tree.old from.now to.now v next → tree.new ≡ next) }
+    ensures made { OnOk result ((v next : Document) → Moves tree.old from.now to.now v next
+        → tree.new ≡ next) }
     ensures back { IfOk result (λ kept. undone kept tree.new ≡ tree.old) }
+    ensures went { IfOk result (λ kept. went kept ≡ None) }
     ensures err { OnErr result (tree.new ≡ tree.old) }
 {
     let list = container_of(alloc, from.path.tokens())?;
@@ -85,7 +88,8 @@ fn index_at(path: &[String]) -> usize
     }
 }
 
-/// Slides an element of the list at the path from one index to another, if both exist. Allocates nothing.
+/// Slides an element of the list at the path from one index to another, if both exist. Allocates
+/// nothing.
 pub(crate) fn slide_at(tree: &mut Tree, path: &Pointer, from: usize, to: usize)
     ensures slid { tree.new ≡ with_part (slid from to) path.now (at tree.old path.now) tree.old }
     ensures few { (ds : Items) → at tree.old path.now ≡ Some (list ds) → items_length ds < 2 ^ 64 }

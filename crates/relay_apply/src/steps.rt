@@ -1,5 +1,6 @@
-//! One operation of a patch: its checks, the change that it makes, and the bounds on the document after it.
-ghost use Rattle.std.specs.Prelude.{◌≡◌, ◌≢◌, ◌<◌, ◌+◌, ◌++◌, ◌∷◌, [], Ok, Err, Some, false, is_some, IsOk, IsSome, OnOk, OnErr, IfOk, IfErr, IfSome, None};
+//! One operation of a patch: its checks, the change that it makes, and the bounds on the document
+//! after it.
+ghost use Rattle.std.specs.Prelude.{◌≡◌, ◌≢◌, ◌<◌, ◌+◌, ◌++◌, ◌∷◌, [], Ok, Err, Some, false, IsOk, IsSome, OnOk, OnErr, IfOk, IfErr, IfSome, None};
 ghost use Rattle.relay_tree.specs.Document.{Document, weight};
 ghost use Rattle.relay_tree.specs.Budget.{paid};
 ghost use Rattle.relay_tree.specs.declared.budget.Budget.{Budget};
@@ -10,20 +11,18 @@ ghost use Rattle.relay_patch.specs.Measure.{carries, Known};
 ghost use Rattle.relay_apply.specs.Steps.{listed, IsOverspent};
 ghost use Rattle.relay_apply.specs.Undo.{taken_back};
 ghost use Rattle.relay_patch.specs.Weight.{change_weight, changes_weight};
-ghost use Rattle.relay_patch.specs.declared.change.Change.TheVariants.{Move};
 ghost use Rattle.relay_patch.specs.declared.fault.Cause.TheVariants.{NoMemory, TooHeavy};
 ghost use Rattle.relay_patch.specs.declared.op.Op.TheVariants as op;
 
 use crate::insert_target::resolve_insert;
-use crate::keeping::{land, make_keeping};
+use crate::keeping::{carried, land, make_keeping, make_with_undo};
 use crate::making::make;
 use crate::measuring::{displaced, gone, measure, weight_after};
 use crate::recording::record;
 use crate::seat::{reseat, vacate};
-use crate::sliding::in_one_list;
 use crate::undo::Undo;
 use crate::walk::walk;
-use relay_patch::{Bounds, Cause, Change, Op, Place};
+use relay_patch::{Bounds, Cause, Change, Op};
 use relay_pointer::Pointer;
 use relay_tree::{Budget, Tree};
 use std::alloc::{AllocError, Global};
@@ -32,13 +31,15 @@ use std::alloc::{AllocError, Global};
 #[derive(Drop)]
 pub(crate) struct Done {
     pub(crate) changes: Vec<Change>,
-    /// The weight of the document, once it is known to be within the bounds. Unspecified if the weight is not bounded.
+    /// The weight of the document, once it is known to be within the bounds. Unspecified if the
+    /// weight is not bounded.
     pub(crate) weight: Option<u64>,
     /// What the changes of the operations to come may weigh.
     pub(crate) left: Budget,
 }
 
-/// Performs one operation, which `following` others follow, and checks the bounds. Keeps what takes it back, if others follow.
+/// Performs one operation, which `following` others follow, and checks the bounds. Keeps what takes
+/// it back, if others follow.
 #[tactic(auto, using(crate::proofs::Overspent::overspent))]
 pub(crate) fn perform(
     alloc: Global,
@@ -52,14 +53,20 @@ pub(crate) fn perform(
     requires known { Known bounds tree.old done.weight }
     requires paid { paid (changes_weight done.changes.items) bounds.changes ≡ Some done.left }
     ensures known { IfOk result (λ next. Known bounds tree.new next.weight) }
-    ensures paid { IfOk result (λ next. paid (changes_weight next.changes.items) bounds.changes ≡ Some next.left) }
+    ensures paid { IfOk result (λ next. paid (changes_weight next.changes.items) bounds.changes
+        ≡ Some next.left) }
     ensures weighed { IfOk result (λ next. IsSome next.weight) }
-    ensures document { OnOk result (performed bounds (changes_weight done.changes.items) tree.old op.now ≡ Ok tree.new) }
-    ensures changes { IfOk result (λ next. next.changes.items ≡ done.changes.items ++ changes_of tree.old op.now) }
-    ensures refused { IfErr result (λ cause. cause ≢ NoMemory → performed bounds (changes_weight done.changes.items) tree.old op.now ≡ Err cause) }
+    ensures document { OnOk result (performed bounds (changes_weight done.changes.items) tree.old
+        op.now ≡ Ok tree.new) }
+    ensures changes { IfOk result (λ next. next.changes.items
+        ≡ done.changes.items ++ changes_of tree.old op.now) }
+    ensures refused { IfErr result (λ cause. cause ≢ NoMemory
+        → performed bounds (changes_weight done.changes.items) tree.old op.now ≡ Err cause) }
     ensures memory { IfErr result (λ cause. cause ≡ NoMemory → IsOk (effect tree.old op.now)) }
-    ensures back { OnOk result (0 < following → taken_back tree.new kept.new.items ≡ taken_back tree.old kept.old.items) }
-    ensures refused_back { OnErr result (taken_back tree.new kept.new.items ≡ taken_back tree.old kept.old.items) }
+    ensures back { OnOk result (0 < following
+        → taken_back tree.new kept.new.items ≡ taken_back tree.old kept.old.items) }
+    ensures refused_back { OnErr result (taken_back tree.new kept.new.items
+        ≡ taken_back tree.old kept.old.items) }
 {
     if let Some(cause) = too_heavy(tree, op, done.left) {
         return Err(cause);
@@ -68,8 +75,9 @@ pub(crate) fn perform(
     advance(alloc, tree, kept, done, change, bounds, following)
 }
 
-// Why an operation is refused whose value alone weighs more than its change may; `None` if it does not. So no value is copied that is far
-// too heavy. The value is walked only as far as the budget pays for.
+// Why an operation is refused whose value alone weighs more than its change may; `None` if it does
+// not. So no value is copied that is far too heavy. The value is walked only as far as the budget
+// pays for.
 fn too_heavy(tree: &Tree, op: &Op, left: Budget) -> Option<Cause>
     ensures refused { IfSome result (IsOverspent tree.now op.now left) }
     ensures other { IfSome result (λ cause. cause ≢ NoMemory) }
@@ -90,7 +98,8 @@ fn too_heavy(tree: &Tree, op: &Op, left: Budget) -> Option<Cause>
 // Why an insertion of a value is refused that what is left does not pay for.
 #[tactic(auto, using(crate::proofs::Overspent::added_here, crate::proofs::Overspent::added_nowhere))]
 fn heavy_insertion(tree: &Tree, path: &Pointer) -> Cause
-    ensures refused { (v : Document) (left : Budget) → paid (weight v) left ≡ None → IsOverspent tree.now (op.Add path.now v) left result }
+    ensures refused { (v : Document) (left : Budget) → paid (weight v) left ≡ None
+        → IsOverspent tree.now (op.Add path.now v) left result }
     ensures other { result ≢ NoMemory }
 {
     match resolve_insert(tree, path.tokens()) {
@@ -102,7 +111,8 @@ fn heavy_insertion(tree: &Tree, path: &Pointer) -> Cause
 // The same of a replacement.
 #[tactic(auto, using(crate::proofs::Overspent::replaced_here, crate::proofs::Overspent::replaced_nowhere))]
 fn heavy_replacement(tree: &Tree, path: &Pointer) -> Cause
-    ensures refused { (v : Document) (left : Budget) → paid (weight v) left ≡ None → IsOverspent tree.now (op.Replace path.now v) left result }
+    ensures refused { (v : Document) (left : Budget) → paid (weight v) left ≡ None
+        → IsOverspent tree.now (op.Replace path.now v) left result }
     ensures other { result ≢ NoMemory }
 {
     match walk(tree, path.tokens()) {
@@ -125,14 +135,23 @@ fn advance(
     requires known { Known bounds tree.old done.weight }
     requires paid { paid (changes_weight done.changes.items) bounds.changes ≡ Some done.left }
     ensures known { IfOk result (λ next. Known bounds tree.new next.weight) }
-    ensures paid { IfOk result (λ next. paid (changes_weight next.changes.items) bounds.changes ≡ Some next.left) }
+    ensures paid { IfOk result (λ next. paid (changes_weight next.changes.items) bounds.changes
+        ≡ Some next.left) }
     ensures weighed { IfOk result (λ next. IsSome next.weight) }
-    ensures fits { OnOk result (afforded bounds (changes_weight done.changes.items + changes_weight (listed change)) tree.new ≡ Ok tree.new) }
+    ensures fits { OnOk result (afforded bounds
+        (changes_weight done.changes.items + changes_weight (listed change)) tree.new
+        ≡ Ok tree.new) }
     ensures document { OnOk result (Leads tree.old (listed change) tree.new) }
-    ensures changes { IfOk result (λ next. next.changes.items ≡ done.changes.items ++ listed change) }
-    ensures refused { IfErr result (λ cause. cause ≢ NoMemory → (next : Document) × Leads tree.old (listed change) next × (afforded bounds (changes_weight done.changes.items + changes_weight (listed change)) next ≡ Err cause)) }
-    ensures back { OnOk result (0 < following → taken_back tree.new kept.new.items ≡ taken_back tree.old kept.old.items) }
-    ensures refused_back { OnErr result (taken_back tree.new kept.new.items ≡ taken_back tree.old kept.old.items) }
+    ensures changes { IfOk result (λ next. next.changes.items
+        ≡ done.changes.items ++ listed change) }
+    ensures refused { IfErr result (λ cause. cause ≢ NoMemory
+        → (next : Document) × Leads tree.old (listed change) next
+        × (afforded bounds (changes_weight done.changes.items + changes_weight (listed change))
+        next ≡ Err cause)) }
+    ensures back { OnOk result (0 < following
+        → taken_back tree.new kept.new.items ≡ taken_back tree.old kept.old.items) }
+    ensures refused_back { OnErr result (taken_back tree.new kept.new.items
+        ≡ taken_back tree.old kept.old.items) }
 {
     match change {
         Some(change) => amend(alloc, tree, kept, done, change, bounds, following),
@@ -171,14 +190,21 @@ fn amend(
     requires known { Known bounds tree.old done.weight }
     requires paid { paid (changes_weight done.changes.items) bounds.changes ≡ Some done.left }
     ensures known { IfOk result (λ next. Known bounds tree.new next.weight) }
-    ensures paid { IfOk result (λ next. paid (changes_weight next.changes.items) bounds.changes ≡ Some next.left) }
+    ensures paid { IfOk result (λ next. paid (changes_weight next.changes.items) bounds.changes
+        ≡ Some next.left) }
     ensures weighed { IfOk result (λ next. IsSome next.weight) }
-    ensures fits { OnOk result (afforded bounds (changes_weight done.changes.items + changes_weight (change ∷ [])) tree.new ≡ Ok tree.new) }
+    ensures fits { OnOk result (afforded bounds
+        (changes_weight done.changes.items + changes_weight (change ∷ [])) tree.new ≡ Ok tree.new) }
     ensures document { OnOk result (Makes tree.old change tree.new) }
     ensures changes { IfOk result (λ next. next.changes.items ≡ done.changes.items ++ change ∷ []) }
-    ensures refused { IfErr result (λ cause. cause ≢ NoMemory → (next : Document) × Makes tree.old change next × (afforded bounds (changes_weight done.changes.items + changes_weight (change ∷ [])) next ≡ Err cause)) }
-    ensures back { OnOk result (0 < following → taken_back tree.new kept.new.items ≡ taken_back tree.old kept.old.items) }
-    ensures refused_back { OnErr result (taken_back tree.new kept.new.items ≡ taken_back tree.old kept.old.items) }
+    ensures refused { IfErr result (λ cause. cause ≢ NoMemory
+        → (next : Document) × Makes tree.old change next
+        × (afforded bounds (changes_weight done.changes.items + changes_weight (change ∷ [])) next
+        ≡ Err cause)) }
+    ensures back { OnOk result (0 < following
+        → taken_back tree.new kept.new.items ≡ taken_back tree.old kept.old.items) }
+    ensures refused_back { OnErr result (taken_back tree.new kept.new.items
+        ≡ taken_back tree.old kept.old.items) }
 {
     let place = done.changes.len();
     let mut next = pay_for(done, change)?;
@@ -195,7 +221,8 @@ fn pay_for(done: Done, change: Change) -> Result<Done, Cause>
     ensures paid { IfOk result (λ next. paid (change_weight change) done.left ≡ Some next.left) }
     ensures weight { IfOk result (λ next. next.weight ≡ done.weight) }
     ensures changes { IfOk result (λ next. next.changes.items ≡ done.changes.items ++ change ∷ []) }
-    ensures heavy { IfErr result (λ cause. cause ≢ NoMemory → (cause ≡ TooHeavy) × (paid (change_weight change) done.left ≡ None)) }
+    ensures heavy { IfErr result (λ cause. cause ≢ NoMemory
+        → (cause ≡ TooHeavy) × (paid (change_weight change) done.left ≡ None)) }
 {
     let mut next = done;
     let left = change.pay(next.left);
@@ -238,12 +265,15 @@ fn alter(
     requires known { Known bounds tree.old known }
     ensures known { IfOk result (λ n. Known bounds tree.new (Some n)) }
     ensures made { OnOk result (Makes tree.old change.now tree.new) }
-    ensures refused { IfErr result (λ cause. cause ≢ NoMemory → (next : Document) × Makes tree.old change.now next × (within bounds next ≡ Err cause)) }
-    ensures back { OnOk result (0 < following → taken_back tree.new kept.new.items ≡ taken_back tree.old kept.old.items) }
-    ensures refused_back { OnErr result (taken_back tree.new kept.new.items ≡ taken_back tree.old kept.old.items) }
+    ensures refused { IfErr result (λ cause. cause ≢ NoMemory
+        → (next : Document) × Makes tree.old change.now next × (within bounds next ≡ Err cause)) }
+    ensures back { OnOk result (0 < following
+        → taken_back tree.new kept.new.items ≡ taken_back tree.old kept.old.items) }
+    ensures refused_back { OnErr result (taken_back tree.new kept.new.items
+        ≡ taken_back tree.old kept.old.items) }
 {
     match weigh(tree, known, bounds) {
-        Ok(weight) if following == 0 && !carries(change) => {
+        Ok(weight) if following == 0 && carried(change).is_none() => {
             alter_last(alloc, tree, weight, change, bounds)
         }
         Ok(weight) => alter_keeping(alloc, tree, kept, weight, change, bounds),
@@ -251,25 +281,8 @@ fn alter(
     }
 }
 
-// Whether a change removes a value before it inserts it elsewhere, which may run out of memory.
-fn carries(change: &Change) -> bool
-    ensures { result ≡ carries change.now }
-{
-    carried(change).is_some()
-}
-
-// The old and the new place of the value that a change carries. A move within one list carries nothing: the element slides.
-fn carried(change: &Change) -> Option<(&Place, &Place)>
-    ensures what { IfSome result (λ m. (v : Document) × (change.now ≡ Move m.0.now m.1.now v)) }
-    ensures carries { is_some result ≡ carries change.now }
-{
-    match change {
-        Change::Move { from, to, .. } if !in_one_list(from, to) => Some((from, to)),
-        _ => None,
-    }
-}
-
-// Makes the last change of a patch, to a document of this weight. It is judged before it is made, so nothing has to be kept.
+// Makes the last change of a patch, to a document of this weight. It is judged before it is made,
+// so nothing has to be kept.
 fn alter_last(
     alloc: Global,
     tree: &mut Tree,
@@ -282,7 +295,8 @@ fn alter_last(
     requires known { Known bounds tree.old (Some weight) }
     ensures known { IfOk result (λ n. Known bounds tree.new (Some n)) }
     ensures made { OnOk result (Makes tree.old change.now tree.new) }
-    ensures refused { IfErr result (λ cause. cause ≢ NoMemory → (next : Document) × Makes tree.old change.now next × (within bounds next ≡ Err cause)) }
+    ensures refused { IfErr result (λ cause. cause ≢ NoMemory
+        → (next : Document) × Makes tree.old change.now next × (within bounds next ≡ Err cause)) }
     ensures unchanged { OnErr result (tree.new ≡ tree.old) }
 {
     let weight = weight_after(weight, change, gone(tree, change), bounds)?;
@@ -290,7 +304,8 @@ fn alter_last(
     Ok(weight)
 }
 
-// Makes a change to a document of this weight and keeps what takes it back. A carried value is removed before the change is judged.
+// Makes a change to a document of this weight and keeps what takes it back. A carried value is
+// removed before the change is judged.
 fn alter_keeping(
     alloc: Global,
     tree: &mut Tree,
@@ -303,13 +318,12 @@ fn alter_keeping(
     requires known { Known bounds tree.old (Some weight) }
     ensures known { IfOk result (λ n. Known bounds tree.new (Some n)) }
     ensures made { OnOk result (Makes tree.old change.now tree.new) }
-    ensures refused { IfErr result (λ cause. cause ≢ NoMemory → (next : Document) × Makes tree.old change.now next × (within bounds next ≡ Err cause)) }
+    ensures refused { IfErr result (λ cause. cause ≢ NoMemory
+        → (next : Document) × Makes tree.old change.now next × (within bounds next ≡ Err cause)) }
     ensures back { taken_back tree.new kept.new.items ≡ taken_back tree.old kept.old.items }
 {
     let Some((from, to)) = carried(change) else {
-        let next = weight_after(weight, change, gone(tree, change), bounds)?;
-        make_keeping(alloc, tree, kept, change)?;
-        return Ok(next);
+        return alter_in_place(alloc, tree, kept, weight, change, bounds);
     };
     let vacated = vacate(alloc, tree, from)?;
     let next = match weight_after(weight, change, displaced(tree, to), bounds) {
@@ -323,7 +337,34 @@ fn alter_keeping(
     Ok(next)
 }
 
-// Makes a change to a document that is not within the bounds, keeps what takes it back, and measures the result.
+// The same for a change that carries nothing. It is made before it is judged, by what went, so its
+// path is walked once.
+fn alter_in_place(
+    alloc: Global,
+    tree: &mut Tree,
+    kept: &mut Vec<Undo>,
+    weight: u64,
+    change: &Change,
+    bounds: Bounds,
+) -> Result<u64, Cause>
+    requires makes { (next : Document) × Makes tree.old change.now next }
+    requires stays { carries change.now ≡ false }
+    requires known { Known bounds tree.old (Some weight) }
+    ensures known { IfOk result (λ n. Known bounds tree.new (Some n)) }
+    ensures made { OnOk result (Makes tree.old change.now tree.new) }
+    ensures refused { IfErr result (λ cause. cause ≢ NoMemory
+        → (next : Document) × Makes tree.old change.now next × (within bounds next ≡ Err cause)) }
+    ensures back { taken_back tree.new kept.new.items ≡ taken_back tree.old kept.old.items }
+{
+    kept.reserve(1)?;
+    let undo = make_with_undo(alloc, tree, change)?;
+    let judged = weight_after(weight, change, undo.part(), bounds);
+    kept.push_reserved(undo);
+    judged
+}
+
+// Makes a change to a document that is not within the bounds, keeps what takes it back, and
+// measures the result.
 fn alter_unjudged(
     alloc: Global,
     tree: &mut Tree,
@@ -334,7 +375,8 @@ fn alter_unjudged(
     requires { (next : Document) × Makes tree.old change.now next }
     ensures known { IfOk result (λ n. Known bounds tree.new (Some n)) }
     ensures made { OnOk result (Makes tree.old change.now tree.new) }
-    ensures refused { IfErr result (λ cause. cause ≢ NoMemory → (next : Document) × Makes tree.old change.now next × (within bounds next ≡ Err cause)) }
+    ensures refused { IfErr result (λ cause. cause ≢ NoMemory
+        → (next : Document) × Makes tree.old change.now next × (within bounds next ≡ Err cause)) }
     ensures back { taken_back tree.new kept.new.items ≡ taken_back tree.old kept.old.items }
 {
     make_keeping(alloc, tree, kept, change)?;

@@ -1,8 +1,8 @@
 //! Records of changes, by which they are taken back without allocating.
-ghost use Rattle.std.specs.Prelude.{◌≡◌, None, option_map, IfNone};
+ghost use Rattle.std.specs.Prelude.{◌≡◌, None, option_map, option_copied, IfNone};
 ghost use Rattle.relay_pointer.specs.Path.{path_of, put};
 ghost use Rattle.relay_patch.specs.Patch.{at_path, drop_child};
-ghost use Rattle.relay_apply.specs.Undo.{brought, or_same, lifted, moved_back, undone, taken_back};
+ghost use Rattle.relay_apply.specs.Undo.{brought, went, or_same, lifted, moved_back, undone, taken_back};
 
 use crate::insert_target::resolve_existing;
 use crate::making::remove_at;
@@ -25,7 +25,8 @@ pub enum Undo {
     },
     /// A value was removed.
     Removed(Vacated),
-    /// A value was moved from a place, which is empty now, to a path, where it replaced this part, if any.
+    /// A value was moved from a place, which is empty now, to a path, where it replaced this part,
+    /// if any.
     Moved {
         seat: Seat,
         to: Pointer,
@@ -37,6 +38,20 @@ pub enum Undo {
         from: usize,
         to: usize,
     },
+}
+
+impl Undo {
+    /// The part that the change removed or replaced, if any.
+    pub(crate) fn part(&self) -> Option<&Tree>
+        ensures { option_copied result ≡ went self.now }
+    {
+        match self {
+            Undo::Part { part, .. } => Some(part),
+            Undo::Removed(vacated) => Some(&vacated.value),
+            Undo::Moved { part, .. } => part.as_ref(),
+            Undo::Inserted { .. } | Undo::Slid { .. } => None,
+        }
+    }
 }
 
 /// Returns the record of a value that was put at the path, given the part that it replaced, if any.
@@ -94,7 +109,8 @@ fn move_back(tree: &mut Tree, seat: Seat, path: &Pointer, part: Option<Tree>)
 
 // Takes the value away from the path and puts the part there that it replaced, if any.
 fn lift(tree: &mut Tree, path: &Pointer, part: Option<Tree>) -> Option<Tree>
-    ensures lifted { option_map (λ value. (value, tree.new)) result ≡ lifted part path.now tree.old }
+    ensures lifted { option_map (λ value. (value, tree.new)) result
+        ≡ lifted part path.now tree.old }
     ensures none { IfNone result (tree.new ≡ tree.old) }
 {
     match part {
@@ -104,7 +120,8 @@ fn lift(tree: &mut Tree, path: &Pointer, part: Option<Tree>) -> Option<Tree>
 }
 
 fn lift_inserted(tree: &mut Tree, path: &[String]) -> Option<Tree>
-    ensures lifted { option_map (λ value. (value, tree.new)) result ≡ lifted None (path_of path.now) tree.old }
+    ensures lifted { option_map (λ value. (value, tree.new)) result
+        ≡ lifted None (path_of path.now) tree.old }
     ensures rest { tree.new ≡ or_same (at_path drop_child (path_of path.now) tree.old) tree.old }
     ensures none { IfNone result (tree.new ≡ tree.old) }
 {

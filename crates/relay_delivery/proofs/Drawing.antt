@@ -34,18 +34,22 @@ use Rattle.relay_delivery.proofs.Fronts.{drawn_leads}
 -- the client after texts that are messages, none of which loses it
 pub data Survives : Client → List (List ℕ) → Client → Type 0 where
   same : {c : Client} → Survives c [] c
-  hears : {c m next : Client} {texts : List (List ℕ)} (text : List ℕ) → told c text ≡ Some m → m ≢ lost → Survives m texts next → Survives c (text ∷ texts) next
+  hears : {c m next : Client} {texts : List (List ℕ)} (text : List ℕ) → told c text ≡ Some m
+      → m ≢ lost → Survives m texts next → Survives c (text ∷ texts) next
 
-survives_then : {c m next : Client} {xs ys : List (List ℕ)} → Survives c xs m → Survives m ys next → Survives c (xs ++ ys) next
+survives_then : {c m next : Client} {xs ys : List (List ℕ)} → Survives c xs m → Survives m ys next
+    → Survives c (xs ++ ys) next
 survives_then same more = more
 survives_then (hears text told found rest) more = hears text told found (survives_then rest more)
 
-pub survives_told : {c next : Client} {texts : List (List ℕ)} → Survives c texts next → told_all c texts ≡ Some next
+pub survives_told : {c next : Client} {texts : List (List ℕ)} → Survives c texts next
+    → told_all c texts ≡ Some next
 survives_told same = refl
 survives_told (hears text told found rest) = rw told (survives_told rest)
 
 -- a client that keeps up after these texts, and was never lost
-pub record Stays (b : HubConfig) (E : Log) (hub : State) (s : ℕ) (c : Client) (texts : List (List ℕ)) : Type 0 where
+pub record Stays (b : HubConfig) (E : Log) (hub : State) (s : ℕ) (c : Client)
+    (texts : List (List ℕ)) : Type 0 where
   pub client_is : Client
   pub survives : Survives c texts client_is
   pub keeps : KeepsUp b E hub s client_is
@@ -53,19 +57,28 @@ pub record Stays (b : HubConfig) (E : Log) (hub : State) (s : ℕ) (c : Client) 
 
 -- ---- a request
 
--- what a request makes of a watching, its client follows; a resume is that of a client that holds what it resumes from
-tracks_resume : (c : Client) (rev : ℕ) (pointers : View) (was : Option Watching) (d : Option Document) → ((e : Document) → d ≡ Some e → c ≡ holds rev (view pointers e)) → Tracks c was
+-- what a request makes of a watching, its client follows; a resume is that of a client that holds
+-- what it resumes from
+tracks_resume : (c : Client) (rev : ℕ) (pointers : View) (was : Option Watching)
+    (d : Option Document) → ((e : Document) → d ≡ Some e → c ≡ holds rev (view pointers e))
+    → Tracks c was
     → Tracks c (resumes_from was rev pointers d)
 tracks_resume c rev pointers was (Some d) starts before = inl (starts d refl)
 tracks_resume c rev pointers was None starts before = before
 
-tracks_known : (c : Client) (rev : ℕ) (pointers : View) (ds : List Document) (was : Option Watching) (this : Bool) → (this ≡ true → (d : Document) → slice_get ds rev ≡ Some d → c ≡ holds rev (view pointers d))
-    → Tracks c was → Tracks c (if this then resumes_from was rev pointers (slice_get ds rev) else Some (begun pointers nothing))
-tracks_known c rev pointers ds was true starts before = tracks_resume c rev pointers was (slice_get ds rev) (starts refl) before
+tracks_known : (c : Client) (rev : ℕ) (pointers : View) (ds : List Document)
+    (was : Option Watching) (this : Bool)
+    → (this ≡ true → (d : Document) → slice_get ds rev ≡ Some d → c ≡ holds rev (view pointers d))
+    → Tracks c was → Tracks c (if this then resumes_from was rev pointers (slice_get ds rev)
+    else Some (begun pointers nothing))
+tracks_known c rev pointers ds was true starts before =
+    tracks_resume c rev pointers was (slice_get ds rev) (starts refl) before
 tracks_known c rev pointers ds was false starts before = inr (refl, refl)
 
-tracks_asked : (c : Client) (epoch : ℕ) (ds : List Document) (was : Option Watching) (request : Result Request Refusal)
-    → ((id rev : ℕ) (pointers : View) (d : Document) → request ≡ Ok (Resume id epoch rev pointers) → slice_get ds rev ≡ Some d → c ≡ holds rev (view pointers d))
+tracks_asked : (c : Client) (epoch : ℕ) (ds : List Document) (was : Option Watching)
+    (request : Result Request Refusal)
+    → ((id rev : ℕ) (pointers : View) (d : Document) → request ≡ Ok (Resume id epoch rev pointers)
+    → slice_get ds rev ≡ Some d → c ≡ holds rev (view pointers d))
     → Tracks c was → Tracks c (asked epoch ds was request)
 tracks_asked c epoch ds was (Err r) starts before = before
 tracks_asked c epoch ds was (Ok (Edit id base patch)) starts before = before
@@ -96,8 +109,11 @@ affordable_ok budget (Ok (Watch id pointers)) asked is =
 affordable_ok budget (Ok (Resume id epoch rev pointers)) asked is =
     ap Ok (unless_ok (unpaid_slot 0 budget pointers) id (Resume id epoch rev pointers) asked is)
 
-tracks_at_home : (c : Client) (b : HubConfig) (ds : List ℕ → List Document) (was : Option Watching) (there : Option Place) (text : List ℕ)
-    → ((id rev : ℕ) (pointers : View) (home : Place) (d : Document) → there ≡ Some home → request_of_text text ≡ Ok (Resume id b.epoch rev pointers) → slice_get (ds home.room) rev ≡ Some d → c ≡ holds rev (view pointers d))
+tracks_at_home : (c : Client) (b : HubConfig) (ds : List ℕ
+    → List Document) (was : Option Watching) (there : Option Place) (text : List ℕ)
+    → ((id rev : ℕ) (pointers : View) (home : Place) (d : Document) → there ≡ Some home
+    → request_of_text text ≡ Ok (Resume id b.epoch rev pointers)
+    → slice_get (ds home.room) rev ≡ Some d → c ≡ holds rev (view pointers d))
     → Tracks c was → Tracks c (asked_at_home b ds was there text)
 tracks_at_home c b ds was (Some home) text starts before =
     tracks_asked c b.epoch (ds home.room) was (affordable b.view_weight (request_of_text text))
@@ -109,7 +125,8 @@ tracks_at_home c b ds was (Some home) text starts before =
 tracks_at_home c b ds was None text starts before = before
 
 module _ (b : HubConfig) (E : Log) (s : ℕ) (c : Client) (before : Tracks c (watching b E s)) where
-  after_request : (text : List ℕ) (answer : Answer) → StartsAsHeld b E s c (Receive s text) → Tracks c (watching b (entry (Receive s text) answer ∷ E) s)
+  after_request : (text : List ℕ) (answer : Answer) → StartsAsHeld b E s c (Receive s text)
+      → Tracks c (watching b (entry (Receive s text) answer ∷ E) s)
   after_request text (Heard (Answered short)) starts =
       let mine : (s == s) ≡ true = grind (arith, nat_tests) in
       rw mine (tracks_at_home c b (documents E) (watching b E s) (home E s) text starts before)
@@ -126,23 +143,31 @@ module _ (b : HubConfig) (E : Log) (s : ℕ) (c : Client) (before : Tracks c (wa
 
 -- ---- a draw
 
-module _ (b : HubConfig) (E : Log) (hub new : State) (s : ℕ) (c : Client) (before : KeepsUp b E hub s c) (found : c ≢ lost) where
-  drew_own : (text : Option (List ℕ)) → watching b (entry (Draw s) (Drawn text) ∷ E) s ≡ hearing text (watching b E s)
+module _ (b : HubConfig) (E : Log) (hub new : State) (s : ℕ) (c : Client)
+    (before : KeepsUp b E hub s c) (found : c ≢ lost) where
+  drew_own : (text : Option (List ℕ))
+      → watching b (entry (Draw s) (Drawn text) ∷ E) s ≡ hearing text (watching b E s)
   drew_own text =
       let mine : (s == s) ≡ true = grind (arith, nat_tests) in
       rw mine refl
 
   -- no text came
-  quiet : (answer : Answer) → drawn_by (Draw s) answer ≡ [] → Step hub (Draw s) answer new → watching b (entry (Draw s) answer ∷ E) s ≡ watching b E s
+  quiet : (answer : Answer) → drawn_by (Draw s) answer ≡ [] → Step hub (Draw s) answer new
+      → watching b (entry (Draw s) answer ∷ E) s ≡ watching b E s
       → Stays b (entry (Draw s) answer ∷ E) new s c (drawn_by (Draw s) answer)
   quiet answer none step watches = record {
     client_is = c;
     survives = subst (λ texts. Survives c texts c) (sym none) same;
-    keeps = record { stands = step_stands b E hub new (Draw s) answer before.stands step; tracks = subst (Tracks c) (sym watches) before.tracks };
+    keeps =
+        record {
+          stands = step_stands b E hub new (Draw s) answer before.stands step;
+          tracks = subst (Tracks c) (sym watches) before.tracks;
+        };
     found = found;
   }
 
-  stays_draw : (answer : Answer) → Step hub (Draw s) answer new → Stays b (entry (Draw s) answer ∷ E) new s c (drawn_by (Draw s) answer)
+  stays_draw : (answer : Answer) → Step hub (Draw s) answer new
+      → Stays b (entry (Draw s) answer ∷ E) new s c (drawn_by (Draw s) answer)
   stays_draw (Drawn (Some text)) step =
       let leads = drawn_leads b E hub new s c text before.stands before.tracks found step in
       let next = client c leads.message in
@@ -170,7 +195,8 @@ module _ (b : HubConfig) (E : Log) (hub new : State) (s : ℕ) (c : Client) (bef
 -- ---- the events of a turn
 
 -- a link that opens no room has its session or none
-own_session : {p q : Point} (s : ℕ) → Follows no_room p q → p.session ≡ Some s → (q.session ≡ Some s) ⊎ (q.session ≡ None)
+own_session : {p q : Point} (s : ℕ) → Follows no_room p q → p.session ≡ Some s
+    → (q.session ≡ Some s) ⊎ (q.session ≡ None)
 own_session s stays is = inl is
 own_session s (makes (Open room access) answer before own step) is = absurd own.1
 own_session s (makes (Receive t text) answer before own step) is = own_session s before is
@@ -187,51 +213,79 @@ its_own q s t held is =
     ]
 
 -- the link still has its session after the events
-pub stays_turn : (b : HubConfig) (E : Log) (s t : ℕ) (c : Client) {p q : Point} (follows : Follows no_room p q) → p.session ≡ Some s → q.session ≡ Some t → Resumes b E s c follows
+pub stays_turn : (b : HubConfig) (E : Log) (s t : ℕ) (c : Client) {p q : Point}
+    (follows : Follows no_room p q) → p.session ≡ Some s → q.session ≡ Some t
+    → Resumes b E s c follows
     → KeepsUp b E p.hub s c → c ≢ lost → Stays b (with_events follows E) q.hub s c (drawn follows)
-stays_turn b E s t c stays is still resumes before found = record { client_is = c; survives = same; keeps = before; found = found }
-stays_turn b E s t c (makes (Open room access) answer follows own step) is still resumes before found = absurd own.1
-stays_turn b E s t c (makes {q = q} {hub = hub} (Receive u text) answer follows own step) is still resumes before found =
+stays_turn b E s t c stays is still resumes before found =
+    record { client_is = c; survives = same; keeps = before; found = found }
+stays_turn b E s t c
+    (makes (Open room access) answer follows own step) is still resumes before found = absurd own.1
+stays_turn b E s t c (makes {q = q} {hub = hub} (Receive u text) answer follows own step) is still
+    resumes before found =
     let mine : u ≡ s = its_own q.session s u (own_session s follows is) own in
     let until = stays_turn b E s u c follows is own resumes.0 before found in
-    let starts : StartsAsHeld b (with_events follows E) s until.client_is (Receive u text) = resumes.1 until.client_is (survives_told until.survives) in
-    subst (λ v. Stays b (entry (Receive v text) answer ∷ with_events follows E) hub s c (drawn follows ++ [])) (sym mine)
+    let starts : StartsAsHeld b (with_events follows E) s until.client_is (Receive u text) =
+    resumes.1 until.client_is (survives_told until.survives) in
+    subst (λ v.
+    Stays b (entry (Receive v text) answer ∷ with_events follows E) hub s c (drawn follows
+    ++ [])) (sym mine)
     (record {
       client_is = until.client_is;
       survives = survives_then {m = until.client_is} {next = until.client_is} until.survives same;
       keeps = record {
-        stands = step_stands b (with_events follows E) q.hub hub (Receive s text) answer until.keeps.stands (subst (λ v. Step q.hub (Receive v text) answer hub) mine step);
-        tracks = after_request b (with_events follows E) s until.client_is until.keeps.tracks text answer (subst (λ v. StartsAsHeld b (with_events follows E) s until.client_is (Receive v text)) mine starts);
+        stands =
+            step_stands b (with_events follows E) q.hub hub (Receive s text) answer
+            until.keeps.stands (subst (λ v. Step q.hub (Receive v text) answer hub) mine step);
+        tracks =
+            after_request b (with_events follows E) s until.client_is until.keeps.tracks text
+            answer (subst (λ v.
+            StartsAsHeld b (with_events follows E) s until.client_is (Receive v text)) mine
+            starts);
       };
       found = until.found;
     })
-stays_turn b E s t c (makes {q = q} {hub = hub} (Draw u) answer follows own step) is still resumes before found =
+stays_turn b E s t c (makes {q = q} {hub = hub} (Draw u) answer follows own step) is still resumes
+    before found =
     let mine : u ≡ s = its_own q.session s u (own_session s follows is) own in
     let until = stays_turn b E s u c follows is own resumes.0 before found in
-    let last = stays_draw b (with_events follows E) q.hub hub s until.client_is until.keeps until.found answer (subst (λ v. Step q.hub (Draw v) answer hub) mine step) in
-    subst (λ v. Stays b (entry (Draw v) answer ∷ with_events follows E) hub s c (drawn follows ++ drawn_by (Draw v) answer)) (sym mine)
+    let last =
+    stays_draw b (with_events follows E) q.hub hub s until.client_is until.keeps
+    until.found answer (subst (λ v. Step q.hub (Draw v) answer hub) mine step) in
+    subst (λ v.
+    Stays b (entry (Draw v) answer ∷ with_events follows E) hub s c (drawn follows
+    ++ drawn_by (Draw v) answer)) (sym mine)
     (record {
       client_is = last.client_is;
-      survives = survives_then {m = until.client_is} {next = last.client_is} until.survives last.survives;
+      survives =
+          survives_then {m = until.client_is} {next = last.client_is} until.survives last.survives;
       keeps = last.keeps;
       found = last.found;
     })
-stays_turn b E s t c (makes (Close u) answer follows own step) is still resumes before found = absurd (cc still)
-stays_turn b E s t c (makes DoWill answer follows own step) is still resumes before found = absurd own
-stays_turn b E s t c (makes (Forget room) answer follows own step) is still resumes before found = absurd own
+stays_turn b E s t c (makes (Close u) answer follows own step) is still resumes before found =
+    absurd (cc still)
+stays_turn b E s t c (makes DoWill answer follows own step) is still resumes before found =
+    absurd own
+stays_turn b E s t c (makes (Forget room) answer follows own step) is still resumes before found =
+    absurd own
 
 -- ---- what it holds when nothing waits
 
-present : (b : HubConfig) (E : Log) (hub : State) (s : ℕ) (c : Client) → KeepsUp b E hub s c → (name : List ℕ) (g : RoomSessions) (x : Session) (w : Watching)
-    → home_of hub s ≡ Some (name, g) → session_in g.sessions s ≡ Some x → watching b E s ≡ Some w → later g.room w.view x.outbox ≡ [] → HoldsPresent (documents E name) w.view c
+present : (b : HubConfig) (E : Log) (hub : State) (s : ℕ) (c : Client) → KeepsUp b E hub s c
+    → (name : List ℕ) (g : RoomSessions) (x : Session) (w : Watching)
+    → home_of hub s ≡ Some (name, g) → session_in g.sessions s ≡ Some x → watching b E s ≡ Some w
+    → later g.room w.view x.outbox ≡ [] → HoldsPresent (documents E name) w.view c
 present b E hub s c keeps name g x w there is watches none =
-    let whole : w.heard ++ later g.room w.view x.outbox ≡ w.heard = ap (λ l. w.heard ++ l) none ∙ append-nil w.heard in
-    let now : HoldsPresent (documents E name) w.view (client_after w.start w.heard) = rw whole at (exactly_held b E hub s name g x w keeps.stands there is watches) in
+    let whole : w.heard ++ later g.room w.view x.outbox ≡ w.heard =
+    ap (λ l. w.heard ++ l) none ∙ append-nil w.heard in
+    let now : HoldsPresent (documents E name) w.view (client_after w.start w.heard) =
+    rw whole at (exactly_held b E hub s name g x w keeps.stands there is watches) in
     let tracks : Tracks c (Some w) = subst (Tracks c) watches keeps.tracks in
     elim tracks [
       | inl held ↦ rw held now
       | inr new ↦ absurd (rw (new.0, new.1) at now)
     ]
 
-pub holds_present : (b : HubConfig) (E : Log) (hub : State) (s : ℕ) (c : Client) → KeepsUp b E hub s c → Delivered b E hub s c
+pub holds_present : (b : HubConfig) (E : Log) (hub : State) (s : ℕ) (c : Client)
+    → KeepsUp b E hub s c → Delivered b E hub s c
 holds_present b E hub s c keeps = record { keeps_up = keeps; exactly = present b E hub s c keeps }

@@ -24,25 +24,29 @@ same_rest : (before xs ys : List ℕ) → before ++ xs ≡ before ++ ys → xs �
 same_rest [] xs ys is = is
 same_rest (b ∷ before) xs ys is = same_rest before xs ys (cc is)
 
-appended : (old new : Option (List ℕ)) (before frames texts : List ℕ) → Appends old new texts → old ≡ Some before → new ≡ Some (before ++ frames) → frames ≡ texts
+appended : (old new : Option (List ℕ)) (before frames texts : List ℕ) → Appends old new texts
+    → old ≡ Some before → new ≡ Some (before ++ frames) → frames ≡ texts
 appended old new before frames texts appends was is =
     let whole : before ++ frames ≡ before ++ texts = (rw (was, is) at appends) in
     same_rest before frames texts whole
 
 -- ---- no request
 
-one_more : (made : List Event) (event : Event) → receives (made ++ event ∷ []) ≡ receives made + receives (event ∷ [])
-one_more made event = sum_by-append (λ e. cond (is_receive e) 1 0) made (event ∷ [])
+one_more : (events : List Event) (event : Event)
+    → receives (events ++ event ∷ []) ≡ receives events + receives (event ∷ [])
+one_more events event = sum_by-append (λ e. cond (is_receive e) 1 0) events (event ∷ [])
 
-nobody_resumes : (b : HubConfig) (E : Log) (s : ℕ) (c : Client) {p q : Point} (follows : Follows no_room p q) → receives q.made ≡ 0 → Resumes b E s c follows
+nobody_resumes : (b : HubConfig) (E : Log) (s : ℕ) (c : Client) {p q : Point}
+    (follows : Follows no_room p q) → receives q.events ≡ 0 → Resumes b E s c follows
 nobody_resumes b E s c stays none = tt
 nobody_resumes b E s c (makes (OpenEvent room access) answer follows own step) none = absurd own.1
-nobody_resumes b E s c (makes {q = q} (Receive t text) answer follows own step) none = absurd (omega (arith, none, one_more q.made (Receive t text)))
+nobody_resumes b E s c (makes {q = q} (Receive t text) answer follows own step) none =
+    absurd (omega (arith, none, one_more q.events (Receive t text)))
 nobody_resumes b E s c (makes {q = q} (Draw t) answer follows own step) none =
-    let before : receives q.made ≡ 0 = omega (arith, none, one_more q.made (Draw t)) in
+    let before : receives q.events ≡ 0 = omega (arith, none, one_more q.events (Draw t)) in
     (nobody_resumes b E s c follows before, λ m told. tt)
 nobody_resumes b E s c (makes {q = q} (Close t) answer follows own step) none =
-    let before : receives q.made ≡ 0 = omega (arith, none, one_more q.made (Close t)) in
+    let before : receives q.events ≡ 0 = omega (arith, none, one_more q.events (Close t)) in
     (nobody_resumes b E s c follows before, λ m told. tt)
 nobody_resumes b E s c (makes DoWill answer follows own step) none = absurd own
 nobody_resumes b E s c (makes (Forget room) answer follows own step) none = absurd own
@@ -50,12 +54,13 @@ nobody_resumes b E s c (makes (Forget room) answer follows own step) none = absu
 -- ---- a turn
 
 module _ {S : Type 0} (remaining contents : S → Option (List ℕ)) where
-  told_turn : (hub next : Hub) (made : List Event) (s t : ℕ) (old new : Socket (CorkedWriter S))
-      (before frames : List ℕ) → Told contents (at hub (Some s) []) (at next (Some t) made) old new
-      → receives made ≤ 0 → framed contents old ≡ Some before
-      → framed contents new ≡ Some (before ++ frames) → FramedWriteTurn s hub next made frames
-  told_turn hub next made s t old new before frames told few was is =
-      let none : receives made ≡ 0 = omega (arith, few) in
+  told_turn : (hub next : Hub) (events : List Event) (s t : ℕ) (old new : Socket (CorkedWriter S))
+      (before frames : List ℕ)
+      → Told contents (at hub (Some s) []) (at next (Some t) events) old new
+      → receives events ≤ 0 → framed contents old ≡ Some before
+      → framed contents new ≡ Some (before ++ frames) → FramedWriteTurn s hub next events frames
+  told_turn hub next events s t old new before frames told few was is =
+      let none : receives events ≡ 0 = omega (arith, few) in
       record {
         turn = record {
           after = t;
@@ -69,22 +74,24 @@ module _ {S : Type 0} (remaining contents : S → Option (List ℕ)) where
 
   framed_turn : (hub next : Hub) (old new : State S) (draws : ℕ) (turn : Turn)
       → Turns remaining 0 draws hub old next new turn
-      → WhileOpen (Told contents) hub [] old next turn.made.items new
+      → WhileOpen (Told contents) hub [] old next turn.events.items new
       → (was is : Socket (CorkedWriter S)) (s t : ℕ) (before frames : List ℕ)
       → old ≡ Open was s → new ≡ Open is t → framed contents was ≡ Some before
       → framed contents is ≡ Some (before ++ frames)
-      → FramedWriteTurn s hub next turn.made.items frames
+      → FramedWriteTurn s hub next turn.events.items frames
   framed_turn hub next old new draws turn turns tells was is s t before frames from to known grown =
-      told_turn hub next turn.made.items s t was is before frames
-      (subst (λ x. WhileOpen (Told contents) hub [] (Open was s) next turn.made.items x) to (subst (λ x. WhileOpen (Told contents) hub [] x next turn.made.items new) from tells))
+      told_turn hub next turn.events.items s t was is before frames
+      (subst (λ x. WhileOpen (Told contents) hub [] (Open was s) next turn.events.items x) to
+      (subst (λ x. WhileOpen (Told contents) hub [] x next turn.events.items new) from tells))
       turns.heard known grown
 
   pub framed_if : {E : Type 0} (result : Result Turn E) (hub next : Hub) (old new : State S)
       (draws : ℕ) → IfOk result (Turns remaining 0 draws hub old next new)
-      → IfOk result (λ turn. WhileOpen (Told contents) hub [] old next turn.made.items new)
+      → IfOk result (λ turn. WhileOpen (Told contents) hub [] old next turn.events.items new)
       → IfOk result (λ turn. (was is : Socket (CorkedWriter S)) (s t : ℕ) (before frames : List ℕ)
       → old ≡ Open was s → new ≡ Open is t → framed contents was ≡ Some before
       → framed contents is ≡ Some (before ++ frames)
-      → FramedWriteTurn s hub next turn.made.items frames)
-  framed_if (Ok turn) hub next old new draws turns tells = framed_turn hub next old new draws turn turns tells
+      → FramedWriteTurn s hub next turn.events.items frames)
+  framed_if (Ok turn) hub next old new draws turns tells =
+      framed_turn hub next old new draws turn turns tells
   framed_if (Err e) hub next old new draws turns tells = tt

@@ -7,7 +7,8 @@ use borrow.Rule.Slice.PartMut.{put_mid, same_len_mid}
 pub part_is : (xs : List ℕ) (a : ℕ) → take (length xs - a) (drop a xs) ≡ drop a xs
 part_is xs a = take_all (length xs - a) (drop a xs) (omega (arith, length-drop a xs))
 
-module _ (xs ys : List ℕ) (a : ℕ) (within : a ≤ length xs) (same : length ys ≡ length (take (length xs - a) (drop a xs))) where
+module _ (xs ys : List ℕ) (a : ℕ) (within : a ≤ length xs) (same : length ys
+    ≡ length (take (length xs - a) (drop a xs))) where
   pub put_length : length (put_mid a (length xs - a) xs ys) ≡ length xs
   put_length = same_len_mid a (length xs - a) xs ys same
 
@@ -18,7 +19,8 @@ module _ (xs ys : List ℕ) (a : ℕ) (within : a ≤ length xs) (same : length 
   part_back =
       let put = put_mid a (length xs - a) xs ys in
       let short : length put ≤ length xs = omega (arith, put_length) in
-      sym (between_to_end put a (length xs) short) ∙ between-put_mid a (length xs - a) xs ys (length xs) within part_length
+      sym (between_to_end put a (length xs) short)
+      ∙ between-put_mid a (length xs - a) xs ys (length xs) within part_length
 
   -- what stands from a later place on
   pub put_from : (n : ℕ) → drop (a + n) (put_mid a (length xs - a) xs ys) ≡ drop n ys

@@ -12,17 +12,21 @@ use Rattle.relay_delivery.specs.declared.fault.ReceiveFault.{ReceiveFault}
 
 -- ---- texts, one after another
 
-after_told : (o : Option Client) (xs ys : List (List ℕ)) → ((m : Client) → told_all m (xs ++ ys) ≡ option_and_then (λ n. told_all n ys) (told_all m xs))
-    → option_and_then (λ m. told_all m (xs ++ ys)) o ≡ option_and_then (λ n. told_all n ys) (option_and_then (λ m. told_all m xs) o)
+after_told : (o : Option Client) (xs ys : List (List ℕ))
+    → ((m : Client) → told_all m (xs ++ ys) ≡ option_and_then (λ n. told_all n ys) (told_all m xs))
+    → option_and_then (λ m. told_all m (xs ++ ys)) o ≡ option_and_then (λ n.
+    told_all n ys) (option_and_then (λ m. told_all m xs) o)
 after_told None xs ys each = refl
 after_told (Some m) xs ys each = each m
 
-pub told_all-append : (c : Client) (xs ys : List (List ℕ)) → told_all c (xs ++ ys) ≡ option_and_then (λ n. told_all n ys) (told_all c xs)
+pub told_all-append : (c : Client) (xs ys : List (List ℕ))
+    → told_all c (xs ++ ys) ≡ option_and_then (λ n. told_all n ys) (told_all c xs)
 told_all-append c [] ys = refl
 told_all-append c (x ∷ xs) ys = after_told (told c x) xs ys (λ m. told_all-append m xs ys)
 
 -- one more
-pub told_next : (c m n : Client) (xs : List (List ℕ)) (text : List ℕ) → told_all c xs ≡ Some m → told m text ≡ Some n → told_all c (xs ++ text ∷ []) ≡ Some n
+pub told_next : (c m n : Client) (xs : List (List ℕ)) (text : List ℕ) → told_all c xs ≡ Some m
+    → told m text ≡ Some n → told_all c (xs ++ text ∷ []) ≡ Some n
 told_next c m n xs text before next = rw (told_all-append c xs (text ∷ []), before, next) refl
 
 -- ---- frames
@@ -41,7 +45,8 @@ no_frames (text ∷ texts) none =
     absurd (omega (arith, h, whole, empty))
 
 -- some of the texts were heard, in order, and these are the frames of the others
-pub record HasHeard (old new : Option (ℕ × Document)) (texts : List (List ℕ)) (frames : List ℕ) : Type 0 where
+pub record HasHeard (old new : Option (ℕ
+    × Document)) (texts : List (List ℕ)) (frames : List ℕ) : Type 0 where
   pub heard : List (List ℕ)
   pub rest : List (List ℕ)
   pub all : texts ≡ heard ++ rest
@@ -49,7 +54,9 @@ pub record HasHeard (old new : Option (ℕ × Document)) (texts : List (List ℕ
   pub holds : told_all (as_client old) heard ≡ Some (as_client new)
 
 -- no frame is left
-pub heard_all : (old new : Option (ℕ × Document)) (texts : List (List ℕ)) (frames : List ℕ) (start : ℕ) → length frames ≤ start → HasHeard old new texts (drop start frames)
+pub heard_all : (old new : Option (ℕ
+    × Document)) (texts : List (List ℕ)) (frames : List ℕ) (start : ℕ) → length frames ≤ start
+    → HasHeard old new texts (drop start frames)
     → told_all (as_client old) texts ≡ Some (as_client new)
 heard_all old new texts frames start end h =
     let none : h.rest ≡ [] = no_frames h.rest (sym h.left ∙ drop_all start frames end) in
@@ -63,14 +70,20 @@ record Next (heard rest : List (List ℕ)) (frames : List ℕ) : Type 0 where
   rest_is : rest ≡ text ∷ more
   frames_are : frames ≡ text_frame text ++ text_frames more
 
-next_of : (heard rest : List (List ℕ)) (frames : List ℕ) → 0 < length frames → frames ≡ text_frames rest → Next heard rest frames
+next_of : (heard rest : List (List ℕ)) (frames : List ℕ) → 0 < length frames
+    → frames ≡ text_frames rest → Next heard rest frames
 next_of heard [] frames some left = absurd (omega (arith, some, ap length left))
-next_of heard (text ∷ more) frames some left = record { text = text; more = more; rest_is = refl; frames_are = left }
+next_of heard (text ∷ more) frames some left =
+    record { text = text; more = more; rest_is = refl; frames_are = left }
 
-module _ (old mid new : Option (ℕ × Document)) (texts : List (List ℕ)) (frames part : List ℕ) (some : 0 < length frames) (h : HasHeard old mid texts frames) (is : part ≡ frames) where
+module _ (old mid new : Option (ℕ
+    × Document)) (texts : List (List ℕ)) (frames part : List ℕ) (some : 0 < length frames)
+    (h : HasHeard old mid texts frames) (is : part ≡ frames) where
   -- a frame was read, and its text was heard
   pub heard_next : {P : Type 0} (consumed : ℕ) (after : List ℕ)
-      → ((text rest : List ℕ) → part ≡ text_frame text ++ rest → P × (consumed ≡ length (text_frame text)) × (told (as_client mid) text ≡ Some (as_client new)))
+      → ((text rest : List ℕ) → part ≡ text_frame text ++ rest
+      → P × (consumed ≡ length (text_frame text))
+      × (told (as_client mid) text ≡ Some (as_client new)))
       → after ≡ drop consumed part → P × HasHeard old new texts after
   heard_next consumed after reads behind =
       let next = next_of h.heard h.rest frames some h.left in
@@ -79,14 +92,20 @@ module _ (old mid new : Option (ℕ × Document)) (texts : List (List ℕ)) (fra
         record {
           heard = h.heard ++ next.text ∷ [];
           rest = next.more;
-          all = h.all ∙ ap (λ l. h.heard ++ l) next.rest_is ∙ sym (append_assoc h.heard (next.text ∷ []) next.more);
-          left = behind ∙ ap (drop consumed) (is ∙ next.frames_are) ∙ drop_at (text_frame next.text) (text_frames next.more) consumed (sym did.1);
-          holds = told_next (as_client old) (as_client mid) (as_client new) h.heard next.text h.holds did.2;
+          all = h.all ∙ ap (λ l. h.heard ++ l) next.rest_is
+              ∙ sym (append_assoc h.heard (next.text ∷ []) next.more);
+          left = behind ∙ ap (drop consumed) (is ∙ next.frames_are)
+              ∙ drop_at (text_frame next.text) (text_frames next.more) consumed (sym did.1);
+          holds =
+              told_next (as_client old) (as_client mid) (as_client new) h.heard next.text h.holds
+              did.2;
         },
       )
 
   -- its text was not heard
-  pub stops_next : (fault : ReceiveFault) → ((text rest : List ℕ) → part ≡ text_frame text ++ rest → IsFaultOf fault mid text) → new ≡ mid → StopsAt old new texts (IsFaultOf fault)
+  pub stops_next : (fault : ReceiveFault)
+      → ((text rest : List ℕ) → part ≡ text_frame text ++ rest → IsFaultOf fault mid text)
+      → new ≡ mid → StopsAt old new texts (IsFaultOf fault)
   stops_next fault refuses same =
       let next = next_of h.heard h.rest frames some h.left in
       record {

@@ -16,7 +16,8 @@ abbrev pub listening : Connection
 listening = record {
   role = Client;
   state = Active;
-  config = record { max_message_size = None; max_frame_size = None; accept_unmasked_frames = false };
+  config =
+      record { max_message_size = None; max_frame_size = None; accept_unmasked_frames = false };
   fragments = None;
 }
 

@@ -10,14 +10,16 @@ use Rattle.relay_delivery.specs.Receiving.{listening}
 use Rattle.relay_delivery.specs.declared.fault.SocketFault.{SocketFault}
 use Rattle.relay_delivery.specs.declared.fault.SocketFault.TheVariants.{Socket as Failed, NotText, Refused}
 
--- The socket is that of a client between two messages, nothing waits to be sent, and these bytes are still to be read: those that it has
--- taken, and then those that its stream has left.
-pub record Listens {S : Type 0} (remaining : S → Option (List ℕ)) (socket : Socket S) (bytes : List ℕ) : Type 0 where
+-- The socket is that of a client between two messages, nothing waits to be sent, and these bytes
+-- are still to be read: those that it has taken, and then those that its stream has left.
+pub record Listens {S : Type 0} (remaining : S → Option (List ℕ)) (socket : Socket S)
+    (bytes : List ℕ) : Type 0 where
   pub connection : socket.conn ≡ listening
   pub nothing_waits : socket.output ≡ []
   pub left : prepend_known socket.input (remaining socket.stream) ≡ Some bytes
 
--- why a text that stands in front of these bytes was not heard: the socket failed, the follower refuses it, or memory ran out
+-- why a text that stands in front of these bytes was not heard: the socket failed, the follower
+-- refuses it, or memory ran out
 abbrev pub IsNextFault : SocketFault → Option (ℕ × Document) → List ℕ → Type 0
 IsNextFault (Failed error) held text = ⊤
 IsNextFault NotText held text = ⊥

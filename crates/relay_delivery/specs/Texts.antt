@@ -13,7 +13,8 @@ abbrev pub told_all : Client → List (List ℕ) → Option Client
 told_all c [] = Some c
 told_all c (text ∷ texts) = option_and_then (λ next. told_all next texts) (told c text)
 
--- the fault is that of a text to a follower: it can't be a frame's text, or the follower refuses it, or memory runs out
+-- the fault is that of a text to a follower: it can't be a frame's text, or the follower refuses
+-- it, or memory runs out
 abbrev pub IsFaultOf : ReceiveFault → Option (ℕ × Document) → List ℕ → Type 0
 IsFaultOf NotUtf8 held text = ¬ (IsUtf8 text)
 IsFaultOf (Refused fault) held text = hear_fault held text ≡ Some fault
@@ -26,7 +27,8 @@ hearing_fault hear.NoMemory = NoMemory
 hearing_fault fault = Refused fault
 
 -- A follower heard some of the texts, in order, and stopped at the next one, for that reason.
-pub record StopsAt (old new : Option (ℕ × Document)) (texts : List (List ℕ)) (Why : Option (ℕ × Document) → List ℕ → Type 0) : Type 0 where
+pub record StopsAt (old new : Option (ℕ × Document)) (texts : List (List ℕ))
+    (Why : Option (ℕ × Document) → List ℕ → Type 0) : Type 0 where
   pub heard : List (List ℕ)
   pub text : List ℕ
   pub rest : List (List ℕ)
@@ -34,7 +36,10 @@ pub record StopsAt (old new : Option (ℕ × Document)) (texts : List (List ℕ)
   pub holds : told_all (as_client old) heard ≡ Some (as_client new)
   pub why : Why new text
 
--- What comes of texts to a follower: it heard all of them, in order, or it stopped at one of them, and the fault is that of this text.
-pub record HearsAll {E : Type 0} (IsFault : E → Option (ℕ × Document) → List ℕ → Type 0) (old new : Option (ℕ × Document)) (texts : List (List ℕ)) (result : Result (Unit {0}) E) : Type 0 where
+-- What comes of texts to a follower: it heard all of them, in order, or it stopped at one of them,
+-- and the fault is that of this text.
+pub record HearsAll {E : Type 0} (IsFault : E → Option (ℕ × Document) → List ℕ → Type 0)
+    (old new : Option (ℕ × Document)) (texts : List (List ℕ))
+    (result : Result (Unit {0}) E) : Type 0 where
   pub heard : OnOk result (told_all (as_client old) texts ≡ Some (as_client new))
   pub stopped : IfErr result (λ fault. StopsAt old new texts (IsFault fault))

@@ -17,16 +17,18 @@ use Rattle.relay_proto.specs.declared.request.Request.TheVariants.{Resume}
 use Rattle.relay_tree.specs.Document.{Document}
 use Rattle.relay_view.specs.View.{View, view}
 
--- An open link of session s made these events in a turn, and framed these bytes: the frames of the texts that the events drew, each in
--- UTF-8.
-pub record FramedTurn (s : ℕ) (hub next : State) (made : List Event) (frames : List ℕ) : Type 0 where
+-- An open link of session s made these events in a turn, and framed these bytes: the frames of the
+-- texts that the events drew, each in UTF-8.
+pub record FramedTurn (s : ℕ) (hub next : State) (events : List Event)
+    (frames : List ℕ) : Type 0 where
   pub after : ℕ
-  pub follows : Follows no_room (at hub (Some s) []) (at next (Some after) made)
+  pub follows : Follows no_room (at hub (Some s) []) (at next (Some after) events)
   pub utf8 : AllByRecursion IsUtf8 (drawn follows)
   pub frames_are : frames ≡ text_frames (drawn follows)
 
--- What the client of a session holds, if the session watches: what the messages drawn for it make of what it held at the start of the
--- watch. A watch that starts from nothing begins with a snapshot, and until that comes the client may still hold what it held before.
+-- What the client of a session holds, if the session watches: what the messages drawn for it make
+-- of what it held at the start of the watch. A watch that starts from nothing begins with a
+-- snapshot, and until that comes the client may still hold what it held before.
 abbrev pub Tracks : Client → Option Watching → Type 0
 Tracks c None = ⊤
 Tracks c (Some w) = (c ≡ client_after w.start w.heard) ⊎ ((w.start ≡ nothing) × (w.heard ≡ []))
@@ -36,17 +38,21 @@ pub record KeepsUp (b : HubConfig) (E : Log) (hub : State) (s : ℕ) (c : Client
   pub stands : StandsFor b E hub
   pub tracks : Tracks c (watching b E s)
 
--- if an event is a request to resume from a revision of this run, the client of session s holds its view of that revision
+-- if an event is a request to resume from a revision of this run, the client of session s holds its
+-- view of that revision
 abbrev pub StartsAsHeld : HubConfig → Log → ℕ → Client → Event → Type 0
-StartsAsHeld b E s c (Receive t text) = (id rev : ℕ) (pointers : View) (there : Place) (d : Document) → home E s ≡ Some there
-    → request_of_text text ≡ Ok (Resume id b.epoch rev pointers) → slice_get (documents E there.room) rev ≡ Some d → c ≡ holds rev (view pointers d)
+StartsAsHeld b E s c (Receive t text) =
+    (id rev : ℕ) (pointers : View) (there : Place) (d : Document) → home E s ≡ Some there
+    → request_of_text text ≡ Ok (Resume id b.epoch rev pointers)
+    → slice_get (documents E there.room) rev ≡ Some d → c ≡ holds rev (view pointers d)
 StartsAsHeld b E s c _ = ⊤
 
 -- the same of all events of a turn, each time of what the client holds by then
 abbrev pub Resumes : HubConfig → Log → ℕ → Client → {p q : Point} → Follows no_room p q → Type 0
 Resumes b E s c stays = ⊤
 Resumes b E s c (makes event answer before own step) = Resumes b E s c before
-    × ((m : Client) → told_all c (drawn before) ≡ Some m → StartsAsHeld b (with_events before E) s m event)
+    × ((m : Client) → told_all c (drawn before) ≡ Some m
+    → StartsAsHeld b (with_events before E) s m event)
 
 -- the event is no request and no draw of session s
 abbrev pub IsOthers : ℕ → Event → Type 0
@@ -55,13 +61,16 @@ IsOthers s (Draw t) = t ≢ s
 IsOthers s _ = ⊤
 
 -- A turn that passes no text to the hub: nobody resumes in it.
-pub record FramedWriteTurn (s : ℕ) (hub next : State) (made : List Event) (frames : List ℕ) : Type 0 where
-  pub turn : FramedTurn s hub next made frames
+pub record FramedWriteTurn (s : ℕ) (hub next : State) (events : List Event)
+    (frames : List ℕ) : Type 0 where
+  pub turn : FramedTurn s hub next events frames
   pub resumes : (b : HubConfig) (E : Log) (c : Client) → Resumes b E s c turn.follows
 
--- A client that keeps up. If its session watches, and neither a patch nor a snapshot waits for it, it holds exactly its view of the
--- present document.
+-- A client that keeps up. If its session watches, and neither a patch nor a snapshot waits for it,
+-- it holds exactly its view of the present document.
 pub record Delivered (b : HubConfig) (E : Log) (hub : State) (s : ℕ) (c : Client) : Type 0 where
   pub keeps_up : KeepsUp b E hub s c
-  pub exactly : (name : List ℕ) (g : RoomSessions) (x : Session) (w : Watching) → home_of hub s ≡ Some (name, g) → session_in g.sessions s ≡ Some x
-      → watching b E s ≡ Some w → later g.room w.view x.outbox ≡ [] → HoldsPresent (documents E name) w.view c
+  pub exactly : (name : List ℕ) (g : RoomSessions) (x : Session) (w : Watching)
+      → home_of hub s ≡ Some (name, g) → session_in g.sessions s ≡ Some x
+      → watching b E s ≡ Some w → later g.room w.view x.outbox ≡ []
+      → HoldsPresent (documents E name) w.view c

@@ -11,8 +11,8 @@ use relay_follow::Follower;
 use std::alloc::Global;
 use websocket::protocol::{FrameStatus, Message, NoMask, Step, WebSocketContext};
 
-/// Reads the frame in front of the bytes, and passes its text to the follower. Returns the length of the frame. An error leaves the
-/// follower unchanged.
+/// Reads the frame in front of the bytes, and passes its text to the follower. Returns the length
+/// of the frame. An error leaves the follower unchanged.
 pub(crate) fn receive_frame(
     alloc: Global,
     context: &mut WebSocketContext,
@@ -22,11 +22,14 @@ pub(crate) fn receive_frame(
     ensures progress { IfOk result (λ consumed. (0 < consumed) × (consumed ≤ length frames.old)) }
     ensures same_length { length frames.new ≡ length frames.old }
     ensures rest { IfOk result (λ consumed. drop consumed frames.new ≡ drop consumed frames.old) }
-    ensures heard { (text rest : List ℕ) → context.old ≡ listening → frames.old ≡ text_frame text ++ rest →
-        IfOk result (λ consumed. (context.new ≡ listening) × (consumed ≡ length (text_frame text))
+    ensures heard { (text rest : List ℕ) → context.old ≡ listening
+        → frames.old ≡ text_frame text ++ rest
+        → IfOk result (λ consumed. (context.new ≡ listening)
+        × (consumed ≡ length (text_frame text))
         × (told (as_client follower.old) text ≡ Some (as_client follower.new))) }
-    ensures refused { (text rest : List ℕ) → context.old ≡ listening → frames.old ≡ text_frame text ++ rest →
-        IfErr result (λ fault. IsFaultOf fault follower.old text) }
+    ensures refused { (text rest : List ℕ) → context.old ≡ listening
+        → frames.old ≡ text_frame text ++ rest
+        → IfErr result (λ fault. IsFaultOf fault follower.old text) }
     ensures unchanged { OnErr result (follower.new ≡ follower.old) }
 {
     let step = read_frame(alloc, context, frames)?;
@@ -49,14 +52,18 @@ fn read_frame(
     frames: &mut [u8],
 ) -> Result<Step, ReceiveFault>
     ensures inside { IfOk result (λ step. IfSome step.message (IsReceivedInside frames.new)) }
-    ensures valid_text { IfOk result (λ step. IfSome step.message (λ m. HasValidText (received_content frames.new m))) }
-    ensures progress { IfOk result (λ step. (0 < step.consumed) × (step.consumed ≤ length frames.old)) }
+    ensures valid_text { IfOk result (λ step. IfSome step.message (λ m.
+        HasValidText (received_content frames.new m))) }
+    ensures progress { IfOk result (λ step. (0 < step.consumed)
+        × (step.consumed ≤ length frames.old)) }
     ensures same_length { length frames.new ≡ length frames.old }
-    ensures rest { IfOk result (λ step. drop step.consumed frames.new ≡ drop step.consumed frames.old) }
-    ensures takes { (text rest : List ℕ) → context.old ≡ listening → frames.old ≡ text_frame text ++ rest →
-        IfOk result (λ step. Takes text context.new frames.new step) }
-    ensures refuses { (text rest : List ℕ) → context.old ≡ listening → frames.old ≡ text_frame text ++ rest →
-        IfErr result (λ fault. IsRefusalOf text fault) }
+    ensures rest { IfOk result (λ step. drop step.consumed frames.new
+        ≡ drop step.consumed frames.old) }
+    ensures takes { (text rest : List ℕ) → context.old ≡ listening
+        → frames.old ≡ text_frame text ++ rest
+        → IfOk result (λ step. Takes text context.new frames.new step) }
+    ensures refuses { (text rest : List ℕ) → context.old ≡ listening
+        → frames.old ≡ text_frame text ++ rest → IfErr result (λ fault. IsRefusalOf text fault) }
 {
     let mut replies = Vec::new(alloc);
     match context.read(frames, &mut replies, &mut NoMask) {

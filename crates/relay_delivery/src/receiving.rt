@@ -23,25 +23,33 @@ const NO_LIMITS: WebSocketConfig = WebSocketConfig {
     accept_unmasked_frames: false,
 };
 
-/// Receives what a link framed in a turn: reads the frames as the client of a connection whose handshake is done, and passes each text
-/// to the follower, in order, until no byte is left. An error comes at the first frame that is not a whole text, or whose text is not
-/// UTF-8 or is refused by the follower, or if memory runs out. It leaves the follower with what the texts before it make of what it held.
+/// Receives what a link framed in a turn: reads the frames as the client of a connection whose
+/// handshake is done, and passes each text to the follower, in order, until no byte is left. An
+/// error comes at the first frame that is not a whole text, or whose text is not UTF-8 or is
+/// refused by the follower, or if memory runs out. It leaves the follower with what the texts
+/// before it make of what it held.
 ///
-/// If the bytes are those that a turn of a link framed, and the follower held what the messages drawn before make of its start, it then
-/// holds what those drawn in the turn make of that; and if nothing more waits for its session, exactly its view of the present document.
-/// Then only memory can be missing. A session that resumes in the turn has to hold what it resumes from.
+/// If the bytes are those that a turn of a link framed, and the follower held what the messages
+/// drawn before make of its start, it then holds what those drawn in the turn make of that; and if
+/// nothing more waits for its session, exactly its view of the present document. Then only memory
+/// can be missing. A session that resumes in the turn has to hold what it resumes from.
 pub fn receive(
     alloc: Global,
     frames: &mut [u8],
     follower: &mut Follower,
 ) -> Result<(), ReceiveFault>
-    ensures hears { (texts : List (List ℕ)) → frames.old ≡ text_frames texts → HearsAll IsFaultOf follower.old follower.new texts result }
-    ensures delivered { (b : HubConfig) (E : Log) (hub next : State) (s : ℕ) (made : List Event) (turn : FramedTurn s hub next made frames.old) →
-        Resumes b E s (as_client follower.old) turn.follows → KeepsUp b E hub s (as_client follower.old) →
-        OnOk result (Delivered b (with_events turn.follows E) next s (as_client follower.new)) }
-    ensures fails { (b : HubConfig) (E : Log) (hub next : State) (s : ℕ) (made : List Event) (turn : FramedTurn s hub next made frames.old) →
-        Resumes b E s (as_client follower.old) turn.follows → KeepsUp b E hub s (as_client follower.old) →
-        IfErr result (λ fault. fault ≡ ReceiveFault.NoMemory) }
+    ensures hears { (texts : List (List ℕ)) → frames.old ≡ text_frames texts
+        → HearsAll IsFaultOf follower.old follower.new texts result }
+    ensures delivered { (b : HubConfig) (E : Log) (hub next : State) (s : ℕ) (events : List Event)
+        (turn : FramedTurn s hub next events frames.old)
+        → Resumes b E s (as_client follower.old) turn.follows
+        → KeepsUp b E hub s (as_client follower.old)
+        → OnOk result (Delivered b (with_events turn.follows E) next s (as_client follower.new)) }
+    ensures fails { (b : HubConfig) (E : Log) (hub next : State) (s : ℕ) (events : List Event)
+        (turn : FramedTurn s hub next events frames.old)
+        → Resumes b E s (as_client follower.old) turn.follows
+        → KeepsUp b E hub s (as_client follower.old)
+        → IfErr result (λ fault. fault ≡ ReceiveFault.NoMemory) }
 {
     receive_all(alloc, frames, follower)
 }
@@ -51,7 +59,8 @@ fn receive_all(
     frames: &mut [u8],
     follower: &mut Follower,
 ) -> Result<(), ReceiveFault>
-    ensures hears { (texts : List (List ℕ)) → frames.old ≡ text_frames texts → HearsAll IsFaultOf follower.old follower.new texts result }
+    ensures hears { (texts : List (List ℕ)) → frames.old ≡ text_frames texts
+        → HearsAll IsFaultOf follower.old follower.new texts result }
 {
     let mut context = WebSocketContext::new(alloc, Role::Client, NO_LIMITS);
     let mut start = 0;

@@ -1,4 +1,5 @@
-//! The same client over a stream: a socket of `tungstenite`, whose reads may cut the bytes anywhere.
+//! The same client over a stream: a socket of `tungstenite`, whose reads may cut the bytes
+//! anywhere.
 ghost use Rattle.std.specs.Prelude.{◌≡◌, ◌<◌, ◌^◌, ◌++◌, ℕ, List, Some, length, IfErr, OnOk, OnErr};
 ghost use Rattle.relay_delivery.specs.Socket.{Listens, IsNextFault, FitFrames};
 ghost use Rattle.relay_delivery.specs.Texts.{HearsAll};
@@ -23,7 +24,8 @@ pub fn client_on<S: Read + Write + Drop, K: MaskKeys + Drop>(
     stream: S,
     keys: K,
 ) -> WebSocket<S, K>
-    ensures { (bytes : List ℕ) → S.remaining stream ≡ Some bytes → Listens S.remaining result bytes }
+    ensures { (bytes : List ℕ) → S.remaining stream ≡ Some bytes
+        → Listens S.remaining result bytes }
 {
     let config = WebSocketConfig::default()
         .max_message_size(None)
@@ -31,17 +33,21 @@ pub fn client_on<S: Read + Write + Drop, K: MaskKeys + Drop>(
     WebSocket::from_raw_socket(alloc, stream, keys, Role::Client, Some(config))
 }
 
-/// Reads the next message off a client's socket, and passes its text to the follower. If the bytes that are still to be read begin with
-/// the frame of a text, it is that text, and the rest of the bytes is still to be read. An error leaves the follower unchanged.
+/// Reads the next message off a client's socket, and passes its text to the follower. If the bytes
+/// that are still to be read begin with the frame of a text, it is that text, and the rest of the
+/// bytes is still to be read. An error leaves the follower unchanged.
 pub fn hear_next<S: Read + Write + Drop, K: MaskKeys + Drop>(
     alloc: Global,
     socket: &mut WebSocket<S, K>,
     follower: &mut Follower,
 ) -> Result<(), SocketFault>
-    ensures heard { (text rest : List ℕ) → length text < 2 ^ 63 → Listens S.remaining socket.old (text_frame text ++ rest) →
-        OnOk result ((told (as_client follower.old) text ≡ Some (as_client follower.new)) × Listens S.remaining socket.new rest) }
-    ensures refused { (text rest : List ℕ) → length text < 2 ^ 63 → Listens S.remaining socket.old (text_frame text ++ rest) →
-        IfErr result (λ fault. IsNextFault fault follower.old text) }
+    ensures heard { (text rest : List ℕ) → length text < 2 ^ 63
+        → Listens S.remaining socket.old (text_frame text ++ rest)
+        → OnOk result ((told (as_client follower.old) text ≡ Some (as_client follower.new))
+        × Listens S.remaining socket.new rest) }
+    ensures refused { (text rest : List ℕ) → length text < 2 ^ 63
+        → Listens S.remaining socket.old (text_frame text ++ rest)
+        → IfErr result (λ fault. IsNextFault fault follower.old text) }
     ensures unchanged { OnErr result (follower.new ≡ follower.old) }
 {
     let message = match socket.read() {
@@ -57,22 +63,28 @@ pub fn hear_next<S: Read + Write + Drop, K: MaskKeys + Drop>(
     }
 }
 
-/// Reads as many messages off a client's socket as a turn of its link drew, and passes their texts to the follower. If the bytes that are
-/// still to be read begin with what the turn framed, the follower then holds what [`receive`](crate::receive) would leave it with. An
-/// error leaves it with what the texts before make of what it held.
+/// Reads as many messages off a client's socket as a turn of its link drew, and passes their texts
+/// to the follower. If the bytes that are still to be read begin with what the turn framed, the
+/// follower then holds what [`receive`](crate::receive) would leave it with. An error leaves it
+/// with what the texts before make of what it held.
 pub fn hear_texts<S: Read + Write + Drop, K: MaskKeys + Drop>(
     alloc: Global,
     socket: &mut WebSocket<S, K>,
     count: usize,
     follower: &mut Follower,
 ) -> Result<(), SocketFault>
-    ensures hears { (texts : List (List ℕ)) (rest : List ℕ) → length texts ≡ count → FitFrames texts →
-        Listens S.remaining socket.old (text_frames texts ++ rest) →
-        HearsAll IsNextFault follower.old follower.new texts result × OnOk result (Listens S.remaining socket.new rest) }
-    ensures delivered { (b : HubConfig) (E : Log) (hub next : State) (s : ℕ) (made : List Event) (frames rest : List ℕ) (turn : FramedTurn s hub next made frames) →
-        length (drawn turn.follows) ≡ count → FitFrames (drawn turn.follows) → Listens S.remaining socket.old (frames ++ rest) →
-        Resumes b E s (as_client follower.old) turn.follows → KeepsUp b E hub s (as_client follower.old) →
-        OnOk result (Delivered b (with_events turn.follows E) next s (as_client follower.new) × Listens S.remaining socket.new rest) }
+    ensures hears { (texts : List (List ℕ)) (rest : List ℕ) → length texts ≡ count
+        → FitFrames texts → Listens S.remaining socket.old (text_frames texts ++ rest)
+        → HearsAll IsNextFault follower.old follower.new texts result
+        × OnOk result (Listens S.remaining socket.new rest) }
+    ensures delivered { (b : HubConfig) (E : Log) (hub next : State) (s : ℕ) (events : List Event)
+        (frames rest : List ℕ) (turn : FramedTurn s hub next events frames)
+        → length (drawn turn.follows) ≡ count → FitFrames (drawn turn.follows)
+        → Listens S.remaining socket.old (frames ++ rest)
+        → Resumes b E s (as_client follower.old) turn.follows
+        → KeepsUp b E hub s (as_client follower.old)
+        → OnOk result (Delivered b (with_events turn.follows E) next s (as_client follower.new)
+        × Listens S.remaining socket.new rest) }
 {
     hear_all(alloc, socket, count, follower)
 }
@@ -83,9 +95,10 @@ fn hear_all<S: Read + Write + Drop, K: MaskKeys + Drop>(
     count: usize,
     follower: &mut Follower,
 ) -> Result<(), SocketFault>
-    ensures hears { (texts : List (List ℕ)) (rest : List ℕ) → length texts ≡ count → FitFrames texts →
-        Listens S.remaining socket.old (text_frames texts ++ rest) →
-        HearsAll IsNextFault follower.old follower.new texts result × OnOk result (Listens S.remaining socket.new rest) }
+    ensures hears { (texts : List (List ℕ)) (rest : List ℕ) → length texts ≡ count
+        → FitFrames texts → Listens S.remaining socket.old (text_frames texts ++ rest)
+        → HearsAll IsNextFault follower.old follower.new texts result
+        × OnOk result (Listens S.remaining socket.new rest) }
 {
     for _ in 0..count {
         match hear_next(alloc, socket, follower) {

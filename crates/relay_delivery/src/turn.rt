@@ -11,8 +11,9 @@ use relay_link::{Link, Turn};
 use std::alloc::{AllocError, Global};
 use std::io::{Read, Write};
 
-/// Runs [`Link::write_turn`]. If the link was open and still is, and the bytes that it framed before and since are known, what it framed in
-/// the turn are the frames that [`receive`](crate::receive) reads.
+/// Runs [`Link::write_turn`]. If the link was open and still is, and the bytes that it framed
+/// before and since are known, what it framed in the turn are the frames that
+/// [`receive`](crate::receive) reads.
 pub fn write_turn<S: Read + Write + Drop>(
     alloc: Global,
     link: &mut Link<S>,
@@ -23,7 +24,7 @@ pub fn write_turn<S: Read + Write + Drop>(
         (old new : Socket (CorkedWriter S)) (s t : ℕ) (before frames : List ℕ) →
         link.old ≡ Open old s → link.new ≡ Open new t →
         framed S.contents old ≡ Some before → framed S.contents new ≡ Some (before ++ frames) →
-        FramedWriteTurn s hub.old hub.new turn.made.items frames) }
+        FramedWriteTurn s hub.old hub.new turn.events.items frames) }
 {
     link.write_turn(alloc, hub, draws)
 }

@@ -1,4 +1,5 @@
-//! Reading of texts, and telling of values. Each gives nothing if memory runs out or a text cannot be read, which fails the row.
+//! Reading of texts, and telling of values. Each gives nothing if memory runs out or a text cannot
+//! be read, which fails the row.
 use relay_patch::{Patch, PatchLimits};
 use relay_tree::{Tree, read};
 use relay_view::View;

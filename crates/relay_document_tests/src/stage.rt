@@ -5,14 +5,15 @@ use crate::tree;
 use relay_apply::apply;
 use relay_patch::{Bounds, Change, Patch};
 use relay_pointer::{MAX_TOKENS, Pointer};
+use relay_test_stream::{Subject, cut, play};
 use relay_translate::WatchIndex;
 use relay_tree::{Tree, read};
 use relay_view::View;
-use relay_wire::{Subject, cut, play};
 use std::alloc::{AllocGlobal, Global};
 use std::process::Abort;
 
-/// The document, the pointer, the view and the patch that were named last, the changes that were made last, and the views that sessions watch.
+/// The document, the pointer, the view and the patch that were named last, the changes that were
+/// made last, and the views that sessions watch.
 #[derive(Drop)]
 pub(crate) struct Stage {
     pub(crate) tree: Tree,
@@ -50,8 +51,8 @@ pub(crate) fn play_anew(rt: &(impl Abort + AllocGlobal), rows: &str) {
     play(rt, &mut stage, rows).expect(rt, "each row holds");
 }
 
-/// Does an act, and tells what came of it. The acts that name or tell what several subjects act on stand here. The subjects are asked one
-/// after the other, so no two of their acts have one name.
+/// Does an act, and tells what came of it. The acts that name or tell what several subjects act on
+/// stand here. The subjects are asked one after the other, so no two of their acts have one name.
 fn done(alloc: Global, stage: &mut Stage, verb: &str, rest: &str) -> Option<String> {
     match verb {
         "tree" => stage.tree = read(alloc, rest).ok()?,

@@ -1,9 +1,9 @@
 use crate::shared::{nothing, shown, view_of};
 use crate::stage::{Stage, play_anew};
 use relay_patch::Change;
+use relay_test_stream::cut;
 use relay_translate::{WatchIndex, touch, translate};
 use relay_view::SlotKind;
-use relay_wire::cut;
 use std::alloc::Global;
 
 const SLOTS: &str = r#"
@@ -152,7 +152,8 @@ fn a_change_is_told_to_the_slots_that_it_touches(rt: HostRuntime) {
     play_anew(&rt, STAYING);
 }
 
-/// Does an act on the last change, or on the views of sessions. An act that is unknown here too gives nothing.
+/// Does an act on the last change, or on the views of sessions. An act that is unknown here too
+/// gives nothing.
 pub(crate) fn done(alloc: Global, stage: &mut Stage, verb: &str, rest: &str) -> Option<String> {
     match verb {
         "relay" => relay(alloc, stage),

@@ -1,8 +1,8 @@
 use crate::pointer;
 use crate::shared::{nothing, part_text, shown, taken_text};
 use crate::stage::{Stage, play_anew};
+use relay_test_stream::cut;
 use relay_tree::{MAX_COUNT, Members, Node, Tree, begin_text, end_text, insert_member, read};
-use relay_wire::cut;
 use std::alloc::Global;
 
 const ROWS: &str = r#"

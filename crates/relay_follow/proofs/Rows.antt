@@ -20,11 +20,14 @@ patch_of_the_held_revision = refl
 patch_of_a_later_revision : client (holds 1 view) (Patch 2 []) ≡ holds 2 view
 patch_of_a_later_revision = refl
 
-patch_that_is_refused : client (holds 2 view) (Patch 3 (Remove (codes "0" ∷ codes "0" ∷ codes "x" ∷ []) ∷ [])) ≡ lost
+patch_that_is_refused : client (holds 2 view)
+    (Patch 3 (Remove (codes "0" ∷ codes "0" ∷ codes "x" ∷ []) ∷ [])) ≡ lost
 unfolding index_of
 patch_that_is_refused = refl
 
-one_after_the_other : client_after nothing (Reply (Watching 1) ∷ Snapshot 1 view ∷ Patch 4 (Replace (codes "0" ∷ []) (list (items_of [])) ∷ []) ∷ []) ≡ holds 4 (list (items_of (list (items_of []) ∷ [])))
+one_after_the_other : client_after nothing (Reply (Watching 1) ∷ Snapshot 1 view
+    ∷ Patch 4 (Replace (codes "0" ∷ []) (list (items_of [])) ∷ []) ∷ [])
+    ≡ holds 4 (list (items_of (list (items_of []) ∷ [])))
 unfolding index_of
 one_after_the_other = refl
 

@@ -1,4 +1,5 @@
--- The effect of a text on a follower: a client that is never lost, since it refuses every text that would leave it lost.
+-- The effect of a text on a follower: a client that is never lost, since it refuses every text that
+-- would leave it lost.
 use Rattle.std.specs.Prelude.{◌≡◌, ℕ, List, Option, Some, None, option_map, Result, Ok, Err, nat_lt, if◌then◌else◌}
 use Rattle.relay_tree.specs.Document.{Document}
 use Rattle.relay_patch.specs.Patch.{free}
@@ -34,7 +35,8 @@ apply_fault (Err fault) = Some Apply
 
 abbrev pub patch_fault : ℕ → List Op → Option (ℕ × Document) → Option HearFault
 patch_fault rev ops None = Some NoView
-patch_fault rev ops (Some held) = if nat_lt held.0 rev then apply_fault (after held.1 ops free) else Some Order
+patch_fault rev ops (Some held) =
+    if nat_lt held.0 rev then apply_fault (after held.1 ops free) else Some Order
 
 abbrev pub message_fault : Option (ℕ × Document) → Message → Option HearFault
 message_fault held (message.Reply r) = None

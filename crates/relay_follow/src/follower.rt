@@ -2,7 +2,8 @@
 use relay_tree::Tree;
 use std::marker::Model;
 
-/// A client's view: nothing, or a revision and the view of that revision. Contracts see it as that option.
+/// A client's view: nothing, or a revision and the view of that revision. Contracts see it as that
+/// option.
 #[derive(Drop)]
 pub struct Follower {
     pub(crate) held: Option<(u64, Tree)>,
@@ -32,7 +33,8 @@ impl Follower {
         Follower { held: None }
     }
 
-    /// Creates a follower that holds the view of a revision, as a client does that resumes. Allocates nothing.
+    /// Creates a follower that holds the view of a revision, as a client does that resumes.
+    /// Allocates nothing.
     pub fn from_view(rev: u64, tree: Tree) -> Follower
         ensures { result ≡ Some (rev, tree) }
     {

@@ -19,15 +19,22 @@ changes_since-newest past = let none : past.newest - past.newest ≡ 0 = omega a
 -- the number of held revisions: one more, up to the limit
 pub held-with_revision : (changes : List Change) (past : Past)
     → length (with_revision changes past).changes ≡ min past.limit (length past.changes + 1)
-held-with_revision changes past = rw length-take (ap (min past.limit) (sym (add-one (length past.changes))))
+held-with_revision changes past =
+    rw length-take (ap (min past.limit) (sym (add-one (length past.changes))))
 
 -- a history with one more revision keeps the invariant
-pub with_revision-is_history : (changes : List Change) (past : Past) → past.newest < LAST_REVISION → IsHistory past
+pub with_revision-is_history : (changes : List Change) (past : Past) → past.newest < LAST_REVISION
+    → IsHistory past
     → IsHistory (with_revision changes past)
 with_revision-is_history changes past early is =
     let held = held-with_revision changes past in
     let made = is.made in
-    record { limited = is.limited; within = omega (arith, held); made = omega (arith, held, made); last = omega (arith, early) }
+    record {
+      limited = is.limited;
+      within = omega (arith, held);
+      made = omega (arith, held, made);
+      last = omega (arith, early);
+    }
 
 -- the newest revision's changes come last
 pub changes_since-with_revision : (rev : ℕ) (changes : List Change) (past : Past)
@@ -38,4 +45,5 @@ changes_since-with_revision rev changes past earlier reaches =
     let back = reaches.back in
     let count : past.newest + 1 - rev ≡ suc (past.newest - rev) = omega arith in
     let fits : suc (past.newest - rev) ≤ past.limit = omega arith in
-    rw count (ap in_order (take_shorter (suc (past.newest - rev)) past.limit (changes ∷ past.changes) fits))
+    rw count (ap in_order
+    (take_shorter (suc (past.newest - rev)) past.limit (changes ∷ past.changes) fits))

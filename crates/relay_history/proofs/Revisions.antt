@@ -4,7 +4,8 @@ use Rattle.std.proofs.lemmas.Grind.{common_steps}
 use Rattle.relay_patch.specs.declared.change.Change.{Change}
 use Rattle.relay_history.specs.History.{in_order}
 
-told_older : (revisions : List (List Change)) (n : ℕ) (oldest : List Change) → slice_get revisions n ≡ Some oldest
+told_older : (revisions : List (List Change)) (n : ℕ) (oldest : List Change)
+    → slice_get revisions n ≡ Some oldest
     → in_order (take (suc n) revisions) ≡ oldest ++ in_order (take n revisions)
 told_older [] n oldest is = cc
 told_older (newest ∷ older) zero oldest is =
@@ -19,7 +20,8 @@ told_oldest : (revisions : List (List Change)) (n : ℕ) (oldest : List Change) 
     → slice_get revisions (n - 1) ≡ Some oldest
     → in_order (take n revisions) ≡ oldest ++ in_order (take (n - 1) revisions)
 told_oldest revisions zero oldest some is = absurd (omega arith)
-told_oldest revisions (suc n) oldest some is = rw sub-one (told_older revisions n oldest (rw sub-one at is))
+told_oldest revisions (suc n) oldest some is =
+    rw sub-one (told_older revisions n oldest (rw sub-one at is))
 
 -- moving on from a finished revision to the next newer one leaves the remaining changes the same
 pub told_on : (told : List Change) (revisions : List (List Change)) (n : ℕ) (oldest : List Change)

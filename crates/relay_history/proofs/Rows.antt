@@ -5,7 +5,8 @@ use Rattle.relay_history.specs.History.{Past, begun, with_revision, oldest, chan
 
 module _ (a b c d e : List Change) where
   five : Past
-  five = with_revision e (with_revision d (with_revision c (with_revision b (with_revision a (begun 2 0)))))
+  five = with_revision e
+      (with_revision d (with_revision c (with_revision b (with_revision a (begun 2 0)))))
 
   oldest_is_3 : oldest five ≡ 3
   unfolding five

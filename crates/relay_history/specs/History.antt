@@ -4,14 +4,15 @@ use Rattle.std.specs.Coded.{Coded, code_by, coded×, coded_list, coded_ℕ}
 use Rattle.relay_patch.specs.declared.change.Change.{Change}
 use Rattle.relay_history.specs.declared.history.TheConstants.{MAX_REVISIONS, LAST_REVISION}
 
--- the newest revision, the most revisions that are held, and the changes of each held one, newest first
+-- the newest revision, the most revisions that are held, and the changes of each held one, newest
+-- first
 pub record Past : Type 0 where
   pub newest : ℕ
   pub limit : ℕ
   pub changes : List (List Change)
 
--- the invariant of a history: its limit is 1 to MAX_REVISIONS, it holds at most that many revisions and at most as many as there
--- are, and the newest is at most LAST_REVISION
+-- the invariant of a history: its limit is 1 to MAX_REVISIONS, it holds at most that many revisions
+-- and at most as many as there are, and the newest is at most LAST_REVISION
 pub record IsHistory (past : Past) : Type 0 where
   pub limited : (1 ≤ past.limit) × (past.limit ≤ MAX_REVISIONS)
   pub within : length past.changes ≤ past.limit
@@ -39,7 +40,8 @@ pub record Reaches (past : Past) (rev : ℕ) : Type 0 where
   pub back : oldest past ≤ rev
   pub made : rev ≤ past.newest
 
--- the changes of revisions, in the order in which they were made; the revisions are given newest first
+-- the changes of revisions, in the order in which they were made; the revisions are given newest
+-- first
 abbrev pub in_order : List (List Change) → List Change
 in_order [] = []
 in_order (newest ∷ older) = in_order older ++ newest

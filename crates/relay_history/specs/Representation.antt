@@ -1,4 +1,5 @@
--- The fields of a history, and of an iterator over the changes after a revision, as contracts see them.
+-- The fields of a history, and of an iterator over the changes after a revision, as contracts see
+-- them.
 use Rattle.std.specs.Prelude.{◌≡◌, ℕ, Option, Some, None, List, ◌-◌, ◌++◌, take, length}
 use Rattle.std.specs.List.{sum_by}
 use Rattle.relay_patch.specs.declared.change.Change.{Change}
@@ -11,7 +12,8 @@ use Rattle.relay_history.specs.declared.since.Since.TheInside as since
 abbrev pub past_of : history.Inside → Past
 past_of h = record { newest = h.newest; limit = h.revisions.capacity; changes = h.revisions.items }
 
--- the invariant of the fields: they are a history, and `weight` is the total weight of the held revisions
+-- the invariant of the fields: they are a history, and `weight` is the total weight of the held
+-- revisions
 pub record IsKept (h : history.Inside) : Type 0 where
   pub is : IsHistory (past_of h)
   pub weighs : h.weight ≡ sum_by revision_weight h.revisions.items

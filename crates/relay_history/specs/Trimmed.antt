@@ -9,8 +9,8 @@ use Rattle.relay_patch.specs.Weight.{changes_weight}
 use Rattle.relay_history.specs.History.{Past}
 use Rattle.relay_history.specs.declared.revision.TheConstants.{CHANGE_WEIGHT}
 
--- the weight of a revision: CHANGE_WEIGHT for each of its changes, and that of their paths and values; or MAX_COUNT if that is more,
--- so that the sum of all held ones fits in 64 bits
+-- the weight of a revision: CHANGE_WEIGHT for each of its changes, and that of their paths and
+-- values; or MAX_COUNT if that is more, so that the sum of all held ones fits in 64 bits
 abbrev pub revision_weight : List Change → ℕ
 revision_weight revision = min (CHANGE_WEIGHT * length revision + changes_weight revision) MAX_COUNT
 
@@ -22,7 +22,8 @@ history_weight past = sum_by revision_weight past.changes
 abbrev pub afforded : Budget → List (List Change) → List (List Change)
 afforded budget [] = []
 afforded budget (newest ∷ older) =
-    elim (paid (revision_weight newest) budget) [ Some left ↦ newest ∷ afforded left older | None ↦ [] ]
+    elim (paid (revision_weight newest) budget)
+    [ Some left ↦ newest ∷ afforded left older | None ↦ [] ]
 
 -- the history with only those revisions
 abbrev pub trimmed : Budget → Past → Past

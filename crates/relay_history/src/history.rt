@@ -1,8 +1,9 @@
-//! A ring buffer of the changes of the last revisions, allocated once, with a pointer for each. A new revision takes one place; if all
-//! are taken, it replaces the oldest revision. The newest revision is in front, so the revisions after any given one are always a prefix.
-//! The total weight of the held revisions is stored beside them, so trimming a history to a weight walks no change.
+//! A ring buffer of the changes of the last revisions, allocated once, with a pointer for each. A
+//! new revision takes one place; if all are taken, it replaces the oldest revision. The newest
+//! revision is in front, so the revisions after any given one are always a prefix. The total weight
+//! of the held revisions is stored beside them, so trimming a history to a weight walks no change.
 use crate::fault::HistoryFault;
-use crate::revision::{Revision, RevisionSlot, weight_of};
+use crate::revision::{ReservedRevision, Revision, weight_of};
 use crate::since::Since;
 use circular_buffer::HeapCircularBuffer;
 use relay_patch::Change;
@@ -16,8 +17,8 @@ pub const MAX_REVISIONS: u64 = 1_024;
 /// The last revision that a document can have, `2^53 - 1`.
 pub const LAST_REVISION: u64 = MAX_COUNT;
 
-/// The changes of a document's last revisions. Contracts see it as a `Past`: the newest revision, the most revisions that are held,
-/// and the changes of each held one.
+/// The changes of a document's last revisions. Contracts see it as a `Past`: the newest revision,
+/// the most revisions that are held, and the changes of each held one.
 #[derive(Drop)]
 pub struct History {
     newest: u64,
@@ -49,12 +50,14 @@ impl History {
     ghost use Rattle.relay_history.specs.Trimmed.{history_weight, trimmed};
     ghost use Rattle.relay_history.specs.Representation.{without_oldest};
 
-    /// Creates a history that holds no revision yet. Its newest revision is `start`, and it will hold at most `limit`. Allocates all the
-    /// memory that its ring of revisions needs. Returns `BadLimit` if `limit` is not 1 to [`MAX_REVISIONS`] or `start` is above
-    /// [`LAST_REVISION`], and `NoMemory` if memory runs out.
+    /// Creates a history that holds no revision yet. Its newest revision is `start`, and it will
+    /// hold at most `limit`. Allocates all the memory that its ring of revisions needs. Returns
+    /// `BadLimit` if `limit` is not 1 to [`MAX_REVISIONS`] or `start` is above [`LAST_REVISION`],
+    /// and `NoMemory` if memory runs out.
     pub fn new(alloc: Global, limit: u64, start: u64) -> Result<History, HistoryFault>
         ensures ok { IfOk result (λ history. history ≡ begun limit start) }
-        ensures bad_limit { IsErrOf result HistoryFault.BadLimit ↔ ((limit < 1) ⊎ (MAX_REVISIONS < limit) ⊎ (LAST_REVISION < start)) }
+        ensures bad_limit { IsErrOf result HistoryFault.BadLimit ↔
+            ((limit < 1) ⊎ (MAX_REVISIONS < limit) ⊎ (LAST_REVISION < start)) }
     {
         if limit < 1 || limit > MAX_REVISIONS || start > LAST_REVISION {
             return Err(HistoryFault::BadLimit);
@@ -67,22 +70,23 @@ impl History {
         })
     }
 
-    /// Adds the changes of the next revision, which are walked once, in the memory of a slot. If the limit of revisions is reached, the
-    /// oldest is forgotten. Allocates nothing.
+    /// Adds the changes of the next revision, which are walked once, in memory that was reserved.
+    /// If the limit of revisions is reached, the oldest is forgotten. Allocates nothing.
     #[tactic(auto, using(crate::proofs::Weights::one_more_fits, crate::proofs::Weights::one_within_more, crate::proofs::Weights::kept_with_revision))]
-    pub fn push(&mut self, slot: RevisionSlot, changes: Vec<Change>)
+    pub fn push(&mut self, reserved: ReservedRevision, changes: Vec<Change>)
         requires { self.old.newest < LAST_REVISION }
         ensures { self.new ≡ with_revision changes.items self.old }
     {
-        let revision = slot.fill(changes);
+        let revision = reserved.fill(changes);
         self.weight += revision.weight();
         let oldest = self.revisions.push_front(revision);
         self.weight -= weight_of(oldest);
         self.newest += 1;
     }
 
-    /// Forgets the oldest revisions until the rest together weigh no more than the budget; none if the budget is
-    /// [`Budget::Unbounded`]. Walks no change, so the cost is that of dropping what is forgotten. Allocates nothing.
+    /// Forgets the oldest revisions until the rest together weigh no more than the budget; none if
+    /// the budget is [`Budget::Unbounded`]. Walks no change, so the cost is that of dropping what
+    /// is forgotten. Allocates nothing.
     #[tactic(auto, using(crate::proofs::Trims::trimmed_all, crate::proofs::Trims::trimmed_without_oldest))]
     pub fn trim(&mut self, budget: Budget)
         ensures { self.new ≡ trimmed budget self.old }
@@ -123,8 +127,8 @@ impl History {
         self.newest
     }
 
-    /// Returns the oldest revision after which all changes are held, the least for which [`History::since`] returns `Some`. Allocates
-    /// nothing.
+    /// Returns the oldest revision after which all changes are held, the least for which
+    /// [`History::since`] returns `Some`. Allocates nothing.
     pub fn oldest(&self) -> u64
         ensures kept { IsHistory self.now }
         ensures oldest { result ≡ oldest self.now }
@@ -132,8 +136,20 @@ impl History {
         self.newest - self.revisions.len() as u64
     }
 
-    /// Returns the changes after a revision, in order: those of `rev + 1` to the newest. Returns `None` if `rev` is above the newest
-    /// revision or below [`History::oldest`]. Allocates nothing.
+    /// Returns the changes after a revision, in order: those of `rev + 1` to the newest. Returns
+    /// `None` if `rev` is above the newest revision or below [`History::oldest`]. Allocates
+    /// nothing.
+    ///
+    /// ```
+    /// let mut history = History::new(alloc, 1, 5).ok()?;
+    /// history.push(ReservedRevision::new(alloc).ok()?, Vec::new(alloc));
+    /// let mut changes = Vec::new(alloc);
+    /// changes.push(Change::DropItem { path: Pointer::read(alloc, "/0", 64).ok()? }).ok()?;
+    /// history.push(ReservedRevision::new(alloc).ok()?, changes);
+    /// // The newest revision is 7. One is held, so what led from 5 to 6 is forgotten.
+    /// let missed: Vec<&Change> = history.since(6)?.collect(alloc).ok()?;
+    /// assert!(rt; missed.len() == 1 && history.since(5).is_none());
+    /// ```
     pub fn since(&self, rev: u64) -> Option<Since<'_>>
         ensures reaches { IsSome result ↔ Reaches self.now rev }
         ensures changes { IfSome result (λ changes. changes ≡ changes_since rev self.now) }

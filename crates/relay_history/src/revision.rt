@@ -1,4 +1,5 @@
-//! A revision: its changes and their weight, so that a history adds and subtracts the weight without a walk.
+//! A revision: its changes and their weight, so that a history adds and subtracts the weight
+//! without a walk.
 ghost use Rattle.std.specs.Prelude.{◌≡◌};
 ghost use Rattle.relay_history.specs.Trimmed.{revision_weight};
 ghost use Rattle.relay_history.specs.Representation.{weight_of};
@@ -12,20 +13,21 @@ use std::marker::Model;
 /// the number of the changes that are held.
 pub const CHANGE_WEIGHT: u64 = 64;
 
-/// The memory for a revision. It is allocated before a patch is applied, so that keeping its changes needs none.
+/// The memory for a revision. It is allocated before a patch is applied, so that keeping its
+/// changes needs none.
 #[derive(Drop)]
-pub struct RevisionSlot {
+pub struct ReservedRevision {
     weighed: Box<Weighed>,
 }
 
-impl RevisionSlot {
+impl ReservedRevision {
     /// Allocates the memory.
-    pub fn new(alloc: Global) -> Result<RevisionSlot, AllocError> {
+    pub fn new(alloc: Global) -> Result<ReservedRevision, AllocError> {
         let nothing = Weighed {
             changes: Vec::new(alloc),
             weight: 0,
         };
-        Ok(RevisionSlot {
+        Ok(ReservedRevision {
             weighed: Box::new(alloc, nothing)?,
         })
     }
@@ -48,8 +50,8 @@ struct Weighed {
     weight: u64,
 }
 
-/// The changes of one revision, in an allocation of its own: so the ring of a history has room for pointers alone. Contracts see it as
-/// the list of its changes.
+/// The changes of one revision, in an allocation of its own: so the ring of a history has room for
+/// pointers alone. Contracts see it as the list of its changes.
 #[derive(Drop)]
 pub(crate) struct Revision {
     weighed: Box<Weighed>,
@@ -68,7 +70,8 @@ impl Model for Revision {
 
     ghost view = { λ r. r.weighed.value.changes.items };
 
-    ghost invariant = { λ r. r.weighed.value.weight ≡ revision_weight r.weighed.value.changes.items };
+    ghost invariant = { λ r.
+        r.weighed.value.weight ≡ revision_weight r.weighed.value.changes.items };
 }
 
 impl Revision {
@@ -97,8 +100,8 @@ pub(crate) fn weight_of(revision: Option<Revision>) -> u64
     }
 }
 
-/// Returns what changes weigh in a history: [`CHANGE_WEIGHT`] for each, and their own weight. If that
-/// is above [`MAX_COUNT`], returns [`MAX_COUNT`].
+/// Returns what changes weigh in a history: [`CHANGE_WEIGHT`] for each, and their own weight. If
+/// that is above [`MAX_COUNT`], returns [`MAX_COUNT`].
 fn weigh(changes: &[Change]) -> u64
     ensures { result ≡ revision_weight changes.now }
 {

@@ -4,8 +4,9 @@ use circular_buffer::HeapCircularBuffer;
 use relay_patch::Change;
 use std::marker::Model;
 
-/// An iterator over the changes after a revision, in the order in which they were made. Contracts see it as the list of the changes
-/// not returned yet. `since.collect(alloc)?` returns them all at once, as a `Vec<&Change>`.
+/// An iterator over the changes after a revision, in the order in which they were made. Contracts
+/// see it as the list of the changes not returned yet. `since.collect(alloc)?` returns them all at
+/// once, as a `Vec<&Change>`.
 #[derive(Drop)]
 pub struct Since<'a> {
     /// The changes of the current revision that were not returned yet.

@@ -3,7 +3,7 @@ use Rattle.std.proofs.Common.{◌≡◌, ℕ, zero, suc, ◌+◌, ◌≤◌, ◌
 use Rattle.std.specs.Option.{option_map_or}
 use Rattle.relay_patch.specs.declared.op.Op.{Op}
 use Rattle.relay_pointer.specs.Weight.{path_weight}
-use Rattle.relay_proto.proofs.Counts.{IsRequest, IsRefusal, request_counts, refusal_counts}
+use Rattle.relay_proto.proofs.Counts.{IsRefusal, request_counts, refusal_counts}
 use Rattle.relay_proto.specs.Request.{request_of_text}
 use Rattle.relay_proto.specs.declared.access.Access.{Access}
 use Rattle.relay_proto.specs.declared.refusal.Refusal.{Refusal}
@@ -61,7 +61,8 @@ permitted_sent access (Ok (Resume id e rev v)) request h = h
 permitted_sent access (Ok (Unwatch id)) request h = h
 permitted_sent access (Err r) request h = h
 
-pub admitted_sent : (budget : Budget) (access : Access) (r : Result Request Refusal) (request : Request)
+pub admitted_sent : (budget : Budget) (access : Access) (r : Result Request Refusal)
+    (request : Request)
     → admitted budget access r ≡ Ok request → (permitted access r ≡ Ok request) × (r ≡ Ok request)
 admitted_sent budget access r request h =
     let may = afforded budget (permitted access r) request h in
@@ -73,7 +74,8 @@ IsOther (Edit id base patch) = ⊥
 IsOther (Will id patch) = ⊥
 IsOther request = Unit {0}
 
-other_permitted : (access : Access) (request : Request) → IsOther request → permitted access (Ok request) ≡ Ok request
+other_permitted : (access : Access) (request : Request) → IsOther request
+    → permitted access (Ok request) ≡ Ok request
 other_permitted access (Edit id base patch) other = absurd other
 other_permitted access (Will id patch) other = absurd other
 other_permitted access (Watch id v) other = refl
@@ -81,27 +83,33 @@ other_permitted access (Resume id e rev v) other = refl
 other_permitted access (Unwatch id) other = refl
 
 -- one that needs none was sent as it is, and its view is affordable
-pub other_sent : (budget : Budget) (access : Access) (r : Result Request Refusal) (request : Request) → IsOther request
+pub other_sent : (budget : Budget) (access : Access) (r : Result Request Refusal)
+    (request : Request) → IsOther request
     → admitted budget access r ≡ Ok request → (r ≡ Ok request) × (affordable budget r ≡ Ok request)
 other_sent budget access r request other h =
     let sent = (admitted_sent budget access r request h).1 in
     let may : permitted access r ≡ r = rw sent (other_permitted access request other) in
     (sent, ap (affordable budget) (sym may) ∙ h)
 
--- A request that is refused adds no document, leaves no will and begins no watching, and its reply has
--- counts.
+-- A request that is refused adds no document, leaves no will and begins no watching, and its reply
+-- has counts.
 
-pub refused_adds : (budget : Budget) (access : Access) (ds : List Document) (r : Result Request Refusal) (why : Refusal) → admitted budget access r ≡ Err why
+pub refused_adds : (budget : Budget) (access : Access) (ds : List Document)
+    (r : Result Request Refusal) (why : Refusal) → admitted budget access r ≡ Err why
     → requested ds (permitted access r) ≡ None
 refused_adds budget access ds (Ok (Edit id base patch)) why h = go (may_edit access) h
   where
-    go : (b : Bool) → affordable budget (if b then Ok (Edit id base patch) else Err (refusal id word.ReadOnly None)) ≡ Err why
-        → requested ds (if b then Ok (Edit id base patch) else Err (refusal id word.ReadOnly None)) ≡ None
+    go : (b : Bool) → affordable budget (if b then Ok (Edit id base patch)
+        else Err (refusal id word.ReadOnly None)) ≡ Err why
+        → requested ds (if b then Ok (Edit id base patch) else Err (refusal id word.ReadOnly None))
+        ≡ None
     go true h = absurd (cc h)
     go false h = refl
 refused_adds budget access ds (Ok (Will id patch)) why h = will_adds (may_edit access)
   where
-    will_adds : (b : Bool) → requested ds (if b then Ok (Will id patch) else Err (refusal id word.ReadOnly None)) ≡ None
+    will_adds : (b : Bool)
+        → requested ds (if b then Ok (Will id patch) else Err (refusal id word.ReadOnly None))
+        ≡ None
     will_adds true = refl
     will_adds false = refl
 refused_adds budget access ds (Ok (Watch id v)) why h = refl
@@ -109,17 +117,22 @@ refused_adds budget access ds (Ok (Resume id e rev v)) why h = refl
 refused_adds budget access ds (Ok (Unwatch id)) why h = refl
 refused_adds budget access ds (Err r) why h = refl
 
-pub refused_wills : (budget : Budget) (access : Access) (was : List Op) (r : Result Request Refusal) (why : Refusal)
+pub refused_wills : (budget : Budget) (access : Access) (was : List Op)
+    (r : Result Request Refusal) (why : Refusal)
     → admitted budget access r ≡ Err why → will_after was (permitted access r) ≡ was
 refused_wills budget access was (Ok (Will id patch)) why h = go (may_edit access) h
   where
-    go : (b : Bool) → affordable budget (if b then Ok (Will id patch) else Err (refusal id word.ReadOnly None)) ≡ Err why
-        → will_after was (if b then Ok (Will id patch) else Err (refusal id word.ReadOnly None)) ≡ was
+    go : (b : Bool) → affordable budget (if b then Ok (Will id patch)
+        else Err (refusal id word.ReadOnly None)) ≡ Err why
+        → will_after was (if b then Ok (Will id patch) else Err (refusal id word.ReadOnly None))
+        ≡ was
     go true h = absurd (cc h)
     go false h = refl
 refused_wills budget access was (Ok (Edit id base patch)) why h = edit_wills (may_edit access)
   where
-    edit_wills : (b : Bool) → will_after was (if b then Ok (Edit id base patch) else Err (refusal id word.ReadOnly None)) ≡ was
+    edit_wills : (b : Bool)
+        → will_after was (if b then Ok (Edit id base patch)
+        else Err (refusal id word.ReadOnly None)) ≡ was
     edit_wills true = refl
     edit_wills false = refl
 refused_wills budget access was (Ok (Watch id v)) why h = refl
@@ -127,7 +140,8 @@ refused_wills budget access was (Ok (Resume id e rev v)) why h = refl
 refused_wills budget access was (Ok (Unwatch id)) why h = refl
 refused_wills budget access was (Err r) why h = refl
 
-pub refused_asks : (budget : Budget) (access : Access) (epoch : ℕ) (ds : List Document) (was : Option Watching) (r : Result Request Refusal) (why : Refusal)
+pub refused_asks : (budget : Budget) (access : Access) (epoch : ℕ) (ds : List Document)
+    (was : Option Watching) (r : Result Request Refusal) (why : Refusal)
     → admitted budget access r ≡ Err why → asked epoch ds was (affordable budget r) ≡ was
 refused_asks budget access epoch ds was (Ok (Edit id base patch)) why h = refl
 refused_asks budget access epoch ds was (Ok (Will id patch)) why h = refl
@@ -139,20 +153,27 @@ refused_asks budget access epoch ds was (Err r) why h = refl
 -- The first slot that is not paid, found slot by slot.
 
 -- the slot at a place, and those behind it
-slot_at : (v : View) (at : ℕ) (p : Path) → Some p ≡ option_map (λ s. s.pointer) (slice_get v at) → (s : Slot) × (s.pointer ≡ p) × (drop at v ≡ s ∷ drop (at + 1) v)
+slot_at : (v : View) (at : ℕ) (p : Path) → Some p ≡ option_map (λ s. s.pointer) (slice_get v at)
+    → (s : Slot) × (s.pointer ≡ p) × (drop at v ≡ s ∷ drop (at + 1) v)
 slot_at [] at p is = absurd (cc is)
 slot_at (s ∷ v) zero p is = let same : s.pointer ≡ p = cc in (s, same, refl)
-slot_at (s ∷ v) (suc at) p is = let later = slot_at v at p is in let next : suc at + 1 ≡ suc (at + 1) = omega arith in (later.0, later.1, rw next later.2)
+slot_at (s ∷ v) (suc at) p is =
+    let later = slot_at v at p is in let next : suc at + 1 ≡ suc (at + 1) = omega arith in
+    (later.0, later.1, rw next later.2)
 
-pub unpaid_here : (v : View) (at : ℕ) (left : Budget) (p : Path) → Some p ≡ option_map (λ s. s.pointer) (slice_get v at) → None ≡ paid (path_weight p) left
+pub unpaid_here : (v : View) (at : ℕ) (left : Budget) (p : Path)
+    → Some p ≡ option_map (λ s. s.pointer) (slice_get v at) → None ≡ paid (path_weight p) left
     → unpaid_slot at left (drop at v) ≡ Some at
 unpaid_here v at left p is none = let slot = slot_at v at p is in rw (slot.2, slot.1, ← none) refl
 
-pub unpaid_later : (v : View) (at : ℕ) (left rest : Budget) (p : Path) → Some p ≡ option_map (λ s. s.pointer) (slice_get v at) → Some rest ≡ paid (path_weight p) left
+pub unpaid_later : (v : View) (at : ℕ) (left rest : Budget) (p : Path)
+    → Some p ≡ option_map (λ s. s.pointer) (slice_get v at) → Some rest ≡ paid (path_weight p) left
     → unpaid_slot at left (drop at v) ≡ unpaid_slot (at + 1) rest (drop (at + 1) v)
-unpaid_later v at left rest p is some = let slot = slot_at v at p is in rw (slot.2, slot.1, ← some) refl
+unpaid_later v at left rest p is some =
+    let slot = slot_at v at p is in rw (slot.2, slot.1, ← some) refl
 
-pub all_paid : (v : View) (at : ℕ) (left : Budget) → length v ≤ at → unpaid_slot at left (drop at v) ≡ None
+pub all_paid : (v : View) (at : ℕ) (left : Budget) → length v ≤ at
+    → unpaid_slot at left (drop at v) ≡ None
 all_paid v at left past = rw (drop_past v at past) refl
   where
     drop_past : (v : View) (at : ℕ) → length v ≤ at → drop at v ≡ []
@@ -162,21 +183,26 @@ all_paid v at left past = rw (drop_past v at past) refl
     drop_past (s ∷ v) (suc at) h = drop_past v at (omega (arith, h))
 
 -- the place of a slot that is not paid is one of the view's
-unpaid_head : (n k at : ℕ) (o : Option Budget) (rest : Budget → Option ℕ) → ((left : Budget) → rest left ≡ Some at → at < n + 1 + k)
+unpaid_head : (n k at : ℕ) (o : Option Budget) (rest : Budget → Option ℕ)
+    → ((left : Budget) → rest left ≡ Some at → at < n + 1 + k)
     → option_map_or rest o (Some n) ≡ Some at → at < n + 1 + k
 unpaid_head n k at None rest later h = let same : n ≡ at = cc in omega (arith, same)
 unpaid_head n k at (Some left) rest later h = later left h
 
-unpaid_below : (n : ℕ) (budget : Budget) (v : View) (at : ℕ) → unpaid_slot n budget v ≡ Some at → at < n + length v
+unpaid_below : (n : ℕ) (budget : Budget) (v : View) (at : ℕ) → unpaid_slot n budget v ≡ Some at
+    → at < n + length v
 unpaid_below n budget [] at h = absurd (cc h)
 unpaid_below n budget (s ∷ v) at h =
-    let below = unpaid_head n (length v) at (paid (path_weight s.pointer) budget) (λ left. unpaid_slot (n + 1) left v) (λ left is. unpaid_below (n + 1) left v at is) h in
+    let below = unpaid_head n (length v) at (paid (path_weight s.pointer) budget) (λ left.
+    unpaid_slot (n + 1) left v) (λ left is. unpaid_below (n + 1) left v at is) h in
     omega (arith, below)
 
-pub refused_counts : (budget : Budget) (access : Access) (text : List ℕ) (why : Refusal) → admitted budget access (request_of_text text) ≡ Err why → IsRefusal why
+pub refused_counts : (budget : Budget) (access : Access) (text : List ℕ) (why : Refusal)
+    → admitted budget access (request_of_text text) ≡ Err why → IsRefusal why
 refused_counts budget access text why h = go (request_of_text text) refl h
   where
-    slot : (o : Option ℕ) (id : ℕ) (v : View) (request : Request) → IsCount id → length v ≤ MAX_SLOTS → unpaid_slot 0 budget v ≡ o
+    slot : (o : Option ℕ) (id : ℕ) (v : View) (request : Request) → IsCount id
+        → length v ≤ MAX_SLOTS → unpaid_slot 0 budget v ≡ o
         → unless_unpaid o id request ≡ Err why → IsRefusal why
     slot None id v request count few is h = absurd (cc h)
     slot (Some at) id v request count few is h =
@@ -184,14 +210,19 @@ refused_counts budget access text why h = go (request_of_text text) refl h
         let same : refusal id word.TooHeavy (Some at) ≡ why = cc in
         subst IsRefusal same (count, omega (arith, below, few), tt)
 
-    may : (b : Bool) (id : ℕ) (request : Request) → IsCount id → affordable budget (Ok request) ≡ Ok request
-        → affordable budget (if b then Ok request else Err (refusal id word.ReadOnly None)) ≡ Err why → IsRefusal why
+    may : (b : Bool) (id : ℕ) (request : Request) → IsCount id
+        → affordable budget (Ok request) ≡ Ok request
+        → affordable budget (if b then Ok request else Err (refusal id word.ReadOnly None))
+        ≡ Err why → IsRefusal why
     may true id request count free h = absurd (cc (free, h))
-    may false id request count free h = let same : refusal id word.ReadOnly None ≡ why = cc in subst IsRefusal same (count, tt, tt)
+    may false id request count free h =
+        let same : refusal id word.ReadOnly None ≡ why = cc in subst IsRefusal same (count, tt, tt)
 
-    go : (r : Result Request Refusal) → request_of_text text ≡ r → admitted budget access r ≡ Err why → IsRefusal why
+    go : (r : Result Request Refusal) → request_of_text text ≡ r
+        → admitted budget access r ≡ Err why → IsRefusal why
     go (Ok (Edit id base patch)) read h =
-        may (may_edit access) id (Edit id base patch) (request_counts text (Edit id base patch) read).0 refl h
+        may (may_edit access) id (Edit id base patch)
+        (request_counts text (Edit id base patch) read).0 refl h
     go (Ok (Will id patch)) read h =
         may (may_edit access) id (Will id patch) (request_counts text (Will id patch) read).0 refl h
     go (Ok (Watch id v)) read h =

@@ -11,7 +11,8 @@ by_number P s t same other =
     ]
 
 -- cases on whether there is a value
-pub by_finding : {X : Type 0} (P : Type 0) (o : Option X) → (o ≡ None → P) → ((x : X) → o ≡ Some x → P) → P
+pub by_finding : {X : Type 0} (P : Type 0) (o : Option X) → (o ≡ None → P)
+    → ((x : X) → o ≡ Some x → P) → P
 by_finding P None none some = none refl
 by_finding P (Some x) none some = some x refl
 

@@ -1,4 +1,5 @@
--- Edits: the log and the room agree on a patch, and a watcher that is notified of an accepted edit stands for the log.
+-- Edits: the log and the room agree on a patch, and a watcher that is notified of an accepted edit
+-- stands for the log.
 use Rattle.std.proofs.Common.{◌≡◌, ℕ, ◌-◌, Bool, true, false, List, [], ◌∷◌, ◌++◌, length, Option, Some, None, refl, sym, ◌∙◌, ap, arith}
 use Rattle.std.specs.Result.{result_ok}
 use Rattle.relay_patch.specs.declared.change.Change.{Change}
@@ -18,32 +19,65 @@ use Rattle.relay_hub.proofs.Notified.{IsNotified}
 use Rattle.relay_hub.proofs.Waiting.{outbox_folded, outbox_notified}
 
 -- the log and the room agree on a patch
-pub same_edit : {from : ℕ} (most : HubConfig) (ds : List Document) (room : Room) (base : Option ℕ) (patch : List Op) → RoomStands most from ds room → next_document ds base patch ≡ result_ok (edited room base patch)
+pub same_edit : {from : ℕ} (most : HubConfig) (ds : List Document) (room : Room) (base : Option ℕ)
+    (patch : List Op) → RoomStands most from ds room
+    → next_document ds base patch ≡ result_ok (edited room base patch)
 same_edit most ds room base patch h =
-    let last : length ds - 1 ≡ revision room = omega (arith, h.made) in
-    ap (λ n. result_ok (edited_at n (present_of ds) base patch)) last ∙ ap (λ now. result_ok (edited_at (revision room) now base patch)) (sym h.document)
+    let last : length ds - 1 ≡ revision room = omega (arith, h.numbered) in
+    ap (λ n. result_ok (edited_at n (present_of ds) base patch)) last
+    ∙ ap (λ now. result_ok (edited_at (revision room) now base patch)) (sym h.document)
 
 -- Notifying.
 
 -- the room had some documents and has one more, of which its watchers are notified
-module _ {from : ℕ} (most : HubConfig) (k : ℕ) (ds : List Document) (d : Document) (room next : Room) (changes : List Change) (was : RoomStands most from ds room) (is : RoomStands most from (ds ++ d ∷ []) next) where
-  notified_view : (allowance : Allowance) (short : Bool) (x y : Session) (w : Watching) → NotifiedView room.document changes next allowance w.view short x y → OutboxStands k x
-      → WatchStands ds room x (Some w) → ((y.access ≡ x.access) × (y.will ≡ x.will)) × OutboxStands k y × WatchStands (ds ++ d ∷ []) next y (Some w)
-  notified_view allowance true x y w notified contents watch = rw notified.1 ((refl, refl), outbox_folded k x x.view contents, (watch.0, folded_follows most ds d w room next was is x.outbox watch.1))
+module _ {from : ℕ} (most : HubConfig) (k : ℕ) (ds : List Document) (d : Document)
+    (room next : Room) (changes : List Change) (was : RoomStands most from ds room)
+    (is : RoomStands most from (ds ++ d ∷ []) next) where
+  notified_view : (allowance : Allowance) (short : Bool) (x y : Session) (w : Watching)
+      → NotifiedView room.document changes next allowance w.view short x y → OutboxStands k x
+      → WatchStands ds room x (Some w)
+      → ((y.access ≡ x.access) × (y.will ≡ x.will)) × OutboxStands k y
+      × WatchStands (ds ++ d ∷ []) next y (Some w)
+  notified_view allowance true x y w notified contents watch =
+      rw notified.1 (
+        (refl, refl),
+        outbox_folded k x x.view contents,
+        (watch.0, folded_follows most ds d w room next was is x.outbox watch.1),
+      )
   notified_view allowance false x y w notified contents watch =
       let up = telling_within allowance x.budget changes next w.view in
-      rw notified.0 ((refl, refl), outbox_notified k (revision next) up x is.is.history.last notified.2 contents, (watch.0, notified_follows most ds d w room next was is x.budget x.outbox up notified.1 watch.1))
+      rw notified.0 (
+        (refl, refl),
+        outbox_notified k (revision next) up x is.is.history.last notified.2 contents,
+        (
+          watch.0,
+          notified_follows most ds d w room next was is x.budget x.outbox up notified.1
+              watch.1,
+        ),
+      )
 
-  notified_stands : (allowance : Allowance) (v : Option View) (short : Bool) (x y : Session) (w : Option Watching) → x.view ≡ v → NotifiedAs room.document changes next allowance v short x y
-      → OutboxStands k x → WatchStands ds room x w → ((y.access ≡ x.access) × (y.will ≡ x.will)) × OutboxStands k y × WatchStands (ds ++ d ∷ []) next y w
-  notified_stands allowance (Some v) short x y (Some w) e notified contents watch = let same : v ≡ w.view = cc in notified_view allowance short x y w (rw same at notified) contents watch
-  notified_stands allowance None short x y None e notified contents watch = rw notified.0 ((refl, refl), contents, watch)
+  notified_stands : (allowance : Allowance) (v : Option View) (short : Bool) (x y : Session)
+      (w : Option Watching) → x.view ≡ v
+      → NotifiedAs room.document changes next allowance v short x y
+      → OutboxStands k x → WatchStands ds room x w
+      → ((y.access ≡ x.access) × (y.will ≡ x.will)) × OutboxStands k y
+      × WatchStands (ds ++ d ∷ []) next y w
+  notified_stands allowance (Some v) short x y (Some w) e notified contents watch =
+      let same : v ≡ w.view =
+      cc in notified_view allowance short x y w (rw same at notified) contents watch
+  notified_stands allowance None short x y None e notified contents watch =
+      rw notified.0 ((refl, refl), contents, watch)
   notified_stands allowance _ short x y _ e notified contents watch = absurd (cc (e, watch.0))
 
-  pub notified_session : (before later : List ℕ → List Document) (name : List ℕ) (o p : Option Session) (there : Option Place) (w : Option Watching) → before name ≡ ds → later name ≡ ds ++ d ∷ []
-      → IsNotified room.document changes next o p → SessionStands k before name room o there w → SessionStands k later name next p there w
+  pub notified_session : (before later : List ℕ
+      → List Document) (name : List ℕ) (o p : Option Session) (there : Option Place)
+      (w : Option Watching) → before name ≡ ds → later name ≡ ds ++ d ∷ []
+      → IsNotified room.document changes next o p → SessionStands k before name room o there w
+      → SessionStands k later name next p there w
   notified_session before later name (Some x) (Some y) there w had has notified h =
-      let s = notified_stands notified.0 x.view notified.1 x y w refl notified.2 h.1 (rw had at h.2) in
+      let s =
+      notified_stands notified.0 x.view notified.1 x y w refl notified.2 h.1
+      (rw had at h.2) in
       (rw (s.0.0, s.0.1) h.0, s.1, rw has s.2)
   notified_session before later name None None there w had has notified h = h
   notified_session before later name _ _ there w had has notified h = absurd notified

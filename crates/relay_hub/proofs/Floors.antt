@@ -1,18 +1,20 @@
 -- The revision at which a new room begins.
-use Rattle.std.proofs.Common.{◌≡◌, ℕ, ◌≤◌, Bool, true, false, List, Option, Some, None, refl, ◌∙◌, arith, max, is_some, option_and_then, slice_get}
+use Rattle.std.proofs.Common.{◌≡◌, ℕ, ◌≤◌, false, List, Option, Some, None, refl, arith, max, is_some, option_and_then, slice_get}
 use Rattle.relay_tree.specs.declared.count.TheConstants.{MAX_COUNT}
 use Rattle.relay_hub.specs.State.{RoomSessions, State, vacant_in, above, floor_over}
 use Rattle.relay_hub.specs.Step.{floor_after}
 use Rattle.relay_hub.proofs.Rooms.{above_count, vacant}
 
 -- it stays a count, since a room that makes place has a revision left
-pub floor_count : (hub : State) (at : Option ℕ) → hub.floor ≤ MAX_COUNT → floor_after at hub ≤ MAX_COUNT
+pub floor_count : (hub : State) (at : Option ℕ) → hub.floor ≤ MAX_COUNT
+    → floor_after at hub ≤ MAX_COUNT
 floor_count hub (Some i) count = count
 floor_count hub None count = go (vacant_in hub) refl
   where
-    go : (o : Option ℕ) → vacant_in hub ≡ o → floor_over hub.floor (option_and_then (slice_get hub.rooms) o) ≤ MAX_COUNT
+    go : (o : Option ℕ) → vacant_in hub ≡ o
+        → floor_over hub.floor (option_and_then (slice_get hub.rooms) o) ≤ MAX_COUNT
     go (Some i) is =
-        let v = vacant hub.made.rooms hub.wills hub.rooms i is in
+        let v = vacant hub.config.rooms hub.wills hub.rooms i is in
         rw v.there (omega (arith, count, above_count v.room_sessions v.left))
     go None is = count
 
@@ -26,7 +28,8 @@ floor_rises hub None = over (option_and_then (slice_get hub.rooms) (vacant_in hu
     over None = omega arith
 
 -- above the room that makes place
-pub floor_is : (hub : State) (at : Option ℕ) (i : ℕ) (name : List ℕ) (g : RoomSessions) → is_some at ≡ false → vacant_in hub ≡ Some i
+pub floor_is : (hub : State) (at : Option ℕ) (i : ℕ) (name : List ℕ) (g : RoomSessions)
+    → is_some at ≡ false → vacant_in hub ≡ Some i
     → slice_get hub.rooms i ≡ Some (name, g) → floor_after at hub ≡ max hub.floor (above g)
 floor_is hub (Some n) i name g other is there = absurd (cc other)
 floor_is hub None i name g other is there = rw (is, there) refl

@@ -6,36 +6,47 @@ use Rattle.relay_patch.specs.declared.op.Op.{Op}
 use Rattle.relay_proto.specs.declared.reply.Reply.{Reply}
 use Rattle.relay_hub.specs.Session.{patches_weight}
 
-pub one_more : (ps : List (ℕ × List Op)) (p : ℕ × List Op) → patches_weight (ps ++ p ∷ []) ≡ patches_weight ps + ops_weight p.1
+pub one_more : (ps : List (ℕ × List Op)) (p : ℕ × List Op)
+    → patches_weight (ps ++ p ∷ []) ≡ patches_weight ps + ops_weight p.1
 one_more [] p = omega arith
 one_more (q ∷ ps) p = let ih = one_more ps p in omega (arith, ih)
 
 -- a front that is no patch weighs nothing
-after_other : (o : Contents Reply (ℕ × List Op)) → ((p : ℕ × List Op) → front_of o ≢ patch p) → patches_weight (without_front o).patches ≡ patches_weight o.patches
+after_other : (o : Contents Reply (ℕ × List Op)) → ((p : ℕ × List Op) → front_of o ≢ patch p)
+    → patches_weight (without_front o).patches ≡ patches_weight o.patches
 after_other o other = go o.replies o.patches o.due other
   where
-    go : (replies : List Reply) (patches : List (ℕ × List Op)) (due : Bool) → ((p : ℕ × List Op) → first_of replies patches due ≢ patch p)
-        → patches_weight (rest_of replies patches due o.max_waiting_patches).patches ≡ patches_weight patches
+    go : (replies : List Reply) (patches : List (ℕ × List Op)) (due : Bool)
+        → ((p : ℕ × List Op) → first_of replies patches due ≢ patch p)
+        → patches_weight (rest_of replies patches due o.max_waiting_patches).patches
+        ≡ patches_weight patches
     go (a ∷ replies) patches due other = refl
     go [] (q ∷ patches) due other = absurd (other q refl)
     go [] [] due other = refl
 
-pub after_reply : (o : Contents Reply (ℕ × List Op)) (r : Reply) → front_of o ≡ reply r → patches_weight (without_front o).patches ≡ patches_weight o.patches
+pub after_reply : (o : Contents Reply (ℕ × List Op)) (r : Reply) → front_of o ≡ reply r
+    → patches_weight (without_front o).patches ≡ patches_weight o.patches
 after_reply o r h = after_other o (λ p k. absurd (cc (h, k)))
 
-pub after_snapshot : (o : Contents Reply (ℕ × List Op)) → front_of o ≡ snapshot → patches_weight (without_front o).patches ≡ patches_weight o.patches
+pub after_snapshot : (o : Contents Reply (ℕ × List Op)) → front_of o ≡ snapshot
+    → patches_weight (without_front o).patches ≡ patches_weight o.patches
 after_snapshot o h = after_other o (λ p k. absurd (cc (h, k)))
 
-pub after_nothing : (o : Contents Reply (ℕ × List Op)) → front_of o ≡ nothing → patches_weight (without_front o).patches ≡ patches_weight o.patches
+pub after_nothing : (o : Contents Reply (ℕ × List Op)) → front_of o ≡ nothing
+    → patches_weight (without_front o).patches ≡ patches_weight o.patches
 after_nothing o h = after_other o (λ p k. absurd (cc (h, k)))
 
 pub after_patch : (o : Contents Reply (ℕ × List Op)) (p : ℕ × List Op) → front_of o ≡ patch p
     → ops_weight p.1 + patches_weight (without_front o).patches ≡ patches_weight o.patches
 after_patch o p h = go o.replies o.patches o.due h
   where
-    go : (replies : List Reply) (patches : List (ℕ × List Op)) (due : Bool) → first_of replies patches due ≡ patch p
-        → ops_weight p.1 + patches_weight (rest_of replies patches due o.max_waiting_patches).patches ≡ patches_weight patches
+    go : (replies : List Reply) (patches : List (ℕ × List Op)) (due : Bool)
+        → first_of replies patches due ≡ patch p
+        → ops_weight p.1 + patches_weight
+        (rest_of replies patches due o.max_waiting_patches).patches ≡ patches_weight patches
     go (a ∷ replies) patches due h = absurd cc
-    go [] (q ∷ patches) due h = let same : q ≡ p = cc in ap (λ (x : ℕ × List Op). ops_weight x.1 + patches_weight patches) (sym same)
+    go [] (q ∷ patches) due h =
+        let same : q ≡ p = cc in
+        ap (λ (x : ℕ × List Op). ops_weight x.1 + patches_weight patches) (sym same)
     go [] [] true h = absurd cc
     go [] [] false h = absurd cc

@@ -23,54 +23,75 @@ use Rattle.relay_hub.specs.declared.fault.OpenFault.TheVariants.{RoomsFull, Sess
 -- Names.
 
 place_or_len : {A : Type 0} (name : List ℕ) (es : List (String A × RoomSessions))
-    → position_or_len (λ key. bytes_eq name (string_bytes key)) (keys_of es) ≡ position_or_len (λ room. bytes_eq name room.0) (rooms_of es)
+    → position_or_len (λ key. bytes_eq name (string_bytes key)) (keys_of es)
+    ≡ position_or_len (λ room. bytes_eq name room.0) (rooms_of es)
 place_or_len name [] = refl
-place_or_len name (e ∷ es) = ap (λ n. cond (not (bytes_eq name (string_bytes e.0))) (1 + n) 0) (place_or_len name es)
+place_or_len name (e ∷ es) =
+    ap (λ n. cond (not (bytes_eq name (string_bytes e.0))) (1 + n) 0) (place_or_len name es)
 
 -- the place of a key is that of the room of its name
-pub place_is : {A : Type 0} (name : List ℕ) (es : List (String A × RoomSessions)) → position (λ key. bytes_eq name (string_bytes key)) (keys_of es) ≡ place_named name (rooms_of es)
+pub place_is : {A : Type 0} (name : List ℕ) (es : List (String A × RoomSessions))
+    → position (λ key. bytes_eq name (string_bytes key)) (keys_of es)
+    ≡ place_named name (rooms_of es)
 place_is name es = rw (place_or_len name es, length-keys_of es, length-map es named) refl
 
 -- a name of no room is no key
-pub absent : {A : Type 0} (key : String A) (es : List (String A × RoomSessions)) → place_named (string_bytes key) (rooms_of es) ≡ None → lookup (string_eq key) es ≡ None
-absent key es none = (Missing-position (string_eq key) es (place_is (string_bytes key) es ∙ none)).value
+pub absent : {A : Type 0} (key : String A) (es : List (String A × RoomSessions))
+    → place_named (string_bytes key) (rooms_of es) ≡ None → lookup (string_eq key) es ≡ None
+absent key es none =
+    (Missing-position (string_eq key) es (place_is (string_bytes key) es ∙ none)).value
 
 -- The reasons not to open a session, in the order of the checks.
 
 module _ (hub : State) (name : List ℕ) (right : is_room_name name ≡ true) where
-  pub rooms_full : is_crowded (place_named name hub.rooms) hub ≡ true → open_fault hub name ≡ Some RoomsFull
+  pub rooms_full : is_crowded (place_named name hub.rooms) hub ≡ true
+      → open_fault hub name ≡ Some RoomsFull
   rooms_full crowded = rw (right, crowded) refl
 
   module _ (free : is_crowded (place_named name hub.rooms) hub ≡ false) where
-    pub sessions_full : hub.made.sessions ≤ length hub.homes + length hub.wills → open_fault hub name ≡ Some SessionsFull
-    sessions_full full = let f : nat_le hub.made.sessions (length hub.homes + length hub.wills) ≡ true = grind (arith, nat_tests, full) in rw (right, free, f) refl
+    pub sessions_full : hub.config.sessions ≤ length hub.homes + length hub.wills
+        → open_fault hub name ≡ Some SessionsFull
+    sessions_full full =
+        let f : nat_le hub.config.sessions (length hub.homes + length hub.wills) ≡ true =
+        grind (arith, nat_tests, full) in rw (right, free, f) refl
 
-    module _ (few : length hub.homes + length hub.wills < hub.made.sessions) where
+    module _ (few : length hub.homes + length hub.wills < hub.config.sessions) where
       pub exhausted : MAX_COUNT < hub.next → open_fault hub name ≡ Some Exhausted
       exhausted past =
-          let f : nat_le hub.made.sessions (length hub.homes + length hub.wills) ≡ false = grind (arith, nat_tests, few) in
+          let f : nat_le hub.config.sessions (length hub.homes + length hub.wills) ≡ false =
+          grind (arith, nat_tests, few) in
           let g : nat_lt MAX_COUNT hub.next ≡ true = grind (arith, nat_tests, past) in
           rw (right, free, f, g) refl
 
       pub admitted : hub.next ≤ MAX_COUNT → open_fault hub name ≡ None
       admitted left =
-          let f : nat_le hub.made.sessions (length hub.homes + length hub.wills) ≡ false = grind (arith, nat_tests, few) in
+          let f : nat_le hub.config.sessions (length hub.homes + length hub.wills) ≡ false =
+          grind (arith, nat_tests, few) in
           let g : nat_lt MAX_COUNT hub.next ≡ false = grind (arith, nat_tests, left) in
           rw (right, free, f, g) refl
 
 -- The room that a session enters.
 
 -- where the vacant place matters only for a name without a room
-pub enters_at : (old : State) (name : List ℕ) (access : Access) (o : Opening) (at v : Option ℕ) (place : ℕ) (new : State) → (at ≡ None → v ≡ vacant_in old) → at ≡ place_named name old.rooms
-    → EntersRooms o (λ rev. newcomer old.made access rev o.session) v old.made.history new.floor name at old.rooms place new.rooms
+pub enters_at : (old : State) (name : List ℕ) (access : Access) (o : Opening) (at v : Option ℕ)
+    (place : ℕ) (new : State) → (at ≡ None → v ≡ vacant_in old) → at ≡ place_named name old.rooms
+    → EntersRooms o (λ rev.
+    newcomer old.config access rev o.session) v old.config.history new.floor name at old.rooms place
+    new.rooms
     → Enters o name access (place_named name old.rooms) old place new
 enters_at old name access o at v place new free is enters =
     subst (λ at. Enters o name access at old place new) is (go at free enters)
   where
     go : (at : Option ℕ) → (at ≡ None → v ≡ vacant_in old)
-        → EntersRooms o (λ rev. newcomer old.made access rev o.session) v old.made.history new.floor name at old.rooms place new.rooms
+        → EntersRooms o (λ rev.
+        newcomer old.config access rev o.session) v old.config.history new.floor name at old.rooms
+        place new.rooms
         → Enters o name access at old place new
     go (Some i) free h = h
     go None free h =
-        let room : List ℕ × RoomSessions = (name, room_sessions (begun null new.floor old.made.history) (newcomer old.made access new.floor o.session ∷ [])) in
+        let room : List ℕ × RoomSessions = (
+          name,
+          room_sessions (begun null new.floor old.config.history)
+              (newcomer old.config access new.floor o.session ∷ []),
+        ) in
         (h.0, subst (λ w. Founds w room old.rooms place new.rooms) (free refl) h.1)

@@ -29,70 +29,99 @@ use Rattle.relay_hub.proofs.Forgetting.{fault_is}
 use Rattle.relay_hub.proofs.Rooms.{some_named, name_found}
 
 -- the room at a place
-pub room_at : {A : Type 0} (es : List (String A × RoomSessions)) (i : ℕ) (key : String A) (g : RoomSessions) → slice_get es i ≡ Some (key, g)
+pub room_at : {A : Type 0} (es : List (String A
+    × RoomSessions)) (i : ℕ) (key : String A) (g : RoomSessions)
+    → slice_get es i ≡ Some (key, g)
     → slice_get (map named es) i ≡ Some (string_bytes key, g)
 room_at es i key g h = slice_get-map named es i ∙ ap (option_map named) h
 
 -- no room behind the last place
-pub no_room_at : {A : Type 0} (es : List (String A × RoomSessions)) (i : ℕ) → slice_get es i ≡ None → slice_get (map named es) i ≡ None
+pub no_room_at : {A : Type 0} (es : List (String A × RoomSessions)) (i : ℕ) → slice_get es i ≡ None
+    → slice_get (map named es) i ≡ None
 no_room_at es i h = slice_get-map named es i ∙ ap (option_map named) h
 
 -- the room and the session of a number, once its place is known
-pub found_home : (hub : State) (s place : ℕ) (home : List ℕ × RoomSessions) → place_of hub s ≡ Some place → slice_get hub.rooms place ≡ Some home
+pub found_home : (hub : State) (s place : ℕ) (home : List ℕ × RoomSessions)
+    → place_of hub s ≡ Some place → slice_get hub.rooms place ≡ Some home
     → room_and_session hub s ≡ option_map (λ x. (home.1.room, x)) (session_in home.1.sessions s)
 found_home hub s place home h k = rw (h, k) refl
 
 -- Writes, and the room of a session that is open.
 
 -- if a room's sessions are written, its name stays
-pub record Written {A : Type 0} (es : List (String A × RoomSessions)) (i : ℕ) (old new : RoomSessions) : Type 0 where
+pub record Written {A : Type 0} (es : List (String A
+    × RoomSessions)) (i : ℕ) (old new : RoomSessions) : Type 0 where
   pub name : List ℕ
   pub was : slice_get (map named es) i ≡ Some (name, old)
   pub is : map named (set_value_at es i new) ≡ slice_set (map named es) i (name, new)
 
-pub written : {A : Type 0} (es : List (String A × RoomSessions)) (i : ℕ) (old new : RoomSessions) → slice_get (values_of es) i ≡ Some old → Written es i old new
+pub written : {A : Type 0} (es : List (String A × RoomSessions)) (i : ℕ) (old new : RoomSessions)
+    → slice_get (values_of es) i ≡ Some old → Written es i old new
 written [] i old new h = absurd cc
-written (e ∷ es) zero old new h = let same : e.1 ≡ old = cc in record { name = string_bytes e.0; was = ap (λ g. Some (string_bytes e.0, g)) same; is = refl }
+written (e ∷ es) zero old new h =
+    let same : e.1 ≡ old =
+    cc in
+    record { name = string_bytes e.0; was = ap (λ g. Some (string_bytes e.0, g)) same; is = refl }
 written (e ∷ es) (suc i) old new h =
     let rest = written es i old new h in
     record { name = rest.name; was = rest.was; is = ap (λ rooms. named e ∷ rooms) rest.is }
 
-gone : {A : Type 0} (es : List (String A × RoomSessions)) (i : ℕ) → slice_get (values_of es) i ≡ None → slice_get (map named es) i ≡ None
+gone : {A : Type 0} (es : List (String A × RoomSessions)) (i : ℕ)
+    → slice_get (values_of es) i ≡ None → slice_get (map named es) i ≡ None
 gone [] i h = refl
 gone (e ∷ es) zero h = absurd (cc h)
 gone (e ∷ es) (suc i) h = gone es i h
 
 -- there is a room at the place of a name
-pub never_unnamed : {A : Type 0} (es : List (String A × RoomSessions)) (name : List ℕ) (i : ℕ) → place_named name (map named es) ≡ Some i → slice_get (values_of es) i ≡ None → ⊥
+pub never_unnamed : {A : Type 0} (es : List (String A × RoomSessions)) (name : List ℕ) (i : ℕ)
+    → place_named name (map named es) ≡ Some i → slice_get (values_of es) i ≡ None → ⊥
 never_unnamed es name i found none =
     let room = some_named (map named es) name i found in
     absurd (cc (gone es i none, room.1))
 
 module _ (h : Inside) (s i : ℕ) (is : IsHub (hub_of h)) (at : place_of (hub_of h) s ≡ Some i) where
-  home : (name : List ℕ) × (g : RoomSessions) × (x : Session) × (slice_get (hub_of h).rooms i ≡ Some (name, g)) × (session_in g.sessions s ≡ Some x)
+  home : (name : List ℕ) × (g : RoomSessions) × (x : Session)
+      × (slice_get (hub_of h).rooms i ≡ Some (name, g)) × (session_in g.sessions s ≡ Some x)
   home =
       let found = is.homes s i at in
       let r = found.room in
       let both : Some r.place ≡ Some i = sym found.at ∙ at in
-      let same : r.place ≡ i = cc in
-      (r.name, r.room_sessions, found.session, subst (λ p. slice_get (hub_of h).rooms p ≡ Some (r.name, r.room_sessions)) same r.there, found.is)
+      let same : r.place ≡ i = cc in (
+        r.name,
+        r.room_sessions,
+        found.session,
+        subst (λ p. slice_get (hub_of h).rooms p ≡ Some (r.name, r.room_sessions)) same r.there,
+        found.is,
+      )
 
   -- a room is at its place
   pub never_missing : slice_get (values h.rooms) i ≡ None → ⊥
   never_missing none = absurd (cc (gone h.rooms.entries i none, home.3))
 
   pub never_no_entry : slice_get h.rooms.entries i ≡ None → ⊥
-  never_no_entry none = let no = slice_get-map named h.rooms.entries i ∙ ap (option_map named) none in absurd (cc (no, home.3))
+  never_no_entry none =
+      let no = slice_get-map named h.rooms.entries i ∙ ap (option_map named) none in
+      absurd (cc (no, home.3))
 
-  same_room_sessions : (name : List ℕ) (g : RoomSessions) → slice_get (hub_of h).rooms i ≡ Some (name, g) → home.1 ≡ g
+  same_room_sessions : (name : List ℕ) (g : RoomSessions)
+      → slice_get (hub_of h).rooms i ≡ Some (name, g) → home.1 ≡ g
   same_room_sessions name g there =
-      let both : ◌≡◌ {A = Option (List ℕ × RoomSessions)} (Some (home.0, home.1)) (Some (name, g)) = sym home.3 ∙ there in
+      let both : ◌≡◌ {A = Option (List ℕ × RoomSessions)} (Some (home.0, home.1)) (Some (
+        name,
+        g,
+      )) = sym home.3 ∙ there in
       let one : ◌≡◌ {A = List ℕ × RoomSessions} (home.0, home.1) (name, g) = cc in
       ap (λ (r : List ℕ × RoomSessions). r.1) one
 
   -- and the session is in it
-  pub entry_session : (name : List ℕ) (g : RoomSessions) → slice_get (hub_of h).rooms i ≡ Some (name, g) → (x : Session) × (session_in g.sessions s ≡ Some x)
-  entry_session name g there = (home.2, subst (λ (k : RoomSessions). session_in k.sessions s ≡ Some home.2) (same_room_sessions name g there) home.4)
+  pub entry_session : (name : List ℕ) (g : RoomSessions)
+      → slice_get (hub_of h).rooms i ≡ Some (name, g)
+      → (x : Session) × (session_in g.sessions s ≡ Some x)
+  entry_session name g there = (
+    home.2,
+    subst (λ (k : RoomSessions).
+        session_in k.sessions s ≡ Some home.2) (same_room_sessions name g there) home.4,
+  )
 
   module _ (g : RoomSessions) (there : slice_get (values h.rooms) i ≡ Some g) where
     here : Written h.rooms.entries i g g
@@ -110,7 +139,8 @@ module _ (h : Inside) (s i : ℕ) (is : IsHub (hub_of h)) (at : place_of (hub_of
     pub hears : HasSpace g.sessions s → may_hear (session_of (hub_of h) s) ≡ true
     hears space =
         let x = session_there in
-        let fits : nat_lt (length x.0.outbox.replies) MAX_REPLIES ≡ true = grind (arith, nat_tests, space x.0 x.1) in
+        let fits : nat_lt (length x.0.outbox.replies) MAX_REPLIES ≡ true =
+        grind (arith, nat_tests, space x.0 x.1) in
         rw (session_is, x.1) fits
 
 -- Steps.
@@ -122,7 +152,7 @@ hub_with h i g = hub_of (record h { rooms = with_value_at h.rooms i g })
 -- the same, with other lists of homes and of wills
 abbrev pub hub_leaving : Inside → ℕ → RoomSessions → List (ℕ × ℕ) → List Will → State
 hub_leaving h i g homes wills = record {
-  made = h.made;
+  config = h.config;
   next = h.next;
   floor = h.floor;
   rooms = map named (set_value_at h.rooms.entries i g);
@@ -130,47 +160,74 @@ hub_leaving h i g homes wills = record {
   wills = wills;
 }
 
-hub_with-is : (h : Inside) (i : ℕ) (old new : RoomSessions) (w : Written h.rooms.entries i old new) → hub_with h i new ≡ with_room i w.name new (hub_of h)
+hub_with-is : (h : Inside) (i : ℕ) (old new : RoomSessions) (w : Written h.rooms.entries i old new)
+    → hub_with h i new ≡ with_room i w.name new (hub_of h)
 hub_with-is h i old new w =
-    ap (λ rooms. record { made = h.made; next = h.next; floor = h.floor; rooms = rooms; homes = h.homes.entries; wills = h.wills.items }) w.is
+    ap (λ rooms.
+    record {
+      config = h.config;
+      next = h.next;
+      floor = h.floor;
+      rooms = rooms;
+      homes = h.homes.entries;
+      wills = h.wills.items;
+    }) w.is
 
-with_room_same : (hub : State) (i : ℕ) (name : List ℕ) (g : RoomSessions) → slice_get hub.rooms i ≡ Some (name, g) → with_room i name g hub ≡ hub
+with_room_same : (hub : State) (i : ℕ) (name : List ℕ) (g : RoomSessions)
+    → slice_get hub.rooms i ≡ Some (name, g) → with_room i name g hub ≡ hub
 with_room_same hub i name g h =
-    ap (λ rooms. record { made = hub.made; next = hub.next; floor = hub.floor; rooms = rooms; homes = hub.homes; wills = hub.wills }) (slice_set_same hub.rooms i (name, g) h)
+    ap (λ rooms.
+    record {
+      config = hub.config;
+      next = hub.next;
+      floor = hub.floor;
+      rooms = rooms;
+      homes = hub.homes;
+      wills = hub.wills;
+    }) (slice_set_same hub.rooms i (name, g) h)
 
 -- sessions that were written as they were are a hub as it was
-pub same_hub : (h : Inside) (i : ℕ) (old new : RoomSessions) → slice_get (values h.rooms) i ≡ Some old → new ≡ old → hub_with h i new ≡ hub_of h
+pub same_hub : (h : Inside) (i : ℕ) (old new : RoomSessions)
+    → slice_get (values h.rooms) i ≡ Some old → new ≡ old → hub_with h i new ≡ hub_of h
 same_hub h i old new there same =
     let w = written h.rooms.entries i old new there in
-    hub_with-is h i old new w ∙ (ap (λ g. with_room i w.name g (hub_of h)) same ∙ with_room_same (hub_of h) i w.name old w.was)
+    hub_with-is h i old new w
+    ∙ (ap (λ g. with_room i w.name g (hub_of h)) same
+    ∙ with_room_same (hub_of h) i w.name old w.was)
 
 -- what is done in a session's room, or nothing, is a step if it is one in the room
-module _ (h : Inside) (s i : ℕ) (old new : RoomSessions) (home : place_of (hub_of h) s ≡ Some i) (there : slice_get (values h.rooms) i ≡ Some old) where
+module _ (h : Inside) (s i : ℕ) (old new : RoomSessions) (home : place_of (hub_of h) s
+    ≡ Some i) (there : slice_get (values h.rooms) i ≡ Some old) where
   unchanged : new ≡ old → hub_with h i new ≡ hub_of h
   unchanged same = same_hub h i old new there same
 
-  pub receives : (text : List ℕ) (answer : Option Answer) → ReceivesIf h.made s text answer old new
+  pub receives : (text : List ℕ) (answer : Option Answer)
+      → ReceivesIf h.config s text answer old new
       → StepIf (hub_of h) (Receive s text) answer (hub_with h i new)
   receives text (Some answer) does =
       let w = written h.rooms.entries i old new there in
       rw (home, w.was) (new, does, hub_with-is h i old new w)
   receives text None same = unchanged same
 
-  pub draws : (answer : Option Answer) → DrawsIf s answer old new → StepIf (hub_of h) (Draw s) answer (hub_with h i new)
+  pub draws : (answer : Option Answer) → DrawsIf s answer old new
+      → StepIf (hub_of h) (Draw s) answer (hub_with h i new)
   draws (Some answer) does =
       let w = written h.rooms.entries i old new there in
       rw (home, w.was) (new, does, hub_with-is h i old new w)
   draws None same = unchanged same
 
   -- a session that is closed is removed from the room and from the list of homes
-  pub closes : (homes : List (ℕ × ℕ)) (wills : List Will) (x : Session) → session_in old.sessions s ≡ Some x → ChangesOnly s None old new
-      → ((t : ℕ) → lookup (nat_eq t) homes ≡ (if s == t then None else place_of (hub_of h) t)) → length homes + 1 ≡ length h.homes.entries
-      → wills ≡ h.wills.items ++ left_of i x.will → Step (hub_of h) (Close s) answer.Closed (hub_leaving h i new homes wills)
+  pub closes : (homes : List (ℕ × ℕ)) (wills : List Will) (x : Session)
+      → session_in old.sessions s ≡ Some x → ChangesOnly s None old new
+      → ((t : ℕ) → lookup (nat_eq t) homes ≡ (if s == t then None else place_of (hub_of h) t))
+      → length homes + 1 ≡ length h.homes.entries
+      → wills ≡ h.wills.items ++ left_of i x.will
+      → Step (hub_of h) (Close s) answer.Closed (hub_leaving h i new homes wills)
   closes homes wills x is leaves home_after count adds =
       let w = written h.rooms.entries i old new there in
       rw (home, w.was, is) (record {
         next = refl;
-        made = refl;
+        config = refl;
         floor = refl;
         left = new;
         leaves = leaves;
@@ -181,11 +238,16 @@ module _ (h : Inside) (s i : ℕ) (old new : RoomSessions) (home : place_of (hub
       })
 
 -- the oldest will is done in its room
-pub will_done : (h : Inside) (w : Will) (old new : RoomSessions) (left : List Will) (short : ℕ) → slice_get h.wills.items 0 ≡ Some w
-    → slice_get (values h.rooms) w.place ≡ Some old → left ≡ remove h.wills.items 0 → WillServed h.made w.patch (edited old.room None w.patch) short old new
-    → Step (hub_of h) DoWill (answer.WillDone short) (hub_leaving h w.place new h.homes.entries left)
+pub will_done : (h : Inside) (w : Will) (old new : RoomSessions) (left : List Will) (short : ℕ)
+    → slice_get h.wills.items 0 ≡ Some w
+    → slice_get (values h.rooms) w.place ≡ Some old → left ≡ remove h.wills.items 0
+    → WillServed h.config w.patch (edited old.room None w.patch) short old new
+    → Step (hub_of h) DoWill (answer.WillDone short)
+    (hub_leaving h w.place new h.homes.entries left)
 will_done h w old new left short oldest there is served =
-    subst (λ wills. left ≡ remove wills 0 → DoesWill wills (hub_of h) (answer.WillDone short) (hub_leaving h w.place new h.homes.entries left)) (sym all) done is
+    subst (λ wills. left ≡ remove wills 0
+    → DoesWill wills (hub_of h) (answer.WillDone short)
+    (hub_leaving h w.place new h.homes.entries left)) (sym all) done is
   where
     head : (wills : List Will) → slice_get wills 0 ≡ Some w → wills ≡ w ∷ drop 1 wills
     head (v ∷ wills) at = let same : v ≡ w = cc in ap (λ u. u ∷ wills) same
@@ -195,7 +257,8 @@ will_done h w old new left short oldest there is served =
     all = head h.wills.items oldest
 
     done : left ≡ remove (w ∷ drop 1 h.wills.items) 0
-        → DoesWill (w ∷ drop 1 h.wills.items) (hub_of h) (answer.WillDone short) (hub_leaving h w.place new h.homes.entries left)
+        → DoesWill (w ∷ drop 1 h.wills.items) (hub_of h) (answer.WillDone short)
+        (hub_leaving h w.place new h.homes.entries left)
     done is =
         let k = written h.rooms.entries w.place old new there in (
           hub_with h w.place new,
@@ -204,10 +267,14 @@ will_done h w old new left short oldest there is served =
         )
 
 -- the room of a name is forgotten, or not
-pub forgets : (h : Inside) (name : List ℕ) (i : ℕ) (old new : RoomSessions) (result : Result ℕ ForgetFault) → place_named name (hub_of h).rooms ≡ Some i
+pub forgets : (h : Inside) (name : List ℕ) (i : ℕ) (old new : RoomSessions)
+    (result : Result ℕ ForgetFault) → place_named name (hub_of h).rooms ≡ Some i
     → slice_get (values h.rooms) i ≡ Some old
-    → IfOk result (λ rev. (rev ≡ revision old.room + 1) × (new ≡ room_sessions (begun null rev h.made.history) [])) → OnOk result (anew_fault old ≡ None)
-    → IfErr result (λ fault. fault ≢ forget.NoMemory → anew_fault old ≡ Some fault) → OnErr result (new ≡ old)
+    → IfOk result (λ rev. (rev ≡ revision old.room + 1)
+    × (new ≡ room_sessions (begun null rev h.config.history) []))
+    → OnOk result (anew_fault old ≡ None)
+    → IfErr result (λ fault. fault ≢ forget.NoMemory → anew_fault old ≡ Some fault)
+    → OnErr result (new ≡ old)
     → StepIf (hub_of h) (Forget name) (forgetting result) (hub_with h i new)
 forgets h name i old new result at there ok may fault err = go result ok may fault err
   where
@@ -220,12 +287,16 @@ forgets h name i old new result at there ok may fault err = go result ok may fau
     is : forget_fault (hub_of h) name ≡ anew_fault old
     is = fault_is (hub_of h) name i (w.name, old) at w.was
 
-    refused : (why : ForgetFault) → anew_fault old ≡ Some why → new ≡ old → Step (hub_of h) (Forget name) (answer.NotForgotten why) (hub_with h i new)
+    refused : (why : ForgetFault) → anew_fault old ≡ Some why → new ≡ old
+        → Step (hub_of h) (Forget name) (answer.NotForgotten why) (hub_with h i new)
     refused why because same = (is ∙ because, same_hub h i old new there same)
 
     go : (r : Result ℕ ForgetFault)
-        → IfOk r (λ rev. (rev ≡ revision old.room + 1) × (new ≡ room_sessions (begun null rev h.made.history) [])) → OnOk r (anew_fault old ≡ None)
-        → IfErr r (λ fault. fault ≢ forget.NoMemory → anew_fault old ≡ Some fault) → OnErr r (new ≡ old)
+        → IfOk r (λ rev. (rev ≡ revision old.room + 1)
+        × (new ≡ room_sessions (begun null rev h.config.history) []))
+        → OnOk r (anew_fault old ≡ None)
+        → IfErr r (λ fault. fault ≢ forget.NoMemory → anew_fault old ≡ Some fault)
+        → OnErr r (new ≡ old)
         → StepIf (hub_of h) (Forget name) (forgetting r) (hub_with h i new)
     go (Ok rev) ok may fault err = (
       is ∙ may,
@@ -235,15 +306,19 @@ forgets h name i old new result at there ok may fault err = go result ok may fau
         named = at;
         there = w.was ∙ ap (λ n. Some (n, old)) known;
         newer = ok.0;
-        begins = hub_with-is h i old new w ∙ ap (λ n. with_room i n new (hub_of h)) known ∙ ap (λ g. with_room i name g (hub_of h)) ok.1;
+        begins = hub_with-is h i old new w ∙ ap (λ n. with_room i n new (hub_of h)) known
+            ∙ ap (λ g. with_room i name g (hub_of h)) ok.1;
       },
     )
     go (Err forget.NoMemory) ok may fault err = same_hub h i old new there err
     go (Err forget.NoRoom) ok may fault err = refused forget.NoRoom (fault (λ e. absurd (cc e))) err
-    go (Err forget.Occupied) ok may fault err = refused forget.Occupied (fault (λ e. absurd (cc e))) err
-    go (Err forget.Exhausted) ok may fault err = refused forget.Exhausted (fault (λ e. absurd (cc e))) err
+    go (Err forget.Occupied) ok may fault err =
+        refused forget.Occupied (fault (λ e. absurd (cc e))) err
+    go (Err forget.Exhausted) ok may fault err =
+        refused forget.Exhausted (fault (λ e. absurd (cc e))) err
 
 -- a call that is a step, or changes nothing, keeps `IsHub`
-pub stays_hub : (old new : State) (event : Event) (answer : Option Answer) → IsHub old → StepIf old event answer new → IsHub new
+pub stays_hub : (old new : State) (event : Event) (answer : Option Answer) → IsHub old
+    → StepIf old event answer new → IsHub new
 stays_hub old new event (Some answer) h step = step_is_hub old new event answer h step
 stays_hub old new event None h same = subst IsHub (sym same) h

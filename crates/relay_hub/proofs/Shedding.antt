@@ -27,12 +27,15 @@ use Rattle.relay_hub.proofs.Wills.{have_more}
 
 -- Sessions.
 
-pub shed_found : (xs : List Session) (t : ℕ) → session_in (map shed_session xs) t ≡ option_map shed_session (session_in xs t)
+pub shed_found : (xs : List Session) (t : ℕ)
+    → session_in (map shed_session xs) t ≡ option_map shed_session (session_in xs t)
 shed_found [] t = refl
-shed_found (x ∷ xs) t = step (x.number == t) (session_in (map shed_session xs) t) (session_in xs t) (shed_found xs t)
+shed_found (x ∷ xs) t =
+    step (x.number == t) (session_in (map shed_session xs) t) (session_in xs t) (shed_found xs t)
   where
     step : (b : Bool) (o p : Option Session) → o ≡ option_map shed_session p
-        → (if b then Some (shed_session x) else o) ≡ option_map shed_session (if b then Some x else p)
+        → (if b then Some (shed_session x) else o)
+        ≡ option_map shed_session (if b then Some x else p)
     step true o p h = refl
     step false o p h = h
 
@@ -44,55 +47,81 @@ shed_numbers : (xs : List Session) → numbers (map shed_session xs) ≡ numbers
 shed_numbers [] = refl
 shed_numbers (x ∷ xs) = ap (λ ns. x.number ∷ ns) (shed_numbers xs)
 
-pub shed_indexed : (w : Watches) (xs : List Session) → IsIndexed w xs → IsIndexed w (map shed_session xs)
+pub shed_indexed : (w : Watches) (xs : List Session) → IsIndexed w xs
+    → IsIndexed w (map shed_session xs)
 shed_indexed w xs h = record {
   rising = same_rises xs (map shed_session xs) (shed_numbers xs) h.rising;
-  agrees = λ t. h.agrees t ∙ same_view (session_in xs t) (session_in (map shed_session xs) t) (shed_found xs t);
+  agrees = λ t. h.agrees t
+      ∙ same_view (session_in xs t) (session_in (map shed_session xs) t) (shed_found xs t);
 }
   where
-    same_view : (o p : Option Session) → p ≡ option_map shed_session o → option_and_then (λ x. x.view) o ≡ option_and_then (λ x. x.view) p
+    same_view : (o p : Option Session) → p ≡ option_map shed_session o
+        → option_and_then (λ x. x.view) o ≡ option_and_then (λ x. x.view) p
     same_view (Some x) p h = rw h refl
     same_view None p h = rw h refl
 
 -- Rooms.
 
 -- a room that was there
-record Was (hub : State) (budget : Budget) (place : ℕ) (name : List ℕ) (g : RoomSessions) : Type 0 where
-  old : RoomSessions
-  there : slice_get hub.rooms place ≡ Some (name, old)
-  is : g ≡ shed_room budget old
-
-was : (hub : State) (budget : Budget) (place : ℕ) (name : List ℕ) (g : RoomSessions) → slice_get (map (shed_named budget) hub.rooms) place ≡ Some (name, g) → Was hub budget place name g
-was hub budget place name g at = go (slice_get hub.rooms place) refl (sym (slice_get-map (shed_named budget) hub.rooms place) ∙ at)
+record Was (hub : State) (budget : Budget) (place : ℕ) (name : List ℕ) (g : RoomSessions) : Type 0
   where
-    go : (o : Option (List ℕ × RoomSessions)) → slice_get hub.rooms place ≡ o → option_map (shed_named budget) o ≡ Some (name, g) → Was hub budget place name g
+    old : RoomSessions
+    there : slice_get hub.rooms place ≡ Some (name, old)
+    is : g ≡ shed_room budget old
+
+was : (hub : State) (budget : Budget) (place : ℕ) (name : List ℕ) (g : RoomSessions)
+    → slice_get (map (shed_named budget) hub.rooms) place ≡ Some (name, g)
+    → Was hub budget place name g
+was hub budget place name g at =
+    go (slice_get hub.rooms place) refl (sym (slice_get-map (shed_named budget) hub.rooms place)
+    ∙ at)
+  where
+    go : (o : Option (List ℕ × RoomSessions)) → slice_get hub.rooms place ≡ o
+        → option_map (shed_named budget) o ≡ Some (name, g) → Was hub budget place name g
     go None there h = absurd (cc h)
     go (Some r) there h =
         let both : ◌≡◌ {A = List ℕ × RoomSessions} (r.0, shed_room budget r.1) (name, g) = cc in
         let named : r.0 ≡ name = ap (λ (x : List ℕ × RoomSessions). x.0) both in
-        record { old = r.1; there = there ∙ ap (λ n. Some (n, r.1)) named; is = sym (ap (λ (x : List ℕ × RoomSessions). x.1) both) }
+        record {
+          old = r.1;
+          there = there ∙ ap (λ n. Some (n, r.1)) named;
+          is = sym (ap (λ (x : List ℕ × RoomSessions). x.1) both);
+        }
 
-shed_names : (name : List ℕ) (budget : Budget) (rooms : List (List ℕ × RoomSessions)) → place_named name (map (shed_named budget) rooms) ≡ place_named name rooms
+shed_names : (name : List ℕ) (budget : Budget) (rooms : List (List ℕ × RoomSessions))
+    → place_named name (map (shed_named budget) rooms) ≡ place_named name rooms
 shed_names name budget rooms = rw (go rooms, length-map rooms (shed_named budget)) refl
   where
-    go : (rs : List (List ℕ × RoomSessions)) → position_or_len (λ room. bytes_eq name room.0) (map (shed_named budget) rs) ≡ position_or_len (λ room. bytes_eq name room.0) rs
+    go : (rs : List (List ℕ × RoomSessions))
+        → position_or_len (λ room. bytes_eq name room.0) (map (shed_named budget) rs)
+        ≡ position_or_len (λ room. bytes_eq name room.0) rs
     go [] = refl
     go (r ∷ rs) = ap (λ n. cond (not (bytes_eq name r.0)) (1 + n) 0) (go rs)
 
-some_shed : (o p : Option Session) (y : Session) → p ≡ option_map shed_session o → p ≡ Some y → (x : Session) × (o ≡ Some x)
+some_shed : (o p : Option Session) (y : Session) → p ≡ option_map shed_session o → p ≡ Some y
+    → (x : Session) × (o ≡ Some x)
 some_shed (Some x) p y h is = (x, refl)
 some_shed None p y h is = absurd (cc (h, is))
 
 pub shed_is_hub : (hub : State) → IsHub hub → IsHub (shed hub)
 shed_is_hub hub h = record {
-  made = h.made;
+  config = h.config;
   floor = h.floor;
   below = h.below;
   homes = λ t place at.
       let mine = h.homes t place at in
       let r = mine.room in
       record {
-        room = record { place = r.place; name = r.name; room_sessions = shed_room budget r.room_sessions; there = slice_get-map (shed_named budget) hub.rooms r.place ∙ ap (option_map (shed_named budget)) r.there };
+        room =
+            record {
+              place = r.place;
+              name = r.name;
+              room_sessions =
+                  shed_room budget r.room_sessions;
+              there =
+                  slice_get-map (shed_named budget) hub.rooms r.place
+                  ∙ ap (option_map (shed_named budget)) r.there;
+            };
         session = shed_session mine.session;
         at = mine.at;
         is = shed_found r.room_sessions.sessions t ∙ ap (option_map shed_session) mine.is;
@@ -100,30 +129,41 @@ shed_is_hub hub h = record {
   members = λ place name g at t y is.
       let w = was hub budget place name g at in
       let found = ap (λ (k : RoomSessions). session_in k.sessions t) (sym w.is) ∙ is in
-      let x = some_shed (session_in w.old.sessions t) (session_in (map shed_session w.old.sessions) t) y (shed_found w.old.sessions t) found in
+      let x =
+      some_shed (session_in w.old.sessions t)
+      (session_in (map shed_session w.old.sessions) t) y (shed_found w.old.sessions t)
+      found in
       h.members place name w.old w.there t x.0 x.1;
   once = λ place name g at.
       let w = was hub budget place name g at in
       rw w.is (shed_once w.old.sessions (h.once place name w.old w.there));
   few = h.few;
-  wills = have_more hub.rooms (map (shed_named budget) hub.rooms) hub.wills (omega (arith, length-map hub.rooms (shed_named budget))) h.wills;
+  wills =
+      have_more hub.rooms (map (shed_named budget) hub.rooms) hub.wills (omega (
+        arith,
+        length-map hub.rooms (shed_named budget),
+      )) h.wills;
 }
   where
     budget : Budget
-    budget = shed_budget hub.made.history_weight
+    budget = shed_budget hub.config.history_weight
 
 -- The wills name the rooms that they named.
 shed_wills : (rooms : List (List ℕ × RoomSessions)) (budget : Budget) (wills : List Will)
     → map (named_will (map (shed_named budget) rooms)) wills ≡ map (named_will rooms) wills
 shed_wills rooms budget [] = refl
 shed_wills rooms budget (w ∷ wills) =
-    rw (slice_get-map (shed_named budget) rooms w.place, shed_wills rooms budget wills) (one (slice_get rooms w.place))
+    rw (
+      slice_get-map (shed_named budget) rooms w.place,
+      shed_wills rooms budget wills,
+    ) (one (slice_get rooms w.place))
   where
     bequest : Option (List ℕ × RoomSessions) → Bequest
     bequest o = record { room = option_map_or (λ r. r.0) o []; patch = w.patch }
 
     one : (o : Option (List ℕ × RoomSessions))
-        → bequest (option_map (shed_named budget) o) ∷ map (named_will rooms) wills ≡ bequest o ∷ map (named_will rooms) wills
+        → bequest (option_map (shed_named budget) o) ∷ map (named_will rooms) wills
+        ≡ bequest o ∷ map (named_will rooms) wills
     one None = refl
     one (Some r) = refl
 
@@ -132,60 +172,91 @@ shed_wills rooms budget (w ∷ wills) =
 fold_stands : (most : ℕ) (x : Session) → OutboxStands most x → OutboxStands most (shed_session x)
 fold_stands most x h = go x.outbox.patches refl
   where
-    go : (ps : List (ℕ × List Op)) → x.outbox.patches ≡ ps → OutboxStands most (with_outbox (fold_patches ps x.outbox) x)
+    go : (ps : List (ℕ × List Op)) → x.outbox.patches ≡ ps
+        → OutboxStands most (with_outbox (fold_patches ps x.outbox) x)
     go [] is = h
-    go (p ∷ ps) is = record { max_waiting_patches = h.max_waiting_patches; replies = h.replies; patches = tt }
+    go (p ∷ ps) is =
+        record { max_waiting_patches = h.max_waiting_patches; replies = h.replies; patches = tt }
 
-fold_follows : {from : ℕ} (b : HubConfig) (ds : List Document) (room : Room) (w : Watching) (contents : Contents Reply (ℕ × List Op)) → RoomStands b from ds room
-    → Follows ds w (later room w.view contents) → Follows ds w (later room w.view (fold_patches contents.patches contents))
+fold_follows : {from : ℕ} (b : HubConfig) (ds : List Document) (room : Room) (w : Watching)
+    (contents : Contents Reply (ℕ × List Op)) → RoomStands b from ds room
+    → Follows ds w (later room w.view contents)
+    → Follows ds w (later room w.view (fold_patches contents.patches contents))
 fold_follows b ds room w contents stands h = go contents.patches refl
   where
-    go : (ps : List (ℕ × List Op)) → contents.patches ≡ ps → Follows ds w (later room w.view (fold_patches ps contents))
+    go : (ps : List (ℕ × List Op)) → contents.patches ≡ ps
+        → Follows ds w (later room w.view (fold_patches ps contents))
     go [] is = h
-    go (p ∷ ps) is = Follows-snapshot b ds w room stands (EachLeads-left ds w.view w.start w.heard (later room w.view contents) h.each)
+    go (p ∷ ps) is =
+        Follows-snapshot b ds w room stands
+        (EachLeads-left ds w.view w.start w.heard (later room w.view contents) h.each)
 
-watch_stands : {from : ℕ} (b : HubConfig) (ds : List Document) (room : Room) (budget : Budget) (x : Session) (w : Option Watching) → RoomStands b from ds room → WatchStands ds room x w
+watch_stands : {from : ℕ} (b : HubConfig) (ds : List Document) (room : Room) (budget : Budget)
+    (x : Session) (w : Option Watching) → RoomStands b from ds room → WatchStands ds room x w
     → WatchStands ds (trimmed budget room) (shed_session x) w
-watch_stands b ds room budget x (Some w) stands h = (h.0, fold_follows b ds room w x.outbox stands h.1)
+watch_stands b ds room budget x (Some w) stands h =
+    (h.0, fold_follows b ds room w x.outbox stands h.1)
 watch_stands b ds room budget x None stands h = let i = idle x.outbox.patches h.1 in (h.0, i.0, i.1)
   where
-    idle : (ps : List (ℕ × List Op)) → ps ≡ [] → ((fold_patches ps x.outbox).patches ≡ []) × ((fold_patches ps x.outbox).due ≡ false)
+    idle : (ps : List (ℕ × List Op)) → ps ≡ []
+        → ((fold_patches ps x.outbox).patches ≡ []) × ((fold_patches ps x.outbox).due ≡ false)
     idle [] e = (h.1, h.2)
     idle (p ∷ ps) e = absurd (cc e)
 
-session_stands : {from : ℕ} (b : HubConfig) (docs : List ℕ → List Document) (name : List ℕ) (room : Room) (budget : Budget) (o : Option Session) (there : Option Place) (w : Option Watching)
-    → RoomStands b from (docs name) room → SessionStands b.max_waiting_patches docs name room o there w → SessionStands b.max_waiting_patches docs name (trimmed budget room) (option_map shed_session o) there w
-session_stands b docs name room budget (Some x) there w stands h = (h.0, fold_stands b.max_waiting_patches x h.1, watch_stands b (docs name) room budget x w stands h.2)
+session_stands : {from : ℕ} (b : HubConfig) (docs : List ℕ
+    → List Document) (name : List ℕ) (room : Room) (budget : Budget) (o : Option Session)
+    (there : Option Place) (w : Option Watching)
+    → RoomStands b from (docs name) room
+    → SessionStands b.max_waiting_patches docs name room o there w
+    → SessionStands b.max_waiting_patches docs name (trimmed budget room)
+    (option_map shed_session o) there w
+session_stands b docs name room budget (Some x) there w stands h = (
+  h.0,
+  fold_stands b.max_waiting_patches x h.1,
+  watch_stands b (docs name) room budget x w stands h.2,
+)
 session_stands b docs name room budget None there w stands h = h
 
 module _ (b : HubConfig) (E : Log) (hub : State) (h : StandsFor b E hub) where
   abbrev budget : Budget
-  budget = shed_budget hub.made.history_weight
+  budget = shed_budget hub.config.history_weight
 
   free : b.history_weight ≡ Unbounded → budget ≡ Unbounded
-  free is = let same : hub.made.history_weight ≡ Unbounded = ap (λ (made : HubConfig). made.history_weight) h.made ∙ is in ap shed_budget same
+  free is =
+      let same : hub.config.history_weight ≡ Unbounded =
+      ap (λ (config : HubConfig). config.history_weight) h.config ∙ is in ap shed_budget same
 
-  room_stands : (t : ℕ) (o : Option (List ℕ × RoomSessions)) (place : ℕ) → slice_get hub.rooms place ≡ o → RoomSessionsStand b.max_waiting_patches (documents E) t o (home E t) (watching b E t)
-      → RoomSessionsStand b.max_waiting_patches (documents E) t (option_map (shed_named budget) o) (home E t) (watching b E t)
+  room_stands : (t : ℕ) (o : Option (List ℕ × RoomSessions)) (place : ℕ)
+      → slice_get hub.rooms place ≡ o
+      → RoomSessionsStand b.max_waiting_patches (documents E) t o (home E t) (watching b E t)
+      → RoomSessionsStand b.max_waiting_patches (documents E) t (option_map (shed_named budget) o)
+      (home E t) (watching b E t)
   room_stands t (Some r) place at k =
-      rw (shed_found r.1.sessions t) (session_stands b (documents E) r.0 r.1.room budget (session_in r.1.sessions t) (home E t) (watching b E t) (h.rooms place r.0 r.1 at) k)
+      rw (shed_found r.1.sessions t)
+      (session_stands b (documents E) r.0 r.1.room budget (session_in r.1.sessions t)
+      (home E t) (watching b E t) (h.rooms place r.0 r.1 at) k)
   room_stands t None place at k = k
 
-  home_stands : (t : ℕ) (o : Option ℕ) → HomeStands b.max_waiting_patches (documents E) hub.rooms t o (home E t) (watching b E t)
-      → HomeStands b.max_waiting_patches (documents E) (map (shed_named budget) hub.rooms) t o (home E t) (watching b E t)
-  home_stands t (Some place) k = rw (slice_get-map (shed_named budget) hub.rooms place) (room_stands t (slice_get hub.rooms place) place refl k)
+  home_stands : (t : ℕ) (o : Option ℕ)
+      → HomeStands b.max_waiting_patches (documents E) hub.rooms t o (home E t) (watching b E t)
+      → HomeStands b.max_waiting_patches (documents E) (map (shed_named budget) hub.rooms) t o
+      (home E t) (watching b E t)
+  home_stands t (Some place) k =
+      rw (slice_get-map (shed_named budget) hub.rooms place)
+      (room_stands t (slice_get hub.rooms place) place refl k)
   home_stands t None k = k
 
   pub shed_stands : StandsFor b E (shed hub)
   shed_stands = record {
-    made = h.made;
+    config = h.config;
     floor = h.floor;
     is = h.is;
     next = h.next;
     count = h.count;
     rooms = λ place name g at.
         let w = was hub budget place name g at in
-        rw w.is (trimmed_stands b (documents E name) w.old.room budget free (h.rooms place name w.old w.there));
+        rw w.is (trimmed_stands b (documents E name) w.old.room budget free
+        (h.rooms place name w.old w.there));
     names = λ place name g at.
         let w = was hub budget place name g at in
         shed_names name budget hub.rooms ∙ h.names place name w.old w.there;
@@ -193,5 +264,9 @@ module _ (b : HubConfig) (E : Log) (hub : State) (h : StandsFor b E hub) where
     others = λ name none. h.others name (sym (shed_names name budget hub.rooms) ∙ none);
     sessions = λ t. home_stands t (place_of hub t) (h.sessions t);
     wills = shed_wills hub.rooms budget hub.wills ∙ h.wills;
-    willing = have_more hub.rooms (map (shed_named budget) hub.rooms) hub.wills (omega (arith, length-map hub.rooms (shed_named budget))) h.willing;
+    willing =
+        have_more hub.rooms (map (shed_named budget) hub.rooms) hub.wills (omega (
+          arith,
+          length-map hub.rooms (shed_named budget),
+        )) h.willing;
   }

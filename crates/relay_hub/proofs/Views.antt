@@ -30,7 +30,8 @@ equal_views [] [] h = refl
 equal_views (s ∷ v) (t ∷ w) h =
     let all = both (same_path s.pointer t.pointer && same_kind s.kind t.kind) (same_view v w) h in
     let slot = both (same_path s.pointer t.pointer) (same_kind s.kind t.kind) all.0 in
-    let first : s ≡ t = one_slot s t (equal_paths s.pointer t.pointer slot.0) (kinds s.kind t.kind slot.1) in
+    let first : s ≡ t =
+    one_slot s t (equal_paths s.pointer t.pointer slot.0) (kinds s.kind t.kind slot.1) in
     let rest : v ≡ w = equal_views v w all.1 in
     λ i. first i ∷ rest i
 equal_views _ _ h = cc

@@ -29,55 +29,79 @@ use Rattle.relay_hub.proofs.Frames.{here}
 use Rattle.relay_hub.proofs.Lists.{slice_get-set, slice_get-set_other}
 
 -- a session that has a room has it at a place
-at_place : (hub : State) (s : ℕ) (home : List ℕ × RoomSessions) → home_of hub s ≡ Some home → (place : ℕ) × (place_of hub s ≡ Some place) × (slice_get hub.rooms place ≡ Some home)
+at_place : (hub : State) (s : ℕ) (home : List ℕ × RoomSessions) → home_of hub s ≡ Some home
+    → (place : ℕ) × (place_of hub s ≡ Some place) × (slice_get hub.rooms place ≡ Some home)
 at_place hub s home h = go (place_of hub s) refl h
   where
-    go : (o : Option ℕ) → place_of hub s ≡ o → option_and_then (λ place. slice_get hub.rooms place) o ≡ Some home → (place : ℕ) × (place_of hub s ≡ Some place) × (slice_get hub.rooms place ≡ Some home)
+    go : (o : Option ℕ) → place_of hub s ≡ o
+        → option_and_then (λ place. slice_get hub.rooms place) o ≡ Some home
+        → (place : ℕ) × (place_of hub s ≡ Some place) × (slice_get hub.rooms place ≡ Some home)
     go (Some place) is at = (place, is, at)
     go None is at = absurd (cc at)
 
 -- Watchers.
 
-module _ (b : HubConfig) (E : Log) (hub : State) (s : ℕ) (name : List ℕ) (g : RoomSessions) (x : Session) (w : Watching) (stands : StandsFor b E hub) (there : home_of hub s ≡ Some (name, g))
+module _ (b : HubConfig) (E : Log) (hub : State) (s : ℕ) (name : List ℕ) (g : RoomSessions)
+    (x : Session) (w : Watching) (stands : StandsFor b E hub) (there : home_of hub s
+    ≡ Some (name, g))
     (is : session_in g.sessions s ≡ Some x) (watches : watching b E s ≡ Some w) where
   watcher : Follows (documents E name) w (later g.room w.view x.outbox)
   watcher =
       let p = at_place hub s (name, g) there in
-      let mine : Home hub s = record { room = record { place = p.0; name = name; room_sessions = g; there = p.2 }; session = x; at = p.1; is = is } in
-      let found : WatchStands (documents E name) g.room x (Some w) = rw watches at (here b E hub s mine stands).2 in
+      let mine : Home hub s =
+      record {
+        room = record { place = p.0; name = name; room_sessions = g; there = p.2 };
+        session = x;
+        at = p.1;
+        is = is;
+      } in
+      let found : WatchStands (documents E name) g.room x (Some w) =
+      rw watches at (here b E hub s mine stands).2 in
       found.1
 
-  -- a client that applies what was drawn and what waits, in order, holds exactly its view of the present document
-  pub exactly_held : HoldsPresent (documents E name) w.view (client_after w.start (w.heard ++ later g.room w.view x.outbox))
+  -- a client that applies what was drawn and what waits, in order, holds exactly its view of the
+  -- present document
+  pub exactly_held : HoldsPresent (documents E name) w.view
+      (client_after w.start (w.heard ++ later g.room w.view x.outbox))
   exactly_held = watcher.exactly
 
-  at_each : (ds : List Document) (v : View) (c : Client) (before after : List Message) (m : Message) → EachLeads ds v c (before ++ m ∷ after) → IsAtNamed ds v m (client (client_after c before) m)
+  at_each : (ds : List Document) (v : View) (c : Client) (before after : List Message)
+      (m : Message) → EachLeads ds v c (before ++ m ∷ after)
+      → IsAtNamed ds v m (client (client_after c before) m)
   at_each ds v c [] after m h = h.0
   at_each ds v c (first ∷ before) after m h = at_each ds v (client c first) before after m h.1
 
   -- after each message it holds its view of the revision that the message names
-  pub each_held : (before after : List Message) (m : Message) → w.heard ++ later g.room w.view x.outbox ≡ before ++ m ∷ after
+  pub each_held : (before after : List Message) (m : Message)
+      → w.heard ++ later g.room w.view x.outbox ≡ before ++ m ∷ after
       → IsAtNamed (documents E name) w.view m (client_after w.start (before ++ m ∷ []))
   each_held before after m split =
-      rw (client_after-append w.start before (m ∷ [])) (at_each (documents E name) w.view w.start before after m (rw split at watcher.each))
+      rw (client_after-append w.start before (m ∷ []))
+      (at_each (documents E name) w.view w.start before after m (rw split at watcher.each))
 
 -- Refused edits.
 
-same_rooms : (rooms : List (List ℕ × RoomSessions)) (place : ℕ) (name : List ℕ) (g h : RoomSessions) → slice_get rooms place ≡ Some (name, g) → h.room ≡ g.room
+same_rooms : (rooms : List (List ℕ
+    × RoomSessions)) (place : ℕ) (name : List ℕ) (g h : RoomSessions)
+    → slice_get rooms place ≡ Some (name, g) → h.room ≡ g.room
     → map without_sessions (slice_set rooms place (name, h)) ≡ map without_sessions rooms
 same_rooms [] place name g h at same = refl
 same_rooms (r ∷ rooms) zero name g h at same =
     let first : r ≡ (name, g) = cc in
     rw (first, same) refl
-same_rooms (r ∷ rooms) (suc place) name g h at same = ap (λ rest. without_sessions r ∷ rest) (same_rooms rooms place name g h at same)
+same_rooms (r ∷ rooms) (suc place) name g h at same =
+    ap (λ rest. without_sessions r ∷ rest) (same_rooms rooms place name g h at same)
 
 -- any session but s is found as before
-others_found : (hub : State) (r : RoomOf hub) (h : RoomSessions) (s : ℕ) (y : Option Session) → OnlyAt s y r.room_sessions.sessions h.sessions
+others_found : (hub : State) (r : RoomOf hub) (h : RoomSessions) (s : ℕ) (y : Option Session)
+    → OnlyAt s y r.room_sessions.sessions h.sessions
     → (t : ℕ) → s ≢ t → session_of (with_room r.place r.name h hub) t ≡ session_of hub t
 others_found hub r h s y only t apart = go (place_of hub t)
   where
     found : List (List ℕ × RoomSessions) → Option ℕ → Option Session
-    found rooms o = option_and_then (λ (home : List ℕ × RoomSessions). session_in home.1.sessions t) (option_and_then (λ p. slice_get rooms p) o)
+    found rooms o =
+        option_and_then (λ (home : List ℕ × RoomSessions).
+        session_in home.1.sessions t) (option_and_then (λ p. slice_get rooms p) o)
 
     go : (o : Option ℕ) → found (slice_set hub.rooms r.place (r.name, h)) o ≡ found hub.rooms o
     go None = refl
@@ -85,12 +109,22 @@ others_found hub r h s y only t apart = go (place_of hub t)
         elim (eqb_tells p r.place) [
           | inl same ↦
               let other : (s == t) ≡ false = grind (arith, nat_tests, apart) in
-              rw (same.1, slice_get-set hub.rooms r.place (r.name, r.room_sessions) (r.name, h) r.there, r.there, only.found t, other) refl
+              rw (
+                same.1,
+                slice_get-set hub.rooms r.place (r.name, r.room_sessions) (
+                  r.name,
+                  h,
+                ) r.there,
+                r.there,
+                only.found t,
+                other,
+              ) refl
           | inr differs ↦ rw (slice_get-set_other hub.rooms r.place p (r.name, h) differs.1) refl
         ]
 
 -- a room in which one session alone differs
-leaves_no_trace : (hub : State) (s : ℕ) (r : RoomOf hub) (h : RoomSessions) (y : Session) → place_of hub s ≡ Some r.place → ChangesOnly s (Some y) r.room_sessions h
+leaves_no_trace : (hub : State) (s : ℕ) (r : RoomOf hub) (h : RoomSessions) (y : Session)
+    → place_of hub s ≡ Some r.place → ChangesOnly s (Some y) r.room_sessions h
     → LeavesNoTrace s y hub (with_room r.place r.name h hub)
 leaves_no_trace hub s r h y at changes =
     let same : (s == s) ≡ true = grind (arith, nat_tests) in
@@ -100,31 +134,56 @@ leaves_no_trace hub s r h y at changes =
       wills = refl;
       next = refl;
       others = others_found hub r h s (Some y) changes.1;
-      sender = rw (at, slice_get-set hub.rooms r.place (r.name, r.room_sessions) (r.name, h) r.there, changes.1.found s, same) refl;
+      sender =
+          rw (
+            at,
+            slice_get-set hub.rooms r.place (r.name, r.room_sessions) (r.name, h) r.there,
+            changes.1.found s,
+            same,
+          ) refl;
     }
 
 -- the effect of an answered text in the room of its sender, which is x
-module _ (old new : State) (s short : ℕ) (text : List ℕ) (name : List ℕ) (g : RoomSessions) (x : Session) (there : home_of old s ≡ Some (name, g)) (is : session_in g.sessions s ≡ Some x)
+module _ (old new : State) (s short : ℕ) (text : List ℕ) (name : List ℕ) (g : RoomSessions)
+    (x : Session) (there : home_of old s ≡ Some (name, g)) (is : session_in g.sessions s ≡ Some x)
     (step : Step old (Receive s text) (Heard (Answered short)) new) where
-  done : (h : RoomSessions) × Serves old.made s x (admitted old.made.view_weight x.access (request_of_text text)) short g h × ((y : Session) → ChangesOnly s (Some y) g h → LeavesNoTrace s y old new)
+  done : (h : RoomSessions)
+      × Serves old.config s x
+      (admitted old.config.view_weight x.access (request_of_text text)) short g
+      h × ((y : Session) → ChangesOnly s (Some y) g h → LeavesNoTrace s y old new)
   done =
       let p = at_place old s (name, g) there in
       let answer = Heard (Answered short) in
-      let Does : RoomSessions → RoomSessions → Type 0 = λ g h. Receives old.made s (session_in g.sessions s) text answer g h in
+      let Does : RoomSessions → RoomSessions → Type 0 =
+      λ g h. Receives old.config s (session_in g.sessions s) text answer g h in
       let at_home : InRoom p.0 (Some (name, g)) old answer Does new = rw (p.1, p.2) at step in
       let h = at_home.0 in
-      let received : Receives old.made s (Some x) text answer g h = rw is at at_home.1 in
-      (h, received.1, λ y changes. subst (λ hub. LeavesNoTrace s y old hub) (sym at_home.2) (leaves_no_trace old s (record { place = p.0; name = name; room_sessions = g; there = p.2 }) h y p.1 changes))
+      let received : Receives old.config s (Some x) text answer g h = rw is at at_home.1 in (
+        h,
+        received.1,
+        λ y changes.
+            subst (λ hub. LeavesNoTrace s y old hub) (sym at_home.2)
+            (leaves_no_trace old s
+            (record { place = p.0; name = name; room_sessions = g; there = p.2 }) h y p.1
+            changes),
+      )
 
-  -- a refused edit changes no room and no other session, and adds one reply to the sender's, if it is refused when it is read
-  pub unread_no_trace : (r : Refusal) → admitted old.made.view_weight x.access (request_of_text text) ≡ Err r → LeavesNoTrace s (replied (refused r) x) old new
+  -- a refused edit changes no room and no other session, and adds one reply to the sender's, if it
+  -- is refused when it is read
+  pub unread_no_trace : (r : Refusal)
+      → admitted old.config.view_weight x.access (request_of_text text) ≡ Err r
+      → LeavesNoTrace s (replied (refused r) x) old new
   unread_no_trace r read =
-      let served : (short ≡ 0) × ChangesOnly s (Some (replied (refused r) x)) g done.0 = rw read at done.1 in
+      let served : (short ≡ 0) × ChangesOnly s (Some (replied (refused r) x)) g done.0 =
+      rw read at done.1 in
       done.2 (replied (refused r) x) served.1
 
   -- and the same if the room refuses it
-  pub unmade_no_trace : (id : ℕ) (base : Option ℕ) (patch : List Op) (fault : EditFault) → admitted old.made.view_weight x.access (request_of_text text) ≡ Ok (Edit id base patch) → edited g.room base patch ≡ Err fault
+  pub unmade_no_trace : (id : ℕ) (base : Option ℕ) (patch : List Op) (fault : EditFault)
+      → admitted old.config.view_weight x.access (request_of_text text) ≡ Ok (Edit id base patch)
+      → edited g.room base patch ≡ Err fault
       → (r : Reply) × (edit_refusal id fault ≡ Some r) × LeavesNoTrace s (replied r x) old new
   unmade_no_trace id base patch fault read unmade =
-      let served : EditServed old.made s x id patch (Err fault) short g done.0 = rw (read, unmade) at done.1 in
+      let served : EditServed old.config s x id patch (Err fault) short g done.0 =
+      rw (read, unmade) at done.1 in
       (served.1, served.2, done.2 (replied served.1 x) served.3)

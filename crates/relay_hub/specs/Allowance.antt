@@ -12,7 +12,8 @@ use Rattle.relay_view.specs.declared.slot.SlotKind.{SlotKind}
 use Rattle.relay_view.specs.declared.slot.SlotKind.TheVariants.{Value, Size}
 use Rattle.relay_hub.specs.declared.cached_update.TheConstants.{MAX_SHARED}
 
--- what the patches that are still to be made may weigh together, and the views for which the last ones were made, the newest first
+-- what the patches that are still to be made may weigh together, and the views for which the last
+-- ones were made, the newest first
 pub record Allowance : Type 0 where
   pub left : Budget
   pub made : List View
@@ -32,7 +33,8 @@ abbrev pub same_view : View → View → Bool
 same_view [] [] = true
 same_view [] (t ∷ w) = false
 same_view (s ∷ v) [] = false
-same_view (s ∷ v) (t ∷ w) = (same_path s.pointer t.pointer && same_kind s.kind t.kind) && same_view v w
+same_view (s ∷ v) (t ∷ w) =
+    (same_path s.pointer t.pointer && same_kind s.kind t.kind) && same_view v w
 
 -- whether one of the patches was made for this view
 abbrev pub is_made : List View → View → Bool
@@ -44,21 +46,27 @@ smaller Unbounded budget = budget
 smaller (Left n) Unbounded = Left n
 smaller (Left n) (Left m) = Left (min n m)
 
--- what the patch for a view may weigh: what the session's budget pays for, and no more than is left; but one of the last patches that
--- were made is shared with the next sessions of its view, and costs nothing more
+-- what the patch for a view may weigh: what the session's budget pays for, and no more than is
+-- left; but one of the last patches that were made is shared with the next sessions of its view,
+-- and costs nothing more
 abbrev pub within : Allowance → View → Budget → Budget
-within allowance pointers budget = if is_made allowance.made pointers then budget else smaller budget allowance.left
+within allowance pointers budget =
+    if is_made allowance.made pointers then budget else smaller budget allowance.left
 
 -- a budget less a weight
 abbrev pub less : ℕ → Budget → Budget
 less weight Unbounded = Unbounded
 less weight (Left n) = Left (n - weight)
 
--- after the update for a view: a patch is paid when it is made, and shared until as many others were made
+-- after the update for a view: a patch is paid when it is made, and shared until as many others
+-- were made
 abbrev pub after_patch : Allowance → View → List Op → Allowance
 after_patch allowance pointers ops =
     if is_made allowance.made pointers then allowance
-    else record { left = less (ops_weight ops) allowance.left; made = take MAX_SHARED (pointers ∷ allowance.made) }
+    else record {
+      left = less (ops_weight ops) allowance.left;
+      made = take MAX_SHARED (pointers ∷ allowance.made);
+    }
 
 abbrev pub after_update : Allowance → View → CatchUp → Allowance
 after_update allowance pointers Nothing = allowance

@@ -22,21 +22,25 @@ use Rattle.relay_hub.specs.declared.cached_update.CachedUpdate.{CachedUpdate}
 use Rattle.relay_hub.specs.declared.cached_update.UpdateCache.{UpdateCache}
 
 -- the update is what an edit from the document d by some changes means to a view, within a budget
-pub record Tells (budget : Budget) (d : Document) (changes : List Change) (room : Room) (pointers : View) (update : Update) : Type 0 where
+pub record Tells (budget : Budget) (d : Document) (changes : List Change) (room : Room)
+    (pointers : View) (update : Update) : Type 0 where
   pub notified : update ≡ update_of (revision room) (telling budget changes room pointers)
   pub makes : MakesPresent room pointers d (telling budget changes room pointers)
   pub fits : Fits (telling budget changes room pointers)
 
 -- the update is what the newest edit means to a view, whatever document the edit was applied to
 abbrev pub IsUpdate : Budget → Room → View → Update → Type 0
-IsUpdate budget room pointers update = (d : Document) (changes : List Change) → changes ≡ changes_since (revision room - 1) room.history
+IsUpdate budget room pointers update =
+    (d : Document) (changes : List Change)
+    → changes ≡ changes_since (revision room - 1) room.history
     → Leads d changes room.document → Tells budget d changes room pointers update
 
 -- the patch is what the newest edit means to a view, within some budget
 abbrev pub IsPatch : Room → View → ℕ × List Op → Type 0
 IsPatch room pointers p = (budget : Budget) × IsUpdate budget room pointers (Patch p)
 
--- the same patch for another session of its view: a snapshot, if its budget does not pay for the patch
+-- the same patch for another session of its view: a snapshot, if its budget does not pay for the
+-- patch
 abbrev pub shared_within : Budget → ℕ × List Op → Update
 shared_within budget p = if is_some (paid (ops_weight p.1) budget) then Patch p else Snapshot
 
@@ -51,7 +55,8 @@ IsKeptPatch room kept = IsPatch room kept.view kept.patch
 
 -- a kept update is what the newest edit means to its view, and is no patch
 abbrev pub IsKeptOther : Room → CachedUpdate → Type 0
-IsKeptOther room kept = IsUpdate kept.budget room kept.view kept.update × (is_patch kept.update ≡ false)
+IsKeptOther room kept =
+    IsUpdate kept.budget room kept.view kept.update × (is_patch kept.update ≡ false)
 
 -- the kept patches and the other updates are what the newest edit means to their views
 pub record IsKept (room : Room) (cache : UpdateCache) : Type 0 where

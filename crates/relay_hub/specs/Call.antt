@@ -80,8 +80,10 @@ logged E event None = E
 -- a run: one step after another, with one answer for each. It may stop before the last event
 pub data Runs : State → List Event → List Answer → State → Type 0 where
   stops : (hub : State) (events : List Event) → Runs hub events [] hub
-  steps : (old mid new : State) (event : Event) (events : List Event) (answer : Answer) (answers : List Answer)
-      → Step old event answer mid → Runs mid events answers new → Runs old (event ∷ events) (answer ∷ answers) new
+  steps : (old mid new : State) (event : Event) (events : List Event) (answer : Answer)
+      (answers : List Answer)
+      → Step old event answer mid → Runs mid events answers new
+      → Runs old (event ∷ events) (answer ∷ answers) new
 
 -- the answers to the events that a run carried out
 abbrev pub done : Result (Vec Answer) RunFault → List Answer
@@ -95,18 +97,22 @@ followed E events answers = E
 
 -- The same within a room, for the functions that do the work.
 
-abbrev pub ReceivesIf : HubConfig → ℕ → List ℕ → Option Answer → RoomSessions → RoomSessions → Type 0
-ReceivesIf made s text (Some answer) old new = Receives made s (session_in old.sessions s) text answer old new
-ReceivesIf made s text None old new = new ≡ old
+abbrev pub ReceivesIf : HubConfig → ℕ → List ℕ → Option Answer → RoomSessions → RoomSessions
+    → Type 0
+ReceivesIf config s text (Some answer) old new =
+    Receives config s (session_in old.sessions s) text answer old new
+ReceivesIf config s text None old new = new ≡ old
 
 abbrev pub DrawsIf : ℕ → Option Answer → RoomSessions → RoomSessions → Type 0
 DrawsIf s (Some answer) old new = Draws s (session_in old.sessions s) answer old new
 DrawsIf s None old new = new ≡ old
 
 -- a will is done, or memory ran out and nothing changed
-abbrev pub WillServedIf : HubConfig → List Op → Result ℕ AllocError → RoomSessions → RoomSessions → Type 0
-WillServedIf made patch (Ok short) old new = WillServed made patch (edited old.room None patch) short old new
-WillServedIf made patch (Err e) old new = new ≡ old
+abbrev pub WillServedIf : HubConfig → List Op → Result ℕ AllocError → RoomSessions → RoomSessions
+    → Type 0
+WillServedIf config patch (Ok short) old new =
+    WillServed config patch (edited old.room None patch) short old new
+WillServedIf config patch (Err e) old new = new ≡ old
 
 -- no session has that number or a higher one
 abbrev pub IsAbove : ℕ → List Session → Type 0
@@ -114,7 +120,9 @@ IsAbove s sessions = (t : ℕ) → s ≤ t → session_in sessions t ≡ None
 
 -- the same of the sessions of every room
 abbrev pub IsFresh : ℕ → List (List ℕ × RoomSessions) → Type 0
-IsFresh s rooms = (place : ℕ) (name : List ℕ) (g : RoomSessions) → slice_get rooms place ≡ Some (name, g) → IsAbove s g.sessions
+IsFresh s rooms =
+    (place : ℕ) (name : List ℕ) (g : RoomSessions) → slice_get rooms place ≡ Some (name, g)
+    → IsAbove s g.sessions
 
 -- session s becomes f of what it was, and no other session differs
 abbrev pub ChangesBy : ℕ → (Session → Session) → List Session → List Session → Type 0
@@ -122,7 +130,9 @@ ChangesBy s f old new = (x : Session) → session_in old s ≡ Some x → OnlyAt
 
 -- the outbox of session s has space for a reply
 abbrev pub HasSpace : List Session → ℕ → Type 0
-HasSpace sessions s = (x : Session) → session_in sessions s ≡ Some x → length x.outbox.replies < MAX_REPLIES
+HasSpace sessions s =
+    (x : Session) → session_in sessions s ≡ Some x → length x.outbox.replies < MAX_REPLIES
 
 abbrev pub IsFull : List Session → ℕ → Type 0
-IsFull sessions s = (x : Session) → session_in sessions s ≡ Some x → length x.outbox.replies ≡ MAX_REPLIES
+IsFull sessions s =
+    (x : Session) → session_in sessions s ≡ Some x → length x.outbox.replies ≡ MAX_REPLIES

@@ -1,4 +1,5 @@
--- The session that calls, among its room's sessions, and what the sessions are after a mutable borrow of it ends.
+-- The session that calls, among its room's sessions, and what the sessions are after a mutable
+-- borrow of it ends.
 use Rattle.std.specs.Prelude.{◌≡◌, List, Some, position, slice_set}
 use Rattle.std.specs.Borrow.{Lends, MutBor, Fml, Array}
 use Rattle.relay_hub.specs.Session.{Session}
@@ -12,4 +13,5 @@ IsCaller sessions caller = position (is_number caller.number) sessions ≡ Some 
 
 -- the sessions end with the last value of r at the caller's place
 abbrev pub LendsSession : MutBor (List Session) → Caller → MutBor Session → Fml
-LendsSession sessions caller r = Lends (Array session.the_row 0) session.the_row sessions r (slice_set sessions.now caller.place)
+LendsSession sessions caller r =
+    Lends (Array session.the_row 0) session.the_row sessions r (slice_set sessions.now caller.place)

@@ -23,8 +23,36 @@ budget_code = code_by (Option ℕ) (coded_option coded_ℕ) bound_of bounded_by 
 
 abbrev pub config_code : Coded HubConfig
 config_code = code_by (ℕ × (ℕ × (ℕ × (ℕ × (ℕ × (ℕ × (Budget × (Budget × (Budget × Budget)))))))))
-    (coded× coded_ℕ (coded× coded_ℕ (coded× coded_ℕ (coded× coded_ℕ (coded× coded_ℕ (coded× coded_ℕ (coded× budget_code (coded× budget_code (coded× budget_code budget_code)))))))))
-    (λ c. (c.epoch, (c.first, (c.rooms, (c.sessions, (c.history, (c.max_waiting_patches, (c.history_weight, (c.waiting_weight, (c.telling_weight, c.view_weight))))))))))
+    (coded× coded_ℕ (coded× coded_ℕ
+    (coded× coded_ℕ (coded× coded_ℕ
+    (coded× coded_ℕ (coded× coded_ℕ
+    (coded× budget_code (coded× budget_code
+    (coded× budget_code budget_code)))))))))
+    (λ c. (
+      c.epoch,
+      (
+        c.first,
+        (
+          c.rooms,
+          (
+            c.sessions,
+            (
+              c.history,
+              (
+                c.max_waiting_patches,
+                (
+                  c.history_weight,
+                  (
+                    c.waiting_weight,
+                    (c.telling_weight, c.view_weight),
+                  ),
+                ),
+              ),
+            ),
+          ),
+        ),
+      ),
+    ))
     (λ p. record {
       epoch = p.0;
       first = p.1.0;

@@ -18,5 +18,6 @@ pub mod Queries
 pub mod Summary
 pub mod Told
 pub mod Call
+pub mod Asked
 pub mod Stands
 pub mod Shed

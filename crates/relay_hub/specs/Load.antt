@@ -7,7 +7,8 @@ use Rattle.relay_tree.specs.declared.budget.Budget.{Budget}
 use Rattle.relay_tree.specs.declared.budget.Budget.TheVariants.{Unbounded, Left}
 use Rattle.relay_hub.specs.Session.{patches_weight}
 
--- the load is what the waiting patches weigh, and is within the budget; it is counted only if there is a bound
+-- the load is what the waiting patches weigh, and is within the budget; it is counted only if there
+-- is a bound
 abbrev pub IsLoad : Budget → ℕ → Contents Reply (ℕ × List Op) → Type 0
 IsLoad Unbounded load contents = ⊤
 IsLoad (Left most) load contents = (load ≡ patches_weight contents.patches) × (load ≤ most)

@@ -1,6 +1,6 @@
--- What follows from a log: the documents of each room, which sessions are open in which room, what they
--- may do there and what will they left, what each session watches and which messages it received. A log
--- has its newest entry first, so each definition says what one more entry changes.
+-- What follows from a log: the documents of each room, which sessions are open in which room, what
+-- they may do there and what will they left, what each session watches and which messages it
+-- received. A log has its newest entry first, so each definition says what one more entry changes.
 use Rattle.std.specs.Prelude.{ℕ, ◌+◌, ◌-◌, ◌==◌, Bool, false, ◌||◌, List, [], ◌∷◌, ◌++◌, Option, Some, None, option_map, Result, Ok, drop, length, replicate, nat_le, slice_get, unwrap_or, bytes_eq, ◌&&◌, if◌then◌else◌}
 use Rattle.std.specs.Result.{result_ok}
 use Rattle.relay_tree.specs.Document.{Document, null}
@@ -37,7 +37,8 @@ Log = List Entry
 
 -- Which sessions are open, and in which room.
 
--- the name of the room in which a session is open, what it may do there, and its will, which may be empty
+-- the name of the room in which a session is open, what it may do there, and its will, which may be
+-- empty
 pub record Place : Type 0 where
   pub room : List ℕ
   pub access : Access
@@ -53,12 +54,15 @@ will_after was _ = was
 
 -- the same after a text of a session that is open there
 abbrev pub willed : List ℕ → Place → Place
-willed text p = place p.room p.access (will_after p.will (permitted p.access (request_of_text text)))
+willed text p =
+    place p.room p.access (will_after p.will (permitted p.access (request_of_text text)))
 
 -- where session s is open, if it is, after an event
 abbrev pub home_after : Option Place → ℕ → Event → Answer → Option Place
-home_after was s (Open name access) (Opened o) = if o.session == s then Some (place name access []) else was
-home_after was s (Receive t text) (Heard (Answered short)) = if t == s then option_map (willed text) was else was
+home_after was s (Open name access) (Opened o) =
+    if o.session == s then Some (place name access []) else was
+home_after was s (Receive t text) (Heard (Answered short)) =
+    if t == s then option_map (willed text) was else was
 home_after was s (Close t) Closed = if t == s then None else was
 home_after was s _ _ = was
 
@@ -110,7 +114,8 @@ present_of documents = unwrap_or (slice_get documents (length documents - 1)) nu
 
 -- the document that an edit adds, if it is accepted
 abbrev pub next_document : List Document → Option ℕ → List Op → Option Document
-next_document documents base patch = result_ok (edited_at (length documents - 1) (present_of documents) base patch)
+next_document documents base patch =
+    result_ok (edited_at (length documents - 1) (present_of documents) base patch)
 
 -- the document that a request adds
 abbrev pub requested : List Document → Result Request Refusal → Option Document
@@ -120,7 +125,8 @@ requested documents _ = None
 -- the document that a text adds to the room of that name, if its sender is open there and may edit
 abbrev pub document_added : List Document → List ℕ → Option Place → List ℕ → Option Document
 document_added documents name (Some home) text =
-    if bytes_eq home.room name then requested documents (permitted home.access (request_of_text text)) else None
+    if bytes_eq home.room name
+    then requested documents (permitted home.access (request_of_text text)) else None
 document_added documents name None text = None
 
 -- the document that the oldest of these wills adds to the room of that name
@@ -133,20 +139,26 @@ abbrev pub extended : List Document → Option Document → List Document
 extended documents None = documents
 extended documents (Some d) = documents ++ d ∷ []
 
--- the documents up to a revision, with null at each that they do not have. A session enters a room at its present revision, and all of
--- these are there; or the room begins anew, above every revision that one of its name ever had
+-- the documents up to a revision, with null at each that they do not have. A session enters a room
+-- at its present revision, and all of these are there; or the room begins anew, above every
+-- revision that one of its name ever had
 abbrev pub reaching : ℕ → List Document → List Document
 reaching rev documents = documents ++ replicate (rev + 1 - length documents) null
 
-abbrev pub documents_after : (ℕ → Option Place) → List Bequest → List Document → List ℕ → Event → Answer → List Document
-documents_after homes wills documents name (Open room access) (Opened o) = if bytes_eq room name then reaching o.rev documents else documents
-documents_after homes wills documents name (Receive s text) (Heard (Answered short)) = extended documents (document_added documents name (homes s) text)
-documents_after homes wills documents name DoWill (WillDone short) = extended documents (document_left documents name wills)
-documents_after homes wills documents name (Forget room) (Forgotten rev) = if bytes_eq room name then reaching rev documents else documents
+abbrev pub documents_after : (ℕ → Option Place) → List Bequest → List Document → List ℕ → Event
+    → Answer → List Document
+documents_after homes wills documents name (Open room access) (Opened o) =
+    if bytes_eq room name then reaching o.rev documents else documents
+documents_after homes wills documents name (Receive s text) (Heard (Answered short)) =
+    extended documents (document_added documents name (homes s) text)
+documents_after homes wills documents name DoWill (WillDone short) =
+    extended documents (document_left documents name wills)
+documents_after homes wills documents name (Forget room) (Forgotten rev) =
+    if bytes_eq room name then reaching rev documents else documents
 documents_after homes wills documents name _ _ = documents
 
--- the documents of the rooms of that name, one after another: null, and then one for each accepted edit, and null at each revision that was
--- passed over where a room began anew
+-- the documents of the rooms of that name, one after another: null, and then one for each accepted
+-- edit, and null at each revision that was passed over where a room began anew
 abbrev pub documents : Log → List ℕ → List Document
 documents [] name = null ∷ []
 documents (e ∷ E) name = documents_after (home E) (left E) (documents E name) name e.event e.answer
@@ -156,8 +168,10 @@ present E name = present_of (documents E name)
 
 -- the revision at which the newest room of that name began
 abbrev pub beginning_after : ℕ → List Document → List ℕ → Event → Answer → ℕ
-beginning_after was documents name (Open room access) (Opened o) = if bytes_eq room name && nat_le (length documents) o.rev then o.rev else was
-beginning_after was documents name (Forget room) (Forgotten rev) = if bytes_eq room name && nat_le (length documents) rev then rev else was
+beginning_after was documents name (Open room access) (Opened o) =
+    if bytes_eq room name && nat_le (length documents) o.rev then o.rev else was
+beginning_after was documents name (Forget room) (Forgotten rev) =
+    if bytes_eq room name && nat_le (length documents) rev then rev else was
 beginning_after was documents name _ _ = was
 
 abbrev pub beginning : Log → List ℕ → ℕ
@@ -166,7 +180,8 @@ beginning (e ∷ E) name = beginning_after (beginning E name) (documents E name)
 
 -- What the sessions watch.
 
--- the pointers of a session's view, what its client held when the watch began, and the snapshots and patches drawn since
+-- the pointers of a session's view, what its client held when the watch began, and the snapshots
+-- and patches drawn since
 pub record Watching : Type 0 where
   pub view : View
   pub start : Client
@@ -183,7 +198,10 @@ view_message _ = []
 
 -- the watching after a text was drawn
 abbrev pub hearing : Option (List ℕ) → Option Watching → Option Watching
-hearing (Some text) (Some w) = Some (record { view = w.view; start = w.start; heard = w.heard ++ view_message (message_of_text text) })
+hearing (Some text) (Some w) =
+    Some
+    (record
+    { view = w.view; start = w.start; heard = w.heard ++ view_message (message_of_text text) })
 hearing _ was = was
 
 -- a client that resumes from a revision holds its view of that revision's document
@@ -191,25 +209,33 @@ abbrev pub resumes_from : Option Watching → ℕ → View → Option Document �
 resumes_from was rev pointers (Some d) = Some (begun pointers (holds rev (view pointers d)))
 resumes_from was rev pointers None = was
 
--- the watching of a session after a request that was answered. A resume from a future revision is refused, and changes nothing
+-- the watching of a session after a request that was answered. A resume from a future revision is
+-- refused, and changes nothing
 abbrev pub asked : ℕ → List Document → Option Watching → Result Request Refusal → Option Watching
 asked epoch documents was (Ok (Watch id pointers)) = Some (begun pointers nothing)
 asked epoch documents was (Ok (Unwatch id)) = None
 asked epoch documents was (Ok (Resume id e rev pointers)) =
-    if e == epoch then resumes_from was rev pointers (slice_get documents rev) else Some (begun pointers nothing)
+    if e == epoch then resumes_from was rev pointers (slice_get documents rev)
+    else Some (begun pointers nothing)
 asked epoch documents was _ = was
 
 -- the same of a session that is open in a room, in a hub of that configuration
-abbrev pub asked_at_home : HubConfig → (List ℕ → List Document) → Option Watching → Option Place → List ℕ → Option Watching
-asked_at_home b documents was (Some home) text = asked b.epoch (documents home.room) was (affordable b.view_weight (request_of_text text))
+abbrev pub asked_at_home : HubConfig → (List ℕ → List Document) → Option Watching → Option Place
+    → List ℕ → Option Watching
+asked_at_home b documents was (Some home) text =
+    asked b.epoch (documents home.room) was (affordable b.view_weight (request_of_text text))
 asked_at_home b documents was None text = was
 
 -- the watching of session s after an event
-abbrev pub watching_after : HubConfig → (List ℕ → List Document) → Option Place → Option Watching → ℕ → Event → Answer → Option Watching
-watching_after b documents home was s (Open name access) (Opened o) = if o.session == s then None else was
+abbrev pub watching_after : HubConfig → (List ℕ → List Document) → Option Place → Option Watching
+    → ℕ → Event → Answer → Option Watching
+watching_after b documents home was s (Open name access) (Opened o) =
+    if o.session == s then None else was
 watching_after b documents home was s (Close t) Closed = if t == s then None else was
-watching_after b documents home was s (Receive t text) (Heard (Answered short)) = if t == s then asked_at_home b documents was home text else was
-watching_after b documents home was s (Draw t) (Drawn text) = if t == s then hearing text was else was
+watching_after b documents home was s (Receive t text) (Heard (Answered short)) =
+    if t == s then asked_at_home b documents was home text else was
+watching_after b documents home was s (Draw t) (Drawn text) =
+    if t == s then hearing text was else was
 watching_after b documents home was s _ _ = was
 
 -- what session s watches, if it does, in a hub of that configuration

@@ -22,10 +22,12 @@ use Rattle.relay_hub.specs.State.{RoomSessions, State, home_of, session_in, sess
 
 -- one of the numbers of a configuration is no count, or out of its range
 abbrev pub BadLimits : HubConfig → Type 0
-BadLimits made =
-    (MAX_COUNT < made.epoch) ⊎ (MAX_COUNT < made.first)
-    ⊎ (made.history < 1) ⊎ (MAX_REVISIONS < made.history) ⊎ (made.max_waiting_patches < 1) ⊎ (MAX_PATCHES < made.max_waiting_patches)
-    ⊎ (made.rooms < 1) ⊎ (MAX_ROOMS < made.rooms) ⊎ (made.sessions < 1) ⊎ (MAX_SESSIONS < made.sessions)
+BadLimits config =
+    (MAX_COUNT < config.epoch) ⊎ (MAX_COUNT < config.first)
+    ⊎ (config.history < 1) ⊎ (MAX_REVISIONS < config.history) ⊎ (config.max_waiting_patches < 1)
+    ⊎ (MAX_PATCHES < config.max_waiting_patches)
+    ⊎ (config.rooms < 1) ⊎ (MAX_ROOMS < config.rooms) ⊎ (config.sessions < 1)
+    ⊎ (MAX_SESSIONS < config.sessions)
 
 -- the session is open, and a further reply may wait for it
 abbrev pub may_hear : Option Session → Bool
@@ -34,7 +36,9 @@ may_hear None = false
 
 -- the room of session s, and the session
 abbrev pub room_and_session : State → ℕ → Option (Room × Session)
-room_and_session hub s = option_and_then (λ home. option_map (λ x. (home.1.room, x)) (session_in home.1.sessions s)) (home_of hub s)
+room_and_session hub s =
+    option_and_then (λ home.
+    option_map (λ x. (home.1.room, x)) (session_in home.1.sessions s)) (home_of hub s)
 
 -- the present revision and the view of the present document, if the session watches a view
 abbrev pub shown : Room → Session → Option (ℕ × Document)
@@ -42,7 +46,9 @@ shown room x = option_map (λ pointers. (revision room, view pointers room.docum
 
 -- the same of session s, if it is open
 abbrev pub truth : State → ℕ → Option (Option (ℕ × Document))
-truth hub s = option_and_then (λ home. option_map (shown home.1.room) (session_in home.1.sessions s)) (home_of hub s)
+truth hub s =
+    option_and_then (λ home.
+    option_map (shown home.1.room) (session_in home.1.sessions s)) (home_of hub s)
 
 -- session s is y, and nothing else changed
 pub record LeavesNoTrace (s : ℕ) (y : Session) (old new : State) : Type 0 where
@@ -55,12 +61,16 @@ pub record LeavesNoTrace (s : ℕ) (y : Session) (old new : State) : Type 0 wher
 
 -- a refused edit of session s changes no room and no other session, and adds one reply to its own
 pub record RefusesEdits (s : ℕ) (text : List ℕ) (old new : State) : Type 0 where
-  -- refused when it is read, like any text that is no request, and like any edit of a session that only watches
+  -- refused when it is read, like any text that is no request, and like any edit of a session that
+  -- only watches
   pub unread : (name : List ℕ) (g : RoomSessions) (x : Session) (r : Refusal)
-      → home_of old s ≡ Some (name, g) → session_in g.sessions s ≡ Some x → admitted old.made.view_weight x.access (request_of_text text) ≡ Err r
+      → home_of old s ≡ Some (name, g) → session_in g.sessions s ≡ Some x
+      → admitted old.config.view_weight x.access (request_of_text text) ≡ Err r
       → LeavesNoTrace s (replied (refused r) x) old new
   -- refused by its room
-  pub unmade : (name : List ℕ) (g : RoomSessions) (x : Session) (id : ℕ) (base : Option ℕ) (patch : List Op) (fault : EditFault)
+  pub unmade : (name : List ℕ) (g : RoomSessions) (x : Session) (id : ℕ) (base : Option ℕ)
+      (patch : List Op) (fault : EditFault)
       → home_of old s ≡ Some (name, g) → session_in g.sessions s ≡ Some x
-      → admitted old.made.view_weight x.access (request_of_text text) ≡ Ok (Edit id base patch) → edited g.room base patch ≡ Err fault
+      → admitted old.config.view_weight x.access (request_of_text text) ≡ Ok (Edit id base patch)
+      → edited g.room base patch ≡ Err fault
       → (r : Reply) × (edit_refusal id fault ≡ Some r) × LeavesNoTrace s (replied r x) old new

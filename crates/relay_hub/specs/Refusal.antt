@@ -31,12 +31,13 @@ cause_word cause.TooDeep = Some word.TooDeep
 cause_word cause.TooHeavy = Some word.TooHeavy
 cause_word cause.NoMemory = None
 
--- the reply to an edit that its room refuses: with the place of the operation, if one is at fault, and the present revision, if the edit is
--- for another one
+-- the reply to an edit that its room refuses: with the place of the operation, if one is at fault,
+-- and the present revision, if the edit is for another one
 abbrev pub edit_refusal : ℕ → EditFault → Option Reply
 edit_refusal id Exhausted = Some (refused (refusal id word.Exhausted None))
 edit_refusal id (Stale present) = Some (Refused (Some id) word.Stale None (Some present))
-edit_refusal id (Apply fault) = option_map (λ w. refused (refusal id w (Some fault.at))) (cause_word fault.cause)
+edit_refusal id (Apply fault) =
+    option_map (λ w. refused (refusal id w (Some fault.at))) (cause_word fault.cause)
 
 -- the refusal of a resume from a future revision
 abbrev pub future_refusal : ℕ → Refusal

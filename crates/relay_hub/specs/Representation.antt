@@ -13,7 +13,7 @@ rooms_of es = map named es
 -- the hub that contracts see
 abbrev pub hub_of : Inside → State
 hub_of h = record {
-  made = h.made;
+  config = h.config;
   next = h.next;
   floor = h.floor;
   rooms = rooms_of h.rooms.entries;

@@ -1,5 +1,5 @@
 -- How one session changes: its view, its outbox and its will.
-use Rattle.std.specs.Prelude.{ℕ, ◌≡◌, ◌+◌, Bool, true, false, length, List, [], ◌∷◌, ◌++◌, map, Option, Some, None, option_map, is_some, if◌then◌else◌, refl}
+use Rattle.std.specs.Prelude.{ℕ, ◌≡◌, ◌+◌, Bool, false, length, List, [], ◌∷◌, ◌++◌, map, Option, Some, None, option_map, is_some, if◌then◌else◌, refl}
 use Rattle.std.specs.Coded.{Coded, code_by, coded×, coded_bool, coded_ℕ, coded_list, coded_option}
 use Rattle.relay_outbox.specs.Outbox.{Contents, Foremost, reply, patch, snapshot, nothing, empty, with_reply, with_patch, folded, cleared, front_of, without_front, contents_code}
 use Rattle.relay_patch.specs.Weight.{ops_weight}
@@ -23,8 +23,8 @@ use Rattle.relay_hub.specs.Config.{budget_code}
 use Rattle.relay_hub.specs.declared.config.HubConfig.{HubConfig}
 pub use Rattle.relay_hub.specs.EncodedPatch.{patch_message, message_text, ReadsBack}
 
--- a session: its number, what it may do, the view that it watches, if it does, its outbox, how much the
--- waiting patches may weigh, and its will: the patch for when it has ended, which may be empty
+-- a session: its number, what it may do, the view that it watches, if it does, its outbox, how much
+-- the waiting patches may weigh, and its will: the patch for when it has ended, which may be empty
 pub record Session : Type 0 where
   pub number : ℕ
   pub access : Access
@@ -70,12 +70,12 @@ replied r x = with_outbox (with_reply r x.outbox) x
 
 -- a session that was just opened, in a room at that revision
 abbrev pub newcomer : HubConfig → Access → ℕ → ℕ → Session
-newcomer made access rev number = record {
+newcomer config access rev number = record {
   number = number;
   access = access;
   view = None;
-  outbox = with_reply (Welcome made.epoch rev number) (empty made.max_waiting_patches);
-  budget = made.waiting_weight;
+  outbox = with_reply (Welcome config.epoch rev number) (empty config.max_waiting_patches);
+  budget = config.waiting_weight;
   will = [];
 }
 
@@ -86,10 +86,13 @@ abbrev pub patches_weight : List (ℕ × List Op) → ℕ
 patches_weight [] = 0
 patches_weight (p ∷ ps) = ops_weight p.1 + patches_weight ps
 
--- a patch is added as `with_patch` says if a budget pays for it and for all that wait; otherwise the outbox folds
-abbrev pub with_patch_within : Budget → ℕ × List Op → Contents Reply (ℕ × List Op) → Contents Reply (ℕ × List Op)
+-- a patch is added as `with_patch` says if a budget pays for it and for all that wait; otherwise
+-- the outbox folds
+abbrev pub with_patch_within : Budget → ℕ × List Op → Contents Reply (ℕ × List Op)
+    → Contents Reply (ℕ × List Op)
 with_patch_within budget p contents =
-    if is_some (paid (patches_weight contents.patches + ops_weight p.1) budget) then with_patch p contents else folded contents
+    if is_some (paid (patches_weight contents.patches + ops_weight p.1) budget)
+    then with_patch p contents else folded contents
 
 -- the session when it leaves a will, in place of the one that it left before
 abbrev pub leaves_will : ℕ → List Op → Session → Session
@@ -102,22 +105,33 @@ watches id pointers x = session_with (Some pointers) (folded (with_reply (Watchi
 abbrev pub unwatches : ℕ → Session → Session
 unwatches id x = session_with None (cleared (with_reply (Unwatched id) x.outbox)) x
 
--- the session when it resumes in a room at that revision: with nothing missed, with one patch, or with a snapshot
+-- the session when it resumes in a room at that revision: with nothing missed, with one patch, or
+-- with a snapshot
 abbrev pub resumes : ℕ → ℕ → View → CatchUp → Session → Session
-resumes rev id pointers Nothing x = session_with (Some pointers) (cleared (with_reply (Resumed id how.Nothing) x.outbox)) x
+resumes rev id pointers Nothing x =
+    session_with (Some pointers) (cleared (with_reply (Resumed id how.Nothing) x.outbox)) x
 resumes rev id pointers (Patch ops) x =
-    session_with (Some pointers) (with_patch_within x.budget (rev, ops) (cleared (with_reply (Resumed id how.Patch) x.outbox))) x
-resumes rev id pointers Snapshot x = session_with (Some pointers) (folded (with_reply (Resumed id how.Snapshot) x.outbox)) x
+    session_with (Some pointers) (with_patch_within x.budget (
+      rev,
+      ops,
+    ) (cleared (with_reply (Resumed id how.Patch) x.outbox))) x
+resumes rev id pointers Snapshot x =
+    session_with (Some pointers) (folded (with_reply (Resumed id how.Snapshot) x.outbox)) x
 
--- an outbox in which no snapshot is due, after an update to revision rev: it is unchanged, has one more patch, or a snapshot is due
-abbrev pub led_outbox : Budget → ℕ → CatchUp → Contents Reply (ℕ × List Op) → Contents Reply (ℕ × List Op)
+-- an outbox in which no snapshot is due, after an update to revision rev: it is unchanged, has one
+-- more patch, or a snapshot is due
+abbrev pub led_outbox : Budget → ℕ → CatchUp → Contents Reply (ℕ × List Op)
+    → Contents Reply (ℕ × List Op)
 led_outbox budget rev Nothing contents = contents
 led_outbox budget rev (Patch ops) contents = with_patch_within budget (rev, ops) contents
 led_outbox budget rev Snapshot contents = folded contents
 
--- any outbox: one in which a snapshot is due is unchanged, since that snapshot will show the revision too
-abbrev pub notified_outbox : Budget → ℕ → CatchUp → Contents Reply (ℕ × List Op) → Contents Reply (ℕ × List Op)
-notified_outbox budget rev how contents = if contents.due then contents else led_outbox budget rev how contents
+-- any outbox: one in which a snapshot is due is unchanged, since that snapshot will show the
+-- revision too
+abbrev pub notified_outbox : Budget → ℕ → CatchUp → Contents Reply (ℕ × List Op)
+    → Contents Reply (ℕ × List Op)
+notified_outbox budget rev how contents =
+    if contents.due then contents else led_outbox budget rev how contents
 
 -- What is drawn.
 
@@ -145,7 +159,9 @@ drawn x = with_outbox (without_front x.outbox) x
 
 -- the patches and the snapshot that wait, for a view
 abbrev pub later : Room → View → Contents Reply (ℕ × List Op) → List Message
-later room pointers contents = map patch_message contents.patches ++ (if contents.due then snapshot_of room pointers ∷ [] else [])
+later room pointers contents =
+    map patch_message contents.patches ++ (if contents.due then snapshot_of room pointers ∷ []
+    else [])
 
 -- how the logic stores a session
 
@@ -163,7 +179,8 @@ abbrev pub session_code : Coded Slot → Coded Reply → Coded Op → Coded Sess
 session_code slots replies ops =
     code_by (ℕ × (Access × (Option View × (Contents Reply (ℕ × List Op) × (Budget × List Op)))))
     (coded× coded_ℕ (coded× access_code (coded× (coded_option (coded_list slots))
-    (coded× (contents_code replies (coded× coded_ℕ (coded_list ops))) (coded× budget_code (coded_list ops))))))
+    (coded× (contents_code replies (coded× coded_ℕ (coded_list ops)))
+    (coded× budget_code (coded_list ops))))))
     (λ x. (x.number, (x.access, (x.view, (x.outbox, (x.budget, x.will))))))
     (λ p. record {
       number = p.0;

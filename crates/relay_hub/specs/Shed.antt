@@ -1,4 +1,5 @@
--- What a hub gives back when memory was refused: what its rooms remember, and the patches that wait.
+-- What a hub gives back when memory was refused: what its rooms remember, and the patches that
+-- wait.
 use Rattle.std.specs.Prelude.{ℕ, List, [], ◌∷◌, map}
 use Rattle.relay_outbox.specs.Outbox.{Contents, folded}
 use Rattle.relay_patch.specs.declared.op.Op.{Op}
@@ -9,14 +10,15 @@ use Rattle.relay_tree.specs.declared.budget.Budget.TheVariants.{Unbounded, Left}
 use Rattle.relay_hub.specs.Session.{Session, with_outbox}
 use Rattle.relay_hub.specs.State.{RoomSessions, room_sessions, State}
 
--- what the changes that a room remembers may weigh afterwards: nothing, if there was a bound. Without one a room promises all of its
--- last revisions, and keeps them
+-- what the changes that a room remembers may weigh afterwards: nothing, if there was a bound.
+-- Without one a room promises all of its last revisions, and keeps them
 abbrev pub shed_budget : Budget → Budget
 shed_budget Unbounded = Unbounded
 shed_budget (Left most) = Left 0
 
 -- the patches that wait, if there are any, fold into a snapshot that is due
-abbrev pub fold_patches : List (ℕ × List Op) → Contents Reply (ℕ × List Op) → Contents Reply (ℕ × List Op)
+abbrev pub fold_patches : List (ℕ × List Op) → Contents Reply (ℕ × List Op)
+    → Contents Reply (ℕ × List Op)
 fold_patches [] contents = contents
 fold_patches (p ∷ ps) contents = folded contents
 
@@ -32,10 +34,10 @@ shed_named budget r = (r.0, shed_room budget r.1)
 -- the hub keeps its rooms, its documents, its sessions and their replies
 abbrev pub shed : State → State
 shed hub = record {
-  made = hub.made;
+  config = hub.config;
   next = hub.next;
   floor = hub.floor;
-  rooms = map (shed_named (shed_budget hub.made.history_weight)) hub.rooms;
+  rooms = map (shed_named (shed_budget hub.config.history_weight)) hub.rooms;
   homes = hub.homes;
   wills = hub.wills;
 }

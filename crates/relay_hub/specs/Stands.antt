@@ -1,5 +1,6 @@
--- When a hub stands for a log, that is, agrees with it: it has the documents, the sessions and the views of the log, and every watching
--- client that applies what was drawn for it and what waits holds exactly its view of the present document.
+-- When a hub stands for a log, that is, agrees with it: it has the documents, the sessions and the
+-- views of the log, and every watching client that applies what was drawn for it and what waits
+-- holds exactly its view of the present document.
 use Rattle.std.specs.Prelude.{ℕ, ◌≡◌, ⊤, ◌+◌, ◌-◌, ◌<◌, min, true, false, List, [], ◌∷◌, ◌++◌, Option, Some, None, length, map, slice_get, option_map, ◌≤◌, ◌⊎◌}
 use Rattle.std.specs.List.{AllByRecursion}
 use Rattle.std.specs.Option.{option_map_or}
@@ -26,7 +27,8 @@ use Rattle.relay_hub.specs.declared.will.Will.{Will}
 
 -- the client holds that revision, and the view of its document
 abbrev pub HoldsRevision : List Document → View → ℕ → Client → Type 0
-HoldsRevision documents pointers rev (holds held tree) = (held ≡ rev) × (option_map (view pointers) (slice_get documents rev) ≡ Some tree)
+HoldsRevision documents pointers rev (holds held tree) =
+    (held ≡ rev) × (option_map (view pointers) (slice_get documents rev) ≡ Some tree)
 HoldsRevision documents pointers rev nothing = ⊥
 HoldsRevision documents pointers rev lost = ⊥
 
@@ -39,36 +41,44 @@ IsAtNamed documents pointers (Snapshot rev tree) c = HoldsRevision documents poi
 -- after each of the messages, the client holds the view of the revision that the message names
 abbrev pub EachLeads : List Document → View → Client → List Message → Type 0
 EachLeads documents pointers c [] = ⊤
-EachLeads documents pointers c (m ∷ ms) = IsAtNamed documents pointers m (client c m) × EachLeads documents pointers (client c m) ms
+EachLeads documents pointers c (m ∷ ms) =
+    IsAtNamed documents pointers m (client c m) × EachLeads documents pointers (client c m) ms
 
 -- the client holds the view of the present document, and a revision that exists
 abbrev pub HoldsPresent : List Document → View → Client → Type 0
-HoldsPresent documents pointers (holds held tree) = (held < length documents) × (tree ≡ view pointers (present_of documents))
+HoldsPresent documents pointers (holds held tree) =
+    (held < length documents) × (tree ≡ view pointers (present_of documents))
 HoldsPresent documents pointers nothing = ⊥
 HoldsPresent documents pointers lost = ⊥
 
 -- what was drawn and what waits bring a watching client to its view of the present document
-pub record Follows (documents : List Document) (w : Watching) (waiting : List Message) : Type 0 where
+pub record Follows (documents : List Document) (w : Watching)
+    (waiting : List Message) : Type 0 where
   pub each : EachLeads documents w.view w.start (w.heard ++ waiting)
   pub exactly : HoldsPresent documents w.view (client_after w.start (w.heard ++ waiting))
 
 -- What a hub holds.
 
--- a room that began at a revision has these documents, and keeps the changes of its last revisions: of as many as its limit allows, if
--- nothing is bounded by weight
-pub record RoomStands (b : HubConfig) (beginning : ℕ) (documents : List Document) (room : Room) : Type 0 where
+-- a room that began at a revision has these documents, and keeps the changes of its last revisions:
+-- of as many as its limit allows, if nothing is bounded by weight
+pub record RoomStands (b : HubConfig) (beginning : ℕ) (documents : List Document)
+    (room : Room) : Type 0 where
   pub document : room.document ≡ present_of documents
-  pub made : revision room + 1 ≡ length documents
+  pub numbered : revision room + 1 ≡ length documents
   pub began : beginning ≤ revision room
   pub is : IsRoom room
   pub limit : room.history.limit ≡ b.history
-  pub held : b.history_weight ≡ Unbounded → length room.history.changes ≡ min b.history (revision room - beginning)
-  -- the changes since each revision that the history reaches back to lead from its document to the present one
-  pub led : (rev : ℕ) (d : Document) → slice_get documents rev ≡ Some d → Reaches room.history rev → Leads d (changes_since rev room.history) room.document
+  pub held : b.history_weight ≡ Unbounded
+      → length room.history.changes ≡ min b.history (revision room - beginning)
+  -- the changes since each revision that the history reaches back to lead from its document to the
+  -- present one
+  pub led : (rev : ℕ) (d : Document) → slice_get documents rev ≡ Some d → Reaches room.history rev
+      → Leads d (changes_since rev room.history) room.document
   -- the changes of each revision that is kept lead from the document before it to its own
   pub steps : (rev : ℕ) (before after : Document) (changes : List Change)
       → slice_get documents rev ≡ Some before → slice_get documents (rev + 1) ≡ Some after
-      → slice_get room.history.changes (revision room - (rev + 1)) ≡ Some changes → Leads before changes after
+      → slice_get room.history.changes (revision room - (rev + 1)) ≡ Some changes
+      → Leads before changes after
 
 -- a waiting patch round-trips through its text
 abbrev pub PatchFits : ℕ × List Op → Type 0
@@ -80,64 +90,86 @@ pub record OutboxStands (most : ℕ) (x : Session) : Type 0 where
   pub replies : AllByRecursion HasCounts x.outbox.replies
   pub patches : AllByRecursion PatchFits x.outbox.patches
 
--- a session that watches has the view, and its client follows; for any other session only replies wait
+-- a session that watches has the view, and its client follows; for any other session only replies
+-- wait
 abbrev pub WatchStands : List Document → Room → Session → Option Watching → Type 0
-WatchStands documents room x (Some w) = (x.view ≡ Some w.view) × Follows documents w (later room w.view x.outbox)
-WatchStands documents room x None = (x.view ≡ None) × (x.outbox.patches ≡ []) × (x.outbox.due ≡ false)
+WatchStands documents room x (Some w) =
+    (x.view ≡ Some w.view) × Follows documents w (later room w.view x.outbox)
+WatchStands documents room x None =
+    (x.view ≡ None) × (x.outbox.patches ≡ []) × (x.outbox.due ≡ false)
 
-abbrev pub SessionStands : ℕ → (List ℕ → List Document) → List ℕ → Room → Option Session → Option Place → Option Watching → Type 0
-SessionStands most documents name room (Some x) there w = (there ≡ Some (place name x.access x.will)) × OutboxStands most x × WatchStands (documents name) room x w
+abbrev pub SessionStands : ℕ → (List ℕ → List Document) → List ℕ → Room → Option Session
+    → Option Place → Option Watching → Type 0
+SessionStands most documents name room (Some x) there w =
+    (there ≡ Some (place name x.access x.will)) × OutboxStands most x
+    × WatchStands (documents name) room x w
 SessionStands most documents name room None there w = ⊥
 
-abbrev pub RoomSessionsStand : ℕ → (List ℕ → List Document) → ℕ → Option (List ℕ × RoomSessions) → Option Place → Option Watching → Type 0
-RoomSessionsStand most documents s (Some home) there w = SessionStands most documents home.0 home.1.room (session_in home.1.sessions s) there w
+abbrev pub RoomSessionsStand : ℕ → (List ℕ → List Document) → ℕ → Option (List ℕ × RoomSessions)
+    → Option Place → Option Watching → Type 0
+RoomSessionsStand most documents s (Some home) there w =
+    SessionStands most documents home.0 home.1.room (session_in home.1.sessions s) there w
 RoomSessionsStand most documents s None there w = ⊥
 
 -- what holds of session s, whose room is at that place
-abbrev pub HomeStands : ℕ → (List ℕ → List Document) → List (List ℕ × RoomSessions) → ℕ → Option ℕ → Option Place → Option Watching → Type 0
-HomeStands most documents rooms s (Some at) there w = RoomSessionsStand most documents s (slice_get rooms at) there w
+abbrev pub HomeStands : ℕ → (List ℕ → List Document) → List (List ℕ × RoomSessions) → ℕ → Option ℕ
+    → Option Place → Option Watching → Type 0
+HomeStands most documents rooms s (Some at) there w =
+    RoomSessionsStand most documents s (slice_get rooms at) there w
 HomeStands most documents rooms s None there w = there ≡ None
 
--- a room that begins anew at the floor begins above the documents of its name, or there is only the first of them
+-- a room that begins anew at the floor begins above the documents of its name, or there is only the
+-- first of them
 abbrev pub MayBegin : ℕ → List Document → Type 0
 MayBegin floor documents = (length documents ≤ floor) ⊎ (documents ≡ null ∷ [])
 
 -- what a will leaves, by the name of its room
 abbrev pub named_will : List (List ℕ × RoomSessions) → Will → Bequest
-named_will rooms w = record { room = option_map_or (λ r. r.0) (slice_get rooms w.place) []; patch = w.patch }
+named_will rooms w =
+    record { room = option_map_or (λ r. r.0) (slice_get rooms w.place) []; patch = w.patch }
 
 pub record StandsFor (b : HubConfig) (E : Log) (hub : State) : Type 0 where
-  pub made : hub.made ≡ b
+  pub config : hub.config ≡ b
   pub floor : IsCount hub.floor
   pub is : IsConfig b
   pub next : hub.next ≡ b.first + opened E
   pub count : length hub.homes ≡ open_count E
   -- each room has the documents of its name
-  pub rooms : (place : ℕ) (name : List ℕ) (g : RoomSessions) → slice_get hub.rooms place ≡ Some (name, g) → RoomStands b (beginning E name) (documents E name) g.room
+  pub rooms : (place : ℕ) (name : List ℕ) (g : RoomSessions)
+      → slice_get hub.rooms place ≡ Some (name, g)
+      → RoomStands b (beginning E name) (documents E name) g.room
   -- a room is found by its name
-  pub names : (place : ℕ) (name : List ℕ) (g : RoomSessions) → slice_get hub.rooms place ≡ Some (name, g) → place_named name hub.rooms ≡ Some place
+  pub names : (place : ℕ) (name : List ℕ) (g : RoomSessions)
+      → slice_get hub.rooms place ≡ Some (name, g) → place_named name hub.rooms ≡ Some place
   -- there is no room of a name that was never opened
-  pub known : (name : List ℕ) (place : ℕ) → place_named name hub.rooms ≡ Some place → is_opened E name ≡ true
+  pub known : (name : List ℕ) (place : ℕ) → place_named name hub.rooms ≡ Some place
+      → is_opened E name ≡ true
   -- a room that does not exist may begin at the floor
-  pub others : (name : List ℕ) → place_named name hub.rooms ≡ None → MayBegin hub.floor (documents E name)
+  pub others : (name : List ℕ) → place_named name hub.rooms ≡ None
+      → MayBegin hub.floor (documents E name)
   -- the sessions that are open, with their views
-  pub sessions : (s : ℕ) → HomeStands b.max_waiting_patches (documents E) hub.rooms s (place_of hub s) (home E s) (watching b E s)
+  pub sessions : (s : ℕ)
+      → HomeStands b.max_waiting_patches (documents E) hub.rooms s (place_of hub s) (home E s)
+      (watching b E s)
   -- the wills that are left to be done, each in its room
   pub wills : map (named_will hub.rooms) hub.wills ≡ left E
   pub willing : HaveRooms hub.rooms hub.wills
 
 -- What follows for the clients of a hub that stands for a log.
 
--- each client that watches, and applies what was drawn for it and what waits, in order, holds exactly its view of the present
--- document
+-- each client that watches, and applies what was drawn for it and what waits, in order, holds
+-- exactly its view of the present document
 abbrev pub EachHoldsPresent : HubConfig → Log → State → Type 0
 EachHoldsPresent b E hub = (s : ℕ) (name : List ℕ) (g : RoomSessions) (x : Session) (w : Watching)
     → home_of hub s ≡ Some (name, g) → session_in g.sessions s ≡ Some x → watching b E s ≡ Some w
-    → HoldsPresent (documents E name) w.view (client_after w.start (w.heard ++ later g.room w.view x.outbox))
+    → HoldsPresent (documents E name) w.view
+    (client_after w.start (w.heard ++ later g.room w.view x.outbox))
 
 -- after each of these messages the client holds its view of the revision that the message names
 abbrev pub EachIsAtNamed : HubConfig → Log → State → Type 0
-EachIsAtNamed b E hub = (s : ℕ) (name : List ℕ) (g : RoomSessions) (x : Session) (w : Watching) (before after : List Message) (m : Message)
+EachIsAtNamed b E hub =
+    (s : ℕ) (name : List ℕ) (g : RoomSessions) (x : Session) (w : Watching)
+    (before after : List Message) (m : Message)
     → home_of hub s ≡ Some (name, g) → session_in g.sessions s ≡ Some x → watching b E s ≡ Some w
     → w.heard ++ later g.room w.view x.outbox ≡ before ++ m ∷ after
     → IsAtNamed (documents E name) w.view m (client_after w.start (before ++ m ∷ []))

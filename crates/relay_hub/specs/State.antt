@@ -26,8 +26,9 @@ pub record RoomSessions : Type 0 where
 abbrev pub room_sessions : Room → List Session → RoomSessions
 room_sessions room sessions = record { room = room; sessions = sessions }
 
--- the configuration of a hub in which nothing is bounded by weight: its epoch, the number of its first session, the most revisions whose
--- changes a room keeps, and the most patches that wait for a session
+-- the configuration of a hub in which nothing is bounded by weight: its epoch, the number of its
+-- first session, the most revisions whose changes a room keeps, and the most patches that wait for
+-- a session
 abbrev pub config : ℕ → ℕ → ℕ → ℕ → HubConfig
 config epoch first history max_waiting_patches = record {
   epoch = epoch;
@@ -42,20 +43,22 @@ config epoch first history max_waiting_patches = record {
   view_weight = Unbounded;
 }
 
--- a valid configuration: epoch and first session number are counts, and the limits are in their ranges
-pub record IsConfig (made : HubConfig) : Type 0 where
-  pub rooms : (1 ≤ made.rooms) × (made.rooms ≤ MAX_ROOMS)
-  pub sessions : (1 ≤ made.sessions) × (made.sessions ≤ MAX_SESSIONS)
-  pub counts : (made.epoch ≤ MAX_COUNT) × (made.first ≤ MAX_COUNT)
-  pub history : (1 ≤ made.history) × (made.history ≤ MAX_REVISIONS)
-  pub max_waiting_patches : (1 ≤ made.max_waiting_patches) × (made.max_waiting_patches ≤ MAX_PATCHES)
+-- a valid configuration: epoch and first session number are counts, and the limits are in their
+-- ranges
+pub record IsConfig (config : HubConfig) : Type 0 where
+  pub rooms : (1 ≤ config.rooms) × (config.rooms ≤ MAX_ROOMS)
+  pub sessions : (1 ≤ config.sessions) × (config.sessions ≤ MAX_SESSIONS)
+  pub counts : (config.epoch ≤ MAX_COUNT) × (config.first ≤ MAX_COUNT)
+  pub history : (1 ≤ config.history) × (config.history ≤ MAX_REVISIONS)
+  pub max_waiting_patches : (1 ≤ config.max_waiting_patches)
+      × (config.max_waiting_patches ≤ MAX_PATCHES)
 
--- the configuration, the number of the next session, the revision at which a new room begins, the rooms
--- by name, each at its place (a new one comes last, or takes that of one that makes place), for each
--- open session the place of its room, and the wills that closed sessions left and that are not done
--- yet, the oldest first
+-- the configuration, the number of the next session, the revision at which a new room begins, the
+-- rooms by name, each at its place (a new one comes last, or takes that of one that makes place),
+-- for each open session the place of its room, and the wills that closed sessions left and that are
+-- not done yet, the oldest first
 pub record State : Type 0 where
-  pub made : HubConfig
+  pub config : HubConfig
   pub next : ℕ
   pub floor : ℕ
   pub rooms : List (List ℕ × RoomSessions)
@@ -64,11 +67,12 @@ pub record State : Type 0 where
 
 -- a hub on which nothing was called yet
 abbrev pub made_with : HubConfig → State
-made_with c = record { made = c; next = c.first; floor = 0; rooms = []; homes = []; wills = [] }
+made_with c = record { config = c; next = c.first; floor = 0; rooms = []; homes = []; wills = [] }
 
 -- the same of a hub in which nothing is bounded by weight
 abbrev pub new_hub : ℕ → ℕ → ℕ → ℕ → State
-new_hub epoch first history max_waiting_patches = made_with (config epoch first history max_waiting_patches)
+new_hub epoch first history max_waiting_patches =
+    made_with (config epoch first history max_waiting_patches)
 
 -- whether this is the session with that number
 abbrev pub is_number : ℕ → Session → Bool
@@ -109,26 +113,28 @@ abbrev pub is_null : Document → Bool
 is_null null = true
 is_null _ = false
 
--- a room that makes place for another one: nobody is in it, its document is null, and a revision above its own is left
+-- a room that makes place for another one: nobody is in it, its document is null, and a revision
+-- above its own is left
 abbrev pub makes_place : RoomSessions → Bool
-makes_place g = is_null g.room.document && (length g.sessions == 0) && nat_lt (revision g.room) MAX_COUNT
+makes_place g =
+    is_null g.room.document && (length g.sessions == 0) && nat_lt (revision g.room) MAX_COUNT
 
--- the place that a new room takes from another: that of the first room that makes place, if all places
--- are taken, and no will is left to be done
+-- the place that a new room takes from another: that of the first room that makes place, if all
+-- places are taken, and no will is left to be done
 abbrev pub vacant_place : ℕ → List Will → List (List ℕ × RoomSessions) → Option ℕ
 vacant_place most [] rooms =
     if nat_le most (length rooms) then position (λ room. makes_place room.1) rooms else None
 vacant_place most (w ∷ wills) rooms = None
 
 abbrev pub vacant_in : State → Option ℕ
-vacant_in hub = vacant_place hub.made.rooms hub.wills hub.rooms
+vacant_in hub = vacant_place hub.config.rooms hub.wills hub.rooms
 
 -- a revision above all of a room that makes place; 0 for one in which no edit was ever accepted
 abbrev pub above : RoomSessions → ℕ
 above g = if revision g.room == 0 then 0 else revision g.room + 1
 
--- the revision at which a new room begins that takes that place: no earlier one begins at a higher one, and every revision of a room that
--- made place is lower
+-- the revision at which a new room begins that takes that place: no earlier one begins at a higher
+-- one, and every revision of a room that made place is lower
 abbrev pub floor_over : ℕ → Option (List ℕ × RoomSessions) → ℕ
 floor_over floor (Some room) = max floor (above room.1)
 floor_over floor None = floor
@@ -138,7 +144,9 @@ floor_at place hub = floor_over hub.floor (option_and_then (slice_get hub.rooms)
 
 -- another room is wanted, all places are taken, and none is vacant
 abbrev pub is_crowded : Option ℕ → State → Bool
-is_crowded place hub = not (is_some place) && nat_le hub.made.rooms (length hub.rooms) && not (is_some (vacant_in hub))
+is_crowded place hub =
+    not (is_some place) && nat_le hub.config.rooms (length hub.rooms)
+    && not (is_some (vacant_in hub))
 
 -- a room with its name, without its sessions
 abbrev pub without_sessions : List ℕ × RoomSessions → List ℕ × Room
@@ -164,7 +172,7 @@ pub record Home (hub : State) (s : ℕ) : Type 0 where
 
 -- What holds of each hub.
 pub record IsHub (hub : State) : Type 0 where
-  pub made : IsConfig hub.made
+  pub config : IsConfig hub.config
   -- the revision at which a new room begins is a count
   pub floor : hub.floor ≤ MAX_COUNT
   -- no session has the next number or a later one
@@ -172,12 +180,14 @@ pub record IsHub (hub : State) : Type 0 where
   -- an open session is in its room
   pub homes : (t place : ℕ) → place_of hub t ≡ Some place → Home hub t
   -- a session is in no room but its own
-  pub members : (place : ℕ) (name : List ℕ) (g : RoomSessions) → slice_get hub.rooms place ≡ Some (name, g)
+  pub members : (place : ℕ) (name : List ℕ) (g : RoomSessions)
+      → slice_get hub.rooms place ≡ Some (name, g)
       → (t : ℕ) (x : Session) → session_in g.sessions t ≡ Some x → place_of hub t ≡ Some place
   -- and is there only once
-  pub once : (place : ℕ) (name : List ℕ) (g : RoomSessions) → slice_get hub.rooms place ≡ Some (name, g) → EachOnce g.sessions
+  pub once : (place : ℕ) (name : List ℕ) (g : RoomSessions)
+      → slice_get hub.rooms place ≡ Some (name, g) → EachOnce g.sessions
   -- sessions and wills together are within the limit of sessions
-  pub few : length hub.homes + length hub.wills ≤ hub.made.sessions
+  pub few : length hub.homes + length hub.wills ≤ hub.config.sessions
   pub wills : HaveRooms hub.rooms hub.wills
 
 -- how the logic stores a hub
@@ -202,9 +212,9 @@ hub_code change op session =
     (coded× config_code (coded× coded_ℕ (coded× coded_ℕ
     (coded× (coded_list (coded× (coded_list coded_ℕ) (room_sessions_code change session)))
     (coded× (coded_list (coded× coded_ℕ coded_ℕ)) (coded_list (will_code op)))))))
-    (λ h. (h.made, (h.next, (h.floor, (h.rooms, (h.homes, h.wills))))))
+    (λ h. (h.config, (h.next, (h.floor, (h.rooms, (h.homes, h.wills))))))
     (λ p. record {
-      made = p.0;
+      config = p.0;
       next = p.1.0;
       floor = p.1.1.0;
       rooms = p.1.1.1.0;

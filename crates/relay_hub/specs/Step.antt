@@ -1,4 +1,5 @@
--- One step of a hub: the answer to an event, and the state after it. What a case does not name is unchanged.
+-- One step of a hub: the answer to an event, and the state after it. What a case does not name is
+-- unchanged.
 use Rattle.std.specs.Prelude.{ℕ, ◌≡◌, ◌+◌, ◌<◌, ◌==◌, Bool, true, false, List, [], ◌∷◌, ◌++◌, Option, Some, None, option_map, Result, Ok, Err, length, option_and_then, slice_get, slice_set, nat_lt, nat_le, not, if◌then◌else◌}
 use Rattle.relay_history.specs.History.{with_revision}
 use Rattle.relay_outbox.specs.Outbox.{folded}
@@ -63,111 +64,155 @@ pub record GoesOn (old : Room) (patch : List Op) (d : Document) (new : Room) : T
   pub leads : Leads old.document (all_changes old.document patch) d
   pub is : IsRoom new
 
--- what an edit by some changes means to a view: nothing, the local patch, or, if that is heavier than a budget pays for, a snapshot
+-- what an edit by some changes means to a view: nothing, the local patch, or, if that is heavier
+-- than a budget pays for, a snapshot
 abbrev pub telling : Budget → List Change → Room → View → CatchUp
-telling budget changes room pointers = patch_or_snapshot (afforded budget (local changes room.document pointers))
+telling budget changes room pointers =
+    patch_or_snapshot (afforded budget (local changes room.document pointers))
 
 -- what the edit means to a view that a session with this budget watches, within the allowance
 abbrev pub telling_within : Allowance → Budget → List Change → Room → View → CatchUp
-telling_within allowance budget changes room pointers = telling (within allowance pointers budget) changes room pointers
+telling_within allowance budget changes room pointers =
+    telling (within allowance pointers budget) changes room pointers
 
--- a watcher is notified of an edit in one of three ways: its outbox is unchanged, if its view is, or if a snapshot is due already; a patch
--- that brings its view to the new one is added, or a snapshot is due in place of one that is too heavy or one too many; or the outbox
--- folds because memory ran out, and counts as short
-abbrev pub NotifiedView : Document → List Change → Room → Allowance → View → Bool → Session → Session → Type 0
-NotifiedView d changes room allowance pointers true x y = (x.outbox.due ≡ false) × (y ≡ with_outbox (folded x.outbox) x)
+-- a watcher is notified of an edit in one of three ways: its outbox is unchanged, if its view is,
+-- or if a snapshot is due already; a patch that brings its view to the new one is added, or a
+-- snapshot is due in place of one that is too heavy or one too many; or the outbox folds because
+-- memory ran out, and counts as short
+abbrev pub NotifiedView : Document → List Change → Room → Allowance → View → Bool → Session
+    → Session → Type 0
+NotifiedView d changes room allowance pointers true x y =
+    (x.outbox.due ≡ false) × (y ≡ with_outbox (folded x.outbox) x)
 NotifiedView d changes room allowance pointers false x y =
-    (y ≡ with_outbox (notified_outbox x.budget (revision room) (telling_within allowance x.budget changes room pointers) x.outbox) x)
+    (y
+    ≡ with_outbox (notified_outbox x.budget (revision room)
+    (telling_within allowance x.budget changes room pointers) x.outbox) x)
     × MakesPresent room pointers d (telling_within allowance x.budget changes room pointers)
     × Fits (telling_within allowance x.budget changes room pointers)
 
 -- a session that watches nothing is not notified
-abbrev pub NotifiedAs : Document → List Change → Room → Allowance → Option View → Bool → Session → Session → Type 0
-NotifiedAs d changes room allowance (Some pointers) short x y = NotifiedView d changes room allowance pointers short x y
+abbrev pub NotifiedAs : Document → List Change → Room → Allowance → Option View → Bool → Session
+    → Session → Type 0
+NotifiedAs d changes room allowance (Some pointers) short x y =
+    NotifiedView d changes room allowance pointers short x y
 NotifiedAs d changes room allowance None short x y = (y ≡ x) × (short ≡ false)
 
 abbrev pub Notified : Document → List Change → Room → Allowance → Bool → Session → Session → Type 0
 Notified d changes room allowance short x y = NotifiedAs d changes room allowance x.view short x y
 
--- the allowance after a session is notified. Nothing is made for one in whose outbox a snapshot is due, nor if memory ran out
-abbrev pub after_notified : List Change → Room → Allowance → Option View → Bool → Session → Allowance
+-- the allowance after a session is notified. Nothing is made for one in whose outbox a snapshot is
+-- due, nor if memory ran out
+abbrev pub after_notified : List Change → Room → Allowance → Option View → Bool → Session
+    → Allowance
 after_notified changes room allowance (Some pointers) true x = allowance
 after_notified changes room allowance (Some pointers) false x =
-    if x.outbox.due then allowance else after_update allowance pointers (telling_within allowance x.budget changes room pointers)
+    if x.outbox.due then allowance
+    else after_update allowance pointers
+    (telling_within allowance x.budget changes room pointers)
 after_notified changes room allowance None short x = allowance
 
--- the sessions are notified one after the other, from one allowance to another: each watcher is, no other session changes, and this many
--- outboxes folded because memory ran out
-abbrev pub NotifiedFrom : Document → List Change → Room → Allowance → Allowance → List Session → List Session → ℕ → Type 0
+-- the sessions are notified one after the other, from one allowance to another: each watcher is, no
+-- other session changes, and this many outboxes folded because memory ran out
+abbrev pub NotifiedFrom : Document → List Change → Room → Allowance → Allowance → List Session
+    → List Session → ℕ → Type 0
 NotifiedFrom d changes room allowance rest [] [] n = (n ≡ 0) × (rest ≡ allowance)
 NotifiedFrom d changes room allowance rest (x ∷ xs) (y ∷ ys) n =
-    (short : Bool) × (m : ℕ) × Notified d changes room allowance short x y × (n ≡ m + (if short then 1 else 0))
-    × NotifiedFrom d changes room (after_notified changes room allowance x.view short x) rest xs ys m
+    (short : Bool) × (m : ℕ) × Notified d changes room allowance short x y
+    × (n ≡ m + (if short then 1 else 0))
+    × NotifiedFrom d changes room (after_notified changes room allowance x.view short x) rest xs ys
+    m
 NotifiedFrom d changes room allowance rest [] (y ∷ ys) n = ⊥
 NotifiedFrom d changes room allowance rest (x ∷ xs) [] n = ⊥
 
 -- all of them, by patches that weigh no more together than the budget
-abbrev pub AllNotified : Document → List Change → Room → Budget → List Session → List Session → ℕ → Type 0
-AllNotified d changes room budget xs ys n = (rest : Allowance) × NotifiedFrom d changes room (whole budget) rest xs ys n
+abbrev pub AllNotified : Document → List Change → Room → Budget → List Session → List Session → ℕ
+    → Type 0
+AllNotified d changes room budget xs ys n =
+    (rest : Allowance) × NotifiedFrom d changes room (whole budget) rest xs ys n
 
--- an edit of session s, which is x. If it is accepted: s gets a reply, then all watchers are notified, and then the room drops what its
--- history may not hold. If it is refused: s gets a reply, and nothing else changes
-abbrev pub EditServed : HubConfig → ℕ → Session → ℕ → List Op → Result Document EditFault → ℕ → RoomSessions → RoomSessions → Type 0
-EditServed made s x id patch (Ok d) short old new = (notified : Room) × GoesOn old.room patch d notified
-    × (mid : List Session) × OnlyAt s (Some (replied (Done id (revision notified)) x)) old.sessions mid
-    × AllNotified old.room.document (all_changes old.room.document patch) notified made.telling_weight mid new.sessions short
-    × (new.room ≡ trimmed made.history_weight notified)
-EditServed made s x id patch (Err fault) short old new = (short ≡ 0)
+-- an edit of session s, which is x. If it is accepted: s gets a reply, then all watchers are
+-- notified, and then the room drops what its history may not hold. If it is refused: s gets a
+-- reply, and nothing else changes
+abbrev pub EditServed : HubConfig → ℕ → Session → ℕ → List Op → Result Document EditFault → ℕ
+    → RoomSessions → RoomSessions → Type 0
+EditServed config s x id patch (Ok d) short old new =
+    (notified : Room) × GoesOn old.room patch d notified
+    × (mid : List Session)
+    × OnlyAt s (Some (replied (Done id (revision notified)) x)) old.sessions mid
+    × AllNotified old.room.document (all_changes old.room.document patch) notified
+    config.telling_weight mid new.sessions short
+    × (new.room ≡ trimmed config.history_weight notified)
+EditServed config s x id patch (Err fault) short old new = (short ≡ 0)
     × (r : Reply) × (edit_refusal id fault ≡ Some r) × ChangesOnly s (Some (replied r x)) old new
 
--- a will that a closed session left, whose patch the room makes into this: an edit of which nobody gets a
--- reply. Refused, it changes nothing
-abbrev pub WillServed : HubConfig → List Op → Result Document EditFault → ℕ → RoomSessions → RoomSessions → Type 0
-WillServed made patch (Ok d) short old new = (notified : Room) × GoesOn old.room patch d notified
-    × AllNotified old.room.document (all_changes old.room.document patch) notified made.telling_weight old.sessions new.sessions short
-    × (new.room ≡ trimmed made.history_weight notified)
-WillServed made patch (Err fault) short old new = (short ≡ 0) × (new ≡ old)
+-- a will that a closed session left, whose patch the room makes into this: an edit of which nobody
+-- gets a reply. Refused, it changes nothing
+abbrev pub WillServed : HubConfig → List Op → Result Document EditFault → ℕ → RoomSessions
+    → RoomSessions → Type 0
+WillServed config patch (Ok d) short old new = (notified : Room) × GoesOn old.room patch d notified
+    × AllNotified old.room.document (all_changes old.room.document patch) notified
+    config.telling_weight old.sessions new.sessions short
+    × (new.room ≡ trimmed config.history_weight notified)
+WillServed config patch (Err fault) short old new = (short ≡ 0) × (new ≡ old)
 
 -- Other requests.
 
 -- a resume. The two booleans: is the epoch the present one, and does the revision exist
-abbrev pub ResumeServed : Bool → Bool → ℕ → ℕ → View → ℕ → Session → RoomSessions → RoomSessions → Type 0
-ResumeServed false past id rev pointers s x old new = ChangesOnly s (Some (resumes (revision old.room) id pointers Snapshot x)) old new
-ResumeServed true false id rev pointers s x old new = ChangesOnly s (Some (replied (refused (future_refusal id)) x)) old new
+abbrev pub ResumeServed : Bool → Bool → ℕ → ℕ → View → ℕ → Session → RoomSessions → RoomSessions
+    → Type 0
+ResumeServed false past id rev pointers s x old new =
+    ChangesOnly s (Some (resumes (revision old.room) id pointers Snapshot x)) old new
+ResumeServed true false id rev pointers s x old new =
+    ChangesOnly s (Some (replied (refused (future_refusal id)) x)) old new
 ResumeServed true true id rev pointers s x old new =
-    LeadsOn old.room rev pointers (caught_up_within x.budget old.room rev pointers) × Fits (caught_up_within x.budget old.room rev pointers)
-    × ChangesOnly s (Some (resumes (revision old.room) id pointers (caught_up_within x.budget old.room rev pointers) x)) old new
+    LeadsOn old.room rev pointers (caught_up_within x.budget old.room rev pointers)
+    × Fits (caught_up_within x.budget old.room rev pointers)
+    × ChangesOnly s (Some
+    (resumes (revision old.room) id pointers (caught_up_within x.budget old.room rev pointers) x))
+    old new
 
 -- the effect of a text that session s sent, which is x
-abbrev pub Serves : HubConfig → ℕ → Session → Result Request Refusal → ℕ → RoomSessions → RoomSessions → Type 0
-Serves made s x (Err r) short old new = (short ≡ 0) × ChangesOnly s (Some (replied (refused r) x)) old new
-Serves made s x (Ok (Watch id pointers)) short old new = (short ≡ 0) × ChangesOnly s (Some (watches id pointers x)) old new
-Serves made s x (Ok (Unwatch id)) short old new = (short ≡ 0) × ChangesOnly s (Some (unwatches id x)) old new
-Serves made s x (Ok (Will id patch)) short old new = (short ≡ 0) × ChangesOnly s (Some (leaves_will id patch x)) old new
-Serves made s x (Ok (Resume id e rev pointers)) short old new =
-    (short ≡ 0) × ResumeServed (e == made.epoch) (nat_le rev (revision old.room)) id rev pointers s x old new
-Serves made s x (Ok (Edit id base patch)) short old new = EditServed made s x id patch (edited old.room base patch) short old new
+abbrev pub Serves : HubConfig → ℕ → Session → Result Request Refusal → ℕ → RoomSessions
+    → RoomSessions → Type 0
+Serves config s x (Err r) short old new =
+    (short ≡ 0) × ChangesOnly s (Some (replied (refused r) x)) old new
+Serves config s x (Ok (Watch id pointers)) short old new =
+    (short ≡ 0) × ChangesOnly s (Some (watches id pointers x)) old new
+Serves config s x (Ok (Unwatch id)) short old new =
+    (short ≡ 0) × ChangesOnly s (Some (unwatches id x)) old new
+Serves config s x (Ok (Will id patch)) short old new =
+    (short ≡ 0) × ChangesOnly s (Some (leaves_will id patch x)) old new
+Serves config s x (Ok (Resume id e rev pointers)) short old new =
+    (short ≡ 0)
+    × ResumeServed (e == config.epoch) (nat_le rev (revision old.room)) id rev pointers s x old
+    new
+Serves config s x (Ok (Edit id base patch)) short old new =
+    EditServed config s x id patch (edited old.room base patch) short old new
 
 -- The calls, within a room.
 
-abbrev pub Receives : HubConfig → ℕ → Option Session → List ℕ → Answer → RoomSessions → RoomSessions → Type 0
-Receives made s None text NoSession old new = new ≡ old
-Receives made s (Some x) text (Heard Busy) old new = (length x.outbox.replies ≡ MAX_REPLIES) × (new ≡ old)
-Receives made s (Some x) text (Heard (Answered short)) old new =
-    (length x.outbox.replies < MAX_REPLIES) × Serves made s x (admitted made.view_weight x.access (request_of_text text)) short old new
-Receives made s x text answer old new = ⊥
+abbrev pub Receives : HubConfig → ℕ → Option Session → List ℕ → Answer → RoomSessions
+    → RoomSessions → Type 0
+Receives config s None text NoSession old new = new ≡ old
+Receives config s (Some x) text (Heard Busy) old new =
+    (length x.outbox.replies ≡ MAX_REPLIES) × (new ≡ old)
+Receives config s (Some x) text (Heard (Answered short)) old new =
+    (length x.outbox.replies < MAX_REPLIES)
+    × Serves config s x (admitted config.view_weight x.access (request_of_text text)) short old new
+Receives config s x text answer old new = ⊥
 
 abbrev pub Draws : ℕ → Option Session → Answer → RoomSessions → RoomSessions → Type 0
 Draws s None NoSession old new = new ≡ old
 Draws s (Some x) (Drawn text) old new =
-    (text ≡ option_map message_text (front_message old.room x)) × ChangesOnly s (Some (drawn x)) old new × ReadsBack (front_message old.room x)
+    (text ≡ option_map message_text (front_message old.room x))
+    × ChangesOnly s (Some (drawn x)) old new × ReadsBack (front_message old.room x)
 Draws s x answer old new = ⊥
 
 -- The whole hub.
 
 abbrev pub with_room : ℕ → List ℕ → RoomSessions → State → State
 with_room place name g hub = record {
-  made = hub.made;
+  config = hub.config;
   next = hub.next;
   floor = hub.floor;
   rooms = slice_set hub.rooms place (name, g);
@@ -177,7 +222,7 @@ with_room place name g hub = record {
 
 abbrev pub with_wills : List WillLeft → State → State
 with_wills wills hub = record {
-  made = hub.made;
+  config = hub.config;
   next = hub.next;
   floor = hub.floor;
   rooms = hub.rooms;
@@ -186,13 +231,17 @@ with_wills wills hub = record {
 }
 
 -- what happens in the room at a place; nothing else changes
-abbrev pub InRoom : ℕ → Option (List ℕ × RoomSessions) → State → Answer → (RoomSessions → RoomSessions → Type 0) → State → Type 0
-InRoom place (Some home) old answer Does new = (g : RoomSessions) × Does home.1 g × (new ≡ with_room place home.0 g old)
+abbrev pub InRoom : ℕ → Option (List ℕ × RoomSessions) → State → Answer
+    → (RoomSessions → RoomSessions → Type 0) → State → Type 0
+InRoom place (Some home) old answer Does new =
+    (g : RoomSessions) × Does home.1 g × (new ≡ with_room place home.0 g old)
 InRoom place None old answer Does new = (answer ≡ NoSession) × (new ≡ old)
 
 -- the same in the room of a session, if it has one
-abbrev pub AtPlace : Option ℕ → State → Answer → (RoomSessions → RoomSessions → Type 0) → State → Type 0
-AtPlace (Some place) old answer Does new = InRoom place (slice_get old.rooms place) old answer Does new
+abbrev pub AtPlace : Option ℕ → State → Answer → (RoomSessions → RoomSessions → Type 0) → State
+    → Type 0
+AtPlace (Some place) old answer Does new =
+    InRoom place (slice_get old.rooms place) old answer Does new
 AtPlace None old answer Does new = (answer ≡ NoSession) × (new ≡ old)
 
 abbrev pub AtHome : ℕ → State → Answer → (RoomSessions → RoomSessions → Type 0) → State → Type 0
@@ -203,27 +252,33 @@ abbrev pub open_fault : State → List ℕ → Option OpenFault
 open_fault hub name =
     if not (is_room_name name) then Some RoomName else
     if is_crowded (place_named name hub.rooms) hub then Some RoomsFull else
-    if nat_le hub.made.sessions (length hub.homes + length hub.wills) then Some SessionsFull else
+    if nat_le hub.config.sessions (length hub.homes + length hub.wills) then Some SessionsFull else
     if nat_lt MAX_COUNT hub.next then Some Exhausted else None
 
 -- a new room, with its first session, is the last one, or takes the place of one that makes place
-abbrev pub Founds : Option ℕ → List ℕ × RoomSessions → List (List ℕ × RoomSessions) → ℕ → List (List ℕ × RoomSessions) → Type 0
+abbrev pub Founds : Option ℕ → List ℕ × RoomSessions → List (List ℕ × RoomSessions) → ℕ
+    → List (List ℕ × RoomSessions) → Type 0
 Founds (Some i) room old place new = (place ≡ i) × (new ≡ slice_set old i room)
 Founds None room old place new = (place ≡ length old) × (new ≡ old ++ room ∷ [])
 
 abbrev pub opening_of : ℕ → ℕ → Opening
 opening_of session rev = record { session = session; rev = rev }
 
--- the new session, which `made` gives for the room's revision, enters a room that is there, or a new
--- one, whose document is null at the floor, at the vacant place if there is one
-abbrev pub EntersRooms : Opening → (ℕ → Session) → Option ℕ → ℕ → ℕ → List ℕ → Option ℕ → List (List ℕ × RoomSessions) → ℕ → List (List ℕ × RoomSessions) → Type 0
-EntersRooms o made vacant history floor name (Some i) old place new = (place ≡ i)
-    × (known : List ℕ) × (g : RoomSessions) × (h : RoomSessions) × (slice_get old i ≡ Some (known, g))
+-- the new session, which `entrant` gives for the room's revision, enters a room that is there, or a
+-- new one, whose document is null at the floor, at the vacant place if there is one
+abbrev pub EntersRooms : Opening → (ℕ → Session) → Option ℕ → ℕ → ℕ → List ℕ → Option ℕ
+    → List (List ℕ × RoomSessions) → ℕ → List (List ℕ × RoomSessions) → Type 0
+EntersRooms o entrant vacant history floor name (Some i) old place new = (place ≡ i)
+    × (known : List ℕ) × (g : RoomSessions) × (h : RoomSessions)
+    × (slice_get old i ≡ Some (known, g))
     × (new ≡ slice_set old i (known, h))
     × (o.rev ≡ revision g.room)
-    × ChangesOnly o.session (Some (made (revision g.room))) g h
-EntersRooms o made vacant history floor name None old place new =
-    (o.rev ≡ floor) × Founds vacant (name, room_sessions (begun null floor history) (made floor ∷ [])) old place new
+    × ChangesOnly o.session (Some (entrant (revision g.room))) g h
+EntersRooms o entrant vacant history floor name None old place new =
+    (o.rev ≡ floor) × Founds vacant (
+      name,
+      room_sessions (begun null floor history) (entrant floor ∷ []),
+    ) old place new
 
 -- the floor of a hub after a session entered a room that is there, or a new one
 abbrev pub floor_after : Option ℕ → State → ℕ
@@ -233,12 +288,15 @@ floor_after None hub = floor_at (vacant_in hub) hub
 -- the same in a hub
 abbrev pub Enters : Opening → List ℕ → Access → Option ℕ → State → ℕ → State → Type 0
 Enters o name access at old place new =
-    EntersRooms o (λ rev. newcomer old.made access rev o.session) (vacant_in old) old.made.history new.floor name at old.rooms place new.rooms
+    EntersRooms o (λ rev.
+    newcomer old.config access rev o.session) (vacant_in old) old.config.history new.floor name at
+    old.rooms place new.rooms
 
-pub record Opens (old : State) (name : List ℕ) (access : Access) (o : Opening) (new : State) : Type 0 where
+pub record Opens (old : State) (name : List ℕ) (access : Access) (o : Opening)
+    (new : State) : Type 0 where
   pub number : o.session ≡ old.next
   pub next : new.next ≡ o.session + 1
-  pub made : new.made ≡ old.made
+  pub config : new.config ≡ old.config
   pub floor : new.floor ≡ floor_after (place_named name old.rooms) old
   pub place : ℕ
   pub enters : Enters o name access (place_named name old.rooms) old place new
@@ -252,9 +310,10 @@ left_of place [] = []
 left_of place (op ∷ ops) = record { place = place; patch = op ∷ ops } ∷ []
 
 -- session s is removed from its room, which stays, and is open nowhere; its will is left to be done
-pub record Closes (s place : ℕ) (name : List ℕ) (g : RoomSessions) (will : List Op) (old : State) (new : State) : Type 0 where
+pub record Closes (s place : ℕ) (name : List ℕ) (g : RoomSessions) (will : List Op) (old : State)
+    (new : State) : Type 0 where
   pub next : new.next ≡ old.next
-  pub made : new.made ≡ old.made
+  pub config : new.config ≡ old.config
   pub floor : new.floor ≡ old.floor
   pub left : RoomSessions
   pub leaves : ChangesOnly s None g left
@@ -263,17 +322,20 @@ pub record Closes (s place : ℕ) (name : List ℕ) (g : RoomSessions) (will : L
   pub count : length new.homes + 1 ≡ length old.homes
   pub wills : new.wills ≡ old.wills ++ left_of place will
 
-abbrev pub ClosesIn : ℕ → ℕ → List ℕ → RoomSessions → Option Session → State → Answer → State → Type 0
+abbrev pub ClosesIn : ℕ → ℕ → List ℕ → RoomSessions → Option Session → State → Answer → State
+    → Type 0
 ClosesIn s place name g None old NoSession new = new ≡ old
 ClosesIn s place name g (Some x) old Closed new = Closes s place name g x.will old new
 ClosesIn s place name g x old answer new = ⊥
 
 abbrev pub ClosesInRoom : ℕ → ℕ → Option (List ℕ × RoomSessions) → State → Answer → State → Type 0
-ClosesInRoom s place (Some home) old answer new = ClosesIn s place home.0 home.1 (session_in home.1.sessions s) old answer new
+ClosesInRoom s place (Some home) old answer new =
+    ClosesIn s place home.0 home.1 (session_in home.1.sessions s) old answer new
 ClosesInRoom s place None old answer new = (answer ≡ NoSession) × (new ≡ old)
 
 abbrev pub ClosesAt : ℕ → Option ℕ → State → Answer → State → Type 0
-ClosesAt s (Some place) old answer new = ClosesInRoom s place (slice_get old.rooms place) old answer new
+ClosesAt s (Some place) old answer new =
+    ClosesInRoom s place (slice_get old.rooms place) old answer new
 ClosesAt s None old answer new = (answer ≡ NoSession) × (new ≡ old)
 
 -- the oldest of the wills that are left is done
@@ -281,7 +343,7 @@ abbrev pub DoesWill : List WillLeft → State → Answer → State → Type 0
 DoesWill [] old NoWill new = new ≡ old
 DoesWill (w ∷ wills) old (WillDone short) new = (done : State) × (new ≡ with_wills wills done)
     × InRoom w.place (slice_get old.rooms w.place) old (WillDone short)
-    (λ g h. WillServed old.made w.patch (edited g.room None w.patch) short g h) done
+    (λ g h. WillServed old.config w.patch (edited g.room None w.patch) short g h) done
 DoesWill wills old answer new = ⊥
 
 -- the first reason why a room cannot begin anew
@@ -299,25 +361,29 @@ abbrev pub forget_fault : State → List ℕ → Option ForgetFault
 forget_fault hub name =
     forget_fault_in (option_and_then (slice_get hub.rooms) (place_named name hub.rooms))
 
--- the room of that name, in which nobody is, begins anew: its document is null at the next revision, and
--- it remembers no change
+-- the room of that name, in which nobody is, begins anew: its document is null at the next
+-- revision, and it remembers no change
 pub record Forgets (old : State) (name : List ℕ) (rev : ℕ) (new : State) : Type 0 where
   pub place : ℕ
   pub room : RoomSessions
   pub named : place_named name old.rooms ≡ Some place
   pub there : slice_get old.rooms place ≡ Some (name, room)
   pub newer : rev ≡ revision room.room + 1
-  pub begins : new ≡ with_room place name (room_sessions (begun null rev old.made.history) []) old
+  pub begins : new ≡ with_room place name (room_sessions (begun null rev old.config.history) []) old
 
 -- An event with its answer takes the hub from one state to the other.
 abbrev pub Step : State → Event → Answer → State → Type 0
-Step old (Open name access) (Opened o) new = (open_fault old name ≡ None) × Opens old name access o new
+Step old (Open name access) (Opened o) new =
+    (open_fault old name ≡ None) × Opens old name access o new
 Step old (Open name access) (NotOpened fault) new = (open_fault old name ≡ Some fault) × (new ≡ old)
 Step old (Open name access) answer new = ⊥
-Step old (Receive s text) answer new = AtHome s old answer (λ g h. Receives old.made s (session_in g.sessions s) text answer g h) new
-Step old (Draw s) answer new = AtHome s old answer (λ g h. Draws s (session_in g.sessions s) answer g h) new
+Step old (Receive s text) answer new =
+    AtHome s old answer (λ g h. Receives old.config s (session_in g.sessions s) text answer g h) new
+Step old (Draw s) answer new =
+    AtHome s old answer (λ g h. Draws s (session_in g.sessions s) answer g h) new
 Step old (Close s) answer new = ClosesAt s (place_of old s) old answer new
 Step old DoWill answer new = DoesWill old.wills old answer new
-Step old (Forget name) (Forgotten rev) new = (forget_fault old name ≡ None) × Forgets old name rev new
+Step old (Forget name) (Forgotten rev) new =
+    (forget_fault old name ≡ None) × Forgets old name rev new
 Step old (Forget name) (NotForgotten fault) new = (forget_fault old name ≡ Some fault) × (new ≡ old)
 Step old (Forget name) answer new = ⊥

@@ -14,8 +14,10 @@ ChangesTold told old new = (t : ℕ) → is_told told t ≡ false → session_in
 
 -- and session s, which sent the text
 abbrev pub ChangesToldAnd : ℕ → Told → List Session → List Session → Type 0
-ChangesToldAnd s told old new = (t : ℕ) → (s == t) ≡ false → is_told told t ≡ false → session_in new t ≡ session_in old t
+ChangesToldAnd s told old new =
+    (t : ℕ) → (s == t) ≡ false → is_told told t ≡ false → session_in new t ≡ session_in old t
 
 -- no session changed but those with these numbers
 abbrev pub ChangesAmong : List ℕ → List Session → List Session → Type 0
-ChangesAmong numbers old new = (t : ℕ) → list_any (nat_eq t) numbers ≡ false → session_in new t ≡ session_in old t
+ChangesAmong numbers old new =
+    (t : ℕ) → list_any (nat_eq t) numbers ≡ false → session_in new t ≡ session_in old t

@@ -20,27 +20,33 @@ view_in sessions t = option_and_then (λ x. x.view) (session_in sessions t)
 abbrev pub Agrees : Watches → List Session → Type 0
 Agrees watches sessions = (t : ℕ) → map.get watches t ≡ view_in sessions t
 
--- What holds of each room's sessions and their index: the sessions are in the order in which they were opened, so that their numbers rise.
+-- What holds of each room's sessions and their index: the sessions are in the order in which they
+-- were opened, so that their numbers rise.
 pub record IsIndexed (watches : Watches) (sessions : List Session) : Type 0 where
   pub rising : IsRising sessions
   pub agrees : Agrees watches sessions
 
 -- a session that is to be notified is; any other is unchanged
-abbrev pub NotifiedIf : Bool → Document → List Change → Room → Allowance → Bool → Session → Session → Type 0
+abbrev pub NotifiedIf : Bool → Document → List Change → Room → Allowance → Bool → Session → Session
+    → Type 0
 NotifiedIf true d changes room allowance short x y = Notified d changes room allowance short x y
 NotifiedIf false d changes room allowance short x y = (y ≡ x) × (short ≡ false)
 
 -- the allowance afterwards
 abbrev pub after_if : Bool → List Change → Room → Allowance → Bool → Session → Allowance
-after_if notified changes room allowance short x = if notified then after_notified changes room allowance x.view short x else allowance
+after_if notified changes room allowance short x =
+    if notified then after_notified changes room allowance x.view short x else allowance
 
--- the sessions with these numbers are notified in order, from one allowance to another, and this many of their outboxes folded because
--- memory ran out; no other session differs
-abbrev pub NotifiedAmong : List ℕ → Document → List Change → Room → Allowance → Allowance → List Session → List Session → ℕ → Type 0
+-- the sessions with these numbers are notified in order, from one allowance to another, and this
+-- many of their outboxes folded because memory ran out; no other session differs
+abbrev pub NotifiedAmong : List ℕ → Document → List Change → Room → Allowance → Allowance
+    → List Session → List Session → ℕ → Type 0
 NotifiedAmong numbers d changes room allowance rest [] [] n = (n ≡ 0) × (rest ≡ allowance)
 NotifiedAmong numbers d changes room allowance rest (x ∷ xs) (y ∷ ys) n =
-    (short : Bool) × (m : ℕ) × NotifiedIf (list_any (nat_eq x.number) numbers) d changes room allowance short x y
+    (short : Bool) × (m : ℕ)
+    × NotifiedIf (list_any (nat_eq x.number) numbers) d changes room allowance short x y
     × (n ≡ m + (if short then 1 else 0))
-    × NotifiedAmong numbers d changes room (after_if (list_any (nat_eq x.number) numbers) changes room allowance short x) rest xs ys m
+    × NotifiedAmong numbers d changes room
+    (after_if (list_any (nat_eq x.number) numbers) changes room allowance short x) rest xs ys m
 NotifiedAmong numbers d changes room allowance rest [] (y ∷ ys) n = ⊥
 NotifiedAmong numbers d changes room allowance rest (x ∷ xs) [] n = ⊥

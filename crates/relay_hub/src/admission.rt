@@ -18,8 +18,10 @@ pub fn read_admitted(
     access: Access,
     budget: Budget,
 ) -> Result<Request, RequestFault>
-    ensures ok { IfOk result (λ request. admitted budget access (request_of_text text.now) ≡ Ok request) }
-    ensures refused { IfErr result (λ fault. IsRefusedAs fault (admitted budget access (request_of_text text.now))) }
+    ensures ok { IfOk result (λ request.
+        admitted budget access (request_of_text text.now) ≡ Ok request) }
+    ensures refused { IfErr result (λ fault.
+        IsRefusedAs fault (admitted budget access (request_of_text text.now))) }
 {
     let request = Request::read_with(alloc, text, scratch)?;
     afford(permit(request, access)?, budget)

@@ -5,16 +5,17 @@ use relay_proto::Reply;
 use std::alloc::{AllocError, Global};
 use std::marker::Model;
 
-/// The memory for a reply. It is allocated before a text is carried out, so that the reply to it needs none.
+/// The memory for a reply. It is allocated before a text is carried out, so that the reply to it
+/// needs none.
 #[derive(Drop)]
-pub struct ReplySlot {
+pub struct ReservedReply {
     reply: Box<Reply>,
 }
 
-impl ReplySlot {
+impl ReservedReply {
     /// Allocates the memory.
-    pub fn new(alloc: Global) -> Result<ReplySlot, AllocError> {
-        Ok(ReplySlot {
+    pub fn new(alloc: Global) -> Result<ReservedReply, AllocError> {
+        Ok(ReservedReply {
             reply: Box::new(alloc, Reply::Unwatched { id: 0 })?,
         })
     }
@@ -29,8 +30,8 @@ impl ReplySlot {
     }
 }
 
-/// A reply in an allocation of its own. So an outbox has room for 32 pointers, and not for 32 replies, most of which never wait. Contracts
-/// see it as the reply.
+/// A reply in an allocation of its own. So an outbox has room for 32 pointers, and not for 32
+/// replies, most of which never wait. Contracts see it as the reply.
 #[derive(Drop)]
 pub struct BoxedReply {
     reply: Box<Reply>,

@@ -24,11 +24,12 @@ use relay_translate::WatchIndex;
 use std::alloc::{AllocError, Global};
 use std::cell::Cell;
 
-/// Notifies the watchers of the newest edit, within the hub's bounds, and writes down whom it told. Then the room drops the oldest changes
-/// that may not be kept. Returns how many outboxes folded because memory ran out.
+/// Notifies the watchers of the newest edit, within the hub's bounds, and writes down whom it told.
+/// Then the room drops the oldest changes that may not be kept. Returns how many outboxes folded
+/// because memory ran out.
 pub fn broadcast_and_trim(
     alloc: Global,
-    made: HubConfig,
+    config: HubConfig,
     room: &mut Room,
     watches: &WatchIndex,
     sessions: &mut [Session],
@@ -38,24 +39,28 @@ pub fn broadcast_and_trim(
     requires edited { 0 < revision room.old }
     requires reaches { Reaches room.old.history (revision room.old - 1) }
     requires indexed { IsIndexed watches.now sessions.old }
-    ensures notified { (d : Document) (changes : List Change) → changes ≡ changes_since (revision room.old - 1) room.old.history
-        → Leads d changes room.old.document → AllNotified d changes room.old made.telling_weight sessions.old sessions.new result }
+    ensures notified { (d : Document) (changes : List Change)
+        → changes ≡ changes_since (revision room.old - 1) room.old.history
+        → Leads d changes room.old.document
+        → AllNotified d changes room.old config.telling_weight sessions.old sessions.new result }
     ensures told { ChangesTold told.new sessions.old sessions.new }
-    ensures trimmed { room.new ≡ trimmed made.history_weight room.old }
+    ensures trimmed { room.new ≡ trimmed config.history_weight room.old }
 {
-    let mut cache = UpdateCache::new(alloc, made.telling_weight);
+    let mut cache = UpdateCache::new(alloc, config.telling_weight);
     let short = broadcast(alloc, room, watches, sessions, &mut cache, told);
-    room.trim(made.history_weight);
+    room.trim(config.history_weight);
     short
 }
 
-/// Notifies the watchers of the newest edit. The index finds the sessions that the edit touches, and no other is visited. If the look-up
-/// runs out of memory, every session is visited. Returns how many outboxes folded because memory ran out.
+/// Notifies the watchers of the newest edit. The index finds the sessions that the edit touches,
+/// and no other is visited. If the look-up runs out of memory, every session is visited. Returns
+/// how many outboxes folded because memory ran out.
 ///
-/// Costs the look-up ([`Room::touched`]); for each session found, a binary search and a comparison of its view with at most 32 others; and
-/// for each whose view is none of these, what the edit means to it ([`Room::catch_up_within`]) and the text of that. So an update is made
-/// and written once for all sessions that watch the same view, if they watch at most 16 views. No patch is made that what is left does not
-/// pay for.
+/// Costs the look-up ([`Room::touched`]); for each session found, a binary search and a comparison
+/// of its view with at most 32 others; and for each whose view is none of these, what the edit
+/// means to it ([`Room::catch_up_within`]) and the text of that. So an update is made and written
+/// once for all sessions that watch the same view, if they watch at most 16 views. No patch is made
+/// that what is left does not pay for.
 fn broadcast(
     alloc: Global,
     room: &Room,
@@ -70,8 +75,11 @@ fn broadcast(
     requires indexed { IsIndexed watches.now sessions.old }
     requires kept { IsKept room.now cache.old }
     ensures told { ChangesTold told.new sessions.old sessions.new }
-    ensures notified { (d : Document) (changes : List Change) → changes ≡ changes_since (revision room.now - 1) room.now.history
-        → Leads d changes room.now.document → NotifiedFrom d changes room.now (allowance_of cache.old) (allowance_of cache.new) sessions.old sessions.new result }
+    ensures notified { (d : Document) (changes : List Change)
+        → changes ≡ changes_since (revision room.now - 1) room.now.history
+        → Leads d changes room.now.document
+        → NotifiedFrom d changes room.now (allowance_of cache.old) (allowance_of cache.new)
+        sessions.old sessions.new result }
 {
     let Ok(numbers) = room.touched(alloc, watches) else {
         *told = told.everybody(alloc);
@@ -102,8 +110,11 @@ fn notify_those(
     requires rising { IsStrictlyIncreasing numbers.now }
     requires kept { IsKept room.now cache.old }
     ensures others { ChangesAmong numbers.now sessions.old sessions.new }
-    ensures notified { (d : Document) (changes : List Change) → changes ≡ changes_since (revision room.now - 1) room.now.history
-        → Leads d changes room.now.document → NotifiedAmong numbers.now d changes room.now (allowance_of cache.old) (allowance_of cache.new) sessions.old sessions.new result }
+    ensures notified { (d : Document) (changes : List Change)
+        → changes ≡ changes_since (revision room.now - 1) room.now.history
+        → Leads d changes room.now.document
+        → NotifiedAmong numbers.now d changes room.now (allowance_of cache.old)
+        (allowance_of cache.new) sessions.old sessions.new result }
 {
     let mut short: u64 = 0;
     for number in numbers {
@@ -130,9 +141,11 @@ fn notify_one(
     ensures kept { IsKept room.now cache.new }
     ensures ordered { IsRising sessions.new }
     ensures others { ChangesAmong (number ∷ []) sessions.old sessions.new }
-    ensures notified { (d : Document) (changes : List Change) → changes ≡ changes_since (revision room.now - 1) room.now.history
+    ensures notified { (d : Document) (changes : List Change)
+        → changes ≡ changes_since (revision room.now - 1) room.now.history
         → Leads d changes room.now.document
-        → NotifiedAmong (number ∷ []) d changes room.now (allowance_of cache.old) (allowance_of cache.new) sessions.old sessions.new (if is_err result then 1 else 0) }
+        → NotifiedAmong (number ∷ []) d changes room.now (allowance_of cache.old)
+        (allowance_of cache.new) sessions.old sessions.new (if is_err result then 1 else 0) }
 {
     match position_of(sessions, number) {
         Some(place) => notify(alloc, room, &mut sessions[place], cache),
@@ -146,8 +159,11 @@ fn notify_all(alloc: Global, room: &Room, sessions: &mut [Session], cache: &mut 
     requires edited { 0 < revision room.now }
     requires reaches { Reaches room.now.history (revision room.now - 1) }
     requires kept { IsKept room.now cache.old }
-    ensures { (d : Document) (changes : List Change) → changes ≡ changes_since (revision room.now - 1) room.now.history
-        → Leads d changes room.now.document → NotifiedFrom d changes room.now (allowance_of cache.old) (allowance_of cache.new) sessions.old sessions.new result }
+    ensures { (d : Document) (changes : List Change)
+        → changes ≡ changes_since (revision room.now - 1) room.now.history
+        → Leads d changes room.now.document
+        → NotifiedFrom d changes room.now (allowance_of cache.old) (allowance_of cache.new)
+        sessions.old sessions.new result }
 {
     let mut short: u64 = 0;
     for session in sessions.iter_mut() {
@@ -158,8 +174,8 @@ fn notify_all(alloc: Global, room: &Room, sessions: &mut [Session], cache: &mut 
     short
 }
 
-/// Notifies one session of the newest edit, if it watches. A snapshot that is due already will show the edit. If memory runs out, the
-/// outbox folds.
+/// Notifies one session of the newest edit, if it watches. A snapshot that is due already will show
+/// the edit. If memory runs out, the outbox folds.
 fn notify(
     alloc: Global,
     room: &Room,
@@ -172,11 +188,17 @@ fn notify(
     requires kept { IsKept room.now cache.old }
     ensures kept { IsKept room.now cache.new }
     ensures number { session.new.number ≡ session.old.number }
-    ensures notified { (d : Document) (changes : List Change) → changes ≡ changes_since (revision room.now - 1) room.now.history
-        → Leads d changes room.now.document → Notified d changes room.now (allowance_of cache.old) (is_err result) session.old session.new }
-    ensures left { (d : Document) (changes : List Change) → changes ≡ changes_since (revision room.now - 1) room.now.history
+    ensures notified { (d : Document) (changes : List Change)
+        → changes ≡ changes_since (revision room.now - 1) room.now.history
         → Leads d changes room.now.document
-        → allowance_of cache.new ≡ after_notified changes room.now (allowance_of cache.old) session.old.view (is_err result) session.old }
+        → Notified d changes room.now (allowance_of cache.old) (is_err result) session.old
+        session.new }
+    ensures left { (d : Document) (changes : List Change)
+        → changes ≡ changes_since (revision room.now - 1) room.now.history
+        → Leads d changes room.now.document
+        → allowance_of cache.new
+        ≡ after_notified changes room.now (allowance_of cache.old) session.old.view (is_err result)
+        session.old }
 {
     if session.is_due() {
         return Ok(());

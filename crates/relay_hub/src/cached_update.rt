@@ -1,5 +1,6 @@
-//! The updates of the newest edit, each for one view. One is made for the first watcher of the view and shared with the next ones, wherever
-//! they stand among the sessions. The patches that are made for one edit weigh no more together than a budget.
+//! The updates of the newest edit, each for one view. One is made for the first watcher of the view
+//! and shared with the next ones, wherever they stand among the sessions. The patches that are made
+//! for one edit weigh no more together than a budget.
 ghost use Rattle.std.specs.Prelude.{◌≡◌, ◌<◌, ◌-◌, ◌↔◌, ◌⊎◌, [], ◌∷◌, false, is_some, take, IfOk, IfSome, OnOk, OnErr};
 ghost use Rattle.std.specs.Bool.{IsTrue};
 ghost use Rattle.std.specs.List.{Contains};
@@ -22,7 +23,8 @@ use std::cell::Cell;
 /// The most patches of one edit that are kept to be shared; and as many other updates.
 pub(crate) const MAX_SHARED: usize = 16;
 
-/// The updates of one edit that were made last, and what the patches that are still to be made may weigh.
+/// The updates of one edit that were made last, and what the patches that are still to be made may
+/// weigh.
 #[derive(Drop)]
 pub struct UpdateCache {
     /// What the patches that are still to be made may weigh together.
@@ -52,7 +54,8 @@ pub struct CachedUpdate {
 }
 
 impl UpdateCache {
-    /// An empty cache, whose patches may weigh as much together as the budget pays for. Allocates nothing.
+    /// An empty cache, whose patches may weigh as much together as the budget pays for. Allocates
+    /// nothing.
     pub fn new(alloc: Global, budget: Budget) -> UpdateCache
         ensures allowance { allowance_of result ≡ whole budget }
         ensures patches { result.patches.items ≡ [] }
@@ -66,7 +69,8 @@ impl UpdateCache {
         }
     }
 
-    /// Counts an update that was made within a budget: a patch by its weight, and an attempt at one that was given up by what was left.
+    /// Counts an update that was made within a budget: a patch by its weight, and an attempt at one
+    /// that was given up by what was left.
     fn count(&self, update: &Update, budget: Budget) {
         let weight = match (update, budget) {
             (Update::Nothing, _) | (Update::Snapshot, Budget::Unbounded) => 0,
@@ -85,9 +89,11 @@ impl UpdateCache {
     /// Keeps a patch that was made for the view, and pays for it. Out of memory changes nothing.
     fn keep_patch(&mut self, view: SharedView, patch: EncodedPatch) -> Result<(), AllocError>
         ensures left { OnOk result (self.new.left ≡ less (ops_weight patch.1) self.old.left) }
-        ensures patches { OnOk result (self.new.patches.items ≡ take MAX_SHARED (record { view = view; patch = patch } ∷ self.old.patches.items)) }
+        ensures patches { OnOk result (self.new.patches.items
+            ≡ take MAX_SHARED (record { view = view; patch = patch } ∷ self.old.patches.items)) }
         ensures others { self.new.others ≡ self.old.others }
-        ensures err { OnErr result ((self.new.left ≡ self.old.left) × (self.new.patches.items ≡ self.old.patches.items)) }
+        ensures err { OnErr result ((self.new.left ≡ self.old.left)
+            × (self.new.patches.items ≡ self.old.patches.items)) }
     {
         let left = less(self.left, &patch);
         keep(&mut self.patches, CachedPatch { view, patch })?;
@@ -99,7 +105,10 @@ impl UpdateCache {
     fn keep_other(&mut self, view: SharedView, budget: Budget, update: Update)
         ensures left { self.new.left ≡ self.old.left }
         ensures patches { self.new.patches ≡ self.old.patches }
-        ensures others { (self.new.others.items ≡ self.old.others.items) ⊎ (self.new.others.items ≡ take MAX_SHARED (record { view = view; budget = budget; update = update } ∷ self.old.others.items)) }
+        ensures others { (self.new.others.items ≡ self.old.others.items)
+            ⊎ (self.new.others.items
+            ≡ take MAX_SHARED (record { view = view; budget = budget; update = update }
+            ∷ self.old.others.items)) }
     {
         let _ = keep(
             &mut self.others,
@@ -112,7 +121,8 @@ impl UpdateCache {
     }
 }
 
-/// Puts an item in front of the others, of which the last one goes if there are too many. Out of memory changes nothing.
+/// Puts an item in front of the others, of which the last one goes if there are too many. Out of
+/// memory changes nothing.
 fn keep<T: Drop>(kept: &mut Vec<T>, item: T) -> Result<(), AllocError>
     ensures ok { OnOk result (kept.new.items ≡ take MAX_SHARED (item ∷ kept.old.items)) }
     ensures err { OnErr result (kept.new.items ≡ kept.old.items) }
@@ -122,10 +132,12 @@ fn keep<T: Drop>(kept: &mut Vec<T>, item: T) -> Result<(), AllocError>
     Ok(())
 }
 
-/// Returns the update of the newest edit for a view that a session with this budget watches. A kept patch for an equal view is shared, or a
-/// snapshot takes its place if the session's budget does not pay for it. A kept update that is no patch is shared if the view and what a
-/// patch may weigh are the same. Otherwise the update is made within that budget and what is left, and kept; a patch is paid from what is
-/// left. Out of memory leaves what may be made, and the views of the kept patches.
+/// Returns the update of the newest edit for a view that a session with this budget watches. A kept
+/// patch for an equal view is shared, or a snapshot takes its place if the session's budget does
+/// not pay for it. A kept update that is no patch is shared if the view and what a patch may weigh
+/// are the same. Otherwise the update is made within that budget and what is left, and kept; a
+/// patch is paid from what is left. Out of memory leaves what may be made, and the views of the
+/// kept patches.
 #[tactic(auto, using(crate::proofs::CachedUpdates::patch_found, crate::proofs::CachedUpdates::other_found))]
 pub fn update_for(
     alloc: Global,
@@ -138,8 +150,10 @@ pub fn update_for(
     requires reaches { Reaches room.now.history (revision room.now - 1) }
     requires kept { IsKept room.now cache.old }
     ensures kept { IsKept room.now cache.new }
-    ensures update { IfOk result (λ update. IsUpdate (within (allowance_of cache.old) view.now budget) room.now view.now update) }
-    ensures spent { IfOk result (λ update. allowance_of cache.new ≡ spent (allowance_of cache.old) view.now update) }
+    ensures update { IfOk result (λ update.
+        IsUpdate (within (allowance_of cache.old) view.now budget) room.now view.now update) }
+    ensures spent { IfOk result (λ update.
+        allowance_of cache.new ≡ spent (allowance_of cache.old) view.now update) }
     ensures err { OnErr result (allowance_of cache.new ≡ allowance_of cache.old) }
 {
     if let Some(patch) = patch_for(cache.patches.as_slice(), view) {
@@ -155,7 +169,8 @@ pub fn update_for(
 /// The kept patch for an equal view, if there is one. Compares the views token by token.
 #[tactic(auto, using(crate::proofs::CachedUpdates::made_at, crate::proofs::CachedUpdates::not_made_next))]
 fn patch_for<'a>(patches: &'a [CachedPatch], view: &SharedView) -> Option<&'a EncodedPatch>
-    ensures some { IfSome result (λ patch. Contains patches.now (record { view = view.now; patch = patch.now })) }
+    ensures some { IfSome result (λ patch.
+        Contains patches.now (record { view = view.now; patch = patch.now })) }
     ensures found { is_some result ≡ is_made (views_of patches.now) view.now }
 {
     for kept in patches {
@@ -174,13 +189,15 @@ fn same(one: &View, other: &View) -> bool
     one.same(other)
 }
 
-/// The kept update that is no patch, for an equal view and the same budget, if there is one. Compares the views token by token.
+/// The kept update that is no patch, for an equal view and the same budget, if there is one.
+/// Compares the views token by token.
 fn other_for<'a>(
     others: &'a [CachedUpdate],
     view: &SharedView,
     budget: Budget,
 ) -> Option<&'a Update>
-    ensures { IfSome result (λ update. Contains others.now (record { view = view.now; budget = budget; update = update.now })) }
+    ensures { IfSome result (λ update.
+        Contains others.now (record { view = view.now; budget = budget; update = update.now })) }
 {
     for kept in others {
         if kept.budget == budget && same(kept.view.get(), view.get()) {
@@ -216,7 +233,8 @@ fn make_and_cache(
     requires fresh { is_made (views_of cache.old.patches.items) view.now ≡ false }
     ensures kept { IsKept room.now cache.new }
     ensures update { IfOk result (λ update. IsUpdate budget room.now view.now update) }
-    ensures spent { IfOk result (λ update. allowance_of cache.new ≡ spent (allowance_of cache.old) view.now update) }
+    ensures spent { IfOk result (λ update.
+        allowance_of cache.new ≡ spent (allowance_of cache.old) view.now update) }
     ensures err { OnErr result (allowance_of cache.new ≡ allowance_of cache.old) }
 {
     let update = make_update(alloc, room, view, budget)?;
@@ -230,8 +248,8 @@ fn make_and_cache(
     Ok(share)
 }
 
-/// Makes the update of the newest edit for a view. Costs what [`Room::catch_up_within`] costs for the edit's changes, and the text of a
-/// patch.
+/// Makes the update of the newest edit for a view. Costs what [`Room::catch_up_within`] costs for
+/// the edit's changes, and the text of a patch.
 fn make_update(
     alloc: Global,
     room: &Room,

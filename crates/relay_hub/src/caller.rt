@@ -46,7 +46,8 @@ pub fn session_mut(sessions: &mut [Session], caller: Caller) -> &mut Session
     &mut sessions[caller.place]
 }
 
-/// The place of the session with that number, if there is one. A binary search, since the numbers rise.
+/// The place of the session with that number, if there is one. A binary search, since the numbers
+/// rise.
 pub fn position_of(sessions: &[Session], number: u64) -> Option<usize>
     requires { IsRising sessions.now }
     ensures { result ≡ position (is_number number) sessions.now }
@@ -63,7 +64,8 @@ pub fn position_of(sessions: &[Session], number: u64) -> Option<usize>
 /// The number of sessions with lower numbers, which is the place of a session with that number.
 fn place_from(sessions: &[Session], number: u64) -> usize
     requires { IsRising sessions.now }
-    ensures { IsPartitionPoint (λ x. x.number < number) (λ x. number ≤ x.number) sessions.now result }
+    ensures { IsPartitionPoint (λ x. x.number < number) (λ x.
+        number ≤ x.number) sessions.now result }
 {
     sessions.partition_point(|session| session.number() < number)
 }

@@ -42,7 +42,8 @@ pub struct HubConfig {
     pub history_weight: Budget,
     /// The most that the patches waiting for a session may weigh together.
     pub waiting_weight: Budget,
-    /// The most that the patches made for one edit may weigh together. A patch that several sessions share counts once.
+    /// The most that the patches made for one edit may weigh together. A patch that several
+    /// sessions share counts once.
     pub telling_weight: Budget,
     /// The most that the pointers of a view may weigh together.
     pub view_weight: Budget,
@@ -93,7 +94,8 @@ impl HubConfig {
 }
 
 fn are_counts(epoch: u64, first: u64) -> bool
-    ensures { MatchBool result ((epoch ≤ MAX_COUNT) × (first ≤ MAX_COUNT)) ((MAX_COUNT < epoch) ⊎ (MAX_COUNT < first)) }
+    ensures { MatchBool result ((epoch ≤ MAX_COUNT) × (first ≤ MAX_COUNT)) ((MAX_COUNT < epoch)
+        ⊎ (MAX_COUNT < first)) }
 {
     epoch <= MAX_COUNT && first <= MAX_COUNT
 }

@@ -38,10 +38,10 @@ const COMPARED: u64 = 2;
 
 /// A text is read. Between two values stands a comma, and before one a colon or a bracket.
 pub(crate) fn reading(text: &str) -> u64 {
-    let signs = text
+    let marks = text
         .bytes()
         .filter(|byte| matches!(*byte, b',' | b':' | b'['));
-    let values = signs.count() as u64;
+    let values = marks.count() as u64;
     values
         .saturating_mul(VALUE)
         .saturating_add(VALUE)

@@ -1,4 +1,5 @@
-//! A waiting patch with its text, which is written once and shared by all sessions that are sent the same patch.
+//! A waiting patch with its text, which is written once and shared by all sessions that are sent
+//! the same patch.
 ghost use Rattle.std.specs.Prelude.{◌≡◌};
 ghost use Rattle.relay_patch.specs.Weight.{ops_weight};
 ghost use Rattle.relay_hub.specs.EncodedPatch.{counted};
@@ -20,7 +21,8 @@ struct Encoding {
     weight: Option<u64>,
 }
 
-/// A patch that waits in one outbox or in several. Contracts see it as the revision that it brings a view to, and its operations.
+/// A patch that waits in one outbox or in several. Contracts see it as the revision that it brings
+/// a view to, and its operations.
 #[derive(Drop)]
 pub struct EncodedPatch {
     encoding: Rc<Encoding>,
@@ -40,7 +42,8 @@ impl Model for EncodedPatch {
 
     ghost view = { λ p. (p.encoding.value.rev, p.encoding.value.patch) };
 
-    ghost invariant = { λ p. IsTextOf (string_bytes p.encoding.value.text) (patch_message (p.encoding.value.rev, p.encoding.value.patch))
+    ghost invariant = { λ p. IsTextOf (string_bytes p.encoding.value.text)
+        (patch_message (p.encoding.value.rev, p.encoding.value.patch))
         × (p.encoding.value.weight ≡ counted (ops_weight p.encoding.value.patch)) };
 }
 
@@ -68,7 +71,8 @@ impl EncodedPatch {
         Ok(EncodedPatch { encoding })
     }
 
-    /// Shares the patch: raises the reference count and allocates nothing. `AllocError`: the count is at its maximum.
+    /// Shares the patch: raises the reference count and allocates nothing. `AllocError`: the count
+    /// is at its maximum.
     pub fn share(&self) -> Result<EncodedPatch, AllocError>
         ensures { IfOk result (λ encoded_patch. encoded_patch ≡ self.now) }
     {
@@ -97,7 +101,8 @@ impl EncodedPatch {
 
     /// Returns a copy of the text of the message.
     pub fn text(&self, alloc: Global) -> Result<String, AllocError>
-        ensures text { IfOk result (λ text. string_bytes text ≡ message_text (patch_message self.now)) }
+        ensures text { IfOk result (λ text. string_bytes text
+            ≡ message_text (patch_message self.now)) }
         ensures reads_back { ReadsBack (Some (patch_message self.now)) }
     {
         String::from_str(alloc, self.encoding.text.as_str())

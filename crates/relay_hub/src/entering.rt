@@ -25,7 +25,7 @@ pub struct NewSession {
     pub number: u64,
     pub access: Access,
     /// The configuration of its hub.
-    pub made: HubConfig,
+    pub config: HubConfig,
     /// The revision at which its room begins, if it is new.
     pub floor: u64,
     /// The place that a new room takes from another one; `None`: it comes last.
@@ -35,15 +35,15 @@ pub struct NewSession {
 impl NewSession {
     /// Makes the session, for a room at revision `rev`.
     fn session(self, alloc: Global, rev: u64) -> Result<Session, AllocError>
-        requires made { IsConfig self.made }
-        ensures { IfOk result (λ x. x ≡ newcomer self.made self.access rev self.number) }
+        requires config { IsConfig self.config }
+        ensures { IfOk result (λ x. x ≡ newcomer self.config self.access rev self.number) }
     {
-        Session::new(alloc, self.made, self.access, rev, self.number)
+        Session::new(alloc, self.config, self.access, rev, self.number)
     }
 }
 
-/// Opens a session in the room at `place`, or in a new room if `place` is `None`. Returns the room's place, and its revision. Out of memory
-/// changes nothing.
+/// Opens a session in the room at `place`, or in a new room if `place` is `None`. Returns the
+/// room's place, and its revision. Out of memory changes nothing.
 pub fn open_session(
     alloc: Global,
     rooms: &mut IndexMap<String, RoomSessions>,
@@ -53,11 +53,13 @@ pub fn open_session(
 ) -> Result<(usize, u64), AllocError>
     requires place { place ≡ place_named name.now (rooms_of rooms.old.entries) }
     requires fresh { IsFresh new_session.number (rooms_of rooms.old.entries) }
-    requires made { IsConfig new_session.made }
+    requires config { IsConfig new_session.config }
     requires floor { new_session.floor ≤ MAX_COUNT }
     requires vacant { IfSome new_session.vacant (λ i. i < length (rooms_of rooms.old.entries)) }
-    ensures ok { IfOk result (λ at. EntersRooms (opening_of new_session.number at.1) (λ rev. newcomer new_session.made new_session.access rev new_session.number)
-        new_session.vacant new_session.made.history new_session.floor name.now place (rooms_of rooms.old.entries) at.0 (rooms_of rooms.new.entries)) }
+    ensures ok { IfOk result (λ at. EntersRooms (opening_of new_session.number at.1) (λ rev.
+        newcomer new_session.config new_session.access rev new_session.number) new_session.vacant
+        new_session.config.history new_session.floor name.now place (rooms_of rooms.old.entries)
+        at.0 (rooms_of rooms.new.entries)) }
     ensures err { OnErr result (rooms_of rooms.new.entries ≡ rooms_of rooms.old.entries) }
 {
     let Some(place) = place else {
@@ -79,9 +81,10 @@ fn join_room(
     new_session: NewSession,
 ) -> Result<(), AllocError>
     requires fresh { IsAbove new_session.number room_sessions.old.sessions }
-    requires made { IsConfig new_session.made }
-    ensures ok { OnOk result (ChangesOnly new_session.number (Some (newcomer new_session.made new_session.access (revision room_sessions.old.room) new_session.number))
-        room_sessions.old room_sessions.new) }
+    requires config { IsConfig new_session.config }
+    ensures ok { OnOk result (ChangesOnly new_session.number
+        (Some (newcomer new_session.config new_session.access (revision room_sessions.old.room)
+        new_session.number)) room_sessions.old room_sessions.new) }
     ensures err { OnErr result (room_sessions.new ≡ room_sessions.old) }
 {
     let session = new_session.session(alloc, room_sessions.room().revision())?;
@@ -97,13 +100,14 @@ fn begin_room(
     new_session: NewSession,
 ) -> Result<usize, AllocError>
     requires absent { place_named name.now (rooms_of rooms.old.entries) ≡ None }
-    requires made { IsConfig new_session.made }
+    requires config { IsConfig new_session.config }
     requires floor { new_session.floor ≤ MAX_COUNT }
     requires vacant { IfSome new_session.vacant (λ i. i < length (rooms_of rooms.old.entries)) }
     ensures ok { IfOk result (λ at. Founds new_session.vacant (
       name.now,
-      room_sessions (begun null new_session.floor new_session.made.history)
-          (newcomer new_session.made new_session.access new_session.floor new_session.number ∷ []),
+      room_sessions (begun null new_session.floor new_session.config.history)
+          (newcomer new_session.config new_session.access new_session.floor new_session.number
+          ∷ []),
     )
         (rooms_of rooms.old.entries) at (rooms_of rooms.new.entries)) }
     ensures err { OnErr result (rooms_of rooms.new.entries ≡ rooms_of rooms.old.entries) }
@@ -113,7 +117,7 @@ fn begin_room(
         alloc,
         Tree::from(Node::Null),
         floor,
-        new_session.made.history,
+        new_session.config.history,
     ) {
         Ok(room) => room,
         Err(RoomFault::NoMemory) => return Err(AllocError),
@@ -131,8 +135,8 @@ fn begin_room(
     }
 }
 
-/// The place of the first room that makes place for another one, if there are as many as there may be.
-/// None does while a will is left to be done.
+/// The place of the first room that makes place for another one, if there are as many as there may
+/// be. None does while a will is left to be done.
 pub fn vacant_place(
     most: u64,
     wills: &Vec<Will>,

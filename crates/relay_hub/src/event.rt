@@ -28,8 +28,8 @@ pub struct Opening {
 /// The outcome of a received text.
 #[derive(Clone, Copy, Debug, PartialEq, Eq)]
 pub enum Heard {
-    /// One reply was added to the outbox. `short` is the number of watchers whose outboxes folded because memory ran out while they were
-    /// notified.
+    /// One reply was added to the outbox. `short` is the number of watchers whose outboxes folded
+    /// because memory ran out while they were notified.
     Answered { short: u64 },
     /// 32 replies wait already. The text was not read.
     Busy,

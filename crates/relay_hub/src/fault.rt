@@ -5,7 +5,8 @@ use thiserror::Error;
 /// Why a hub cannot be made.
 #[derive(Clone, Copy, Debug, PartialEq, Eq, Error)]
 pub enum HubNewFault {
-    /// `epoch` or `first` is not a count, or `rooms`, `sessions`, `history` or `max_waiting_patches` is out of its range.
+    /// `epoch` or `first` is not a count, or `rooms`, `sessions`, `history` or
+    /// `max_waiting_patches` is out of its range.
     #[error("a limit out of range")]
     BadLimit,
     #[error("out of memory")]
@@ -18,7 +19,8 @@ pub enum OpenFault {
     /// The name is not 1 to 64 ASCII letters, digits, `-` and `_`.
     #[error("no name of a room")]
     RoomName,
-    /// No room has this name, there are as many rooms as the configuration allows, and none of them makes place.
+    /// No room has this name, there are as many rooms as the configuration allows, and none of them
+    /// makes place.
     #[error("too many rooms")]
     RoomsFull,
     /// As many sessions are open, or have left a will that is not done yet, as the configuration
@@ -63,7 +65,8 @@ pub enum HubFault {
 #[error("no such session")]
 pub struct NoSession;
 
-/// A run stopped because memory ran out. The events of `answers` were done, and the next one changed nothing.
+/// A run stopped because memory ran out. The events of `answers` were done, and the next one
+/// changed nothing.
 #[derive(Drop)]
 pub struct RunFault {
     pub answers: Vec<Answer>,

@@ -1,8 +1,9 @@
 //! The hub: the rooms, the open sessions, and what each call does.
 //!
-//! Each call is a step (`specs/Step`). A hub agrees with the log of the calls that it answered (`specs/Stands`): it has the documents,
-//! sessions and views of the log, and every client that watches, and applies what was drawn for it and what waits, in order, holds exactly
-//! its view of the present document. A call that returns `NoMemory` changes nothing.
+//! Each call is a step (`specs/Step`). A hub agrees with the log of the calls that it answered
+//! (`specs/Stands`): it has the documents, sessions and views of the log, and every client that
+//! watches, and applies what was drawn for it and what waits, in order, holds exactly its view of
+//! the present document. A call that returns `NoMemory` changes nothing.
 ghost use Rattle.std.specs.Prelude.{◌≡◌, ◌≢◌, ◌<◌, ◌≤◌, ◌⊎◌, ◌↔◌, [], ◌∷◌, ℕ, Some, None, Ok, IfOk, IfErr, IfSome, IsErrOf, IsSomeAnd, IsTrue, OnOk, OnErr, length, not, ◌==◌, option_map, slice_get};
 ghost use Rattle.relay_hub.specs.Call.{StepIf, opening, receiving, drawing, closing, doing_will, forgetting, logged, done, followed, Runs};
 ghost use Rattle.relay_hub.specs.Log.{Log, entry};
@@ -12,7 +13,7 @@ ghost use Rattle.relay_hub.specs.Shed.{shed};
 ghost use Rattle.relay_hub.specs.Stands.{StandsFor, EachHoldsPresent, EachIsAtNamed};
 ghost use Rattle.relay_hub.specs.Step.{Step, open_fault, forget_fault, floor_after};
 ghost use Rattle.relay_tree.specs.declared.count.TheConstants.{MAX_COUNT};
-ghost use Rattle.relay_hub.specs.Summary.{shown_by, summary_of};
+ghost use Rattle.relay_hub.specs.Summary.{room_named, shown_by, summary_of};
 ghost use Rattle.relay_hub.specs.Queries.{BadLimits, room_and_session, may_hear, truth, RefusesEdits};
 ghost use Rattle.relay_hub.specs.declared.config.HubConfig.{HubConfig};
 ghost use Rattle.relay_hub.specs.declared.event.Event.TheVariants.{Open, Receive, Draw, Close, DoWill, Forget};
@@ -41,16 +42,18 @@ use std::marker::Model;
 /// The rooms and the open sessions of a relay.
 #[derive(Drop)]
 pub struct Hub {
-    made: HubConfig,
+    config: HubConfig,
     /// The number of the next session. If it is above [`MAX_COUNT`], no number is left.
     next: u64,
     /// The revision at which a new room begins.
     floor: u64,
-    /// The rooms by name, each at its place. A new one comes last, or takes the place of one that makes place.
+    /// The rooms by name, each at its place. A new one comes last, or takes the place of one that
+    /// makes place.
     rooms: IndexMap<String, RoomSessions>,
     /// The place of each open session's room, by the session's number.
     homes: IndexMap<u64, usize>,
-    /// The wills that are left to be done, the oldest first. There is space for one of each session.
+    /// The wills that are left to be done, the oldest first. There is space for one of each
+    /// session.
     wills: Vec<Will>,
     counts: MessageCounts,
     /// Whom the last text told something.
@@ -73,13 +76,20 @@ impl Model for Hub {
 
     ghost view = { hub_of };
 
-    ghost invariant = { λ h. IsHub (hub_of h) × (h.made.sessions ≤ vec_capacity h.wills) };
+    ghost invariant = { λ h. IsHub (hub_of h) × (h.config.sessions ≤ vec_capacity h.wills) };
 }
 
 impl Hub {
-    /// Makes a hub without rooms or sessions, with no bound on weight. Sessions are numbered from `first` on. Each room keeps the changes
-    /// of at most `history` revisions (1 to 1,024), and at most `max_waiting_patches` patches wait for a session (1 to 256). `BadLimit`: one of them is
+    /// Makes a hub without rooms or sessions, with no bound on weight. Sessions are numbered from
+    /// `first` on. Each room keeps the changes of at most `history` revisions (1 to 1,024), and at
+    /// most `max_waiting_patches` patches wait for a session (1 to 256). `BadLimit`: one of them is
     /// out of its range, or `epoch` or `first` is not a count.
+    ///
+    /// ```
+    /// let hub = Hub::new(alloc, 1, 1, 64, 32).ok()?;
+    /// assert!(rt; hub.config().sessions == DEFAULT_SESSIONS);
+    /// assert!(rt; Hub::new(alloc, 1, 1, 0, 32).is_err());
+    /// ```
     pub fn new(
         alloc: Global,
         epoch: u64,
@@ -88,8 +98,10 @@ impl Hub {
         max_waiting_patches: u64,
     ) -> Result<Hub, HubNewFault>
         ensures empty { IfOk result (λ hub. hub ≡ new_hub epoch first history max_waiting_patches) }
-        ensures stands { IfOk result (λ hub. StandsFor (config epoch first history max_waiting_patches) [] hub) }
-        ensures bad_limit { IsErrOf result BadLimit ↔ BadLimits (config epoch first history max_waiting_patches) }
+        ensures stands { IfOk result (λ hub.
+            StandsFor (config epoch first history max_waiting_patches) [] hub) }
+        ensures bad_limit { IsErrOf result BadLimit
+            ↔ BadLimits (config epoch first history max_waiting_patches) }
     {
         Hub::with_config(
             alloc,
@@ -97,23 +109,31 @@ impl Hub {
         )
     }
 
-    /// Makes a hub without rooms or sessions. `BadLimit`: a number of the configuration is out of its range, or `epoch` or `first` is not a
-    /// count.
-    pub fn with_config(alloc: Global, made: HubConfig) -> Result<Hub, HubNewFault>
-        ensures empty { IfOk result (λ hub. hub ≡ made_with made) }
-        ensures stands { IfOk result (λ hub. StandsFor made [] hub) }
-        ensures bad_limit { IsErrOf result BadLimit ↔ BadLimits made }
+    /// Makes a hub without rooms or sessions. `BadLimit`: a number of the configuration is out of
+    /// its range, or `epoch` or `first` is not a count.
+    ///
+    /// ```
+    /// let config = HubConfig { rooms: 1, ..HubConfig::new(1, 1, 64, 32) };
+    /// let mut hub = Hub::with_config(alloc, config).ok()?;
+    /// let only = hub.open(alloc, "only", Access::ReadWrite).ok()?;
+    /// assert!(rt; hub.open(alloc, "another", Access::ReadWrite) == Err(OpenFault::RoomsFull));
+    /// assert!(rt; hub.room_of(only.session) == Some(0));
+    /// ```
+    pub fn with_config(alloc: Global, config: HubConfig) -> Result<Hub, HubNewFault>
+        ensures empty { IfOk result (λ hub. hub ≡ made_with config) }
+        ensures stands { IfOk result (λ hub. StandsFor config [] hub) }
+        ensures bad_limit { IsErrOf result BadLimit ↔ BadLimits config }
     {
-        made.check()?;
+        config.check()?;
         let Ok(scratch) = Box::new(alloc, Scratch::new(alloc)) else {
             return Err(HubNewFault::NoMemory);
         };
-        let Ok(wills) = Vec::with_capacity(alloc, made.sessions as usize) else {
+        let Ok(wills) = Vec::with_capacity(alloc, config.sessions as usize) else {
             return Err(HubNewFault::NoMemory);
         };
         Ok(Hub {
-            made,
-            next: made.first,
+            config,
+            next: config.first,
             floor: 0,
             rooms: IndexMap::new(alloc),
             homes: IndexMap::new(alloc),
@@ -126,39 +146,49 @@ impl Hub {
 
     /// The configuration that it was made with. Allocates nothing.
     pub fn config(&self) -> HubConfig
-        ensures { result ≡ self.now.made }
+        ensures { result ≡ self.now.config }
     {
-        self.made
+        self.config
     }
 
-    /// How many messages its sessions drew since it was made, by kind. No clause speaks of these numbers. Allocates nothing.
+    /// How many messages its sessions drew since it was made, by kind. No clause speaks of these
+    /// numbers. Allocates nothing.
     pub fn message_counts(&self) -> &MessageCounts {
         &self.counts
     }
 
-    /// What its texts and draws cost since it was made, in microseconds on the machine of docs/PERFORMANCE.md, within a factor of about two:
-    /// counted where the work is done. No clause speaks of it. Allocates nothing.
+    /// What its texts and draws cost since it was made, in microseconds on the machine of
+    /// docs/PERFORMANCE.md, within a factor of about two: counted where the work is done. No clause
+    /// speaks of it. Allocates nothing.
     pub fn cost(&self) -> u64 {
         self.told.cost().saturating_add(self.counts.cost) / 1_000
     }
 
-    /// Opens a session in a room, which may edit there or only watch. If there is no room of that name, one begins, with the document
-    /// `null`; if all places are taken, it takes that of a room in which nobody is and whose document is
-    /// `null`, unless a will is left to be done. It begins at a revision above those of all rooms that
-    /// made place, so that no client takes it for an earlier one; 0 as long as no edit was accepted in
-    /// these. A `Welcome` waits in the session's outbox. An error leaves the hub unchanged. `NoMemory`
-    /// comes only if no other error does.
+    /// Opens a session in a room, which may edit there or only watch. If there is no room of that
+    /// name, one begins, with the document `null`; if all places are taken, it takes that of a room
+    /// in which nobody is and whose document is `null`, unless a will is left to be done. It begins
+    /// at a revision above those of all rooms that made place, so that no client takes it for an
+    /// earlier one; 0 as long as no edit was accepted in these. A `Welcome` waits in the session's
+    /// outbox. An error leaves the hub unchanged. `NoMemory` comes only if no other error does.
+    ///
+    /// ```
+    /// let mut hub = Hub::new(alloc, 1, 5, 64, 32).ok()?;
+    /// let opening = hub.open(alloc, "board", Access::ReadWrite).ok()?;
+    /// assert!(rt; opening.session == 5 && opening.rev == 0);
+    /// assert!(rt; hub.waiting(5) == Some(1));
+    /// ```
     pub fn open(&mut self, alloc: Global, room: &str, access: Access) -> Result<Opening, OpenFault>
         ensures step { StepIf self.old (Open room.now access) (opening result) self.new }
         ensures stands { (b : HubConfig) (E : Log) → StandsFor b E self.old →
             StandsFor b (logged E (Open room.now access) (opening result)) self.new }
-        ensures no_memory { IsErrOf result OpenFault.NoMemory → open_fault self.old room.now ≡ None }
+        ensures no_memory { IsErrOf result OpenFault.NoMemory
+            → open_fault self.old room.now ≡ None }
     {
         let place = self.admit(room)?;
         let new_session = NewSession {
             number: self.next,
             access,
-            made: self.made,
+            config: self.config,
             floor: self.floor_after(place),
             vacant: self.vacant_for(place),
         };
@@ -177,7 +207,8 @@ impl Hub {
         })
     }
 
-    /// The revision at which a new room begins once a session entered the room at `place`, or a new one.
+    /// The revision at which a new room begins once a session entered the room at `place`, or a new
+    /// one.
     fn floor_after(&self, place: Option<usize>) -> u64
         ensures floor { result ≡ floor_after place self.now }
         ensures count { result ≤ MAX_COUNT }
@@ -185,7 +216,7 @@ impl Hub {
         if place.is_some() {
             return self.floor;
         }
-        let Some(vacant) = vacant_place(self.made.rooms, &self.wills, &self.rooms) else {
+        let Some(vacant) = vacant_place(self.config.rooms, &self.wills, &self.rooms) else {
             return self.floor;
         };
         let Some((_, room_sessions)) = self.rooms.get_index(vacant) else {
@@ -201,11 +232,12 @@ impl Hub {
     {
         match place {
             Some(_) => None,
-            None => vacant_place(self.made.rooms, &self.wills, &self.rooms),
+            None => vacant_place(self.config.rooms, &self.wills, &self.rooms),
         }
     }
 
-    /// Returns the place of the room of that name, if there is one, or the first reason not to open a session there.
+    /// Returns the place of the room of that name, if there is one, or the first reason not to open
+    /// a session there.
     fn admit(&self, room: &str) -> Result<Option<usize>, OpenFault>
         ensures ok { IfOk result (λ place. place ≡ place_named room.now self.now.rooms) }
         ensures admitted { OnOk result (open_fault self.now room.now ≡ None) }
@@ -218,7 +250,7 @@ impl Hub {
         if self.is_crowded(place) {
             return Err(OpenFault::RoomsFull);
         }
-        if (self.homes.len() + self.wills.len()) as u64 >= self.made.sessions {
+        if (self.homes.len() + self.wills.len()) as u64 >= self.config.sessions {
             return Err(OpenFault::SessionsFull);
         }
         if self.next > MAX_COUNT {
@@ -227,24 +259,36 @@ impl Hub {
         Ok(place)
     }
 
-    /// Whether another room is needed, there are as many as the configuration allows, and none of them makes place.
+    /// Whether another room is needed, there are as many as the configuration allows, and none of
+    /// them makes place.
     fn is_crowded(&self, place: Option<usize>) -> bool
         ensures { result ≡ is_crowded place self.now }
     {
         place.is_none()
-            && self.rooms.len() as u64 >= self.made.rooms
-            && vacant_place(self.made.rooms, &self.wills, &self.rooms).is_none()
+            && self.rooms.len() as u64 >= self.config.rooms
+            && vacant_place(self.config.rooms, &self.wills, &self.rooms).is_none()
     }
 
-    /// Serves a text from a session. `NoSession`: it is not open. `Busy`, with nothing changed, exactly if 32 replies wait for it, which is
-    /// checked before the text is read. Otherwise exactly one reply is added to its outbox, unless memory runs out. An edit that is refused
-    /// changes no room and no other session. `NoMemory` comes only if [`Hub::may_hear`] is true, and leaves the hub unchanged.
+    /// Serves a text from a session. `NoSession`: it is not open. `Busy`, with nothing changed,
+    /// exactly if 32 replies wait for it, which is checked before the text is read. Otherwise
+    /// exactly one reply is added to its outbox, unless memory runs out. An edit that is refused
+    /// changes no room and no other session. `NoMemory` comes only if [`Hub::may_hear`] is true,
+    /// and leaves the hub unchanged.
+    ///
+    /// ```
+    /// let mut hub = Hub::new(alloc, 1, 1, 64, 32).ok()?;
+    /// let session = hub.open(alloc, "board", Access::ReadWrite).ok()?.session;
+    /// let edit = r#"{"do": "edit", "id": 1, "patch": [{"op": "add", "path": "", "value": []}]}"#;
+    /// assert!(rt; hub.receive(alloc, session, edit) == Ok(Heard::Answered { short: 0 }));
+    /// ```
     pub fn receive(&mut self, alloc: Global, session: u64, text: &str) -> Result<Heard, HubFault>
         ensures step { StepIf self.old (Receive session text.now) (receiving result) self.new }
         ensures stands { (b : HubConfig) (E : Log) → StandsFor b E self.old →
             StandsFor b (logged E (Receive session text.now) (receiving result)) self.new }
-        ensures refused { (short : ℕ) → result ≡ Ok (Answered short) → RefusesEdits session text.now self.old self.new }
-        ensures no_memory { IsErrOf result HubFault.NoMemory → IsTrue (may_hear (session_of self.old session)) }
+        ensures refused { (short : ℕ) → result ≡ Ok (Answered short)
+            → RefusesEdits session text.now self.old self.new }
+        ensures no_memory { IsErrOf result HubFault.NoMemory
+            → IsTrue (may_hear (session_of self.old session)) }
     {
         let Some(place) = self.homes.get(&session) else {
             return Err(HubFault::NoSession);
@@ -254,7 +298,7 @@ impl Hub {
         };
         room_sessions.receive(
             alloc,
-            self.made,
+            self.config,
             session,
             text,
             &mut self.told,
@@ -262,20 +306,40 @@ impl Hub {
         )
     }
 
-    /// Whom the last text that an open session sent told something, besides that session: no other outbox changed. No clause speaks of
-    /// it. Allocates nothing.
+    /// Whom the last text that an open session sent told something, besides that session: no other
+    /// outbox changed. No clause speaks of it. Allocates nothing.
+    ///
+    /// ```
+    /// let mut hub = Hub::new(alloc, 1, 1, 64, 32).ok()?;
+    /// let editor = hub.open(alloc, "board", Access::ReadWrite).ok()?.session;
+    /// let watcher = hub.open(alloc, "board", Access::ReadOnly).ok()?.session;
+    /// hub.receive(alloc, watcher, r#"{"do": "watch", "id": 1, "view": [""]}"#).ok()?;
+    /// let edit = r#"{"do": "edit", "id": 1, "patch": [{"op": "add", "path": "", "value": []}]}"#;
+    /// hub.receive(alloc, editor, edit).ok()?;
+    /// assert!(rt; hub.told().sessions.as_slice() == [watcher].as_slice());
+    /// ```
     pub fn told(&self) -> &Told {
         &self.told
     }
 
-    /// Removes and returns the text at the front of a session's outbox: replies first, then patches, then the due snapshot, which is made
-    /// from the present document. `None` if nothing waits. `NoSession`: it is not open. `NoMemory` comes only if something waits, and leaves the
+    /// Removes and returns the text at the front of a session's outbox: replies first, then
+    /// patches, then the due snapshot, which is made from the present document. `None` if nothing
+    /// waits. `NoSession`: it is not open. `NoMemory` comes only if something waits, and leaves the
     /// message in the outbox.
+    ///
+    /// ```
+    /// let mut hub = Hub::new(alloc, 1, 1, 64, 32).ok()?;
+    /// let session = hub.open(alloc, "board", Access::ReadWrite).ok()?.session;
+    /// let welcome = hub.draw(alloc, session).ok()??;
+    /// assert!(rt; welcome.as_str() == r#"{"epoch":1,"kind":"welcome","rev":0,"session":1}"#);
+    /// assert!(rt; hub.draw(alloc, session) == Ok(None));
+    /// ```
     pub fn draw(&mut self, alloc: Global, session: u64) -> Result<Option<String>, HubFault>
         ensures step { StepIf self.old (Draw session) (drawing result) self.new }
         ensures stands { (b : HubConfig) (E : Log) → StandsFor b E self.old →
             StandsFor b (logged E (Draw session) (drawing result)) self.new }
-        ensures no_memory { IsErrOf result HubFault.NoMemory → IsSomeAnd (option_map waiting (session_of self.old session)) (λ n. 0 < n) }
+        ensures no_memory { IsErrOf result HubFault.NoMemory
+            → IsSomeAnd (option_map waiting (session_of self.old session)) (λ n. 0 < n) }
     {
         let Some(place) = self.homes.get(&session) else {
             return Err(HubFault::NoSession);
@@ -288,6 +352,13 @@ impl Hub {
 
     /// Closes a session. Its room stays, and its will, if it has one, is left to be done
     /// ([`Hub::do_will`]). `NoSession`: it is not open. Allocates nothing.
+    ///
+    /// ```
+    /// let mut hub = Hub::new(alloc, 1, 1, 64, 32).ok()?;
+    /// let session = hub.open(alloc, "board", Access::ReadWrite).ok()?.session;
+    /// assert!(rt; hub.close(session).is_ok());
+    /// assert!(rt; hub.close(session).is_err());
+    /// ```
     pub fn close(&mut self, session: u64) -> Result<(), NoSession>
         ensures step { Step self.old (Close session) (closing result) self.new }
         ensures stands { (b : HubConfig) (E : Log) → StandsFor b E self.old →
@@ -312,10 +383,21 @@ impl Hub {
         !self.wills.is_empty()
     }
 
-    /// Does the oldest of the wills that closed sessions left: an edit of which nobody gets a reply. If
-    /// the room refuses it, nothing changes but that it is done. Returns how many watchers' outboxes
-    /// folded because memory ran out; `None` if no will is left. `AllocError` leaves the hub
-    /// unchanged, so that it can be done later.
+    /// Does the oldest of the wills that closed sessions left: an edit of which nobody gets a
+    /// reply. If the room refuses it, nothing changes but that it is done. Returns how many
+    /// watchers' outboxes folded because memory ran out; `None` if no will is left. `AllocError`
+    /// leaves the hub unchanged, so that it can be done later.
+    ///
+    /// ```
+    /// let mut hub = Hub::new(alloc, 1, 1, 64, 32).ok()?;
+    /// let session = hub.open(alloc, "board", Access::ReadWrite).ok()?.session;
+    /// let will = r#"{"do": "will", "id": 1, "patch": [{"op": "add", "path": "", "value": 7}]}"#;
+    /// hub.receive(alloc, session, will).ok()?;
+    /// hub.close(session).ok()?;
+    /// assert!(rt; hub.has_wills());
+    /// assert!(rt; hub.do_will(alloc) == Ok(Some(0)) && !hub.has_wills());
+    /// assert!(rt; hub.open(alloc, "board", Access::ReadWrite).ok()?.rev == 1);
+    /// ```
     pub fn do_will(&mut self, alloc: Global) -> Result<Option<u64>, AllocError>
         ensures step { StepIf self.old DoWill (doing_will result) self.new }
         ensures stands { (b : HubConfig) (E : Log) → StandsFor b E self.old →
@@ -328,19 +410,28 @@ impl Hub {
         let Some(room_sessions) = self.rooms.get_index_mut(will.place) else {
             unreachable!()
         };
-        let short = room_sessions.do_will(alloc, self.made, &will.patch, &mut self.told)?;
+        let short = room_sessions.do_will(alloc, self.config, &will.patch, &mut self.told)?;
         let _ = self.wills.remove(0);
         Ok(Some(short))
     }
 
-    /// Forgets the document of a room in which nobody is: it becomes `null` at the next revision, which
-    /// is returned. A client that resumes from an earlier one gets a snapshot. A fault leaves the hub
-    /// unchanged. `NoMemory` comes only if no other fault does.
+    /// Forgets the document of a room in which nobody is: it becomes `null` at the next revision,
+    /// which is returned. A client that resumes from an earlier one gets a snapshot. A fault leaves
+    /// the hub unchanged. `NoMemory` comes only if no other fault does.
+    ///
+    /// ```
+    /// let mut hub = Hub::new(alloc, 1, 1, 64, 32).ok()?;
+    /// let session = hub.open(alloc, "board", Access::ReadWrite).ok()?.session;
+    /// assert!(rt; hub.forget(alloc, "board") == Err(ForgetFault::Occupied));
+    /// hub.close(session).ok()?;
+    /// assert!(rt; hub.forget(alloc, "board") == Ok(1));
+    /// ```
     pub fn forget(&mut self, alloc: Global, room: &str) -> Result<u64, ForgetFault>
         ensures step { StepIf self.old (Forget room.now) (forgetting result) self.new }
         ensures stands { (b : HubConfig) (E : Log) → StandsFor b E self.old →
             StandsFor b (logged E (Forget room.now) (forgetting result)) self.new }
-        ensures no_memory { IsErrOf result ForgetFault.NoMemory → forget_fault self.old room.now ≡ None }
+        ensures no_memory { IsErrOf result ForgetFault.NoMemory
+            → forget_fault self.old room.now ≡ None }
     {
         let Some(place) = self.rooms.get_index_of(room) else {
             return Err(ForgetFault::NoRoom);
@@ -348,17 +439,19 @@ impl Hub {
         let Some(room_sessions) = self.rooms.get_index_mut(place) else {
             unreachable!()
         };
-        room_sessions.begin_anew(alloc, self.made.history)
+        room_sessions.begin_anew(alloc, self.config.history)
     }
 
-    /// Gives memory back when there was none: each room forgets its history, if a weight bounds that, so that a resume from before its last
-    /// change is answered by a snapshot; and the patches that wait for a session fold into one snapshot that is due. Documents, sessions and
+    /// Gives memory back when there was none: each room forgets its history, if a weight bounds
+    /// that, so that a resume from before its last change is answered by a snapshot; and the
+    /// patches that wait for a session fold into one snapshot that is due. Documents, sessions and
     /// replies stay. Allocates nothing.
     pub fn shed(&mut self)
         ensures shed { self.new ≡ shed self.old }
-        ensures stands { (b : HubConfig) (E : Log) → StandsFor b E self.old → StandsFor b E self.new }
+        ensures stands { (b : HubConfig) (E : Log) → StandsFor b E self.old
+            → StandsFor b E self.new }
     {
-        shed_rooms(&mut self.rooms, shed_budget(self.made.history_weight));
+        shed_rooms(&mut self.rooms, shed_budget(self.config.history_weight));
     }
 
     /// The room of a session, and the session.
@@ -372,7 +465,8 @@ impl Hub {
         Some((room_sessions.room(), room_sessions.session(session)))
     }
 
-    /// Whether a text of the session would be answered: it is open, and fewer than 32 replies wait. Allocates nothing.
+    /// Whether a text of the session would be answered: it is open, and fewer than 32 replies wait.
+    /// Allocates nothing.
     pub fn may_hear(&self, session: u64) -> bool
         ensures { result ≡ may_hear (session_of self.now session) }
     {
@@ -382,8 +476,8 @@ impl Hub {
         }
     }
 
-    /// How many messages wait for the session: the number of draws that would return a text now. `None` if it is not open. Allocates
-    /// nothing.
+    /// How many messages wait for the session: the number of draws that would return a text now.
+    /// `None` if it is not open. Allocates nothing.
     pub fn waiting(&self, session: u64) -> Option<u64>
         ensures { result ≡ option_map waiting (session_of self.now session) }
     {
@@ -391,17 +485,27 @@ impl Hub {
         Some(session.waiting())
     }
 
-    /// The place of the session's room ([`Hub::room_at`]), which it keeps while the session is open. `None` if it is not open. No clause
-    /// speaks of it. Allocates nothing.
+    /// The place of the session's room ([`Hub::room_at`]), which it keeps while the session is
+    /// open. `None` if it is not open. No clause speaks of it. Allocates nothing.
     pub fn room_of(&self, session: u64) -> Option<usize> {
         self.homes.get(&session).copied()
     }
 
-    /// The present revision and the session's view of the present document; `None` if it watches nothing. `NoSession`: it is not open.
-    /// `NoMemory`: there is not enough for the view.
+    /// The present revision and the session's view of the present document; `None` if it watches
+    /// nothing. `NoSession`: it is not open. `NoMemory`: there is not enough for the view.
+    ///
+    /// ```
+    /// let mut hub = Hub::new(alloc, 1, 1, 64, 32).ok()?;
+    /// let session = hub.open(alloc, "board", Access::ReadWrite).ok()?.session;
+    /// assert!(rt; hub.truth(alloc, session).ok()?.is_none());
+    /// hub.receive(alloc, session, r#"{"do": "watch", "id": 1, "view": [""]}"#).ok()?;
+    /// let (rev, view) = hub.truth(alloc, session).ok()??;
+    /// assert!(rt; rev == 0 && view.text(alloc).ok()?.as_str() == "[[null]]");
+    /// ```
     pub fn truth(&self, alloc: Global, session: u64) -> Result<Option<(u64, Tree)>, HubFault>
         ensures ok { IfOk result (λ shown. truth self.now session ≡ Some shown) }
-        ensures no_session { IsErrOf result HubFault.NoSession ↔ (session_of self.now session ≡ None) }
+        ensures no_session { IsErrOf result HubFault.NoSession
+            ↔ (session_of self.now session ≡ None) }
         ensures no_memory { IsErrOf result HubFault.NoMemory → truth self.now session ≢ Some None }
     {
         let Some((room, session)) = self.find(session) else {
@@ -416,16 +520,30 @@ impl Hub {
         }
     }
 
-    /// The name and the size of the room at a place, from 0. `None` if no room has that place or a later one. Allocates nothing.
+    /// The name and the size of the room at a place, from 0. `None` if no room has that place or a
+    /// later one. Allocates nothing.
     #[tactic(auto, using(crate::proofs::Representation::room_at, crate::proofs::Representation::no_room_at))]
     pub fn room_at(&self, place: usize) -> Option<RoomSummary<'_>>
-        ensures { option_map shown_by result ≡ option_map summary_of (slice_get self.now.rooms place) }
+        ensures { option_map shown_by result
+            ≡ option_map summary_of (slice_get self.now.rooms place) }
     {
         let (name, room_sessions) = self.rooms.get_index(place)?;
         Some(summary_of(name, room_sessions))
     }
 
-    /// What the patches weigh that wait for all sessions, as far as that is bounded. No clause speaks of it. Allocates nothing.
+    /// The name and the size of the room of a name. `None` if there is none. Allocates nothing.
+    pub fn room_named(&self, name: &str) -> Option<RoomSummary<'_>>
+        ensures { option_map shown_by result
+            ≡ option_map summary_of (room_named name.now self.now.rooms) }
+    {
+        match self.rooms.get_index_of(name) {
+            Some(place) => self.room_at(place),
+            None => None,
+        }
+    }
+
+    /// What the patches weigh that wait for all sessions, as far as that is bounded. No clause
+    /// speaks of it. Allocates nothing.
     pub fn waiting_weight(&self) -> u64 {
         let mut weight = 0u64;
         for (_, room_sessions) in self.rooms.iter() {
@@ -434,18 +552,38 @@ impl Hub {
         weight
     }
 
-    /// Carries out events, in order. The space for all answers is allocated before the first event. If memory runs out the run stops: the
-    /// events of the fault's answers were done, and the next one changed nothing. Either way each client that watches, and applies what was
-    /// drawn for it and what waits, in order, holds exactly its view of the present document, and after each of these messages its view of
-    /// the revision that the message names.
+    /// Carries out events, in order. The space for all answers is allocated before the first event.
+    /// If memory runs out the run stops: the events of the fault's answers were done, and the next
+    /// one changed nothing. Either way each client that watches, and applies what was drawn for it
+    /// and what waits, in order, holds exactly its view of the present document, and after each of
+    /// these messages its view of the revision that the message names.
+    ///
+    /// ```
+    /// let mut hub = Hub::new(alloc, 1, 1, 64, 32).ok()?;
+    /// let room = Text::of(String::from_str(alloc, "board").ok()?);
+    /// let events = [
+    ///     Event::Open { room, access: Access::ReadWrite },
+    ///     Event::Draw { session: 1 },
+    ///     Event::Close { session: 1 },
+    ///     Event::Close { session: 1 },
+    /// ];
+    /// let answers = hub.run(alloc, events.as_slice()).ok()?;
+    /// assert!(rt; matches!(&answers[0], Answer::Opened(_)));
+    /// assert!(rt; matches!(&answers[3], Answer::NoSession));
+    /// ```
     pub fn run(&mut self, alloc: Global, events: &[Event]) -> Result<Vec<Answer>, RunFault>
         ensures steps { IfOk result (λ answers. Runs self.old events.now answers.items self.new) }
         ensures all { IfOk result (λ answers. length answers.items ≡ length events.now) }
-        ensures stopped { IfErr result (λ fault. Runs self.old events.now fault.answers.items self.new) }
-        ensures before { IfErr result (λ fault. (length events.now ≡ 0) ⊎ (length fault.answers.items < length events.now)) }
-        ensures stands { (b : HubConfig) (E : Log) → StandsFor b E self.old → StandsFor b (followed E events.now (done result)) self.new }
-        ensures exact { (b : HubConfig) (E : Log) → StandsFor b E self.old → EachHoldsPresent b (followed E events.now (done result)) self.new }
-        ensures each { (b : HubConfig) (E : Log) → StandsFor b E self.old → EachIsAtNamed b (followed E events.now (done result)) self.new }
+        ensures stopped { IfErr result (λ fault.
+            Runs self.old events.now fault.answers.items self.new) }
+        ensures before { IfErr result (λ fault. (length events.now ≡ 0)
+            ⊎ (length fault.answers.items < length events.now)) }
+        ensures stands { (b : HubConfig) (E : Log) → StandsFor b E self.old
+            → StandsFor b (followed E events.now (done result)) self.new }
+        ensures exact { (b : HubConfig) (E : Log) → StandsFor b E self.old
+            → EachHoldsPresent b (followed E events.now (done result)) self.new }
+        ensures each { (b : HubConfig) (E : Log) → StandsFor b E self.old
+            → EachIsAtNamed b (followed E events.now (done result)) self.new }
     {
         let Ok(mut answers) = Vec::with_capacity(alloc, events.len()) else {
             return Err(RunFault {

@@ -1,11 +1,14 @@
 //! The relay without sockets: rooms, sessions and events. One event is one call of [`Hub::open`],
-//! [`Hub::receive`], [`Hub::draw`], [`Hub::close`], [`Hub::do_will`] or [`Hub::forget`]. A call ends before the next one starts, so concurrent clients are events in any order.
+//! [`Hub::receive`], [`Hub::draw`], [`Hub::close`], [`Hub::do_will`] or [`Hub::forget`]. A call
+//! ends before the next one starts, so concurrent clients are events in any order.
 //!
-//! Rooms are kept by name, and stay when their sessions are closed. One whose document is `null` and in which nobody is makes place for
-//! another when all places are taken. A session belongs to one room.
+//! Rooms are kept by name, and stay when their sessions are closed. One whose document is `null`
+//! and in which nobody is makes place for another when all places are taken. A session belongs to
+//! one room.
 #![tactic(auto)]
 
 mod admission;
+mod asked;
 mod boxed_reply;
 mod broadcast;
 mod cached_update;

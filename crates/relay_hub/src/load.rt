@@ -1,4 +1,5 @@
-//! The weight of the patches that wait in an outbox. It is counted beside the outbox, and only if it is bounded.
+//! The weight of the patches that wait in an outbox. It is counted beside the outbox, and only if
+//! it is bounded.
 ghost use Rattle.std.specs.Prelude.{◌≡◌, ◌≤◌, ◌<◌, ◌+◌, ◌^◌};
 ghost use Rattle.relay_outbox.specs.Outbox.{folded, cleared, without_front};
 ghost use Rattle.relay_tree.specs.declared.budget.Budget.TheVariants.{Left};
@@ -11,8 +12,9 @@ use crate::message_counts::SnapshotCause;
 use relay_outbox::{Front, Outbox};
 use relay_tree::Budget;
 
-/// Adds a patch behind the others. The outbox folds instead if the budget does not pay for all of them, or if as many wait as may; a
-/// snapshot that is due already stays. Returns why it folded, if it did. Allocates nothing.
+/// Adds a patch behind the others. The outbox folds instead if the budget does not pay for all of
+/// them, or if as many wait as may; a snapshot that is due already stays. Returns why it folded, if
+/// it did. Allocates nothing.
 pub fn put(
     outbox: &mut Outbox<BoxedReply, EncodedPatch>,
     load: &mut u64,
@@ -108,7 +110,8 @@ fn drop_counted(outbox: &mut Outbox<BoxedReply, EncodedPatch>, load: &mut u64)
 #[tactic(auto, using(crate::proofs::Loads::after_reply, crate::proofs::Loads::after_patch, crate::proofs::Loads::after_snapshot, crate::proofs::Loads::after_nothing))]
 fn front_weight(outbox: &Outbox<BoxedReply, EncodedPatch>, load: u64) -> u64
     requires { load ≡ patches_weight outbox.now.patches }
-    ensures { result + patches_weight (without_front outbox.now).patches ≡ patches_weight outbox.now.patches }
+    ensures { result + patches_weight (without_front outbox.now).patches
+        ≡ patches_weight outbox.now.patches }
 {
     match outbox.front() {
         Front::Patch(encoded_patch) => encoded_patch.weight().unwrap_or(load),

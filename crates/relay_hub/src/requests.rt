@@ -1,10 +1,10 @@
-//! The work of the hub's calls, on a room, its open sessions and the index of the views that they watch.
-ghost use Rattle.std.specs.Prelude.{◌≡◌, ◌<◌, ◌==◌, Some, None, Ok, IfOk, OnOk, OnErr, IsErrOf, IsSome, IsSomeAnd, option_map, nat_le, filter, not};
-ghost use Rattle.std.specs.Bool.{MatchBool};
+//! The work of the hub's calls, on a room, its open sessions and the index of the views that they
+//! watch.
+ghost use Rattle.std.specs.Prelude.{◌≡◌, ◌<◌, ◌==◌, Some, None, IfOk, OnOk, OnErr, IsErrOf, IsSome, IsSomeAnd, option_map, nat_le, filter, not};
 ghost use Rattle.std.specs.FinMap as map;
 ghost use Rattle.relay_room.specs.Edit.{edited};
 ghost use Rattle.relay_room.specs.Room.{revision};
-ghost use Rattle.relay_hub.specs.Call.{receiving, drawing, ReceivesIf, WillServedIf, DrawsIf, ChangesBy, HasSpace, IsFull};
+ghost use Rattle.relay_hub.specs.Call.{drawing, WillServedIf, DrawsIf, ChangesBy, HasSpace};
 ghost use Rattle.relay_hub.specs.Caller.{IsCaller};
 ghost use Rattle.relay_hub.specs.Refusal.{cause_word, edit_refusal};
 ghost use Rattle.relay_hub.specs.Session.{Session, leaves_will, watches as watching, unwatches, waiting};
@@ -13,202 +13,174 @@ ghost use Rattle.relay_hub.specs.Step.{EditServed, WillServed, ResumeServed, Ser
 ghost use Rattle.relay_hub.specs.Told.{ChangesTold, ChangesToldAnd};
 ghost use Rattle.relay_hub.specs.Watched.{IsIndexed};
 
-use crate::admission::read_admitted;
-use crate::boxed_reply::ReplySlot;
+use crate::asked::Asked;
+use crate::boxed_reply::ReservedReply;
 use crate::broadcast::broadcast_and_trim;
 use crate::caller::{Caller, position_of, session_at, session_mut};
 use crate::config::HubConfig;
 use crate::cost;
-use crate::event::Heard;
 use crate::fault::HubFault;
 use crate::message_counts::MessageCounts;
 use crate::session::Session;
 use crate::shared_view::SharedView;
 use crate::told::Told;
 use crate::update::Update;
-use relay_history::RevisionSlot;
+use relay_history::ReservedRevision;
 use relay_patch::{Cause, Patch};
-use relay_proto::{Refusal, Reply, Request, RequestFault, Word};
+use relay_proto::{Refusal, Reply, Request, Word};
 use relay_room::{CatchFault, CatchUp, EditFault, Room};
 use relay_translate::WatchIndex;
-use relay_tree::Scratch;
 use relay_view::View;
 use std::alloc::{AllocError, Global};
 
-/// Serves a text from a session that is there, and writes down whom it told something. Adds exactly one reply to the session's outbox,
-/// unless 32 replies wait already.
-pub fn receive(
+/// Does what a session asks, and writes down whom it told something. Adds exactly one reply to the
+/// session's outbox. Returns how many outboxes folded because memory ran out.
+pub fn answer(
     alloc: Global,
-    made: HubConfig,
+    config: HubConfig,
     room: &mut Room,
     watches: &mut WatchIndex,
     sessions: &mut [Session],
-    number: u64,
-    text: &str,
-    told: &mut Told,
-    scratch: &mut Scratch,
-) -> Result<Heard, HubFault>
-    requires there { IsSome (session_in sessions.old number) }
-    requires indexed { IsIndexed watches.old sessions.old }
-    ensures told { ChangesToldAnd number told.new sessions.old sessions.new }
-    ensures step { ReceivesIf made number text.now (receiving result) (room_sessions room.old sessions.old) (room_sessions room.new sessions.new) }
-    ensures indexed { IsIndexed watches.new sessions.new }
-    ensures no_memory { IsErrOf result HubFault.NoMemory → HasSpace sessions.old number }
-{
-    *told = told.next(alloc);
-    let caller = Caller::find(sessions, number);
-    if is_full(sessions, caller) {
-        return Ok(Heard::Busy);
-    }
-    let Ok(slot) = ReplySlot::new(alloc) else {
-        return Err(HubFault::NoMemory);
-    };
-    told.count(cost::reading(text));
-    let access = session_at(sessions, caller).access();
-    let served = match read_admitted(alloc, text, scratch, access, made.view_weight) {
-        Ok(request) => perform(
-            alloc, made, room, watches, sessions, caller, slot, request, told,
-        ),
-        Err(RequestFault::Refused(refusal)) => {
-            session_mut(sessions, caller).reply(slot, refusal.reply());
-            Ok(0)
-        }
-        Err(RequestFault::NoMemory) => Err(AllocError),
-    };
-    match served {
-        Ok(short) => Ok(Heard::Answered { short }),
-        Err(_) => Err(HubFault::NoMemory),
-    }
-}
-
-/// Whether 32 replies wait for the caller.
-fn is_full(sessions: &[Session], caller: Caller) -> bool
-    requires { IsCaller sessions.now caller }
-    ensures { MatchBool result (IsFull sessions.now caller.number) (HasSpace sessions.now caller.number) }
-{
-    session_at(sessions, caller).is_full()
-}
-
-/// Does what a request asks. Returns how many outboxes folded because memory ran out.
-fn perform(
-    alloc: Global,
-    made: HubConfig,
-    room: &mut Room,
-    watches: &mut WatchIndex,
-    sessions: &mut [Session],
-    caller: Caller,
-    slot: ReplySlot,
-    request: Request,
+    asked: Asked,
     told: &mut Told,
 ) -> Result<u64, AllocError>
-    requires caller { IsCaller sessions.old caller }
-    requires space { HasSpace sessions.old caller.number }
+    requires caller { IsCaller sessions.old asked.caller }
+    requires space { HasSpace sessions.old asked.caller.number }
     requires indexed { IsIndexed watches.old sessions.old }
-    ensures ok { IfOk result (λ short. (x : Session) → session_in sessions.old caller.number ≡ Some x →
-        Serves made caller.number x (Ok request) short (room_sessions room.old sessions.old) (room_sessions room.new sessions.new)) }
-    ensures told { ChangesToldAnd caller.number told.new sessions.old sessions.new }
-    ensures err { OnErr result (room_sessions room.new sessions.new ≡ room_sessions room.old sessions.old) }
+    ensures ok { IfOk result (λ short. (x : Session)
+        → session_in sessions.old asked.caller.number ≡ Some x
+        → Serves config asked.caller.number x asked.request short
+        (room_sessions room.old sessions.old) (room_sessions room.new sessions.new)) }
+    ensures told { ChangesToldAnd asked.caller.number told.new sessions.old sessions.new }
+    ensures err { OnErr result (room_sessions room.new sessions.new
+        ≡ room_sessions room.old sessions.old) }
     ensures indexed { IsIndexed watches.new sessions.new }
 {
+    let Asked {
+        caller,
+        reserved,
+        request,
+    } = asked;
     match request {
-        Request::Edit { id, base, patch } => {
-            let request = EditRequest { id, base, patch };
-            edit(
-                alloc, made, room, watches, sessions, caller, slot, &request, told,
-            )
+        Ok(Request::Edit { id, base, patch }) => {
+            let asked = AskedEdit {
+                caller,
+                reserved,
+                id,
+                base,
+                patch,
+            };
+            edit(alloc, config, room, watches, sessions, asked, told)
         }
-        Request::Will { id, patch } => {
-            leave_will(watches, sessions, caller, slot, id, patch);
+        Ok(Request::Will { id, patch }) => {
+            leave_will(watches, sessions, caller, reserved, id, patch);
             Ok(0)
         }
-        Request::Watch { id, view } => {
-            watch(alloc, watches, sessions, caller, slot, id, view)?;
+        Ok(Request::Watch { id, view }) => {
+            watch(alloc, watches, sessions, caller, reserved, id, view)?;
             Ok(0)
         }
-        Request::Unwatch { id } => {
-            unwatch(watches, sessions, caller, slot, id);
+        Ok(Request::Unwatch { id }) => {
+            unwatch(watches, sessions, caller, reserved, id);
             Ok(0)
         }
-        Request::Resume {
-            id,
-            epoch,
-            rev,
-            view,
-        } => {
+        Ok(
+            Request::Resume {
+                id,
+                epoch,
+                rev,
+                view,
+            },
+        ) => {
             told.count(cost::resuming(&view, room.history_weight()));
-            let request = ResumeRequest {
+            let asked = AskedResume {
+                caller,
+                reserved,
                 id,
                 epoch,
                 rev,
                 view,
             };
-            resume(alloc, made, room, watches, sessions, caller, slot, request)?;
+            resume(alloc, config.epoch, room, watches, sessions, asked)?;
+            Ok(0)
+        }
+        Err(refusal) => {
+            session_mut(sessions, caller).reply(reserved, refusal.reply());
             Ok(0)
         }
     }
 }
 
-/// An edit, as [`Request::Edit`] has it.
+/// An edit that a session asks for ([`Request::Edit`]), and the memory for the reply.
 #[derive(Drop)]
-struct EditRequest {
+struct AskedEdit {
+    caller: Caller,
+    reserved: ReservedReply,
     id: u64,
     base: Option<u64>,
     patch: Patch,
 }
 
-/// A resume, as [`Request::Resume`] has it.
+/// A resume that a session asks for ([`Request::Resume`]), and the memory for the reply.
 #[derive(Drop)]
-struct ResumeRequest {
+struct AskedResume {
+    caller: Caller,
+    reserved: ReservedReply,
     id: u64,
     epoch: u64,
     rev: u64,
     view: View,
 }
 
-/// Makes the room's next document, replies to the sender, and notifies the watchers that the edit touches, the sender among them. Then the
-/// room drops the oldest changes that may not be kept. Returns how many outboxes folded because memory ran out.
+/// Makes the room's next document, replies to the sender, and notifies the watchers that the edit
+/// touches, the sender among them. Then the room drops the oldest changes that may not be kept.
+/// Returns how many outboxes folded because memory ran out.
 fn edit(
     alloc: Global,
-    made: HubConfig,
+    config: HubConfig,
     room: &mut Room,
     watches: &WatchIndex,
     sessions: &mut [Session],
-    caller: Caller,
-    slot: ReplySlot,
-    request: &EditRequest,
+    asked: AskedEdit,
     told: &mut Told,
 ) -> Result<u64, AllocError>
-    requires caller { IsCaller sessions.old caller }
-    requires space { HasSpace sessions.old caller.number }
+    requires caller { IsCaller sessions.old asked.caller }
+    requires space { HasSpace sessions.old asked.caller.number }
     requires indexed { IsIndexed watches.now sessions.old }
-    ensures ok { IfOk result (λ short. (x : Session) → session_in sessions.old caller.number ≡ Some x →
-        EditServed made caller.number x request.now.id request.now.patch (edited room.old request.now.base request.now.patch) short
+    ensures ok { IfOk result (λ short. (x : Session)
+        → session_in sessions.old asked.caller.number ≡ Some x
+        → EditServed config asked.caller.number x asked.id asked.patch
+        (edited room.old asked.base asked.patch) short
         (room_sessions room.old sessions.old) (room_sessions room.new sessions.new)) }
-    ensures told { ChangesToldAnd caller.number told.new sessions.old sessions.new }
-    ensures err { OnErr result (room_sessions room.new sessions.new ≡ room_sessions room.old sessions.old) }
+    ensures told { ChangesToldAnd asked.caller.number told.new sessions.old sessions.new }
+    ensures err { OnErr result (room_sessions room.new sessions.new
+        ≡ room_sessions room.old sessions.old) }
     ensures indexed { IsIndexed watches.now sessions.new }
 {
-    let kept = RevisionSlot::new(alloc)?;
+    let AskedEdit {
+        caller,
+        reserved,
+        id,
+        base,
+        patch,
+    } = asked;
+    let kept = ReservedRevision::new(alloc)?;
     let (weight, held) = (room.weight(), room.history_weight());
-    match room.edit(alloc, kept, request.base, &request.patch) {
+    match room.edit(alloc, kept, base, &patch) {
         Ok(rev) => {
             let changed = room.history_weight().saturating_sub(held);
-            told.count(cost::editing(&request.patch, weight, changed));
-            let done = Reply::Done {
-                id: request.id,
-                rev,
-            };
-            session_mut(sessions, caller).reply(slot, done);
-            Ok(broadcast_and_trim(alloc, made, room, watches, sessions, told))
+            told.count(cost::editing(&patch, weight, changed));
+            session_mut(sessions, caller).reply(reserved, Reply::Done { id, rev });
+            Ok(broadcast_and_trim(alloc, config, room, watches, sessions, told))
         }
         Err(fault) => {
             if let EditFault::Apply(fault) = fault {
-                told.count(cost::refusing(&request.patch, fault.at, weight));
+                told.count(cost::refusing(&patch, fault.at, weight));
             }
-            let Some(reply) = edit_refusal(request.id, fault) else {
+            let Some(reply) = edit_refusal(id, fault) else {
                 return Err(AllocError);
             };
-            session_mut(sessions, caller).reply(slot, reply);
+            session_mut(sessions, caller).reply(reserved, reply);
             Ok(0)
         }
     }
@@ -218,7 +190,7 @@ fn edit(
 /// outboxes folded because memory ran out.
 pub fn do_will(
     alloc: Global,
-    made: HubConfig,
+    config: HubConfig,
     room: &mut Room,
     watches: &WatchIndex,
     sessions: &mut [Session],
@@ -226,18 +198,19 @@ pub fn do_will(
     told: &mut Told,
 ) -> Result<u64, AllocError>
     requires indexed { IsIndexed watches.now sessions.old }
-    ensures done { WillServedIf made patch.now result (room_sessions room.old sessions.old) (room_sessions room.new sessions.new) }
+    ensures done { WillServedIf config patch.now result (room_sessions room.old sessions.old)
+        (room_sessions room.new sessions.new) }
     ensures told { ChangesTold told.new sessions.old sessions.new }
     ensures indexed { IsIndexed watches.now sessions.new }
 {
     *told = told.next(alloc);
-    let kept = RevisionSlot::new(alloc)?;
+    let kept = ReservedRevision::new(alloc)?;
     let (weight, held) = (room.weight(), room.history_weight());
     match room.edit(alloc, kept, None, patch) {
         Ok(_) => {
             let changed = room.history_weight().saturating_sub(held);
             told.count(cost::editing(patch, weight, changed));
-            Ok(broadcast_and_trim(alloc, made, room, watches, sessions, told))
+            Ok(broadcast_and_trim(alloc, config, room, watches, sessions, told))
         }
         Err(EditFault::Apply(fault)) if fault.cause == Cause::NoMemory => Err(AllocError),
         Err(EditFault::Apply(fault)) => {
@@ -288,7 +261,7 @@ fn leave_will(
     watches: &WatchIndex,
     sessions: &mut [Session],
     caller: Caller,
-    slot: ReplySlot,
+    reserved: ReservedReply,
     id: u64,
     patch: Patch,
 )
@@ -298,7 +271,7 @@ fn leave_will(
     ensures leaves { ChangesBy caller.number (leaves_will id patch) sessions.old sessions.new }
     ensures indexed { IsIndexed watches.now sessions.new }
 {
-    session_mut(sessions, caller).leave_will(slot, id, patch);
+    session_mut(sessions, caller).leave_will(reserved, id, patch);
 }
 
 /// Watches the view from now on, and makes a snapshot due.
@@ -307,19 +280,20 @@ fn watch(
     watches: &mut WatchIndex,
     sessions: &mut [Session],
     caller: Caller,
-    slot: ReplySlot,
+    reserved: ReservedReply,
     id: u64,
     view: View,
 ) -> Result<(), AllocError>
     requires caller { IsCaller sessions.old caller }
     requires space { HasSpace sessions.old caller.number }
     requires indexed { IsIndexed watches.old sessions.old }
-    ensures ok { OnOk result (ChangesBy caller.number (watching id view) sessions.old sessions.new) }
+    ensures ok { OnOk result
+        (ChangesBy caller.number (watching id view) sessions.old sessions.new) }
     ensures err { OnErr result (sessions.new ≡ sessions.old) }
     ensures indexed { IsIndexed watches.new sessions.new }
 {
     let view = put_view(alloc, watches, caller.number, view)?;
-    session_mut(sessions, caller).watch(slot, id, view);
+    session_mut(sessions, caller).watch(reserved, id, view);
     Ok(())
 }
 
@@ -328,7 +302,7 @@ fn unwatch(
     watches: &mut WatchIndex,
     sessions: &mut [Session],
     caller: Caller,
-    slot: ReplySlot,
+    reserved: ReservedReply,
     id: u64,
 )
     requires caller { IsCaller sessions.old caller }
@@ -338,40 +312,47 @@ fn unwatch(
     ensures indexed { IsIndexed watches.new sessions.new }
 {
     watches.take_out(caller.number);
-    session_mut(sessions, caller).unwatch(slot, id);
+    session_mut(sessions, caller).unwatch(reserved, id);
 }
 
-/// Resumes a view from the revision that the request names. A resume from another epoch gets a snapshot.
+/// Resumes a view from the revision that the request names. A resume from another epoch gets a
+/// snapshot.
 fn resume(
     alloc: Global,
-    made: HubConfig,
+    epoch: u64,
     room: &Room,
     watches: &mut WatchIndex,
     sessions: &mut [Session],
-    caller: Caller,
-    slot: ReplySlot,
-    request: ResumeRequest,
+    asked: AskedResume,
 ) -> Result<(), AllocError>
-    requires caller { IsCaller sessions.old caller }
-    requires space { HasSpace sessions.old caller.number }
+    requires caller { IsCaller sessions.old asked.caller }
+    requires space { HasSpace sessions.old asked.caller.number }
     requires indexed { IsIndexed watches.old sessions.old }
-    ensures ok { OnOk result ((x : Session) → session_in sessions.old caller.number ≡ Some x →
-        ResumeServed (request.epoch == made.epoch) (nat_le request.rev (revision room.now)) request.id request.rev request.view caller.number x
-        (room_sessions room.now sessions.old) (room_sessions room.now sessions.new)) }
+    ensures ok { OnOk result ((x : Session) → session_in sessions.old asked.caller.number ≡ Some x
+        → ResumeServed (asked.epoch == epoch) (nat_le asked.rev (revision room.now)) asked.id
+        asked.rev asked.view asked.caller.number x (room_sessions room.now sessions.old)
+        (room_sessions room.now sessions.new)) }
     ensures err { OnErr result (sessions.new ≡ sessions.old) }
     ensures indexed { IsIndexed watches.new sessions.new }
 {
-    let how = if request.epoch == made.epoch {
+    let AskedResume {
+        caller,
+        reserved,
+        id,
+        view,
+        ..
+    } = asked;
+    let how = if asked.epoch == epoch {
         let budget = session_at(sessions, caller).budget();
-        match room.catch_up_within(alloc, request.rev, &request.view, budget) {
+        match room.catch_up_within(alloc, asked.rev, &view, budget) {
             Ok(how) => how,
             Err(CatchFault::Future) => {
                 let refusal = Refusal {
                     fault: Word::Future,
-                    id: Some(request.id),
+                    id: Some(id),
                     at: None,
                 };
-                session_mut(sessions, caller).reply(slot, refusal.reply());
+                session_mut(sessions, caller).reply(reserved, refusal.reply());
                 return Ok(());
             }
             Err(CatchFault::NoMemory) => return Err(AllocError),
@@ -380,8 +361,8 @@ fn resume(
         CatchUp::Snapshot
     };
     let update = Update::of(alloc, room.revision(), how)?;
-    let view = put_view(alloc, watches, caller.number, request.view)?;
-    session_mut(sessions, caller).resume(slot, request.id, view, update);
+    let view = put_view(alloc, watches, caller.number, view)?;
+    session_mut(sessions, caller).resume(reserved, id, view, update);
     Ok(())
 }
 
@@ -401,7 +382,8 @@ fn put_view(
     Ok(shared)
 }
 
-/// Removes and returns the text at the front of the outbox of a session that is there, and counts it.
+/// Removes and returns the text at the front of the outbox of a session that is there, and counts
+/// it.
 pub fn draw(
     alloc: Global,
     room: &Room,
@@ -411,9 +393,11 @@ pub fn draw(
 ) -> Result<Option<String>, HubFault>
     requires there { IsSome (session_in sessions.old number) }
     requires rising { IsRising sessions.old }
-    ensures step { DrawsIf number (drawing result) (room_sessions room.now sessions.old) (room_sessions room.now sessions.new) }
+    ensures step { DrawsIf number (drawing result) (room_sessions room.now sessions.old)
+        (room_sessions room.now sessions.new) }
     ensures numbers { numbers sessions.new ≡ numbers sessions.old }
-    ensures no_memory { IsErrOf result HubFault.NoMemory → IsSomeAnd (option_map waiting (session_in sessions.old number)) (λ n. 0 < n) }
+    ensures no_memory { IsErrOf result HubFault.NoMemory
+        → IsSomeAnd (option_map waiting (session_in sessions.old number)) (λ n. 0 < n) }
 {
     let caller = Caller::find(sessions, number);
     match session_mut(sessions, caller).draw(alloc, room, counts) {
@@ -439,7 +423,8 @@ fn take_session(sessions: &mut Vec<Session>, number: u64) -> Session
     requires there { IsSome (session_in sessions.old.items number) }
     requires rising { IsRising sessions.old.items }
     ensures session { session_in sessions.old.items number ≡ Some result }
-    ensures others { sessions.new.items ≡ filter (λ x. not (is_number number x)) sessions.old.items }
+    ensures others { sessions.new.items ≡ filter (λ x.
+        not (is_number number x)) sessions.old.items }
 {
     let caller = Caller::find(sessions.as_slice(), number);
     sessions.remove(caller.place)

@@ -1,7 +1,9 @@
-//! A room with its open sessions, and an index of the views that they watch, by which an edit finds the sessions that it touches.
+//! A room with its open sessions, and an index of the views that they watch, by which an edit finds
+//! the sessions that it touches.
 ghost use Rattle.std.specs.Prelude.{◌≡◌};
 ghost use Rattle.relay_hub.specs.State.{is_null};
 
+use crate::asked::ask;
 use crate::caller::{Caller, session_at};
 use crate::config::HubConfig;
 use crate::event::Heard;
@@ -18,8 +20,9 @@ use relay_tree::{Budget, MAX_COUNT, Node, Scratch, Tree};
 use std::alloc::{AllocError, Global};
 use std::marker::Model;
 
-/// A room with its sessions in the order in which they were opened, so that their numbers rise and one is found by a binary search.
-/// Contracts see the room and the sessions, but not the index, which has the view of each session that watches.
+/// A room with its sessions in the order in which they were opened, so that their numbers rise and
+/// one is found by a binary search. Contracts see the room and the sessions, but not the index,
+/// which has the view of each session that watches.
 #[derive(Drop)]
 pub struct RoomSessions {
     room: Room,
@@ -84,7 +87,8 @@ impl RoomSessions {
         self.sessions.len()
     }
 
-    /// What the patches weigh that wait for its sessions, as far as that is bounded ([`Session::load`]). Allocates nothing.
+    /// What the patches weigh that wait for its sessions, as far as that is bounded
+    /// ([`Session::load`]). Allocates nothing.
     pub fn load(&self) -> u64 {
         let mut load = 0u64;
         for session in self.sessions.iter() {
@@ -93,8 +97,8 @@ impl RoomSessions {
         load
     }
 
-    /// Whether it makes place for another room: its document is `null`, nobody is in it, and a revision above its own is left. Allocates
-    /// nothing.
+    /// Whether it makes place for another room: its document is `null`, nobody is in it, and a
+    /// revision above its own is left. Allocates nothing.
     pub fn makes_place(&self) -> bool
         ensures { result ≡ makes_place self.now }
     {
@@ -103,7 +107,8 @@ impl RoomSessions {
             && self.room.revision() < MAX_COUNT
     }
 
-    /// A revision above all of its own, if it makes place; 0 if no edit was ever accepted. Allocates nothing.
+    /// A revision above all of its own, if it makes place; 0 if no edit was ever accepted.
+    /// Allocates nothing.
     pub fn above(&self) -> u64
         requires { makes_place self.now ≡ true }
         ensures { result ≡ above self.now }
@@ -123,7 +128,8 @@ impl RoomSessions {
         session_at(sessions, Caller::find(sessions, number))
     }
 
-    /// Adds a session, which watches nothing, behind the others. Its number is above theirs. Out of memory changes nothing.
+    /// Adds a session, which watches nothing, behind the others. Its number is above theirs. Out of
+    /// memory changes nothing.
     pub fn join(&mut self, session: Session) -> Result<(), AllocError>
         requires fresh { IsAbove session.number self.old.sessions }
         requires idle { session.view ≡ None }
@@ -139,7 +145,8 @@ impl RoomSessions {
     pub fn leave(&mut self, number: u64) -> Patch
         requires { IsSome (session_in self.old.sessions number) }
         ensures gone { ChangesOnly number None self.old self.new }
-        ensures will { (x : Session) → session_in self.old.sessions number ≡ Some x → result ≡ x.will }
+        ensures will { (x : Session) → session_in self.old.sessions number ≡ Some x
+            → result ≡ x.will }
     {
         requests::remove(&mut self.sessions, &mut self.watches, number)
     }
@@ -149,16 +156,16 @@ impl RoomSessions {
     pub fn do_will(
         &mut self,
         alloc: Global,
-        made: HubConfig,
+        config: HubConfig,
         patch: &Patch,
         told: &mut Told,
     ) -> Result<u64, AllocError>
-        ensures done { WillServedIf made patch.now result self.old self.new }
+        ensures done { WillServedIf config patch.now result self.old self.new }
         ensures told { ChangesTold told.new self.old.sessions self.new.sessions }
     {
         requests::do_will(
             alloc,
-            made,
+            config,
             &mut self.room,
             &self.watches,
             self.sessions.as_mut_slice(),
@@ -174,7 +181,8 @@ impl RoomSessions {
         requires most { history ≤ MAX_REVISIONS }
         ensures ok { IfOk result (λ rev. (rev ≡ revision self.old.room + 1)
             × (self.new ≡ room_sessions (begun null rev history) [])) }
-        ensures fault { IfErr result (λ fault. fault ≢ NoMemory → anew_fault self.old ≡ Some fault) }
+        ensures fault { IfErr result (λ fault. fault ≢ NoMemory
+            → anew_fault self.old ≡ Some fault) }
         ensures may { OnOk result (anew_fault self.old ≡ None) }
         ensures no_memory { IsErrOf result NoMemory → anew_fault self.old ≡ None }
         ensures err { OnErr result (self.new ≡ self.old) }
@@ -194,7 +202,8 @@ impl RoomSessions {
         Ok(rev + 1)
     }
 
-    /// Drops the oldest changes that the budget does not pay for, and folds the patches that wait. Allocates nothing.
+    /// Drops the oldest changes that the budget does not pay for, and folds the patches that wait.
+    /// Allocates nothing.
     pub fn shed(&mut self, budget: Budget)
         ensures { self.new ≡ shed_room budget self.old }
     {
@@ -202,11 +211,12 @@ impl RoomSessions {
         shed_sessions(&mut self.sessions);
     }
 
-    /// Serves a text from a session that is there ([`requests::receive`]).
+    /// Serves a text from a session that is there, and writes down whom it told something. Adds
+    /// exactly one reply to the session's outbox, unless 32 replies wait already.
     pub fn receive(
         &mut self,
         alloc: Global,
-        made: HubConfig,
+        config: HubConfig,
         number: u64,
         text: &str,
         told: &mut Told,
@@ -214,23 +224,34 @@ impl RoomSessions {
     ) -> Result<Heard, HubFault>
         requires { IsSome (session_in self.old.sessions number) }
         ensures told { ChangesToldAnd number told.new self.old.sessions self.new.sessions }
-        ensures step { ReceivesIf made number text.now (receiving result) self.old self.new }
+        ensures step { ReceivesIf config number text.now (receiving result) self.old self.new }
         ensures no_memory { IsErrOf result HubFault.NoMemory → HasSpace self.old.sessions number }
     {
-        requests::receive(
+        *told = told.next(alloc);
+        let sessions = self.sessions.as_slice();
+        let budget = config.view_weight;
+        let asked = match ask(alloc, sessions, number, text, scratch, budget, told) {
+            Ok(Some(asked)) => asked,
+            Ok(None) => return Ok(Heard::Busy),
+            Err(_) => return Err(HubFault::NoMemory),
+        };
+        let answered = requests::answer(
             alloc,
-            made,
+            config,
             &mut self.room,
             &mut self.watches,
             self.sessions.as_mut_slice(),
-            number,
-            text,
+            asked,
             told,
-            scratch,
-        )
+        );
+        match answered {
+            Ok(short) => Ok(Heard::Answered { short }),
+            Err(_) => Err(HubFault::NoMemory),
+        }
     }
 
-    /// Removes and returns the text at the front of the outbox of a session that is there ([`requests::draw`]).
+    /// Removes and returns the text at the front of the outbox of a session that is there
+    /// ([`requests::draw`]).
     pub fn draw(
         &mut self,
         alloc: Global,
@@ -239,7 +260,8 @@ impl RoomSessions {
     ) -> Result<Option<String>, HubFault>
         requires { IsSome (session_in self.old.sessions number) }
         ensures step { DrawsIf number (drawing result) self.old self.new }
-        ensures no_memory { IsErrOf result HubFault.NoMemory → IsSomeAnd (option_map waiting (session_in self.old.sessions number)) (λ n. 0 < n) }
+        ensures no_memory { IsErrOf result HubFault.NoMemory
+            → IsSomeAnd (option_map waiting (session_in self.old.sessions number)) (λ n. 0 < n) }
     {
         requests::draw(
             alloc,

@@ -1,5 +1,5 @@
 //! One session: its view, its outbox and its will.
-use crate::boxed_reply::{BoxedReply, ReplySlot};
+use crate::boxed_reply::{BoxedReply, ReservedReply};
 use crate::config::HubConfig;
 use crate::encoded_patch::EncodedPatch;
 use crate::message_counts::{MessageCounts, SnapshotCause};
@@ -14,9 +14,9 @@ use relay_tree::Budget;
 use std::alloc::{AllocError, Global};
 use std::marker::Model;
 
-/// An open session. Contracts see it as its number, what it may do, the view that it watches, if any,
-/// its outbox, what the patches there may weigh, and its will. If it watches nothing, only replies
-/// wait.
+/// An open session. Contracts see it as its number, what it may do, the view that it watches, if
+/// any, its outbox, what the patches there may weigh, and its will. If it watches nothing, only
+/// replies wait.
 #[derive(Drop)]
 pub struct Session {
     number: u64,
@@ -44,9 +44,24 @@ impl Model for Session {
 
     ghost coded = { session_code slot.the_row.coded reply.the_row.coded op.the_row.coded };
 
-    ghost view = { λ x. record { number = x.number; access = x.access; view = x.view; outbox = x.outbox; budget = x.budget; will = x.will } };
+    ghost view = { λ x. record {
+      number = x.number;
+      access = x.access;
+      view = x.view;
+      outbox = x.outbox;
+      budget = x.budget;
+      will = x.will;
+    } };
 
-    ghost invariant = { λ x. IsSession (record { number = x.number; access = x.access; view = x.view; outbox = x.outbox; budget = x.budget; will = x.will }) × IsLoad x.budget x.load x.outbox };
+    ghost invariant = { λ x. IsSession
+        (record {
+          number = x.number;
+          access = x.access;
+          view = x.view;
+          outbox = x.outbox;
+          budget = x.budget;
+          will = x.will;
+        }) × IsLoad x.budget x.load x.outbox };
 }
 
 impl Session {
@@ -58,30 +73,31 @@ impl Session {
     ghost use Rattle.relay_hub.specs.Shed.{shed_session};
     ghost use Rattle.relay_hub.specs.Session.{with_outbox, replied, newcomer, leaves_will, watches, unwatches, resumes, front_message, message_text, ReadsBack, waiting, drawn};
 
-    /// Makes a session in a room at revision `rev`. It watches nothing, and a `Welcome` waits in its outbox.
+    /// Makes a session in a room at revision `rev`. It watches nothing, and a `Welcome` waits in
+    /// its outbox.
     pub fn new(
         alloc: Global,
-        made: HubConfig,
+        config: HubConfig,
         access: Access,
         rev: u64,
         number: u64,
     ) -> Result<Session, AllocError>
-        requires some { 1 ≤ made.max_waiting_patches }
-        requires not_too_many { made.max_waiting_patches ≤ MAX_PATCHES }
-        ensures { IfOk result (λ x. x ≡ newcomer made access rev number) }
+        requires some { 1 ≤ config.max_waiting_patches }
+        requires not_too_many { config.max_waiting_patches ≤ MAX_PATCHES }
+        ensures { IfOk result (λ x. x ≡ newcomer config access rev number) }
     {
-        let mut outbox = match Outbox::new(alloc, made.max_waiting_patches) {
+        let mut outbox = match Outbox::new(alloc, config.max_waiting_patches) {
             Ok(outbox) => outbox,
             Err(OutboxFault::NoMemory) => return Err(AllocError),
             Err(OutboxFault::BadLimit) => unreachable!(),
         };
         let welcome = Reply::Welcome {
-            epoch: made.epoch,
+            epoch: config.epoch,
             rev,
             session: number,
         };
-        let slot = ReplySlot::new(alloc)?;
-        let Ok(()) = outbox.reply(slot.fill(welcome)) else {
+        let reserved = ReservedReply::new(alloc)?;
+        let Ok(()) = outbox.reply(reserved.fill(welcome)) else {
             unreachable!()
         };
         Ok(Session {
@@ -89,7 +105,7 @@ impl Session {
             access,
             view: None,
             outbox,
-            budget: made.waiting_weight,
+            budget: config.waiting_weight,
             load: 0,
             due_for: SnapshotCause::Watch,
             will: Patch::from_ops(Vec::new(alloc)),
@@ -147,21 +163,21 @@ impl Session {
     }
 
     /// Adds a reply to the outbox. Allocates nothing.
-    pub fn reply(&mut self, slot: ReplySlot, reply: Reply)
+    pub fn reply(&mut self, reserved: ReservedReply, reply: Reply)
         requires { length self.old.outbox.replies < MAX_REPLIES }
         ensures { self.new ≡ replied reply self.old }
     {
-        let Ok(()) = self.outbox.reply(slot.fill(reply)) else {
+        let Ok(()) = self.outbox.reply(reserved.fill(reply)) else {
             unreachable!()
         };
     }
 
     /// Leaves a will, in place of the one that it left before. Adds the reply.
-    pub fn leave_will(&mut self, slot: ReplySlot, id: u64, patch: Patch)
+    pub fn leave_will(&mut self, reserved: ReservedReply, id: u64, patch: Patch)
         requires { length self.old.outbox.replies < MAX_REPLIES }
         ensures { self.new ≡ leaves_will id patch self.old }
     {
-        self.reply(slot, Reply::Willing { id });
+        self.reply(reserved, Reply::Willing { id });
         self.will = patch;
     }
 
@@ -174,45 +190,48 @@ impl Session {
     }
 
     /// Watches the view from now on. Adds the reply, and makes a snapshot due.
-    pub fn watch(&mut self, slot: ReplySlot, id: u64, view: SharedView)
+    pub fn watch(&mut self, reserved: ReservedReply, id: u64, view: SharedView)
         requires { length self.old.outbox.replies < MAX_REPLIES }
         ensures { self.new ≡ watches id view self.old }
     {
-        self.reply(slot, Reply::Watching { id });
+        self.reply(reserved, Reply::Watching { id });
         load::fold(&mut self.outbox, &mut self.load);
         self.due_for = SnapshotCause::Watch;
         self.view = Some(view);
     }
 
     /// Watches nothing from now on. Adds the reply, and only replies are left in the outbox.
-    pub fn unwatch(&mut self, slot: ReplySlot, id: u64)
+    pub fn unwatch(&mut self, reserved: ReservedReply, id: u64)
         requires { length self.old.outbox.replies < MAX_REPLIES }
         ensures { self.new ≡ unwatches id self.old }
     {
-        self.reply(slot, Reply::Unwatched { id });
+        self.reply(reserved, Reply::Unwatched { id });
         load::clear(&mut self.outbox, &mut self.load);
         self.view = None;
     }
 
-    /// Watches the view from now on, as a client that holds it at an earlier revision. The update brings it to the present revision.
-    pub fn resume(&mut self, slot: ReplySlot, id: u64, view: SharedView, update: Update)
+    /// Watches the view from now on, as a client that holds it at an earlier revision. The update
+    /// brings it to the present revision.
+    pub fn resume(&mut self, reserved: ReservedReply, id: u64, view: SharedView, update: Update)
         requires { length self.old.outbox.replies < MAX_REPLIES }
-        ensures resumed { (rev : ℕ) (how : CatchUp) → update ≡ update_of rev how → self.new ≡ resumes rev id view how self.old }
+        ensures resumed { (rev : ℕ) (how : CatchUp) → update ≡ update_of rev how
+            → self.new ≡ resumes rev id view how self.old }
         ensures number { self.new.number ≡ self.old.number }
     {
         let resumed = Reply::Resumed {
             id,
             how: update.word(),
         };
-        self.reply(slot, resumed);
+        self.reply(reserved, resumed);
         load::clear(&mut self.outbox, &mut self.load);
         self.view = Some(view);
         self.take_update(update);
         self.due_for = SnapshotCause::Resume;
     }
 
-    /// Applies an update: adds nothing, a patch, which may wait in other outboxes too, or a snapshot in place of all patches. The snapshot
-    /// also replaces them if they would be more, or weigh more, than may wait. Allocates nothing.
+    /// Applies an update: adds nothing, a patch, which may wait in other outboxes too, or a
+    /// snapshot in place of all patches. The snapshot also replaces them if they would be more, or
+    /// weigh more, than may wait. Allocates nothing.
     pub fn take_update(&mut self, update: Update)
         requires { IsSome self.old.view }
         ensures { self.new ≡ with_outbox (heard self.old.budget update self.old.outbox) self.old }
@@ -234,7 +253,8 @@ impl Session {
         }
     }
 
-    /// Folds the patches that wait, if there are any, into a snapshot that is due. Allocates nothing.
+    /// Folds the patches that wait, if there are any, into a snapshot that is due. Allocates
+    /// nothing.
     pub fn shed(&mut self)
         ensures { self.new ≡ shed_session self.old }
     {
@@ -251,15 +271,17 @@ impl Session {
         self.due_for = SnapshotCause::Memory;
     }
 
-    /// Removes and returns the text at the front of the outbox; `None` if nothing waits. The text of a patch is copied, that of a reply is
-    /// written, and a due snapshot is made from the present document. The message is counted. Out of memory leaves it in the outbox.
+    /// Removes and returns the text at the front of the outbox; `None` if nothing waits. The text
+    /// of a patch is copied, that of a reply is written, and a due snapshot is made from the
+    /// present document. The message is counted. Out of memory leaves it in the outbox.
     pub fn draw(
         &mut self,
         alloc: Global,
         room: &Room,
         counts: &mut MessageCounts,
     ) -> Result<Option<String>, AllocError>
-        ensures text { IfOk result (λ text. option_map string_bytes text ≡ option_map message_text (front_message room.now self.old)) }
+        ensures text { IfOk result (λ text. option_map string_bytes text
+            ≡ option_map message_text (front_message room.now self.old)) }
         ensures ok { OnOk result (self.new ≡ drawn self.old) }
         ensures err { OnErr result (self.new ≡ self.old) }
         ensures reads_back { OnOk result (ReadsBack (front_message room.now self.old)) }
@@ -272,7 +294,8 @@ impl Session {
     }
 
     fn front_text(&self, alloc: Global, room: &Room) -> Result<Option<String>, AllocError>
-        ensures text { IfOk result (λ text. option_map string_bytes text ≡ option_map message_text (front_message room.now self.now)) }
+        ensures text { IfOk result (λ text. option_map string_bytes text
+            ≡ option_map message_text (front_message room.now self.now)) }
         ensures reads_back { OnOk result (ReadsBack (front_message room.now self.now)) }
         ensures no_memory { OnErr result (0 < waiting self.now) }
     {

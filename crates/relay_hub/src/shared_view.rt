@@ -4,7 +4,8 @@ use std::alloc::{AllocError, Global};
 use std::marker::Model;
 use std::rc::Rc;
 
-/// A view that is shared by reference count, so that a copy costs nothing. Contracts see it as the view.
+/// A view that is shared by reference count, so that a copy costs nothing. Contracts see it as the
+/// view.
 #[derive(Drop)]
 pub struct SharedView {
     view: Rc<View>,
@@ -34,7 +35,8 @@ impl SharedView {
         }
     }
 
-    /// Shares the view: raises the reference count and allocates nothing. `AllocError`: the count is at its maximum.
+    /// Shares the view: raises the reference count and allocates nothing. `AllocError`: the count
+    /// is at its maximum.
     pub fn share(&self) -> Result<SharedView, AllocError>
         ensures { IfOk result (λ shared. shared ≡ self.now) }
     {

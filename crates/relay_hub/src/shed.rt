@@ -1,4 +1,5 @@
-//! Memory that a hub gives back when there is no more: what its rooms remember, and patches that wait.
+//! Memory that a hub gives back when there is no more: what its rooms remember, and patches that
+//! wait.
 ghost use Rattle.std.specs.Prelude.{◌≡◌, map};
 ghost use Rattle.relay_hub.specs.Representation.{rooms_of};
 ghost use Rattle.relay_hub.specs.Shed.{shed_budget, shed_named, shed_session};
@@ -18,7 +19,8 @@ pub fn shed_budget(budget: Budget) -> Budget
     }
 }
 
-/// Each room forgets the oldest changes that the budget does not pay for, and the patches that wait for its sessions fold.
+/// Each room forgets the oldest changes that the budget does not pay for, and the patches that wait
+/// for its sessions fold.
 pub fn shed_rooms(rooms: &mut IndexMap<String, RoomSessions>, budget: Budget)
     ensures { rooms_of rooms.new.entries ≡ map (shed_named budget) (rooms_of rooms.old.entries) }
 {

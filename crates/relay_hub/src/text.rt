@@ -36,7 +36,8 @@ impl Text {
         }
     }
 
-    /// The text of a message. Copies nothing: as long as the text is there, so are the bytes that it shares. Allocates nothing.
+    /// The text of a message. Copies nothing: as long as the text is there, so are the bytes that
+    /// it shares. Allocates nothing.
     pub fn shared(words: ByteStr) -> Text
         ensures { result ≡ words }
     {

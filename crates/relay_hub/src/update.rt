@@ -7,7 +7,8 @@ use relay_proto::ResumeOutcome;
 use relay_room::CatchUp;
 use std::alloc::{AllocError, Global};
 
-/// What brings a view to a later revision ([`CatchUp`]). A patch comes with the text of its message.
+/// What brings a view to a later revision ([`CatchUp`]). A patch comes with the text of its
+/// message.
 #[derive(Drop)]
 pub enum Update {
     Nothing,

@@ -1,15 +1,16 @@
-//! The calls of a hub, as acts of rows. A number behind the word is a session, or the place of a room.
+//! The calls of a hub, as acts of rows. A number behind the word is a session, or the place of a
+//! room.
 use crate::shared::{Came, at_revision, number, owned, words};
 use crate::weights::WATCHING;
 use relay_hub::{Hub, HubConfig, HubFault, MessageCounts, OpenFault};
 use relay_proto::Access;
+use relay_test_stream::{Subject, cut, play};
 use relay_tree::{Budget, Tree};
-use relay_wire::{Subject, cut, play};
 use std::alloc::{AllocGlobal, Global};
 use std::process::Abort;
 
-/// Plays rows on a hub. One that is `new`, with words such as `history=64` behind it, goes on with another hub. One that is `watching`
-/// stands for the rows of [`WATCHING`].
+/// Plays rows on a hub. One that is `new`, with words such as `history=64` behind it, goes on with
+/// another hub. One that is `watching` stands for the rows of [`WATCHING`].
 pub(crate) fn play_on_hubs(rt: &(impl Abort + AllocGlobal), rows: &str) {
     let rows = rows.replace(rt.alloc(), "\nwatching\n", WATCHING);
     let mut hubs = Hubs::new(rt);
@@ -135,7 +136,8 @@ fn seen(alloc: Global, held: Result<Option<(u64, Tree)>, HubFault>) -> Came {
     }
 }
 
-/// How many replies, refusals and patches the sessions drew, and how many snapshots, by their causes.
+/// How many replies, refusals and patches the sessions drew, and how many snapshots, by their
+/// causes.
 fn counted(alloc: Global, counts: &MessageCounts) -> Came {
     let mut refusals = 0u64;
     for refused in counts.refusals.iter() {

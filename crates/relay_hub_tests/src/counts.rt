@@ -1,5 +1,6 @@
-//! Tests of what is counted of the messages that sessions draw. First in a text come the replies, the refusals among them, and the patches.
-//! By the rows of `watching`, session 1 has drawn two replies and a snapshot. A patch of the edit of `/x` weighs 35.
+//! Tests of what is counted of the messages that sessions draw. First in a text come the replies,
+//! the refusals among them, and the patches. By the rows of `watching`, session 1 has drawn two
+//! replies and a snapshot. A patch of the edit of `/x` weighs 35.
 use crate::calls::play_on_hubs;
 
 const ROWS: &str = r#"

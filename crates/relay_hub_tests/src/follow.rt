@@ -1,11 +1,12 @@
-//! Tests of what a follower holds. Each text that it may receive, and each fault, is data in `tests/scripts`.
+//! Tests of what a follower holds. Each text that it may receive, and each fault, is data in
+//! `tests/scripts`.
 use crate::shared::{Came, at_revision, number, owned, tree_of};
 use relay_follow::Follower;
-use relay_wire::{Subject, cut, play};
+use relay_test_stream::{Subject, cut, play};
 use std::alloc::{AllocGlobal, Global};
 
-/// The follower is new. `from 1 [[1]]` goes on with one that holds this view at revision 1. Of a text that is heard come the follower's
-/// answer, and what it holds afterwards.
+/// The follower is new. `from 1 [[1]]` goes on with one that holds this view at revision 1. Of a
+/// text that is heard come the follower's answer, and what it holds afterwards.
 const ROWS: &str = r#"
 # A new follower holds nothing.
 hear {} => Err(NotMessage), nothing

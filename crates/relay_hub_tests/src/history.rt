@@ -1,14 +1,16 @@
-//! Tests of histories whose revisions set the root to numbers, so that the numbers show which changes are kept.
+//! Tests of histories whose revisions set the root to numbers, so that the numbers show which
+//! changes are kept.
 use crate::shared::{Came, number, owned, words};
-use relay_history::{History, HistoryFault, LAST_REVISION, RevisionSlot};
+use relay_history::{History, HistoryFault, LAST_REVISION, ReservedRevision};
 use relay_patch::Change;
 use relay_pointer::Pointer;
+use relay_test_stream::{Subject, cut, play};
 use relay_tree::{Budget, Node, Tree};
-use relay_wire::{Subject, cut, play};
 use std::alloc::{AllocError, AllocGlobal, Global};
 
-/// What `five` stands for: a history of five revisions. A change weighs 64 and its whole number 8, and the root's path nothing, so the
-/// third revision, which sets the root twice, weighs 144 and the others 72.
+/// What `five` stands for: a history of five revisions. A change weighs 64 and its whole number 8,
+/// and the root's path nothing, so the third revision, which sets the root twice, weighs 144 and
+/// the others 72.
 const FIVE: &str = "
 new 5 0 => Ok(0)
 push 1
@@ -18,8 +20,8 @@ push 4
 push 5
 ";
 
-/// `new 2 0` goes on with a history of 2 revisions at most, from revision 0. `push` adds a revision that sets the root to each of these
-/// numbers.
+/// `new 2 0` goes on with a history of 2 revisions at most, from revision 0. `push` adds a revision
+/// that sets the root to each of these numbers.
 const ROWS: &str = "
 # Gives the changes after a revision in order.
 new 2 0 => Ok(0)
@@ -118,7 +120,7 @@ fn begin_anew(alloc: Global, history: &mut History, rest: &str) -> Came {
 fn push(alloc: Global, history: &mut History, numbers: &str) -> Came {
     let changes = changes_of(alloc, numbers)?;
     if history.newest() < LAST_REVISION {
-        let slot = RevisionSlot::new(alloc).ok()?;
+        let slot = ReservedRevision::new(alloc).ok()?;
         history.push(slot, changes);
     }
     owned(alloc, "")

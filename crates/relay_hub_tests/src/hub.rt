@@ -1,4 +1,5 @@
-//! Tests of a hub's calls with their answers, and of its limits. What sessions send and receive is data in `tests/scripts`.
+//! Tests of a hub's calls with their answers, and of its limits. What sessions send and receive is
+//! data in `tests/scripts`.
 use crate::calls::play_on_hubs;
 
 const ROWS: &str = r#"

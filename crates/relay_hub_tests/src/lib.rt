@@ -1,9 +1,11 @@
-//! Tests of rooms and sessions: histories, outboxes, rooms, messages, followers, handshakes, and the hub.
+//! Tests of rooms and sessions: histories, outboxes, rooms, messages, followers, handshakes, and
+//! the hub.
 //!
-//! They call what stands alone with success, and show what no script can: limits that a caller chooses, the last revision, the bytes of a
-//! handshake, and runs of events. What only a server asks of a hub (`config`, `waiting_weight`) is called by the tests of its rounds. What
-//! sessions receive is data in `tests/scripts`. Most tests are rows of text, since a
-//! row costs a proof next to nothing, and a function that asserts it much.
+//! They call what stands alone with success, and show what no script can: limits that a caller
+//! chooses, the last revision, the bytes of a handshake, and runs of events. What only a server
+//! asks of a hub (`config`, `waiting_weight`) is called by the tests of its rounds. What sessions
+//! receive is data in `tests/scripts`. Most tests are rows of text, since a row costs a proof next
+//! to nothing, and a function that asserts it much.
 #![tactic(auto)]
 
 #[cfg(test)]

@@ -6,9 +6,9 @@ use relay_outbox::{MAX_PATCHES, MAX_REPLIES};
 use relay_patch::{MAX_CHANGES_WEIGHT, MAX_DEPTH, MAX_OPS, MAX_RELAYED_TOKENS, MAX_WEIGHT};
 use relay_pointer::MAX_TOKENS;
 use relay_proto::{MAX_NAME, MAX_REQUEST};
+use relay_test_stream::{Subject, play};
 use relay_tree::MAX_COUNT;
 use relay_view::MAX_SLOTS;
-use relay_wire::{Subject, play};
 use std::alloc::AllocGlobal;
 
 /// What each limit is of, in the order of [`LIMITS`].

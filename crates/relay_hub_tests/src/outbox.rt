@@ -1,11 +1,12 @@
-//! Tests of what waits in an outbox, and of the order in which it is drawn. How it affects sessions is data in `tests/scripts`.
+//! Tests of what waits in an outbox, and of the order in which it is drawn. How it affects sessions
+//! is data in `tests/scripts`.
 use crate::shared::{Came, number, owned, words};
 use relay_outbox::{Busy, Front, Outbox, OutboxFault};
-use relay_wire::{Subject, cut, play};
+use relay_test_stream::{Subject, cut, play};
 use std::alloc::{AllocGlobal, Global};
 
-/// `new 2` goes on with an outbox for 2 patches. Of `waits` come how many replies and how many patches wait, and whether a snapshot is due.
-/// A reply that finds no space is given back.
+/// `new 2` goes on with an outbox for 2 patches. Of `waits` come how many replies and how many
+/// patches wait, and whether a snapshot is due. A reply that finds no space is given back.
 const ROWS: &str = "
 # Draws replies, then patches, then the snapshot.
 new 2 => None

@@ -1,8 +1,9 @@
-//! Tests of the texts of requests and messages, as `docs/PROTOCOL.md` shows them. The answer to each text is data in `tests/scripts`.
+//! Tests of the texts of requests and messages, as `docs/PROTOCOL.md` shows them. The answer to
+//! each text is data in `tests/scripts`.
 use crate::replies::REPLIES;
 use crate::shared::{Came, number, owned, patch_of, tree_of, view_of, words};
 use relay_proto::{Message, Reply, Request, is_room_name, patch_text, shown_text, snapshot_text};
-use relay_wire::{Subject, cut, play};
+use relay_test_stream::{Subject, cut, play};
 use std::alloc::{AllocGlobal, Global};
 
 const ROWS: &str = r#"

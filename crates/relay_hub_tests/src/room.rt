@@ -1,17 +1,18 @@
-//! Tests of rooms: how they start, the last revision, and each call once. What edits do to a document, and what a client missed, is data in
-//! `tests/scripts`.
+//! Tests of rooms: how they start, the last revision, and each call once. What edits do to a
+//! document, and what a client missed, is data in `tests/scripts`.
 use crate::shared::{Came, number, owned, patch_of, repeated, tree_of, view_of, words};
-use relay_history::RevisionSlot;
+use relay_history::ReservedRevision;
 use relay_patch::Patch;
 use relay_room::{CatchFault, CatchUp, Room, RoomFault};
+use relay_test_stream::{Subject, cut, play};
 use relay_translate::WatchIndex;
 use relay_tree::{Node, Tree};
-use relay_wire::{Subject, cut, play};
 use std::alloc::{AllocGlobal, Global};
 
-/// `start-nested 65 0 64` starts a room with lists that are 65 deep, at revision 0, and with a history of 64 revisions; `start-long` with a
-/// text of so many bytes. The last revision is 9,007,199,254,740,991, and a history holds 1,024 revisions at most. In front of a patch
-/// stands the revision that the edit is for, if there is one.
+/// `start-nested 65 0 64` starts a room with lists that are 65 deep, at revision 0, and with a
+/// history of 64 revisions; `start-long` with a text of so many bytes. The last revision is
+/// 9,007,199,254,740,991, and a history holds 1,024 revisions at most. In front of a patch stands
+/// the revision that the edit is for, if there is one.
 const ROWS: &str = r#"
 # Starts with a document that is not too deep.
 start-nested 65 0 64 => Err(TooDeep)
@@ -138,7 +139,7 @@ fn edit(alloc: Global, room: &mut Room, rest: &str) -> Came {
 }
 
 fn edit_by(alloc: Global, room: &mut Room, base: Option<u64>, patch: &Patch) -> Came {
-    let answer = room.edit(alloc, RevisionSlot::new(alloc).ok()?, base, patch);
+    let answer = room.edit(alloc, ReservedRevision::new(alloc).ok()?, base, patch);
     let document = room.document().text(alloc).ok()?;
     format!(in alloc; "{answer:?}: {document}").ok()
 }

@@ -1,5 +1,6 @@
-//! Tests of runs of events, complete and stopped: the events that have answers are those that were done. Errors are returned here, so that
-//! `tests/refuse-allocations` can distinguish out of memory from a wrong answer.
+//! Tests of runs of events, complete and stopped: the events that have answers are those that were
+//! done. Errors are returned here, so that `tests/refuse-allocations` can distinguish out of memory
+//! from a wrong answer.
 use crate::shared::{Came, at_revision, owned, words};
 use relay_hub::{Answer, Event, Hub, HubFault, Text};
 use relay_proto::Access;
@@ -156,8 +157,9 @@ fn twin_follows(
     are_alike(rt, hub, twin)
 }
 
-/// A run that runs out of memory stops. Its answers are those of the events that were done, and another hub on which the same events are
-/// run reaches the same state. `tests/refuse-allocations` refuses each allocation in turn.
+/// A run that runs out of memory stops. Its answers are those of the events that were done, and
+/// another hub on which the same events are run reaches the same state. `tests/refuse-allocations`
+/// refuses each allocation in turn.
 #[test]
 fn a_run_did_what_its_answers_say(rt: HostRuntime) -> Result<(), Fail> {
     let mut hub = Hub::new(rt.alloc(), 1, 1, 64, 32)?;

@@ -1,8 +1,9 @@
-//! Tests of what no contract states: that the definitions mean RFC 6455, and that the calls succeed.
+//! Tests of what no contract states: that the definitions mean RFC 6455, and that the calls
+//! succeed.
 use crate::shared::{Came, number, owned, repeated, words};
 use relay_proto::Access;
 use relay_shake::{Shake, refusal, shake};
-use relay_wire::{Subject, cut, play};
+use relay_test_stream::{Subject, cut, play};
 use std::alloc::{AllocGlobal, Global};
 
 const SAMPLE: &str =
@@ -110,7 +111,8 @@ fn answer_with(alloc: Global, change: &str) -> Came {
     answer_to_changed(alloc, part, other)
 }
 
-/// The answer to the sample with one of its parts replaced by another text. Both have `\r\n` and `\t` as letters.
+/// The answer to the sample with one of its parts replaced by another text. Both have `\r\n` and
+/// `\t` as letters.
 fn answer_to_changed(alloc: Global, part: &str, other: &str) -> Came {
     let part = unescaped(alloc, part)?;
     let (before, behind) = SAMPLE.split_once(part.as_str())?;
@@ -185,7 +187,8 @@ fn accept_value(reply: &str) -> Option<&str> {
     reply.strip_prefix(SWITCH)?.strip_suffix("\r\n\r\n")
 }
 
-/// A refusal, as text: its status, if the reply has exactly the bytes for it, and otherwise its bytes.
+/// A refusal, as text: its status, if the reply has exactly the bytes for it, and otherwise its
+/// bytes.
 fn refusal_in_words(alloc: Global, status: u16, reply: &[u8]) -> Came {
     if reply == refused(status).as_bytes() {
         words(alloc, status)

@@ -1,4 +1,5 @@
-//! Reading and telling of texts. Each gives nothing if memory runs out or a text cannot be read, which fails the row.
+//! Reading and telling of texts. Each gives nothing if memory runs out or a text cannot be read,
+//! which fails the row.
 use relay_patch::{Patch, PatchLimits};
 use relay_tree::{Tree, read};
 use relay_view::View;

@@ -1,70 +1,104 @@
 -- Lemmas about `Follows`.
-use Rattle.std.proofs.Common.{◌≡◌, ℕ, true, false, List, [], ◌∷◌, ◌++◌, Option, Some, None, is_some, refl, sym, subst, subst₂}
-use Rattle.relay_hub.specs.Call.{StepIf, not_opened}
+use Rattle.std.proofs.Common.{◌≡◌, ℕ, List, [], ◌∷◌, ◌++◌, Option, Some, None, refl, sym, subst, subst₂, ap, ◌∙◌, append_assoc, append-nil}
 use Rattle.relay_hub.specs.State.{State as Hub}
 use Rattle.relay_hub.specs.Step.{Step}
 use Rattle.relay_hub.specs.declared.event.Answer.{Answer}
-use Rattle.relay_hub.specs.declared.event.Answer.TheVariants.{NotOpened}
 use Rattle.relay_hub.specs.declared.event.Event.{Event}
 use Rattle.relay_hub.specs.declared.event.Event.TheVariants.{Open, Receive, Draw, Close}
-use Rattle.relay_hub.specs.declared.fault.OpenFault.{OpenFault}
-use Rattle.relay_hub.specs.declared.fault.OpenFault.TheVariants as fault
 use Rattle.relay_proto.specs.declared.access.Access.{Access}
 use Rattle.relay_link.specs.Asks.{asked_by}
 use Rattle.relay_link.specs.Stage.{session_of}
 use Rattle.relay_link.specs.declared.state.State.{State}
-use Rattle.relay_link.specs.Follows.{Point, Rooms, at, IsOwn, no_room, session_after, Follows, stays, makes}
+use Rattle.relay_link.specs.Follows.{Point, Rooms, at, IsOwn, no_room, session_after, Follows, stays, makes, drawn_by, drawn}
+use Rattle.relay_link.specs.Visits.{opened_by, openings}
 
 module _ {rooms : Rooms} where
   -- no event was made
-  pub follows_same : (old new : Hub) (session mine : Option ℕ) (before after : List Event) → new ≡ old → mine ≡ session → after ≡ before
+  pub follows_same : (old new : Hub) (session mine : Option ℕ) (before after : List Event)
+      → new ≡ old → mine ≡ session → after ≡ before
       → Follows rooms (at old session before) (at new mine after)
   follows_same old new session mine before after h k m =
-      subst (λ x. Follows rooms (at old session before) (at new x after)) (sym k) (subst₂ (λ x y. Follows rooms (at old session before) (at x session y)) (sym h) (sym m) stays)
+      subst (λ x. Follows rooms (at old session before) (at new x after)) (sym k) (subst₂ (λ x y.
+      Follows rooms (at old session before) (at x session y)) (sym h) (sym m) stays)
 
   -- one event was made
-  pub follows_one : (old new : Hub) (session : Option ℕ) (before after : List Event) (event : Event) (answer : Answer)
+  pub follows_one : (old new : Hub) (session : Option ℕ) (before after : List Event)
+      (event : Event) (answer : Answer)
       → after ≡ before ++ event ∷ [] → IsOwn rooms session event → Step old event answer new
       → Follows rooms (at old session before) (at new (session_after session event answer) after)
   follows_one old new session before after event answer m own step =
-      subst (λ x. Follows rooms (at old session before) (at new (session_after session event answer) x)) (sym m) (makes event answer stays own step)
+      subst (λ x.
+      Follows rooms (at old session before) (at new (session_after session event answer) x))
+      (sym m) (makes event answer stays own step)
 
   -- one run after another
   pub follows_then : {p q r : Point} → Follows rooms p q → Follows rooms q r → Follows rooms p r
   follows_then f stays = f
   follows_then f (makes event answer g own step) = makes event answer (follows_then f g) own step
 
+wider_own : {rooms wider : Rooms}
+    → ((room : List ℕ) (access : Access) → rooms room access → wider room access)
+    → (session : Option ℕ) (event : Event) → IsOwn rooms session event
+    → IsOwn wider session event
+wider_own more session (Open room access) own = (own.0, more room access own.1)
+wider_own more session (Receive s text) own = own
+wider_own more session (Draw s) own = own
+wider_own more session (Close s) own = own
+wider_own more session event own = absurd own
+
 -- other rooms may be opened as well
-pub follows_wider : {rooms wider : Rooms} {p q : Point} → ((room : List ℕ) (access : Access) → rooms room access → wider room access) → Follows rooms p q → Follows wider p q
+pub follows_wider : {rooms wider : Rooms} {p q : Point}
+    → ((room : List ℕ) (access : Access) → rooms room access → wider room access)
+    → Follows rooms p q → Follows wider p q
 follows_wider more stays = stays
-follows_wider {rooms = rooms} {wider = wider} more (makes {q = q} event answer before own step) = makes event answer (follows_wider more before) (wider_own q.session event own) step
-  where
-    wider_own : (session : Option ℕ) (event : Event) → IsOwn rooms session event → IsOwn wider session event
-    wider_own session (Open room access) own = (own.0, more room access own.1)
-    wider_own session (Receive s text) own = own
-    wider_own session (Draw s) own = own
-    wider_own session (Close s) own = own
-    wider_own session event own = absurd own
+follows_wider more (makes {q = q} event answer before own step) =
+    makes event answer (follows_wider more before) (wider_own more q.session event own) step
 
 pub follows_none : {rooms : Rooms} {p q : Point} → Follows no_room p q → Follows rooms p q
 follows_none = follows_wider (λ room access none. absurd none)
 
+-- a session that may open no room
+pub opens_none : {p q : Point} → Follows no_room p q → p.session ≡ None
+    → (q.session ≡ None) × (q.hub ≡ p.hub)
+opens_none stays bare = (bare, refl)
+opens_none (makes {q = q} event answer before own step) bare =
+    absurd (none_own q.session event (opens_none before bare).0 own)
+  where
+    none_own : (session : Option ℕ) (event : Event) → session ≡ None
+        → IsOwn no_room session event → ⊥
+    none_own session (Open room access) bare own = own.1
+    none_own session (Receive s text) bare own = cc
+    none_own session (Draw s) bare own = cc
+    none_own session (Close s) bare own = cc
+    none_own session event bare own = own
+
 -- the same of an equal state
-pub follows_from : {S : Type 0} {hub : Hub} {made : List Event} {q : Point} (remaining : S → Option (List ℕ)) (old state : State S) → state ≡ old → Follows (asked_by remaining state) (at hub (session_of state) made) q
-    → Follows (asked_by remaining old) (at hub (session_of old) made) q
-follows_from {hub = hub} {made = made} {q = q} remaining old state same follows = subst (λ s. Follows (asked_by remaining s) (at hub (session_of s) made) q) same follows
+pub follows_from : {S : Type 0} {hub : Hub} {events : List Event} {q : Point} (remaining : S
+    → Option (List ℕ)) (old state : State S) → state ≡ old
+    → Follows (asked_by remaining state) (at hub (session_of state) events) q
+    → Follows (asked_by remaining old) (at hub (session_of old) events) q
+follows_from {hub = hub} {events = events} {q = q} remaining old state same follows =
+    subst (λ s. Follows (asked_by remaining s) (at hub (session_of s) events) q) same follows
 
--- a call without an answer changed nothing
-pub unanswered : (old new : Hub) (event : Event) (answer : Option Answer) → false ≡ is_some answer → StepIf old event answer new → new ≡ old
-unanswered old new event None e s = s
-unanswered old new event (Some answer) e s = cc
+-- an event of a link that may open no session opens none
+no_opening : (session : Option ℕ) (event : Event) (answer : Answer) → IsOwn no_room session event
+    → opened_by event answer ≡ []
+no_opening session (Open room access) answer own = absurd own.1
+no_opening session (Receive s text) answer own = refl
+no_opening session (Draw s) answer own = refl
+no_opening session (Close s) answer own = refl
+no_opening session event answer own = absurd own
 
--- an opening that was refused with an answer is one event, and opens no session
-pub follows_refused : {rooms : Rooms} (old new : Hub) (before after : List Event) (room : List ℕ) (access : Access) (fault : OpenFault)
-    → after ≡ before ++ Open room access ∷ [] → true ≡ is_some (not_opened fault) → StepIf old (Open room access) (not_opened fault) new
-    → rooms room access → Follows rooms (at old None before) (at new None after)
-follows_refused old new before after room access fault.RoomName m e s asked = follows_one old new None before after (Open room access) (NotOpened fault.RoomName) m (refl, asked) s
-follows_refused old new before after room access fault.RoomsFull m e s asked = follows_one old new None before after (Open room access) (NotOpened fault.RoomsFull) m (refl, asked) s
-follows_refused old new before after room access fault.SessionsFull m e s asked = follows_one old new None before after (Open room access) (NotOpened fault.SessionsFull) m (refl, asked) s
-follows_refused old new before after room access fault.Exhausted m e s asked = follows_one old new None before after (Open room access) (NotOpened fault.Exhausted) m (refl, asked) s
-follows_refused old new before after room access fault.NoMemory m e s asked = cc
+-- one run of events after another, of which the second opens no session
+pub went_on : {rooms : Rooms} {p q r : Point} (f : Follows rooms p q) (g : Follows no_room q r)
+    → (h : Follows rooms p r) × (drawn h ≡ drawn f ++ drawn g) × (openings h ≡ openings f)
+went_on f stays = (f, sym (append-nil (drawn f)), refl)
+went_on f (makes {q = q} event answer before own step) =
+    let most = went_on f before in (
+      makes event answer most.0
+          (wider_own (λ room access none. absurd none) q.session event own) step,
+      ap (λ l. l ++ drawn_by event answer) most.1
+          ∙ append_assoc (drawn f) (drawn before) (drawn_by event answer),
+      ap (λ l. openings most.0 ++ l) (no_opening q.session event answer own)
+          ∙ append-nil (openings most.0) ∙ most.2,
+    )

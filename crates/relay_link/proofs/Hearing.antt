@@ -8,7 +8,7 @@ use Rattle.relay_hub.specs.State.{State as Hub, session_of as hub_session}
 use Rattle.relay_hub.specs.declared.event.Event.{Event}
 use Rattle.relay_hub.specs.declared.event.Event.TheVariants.{Receive}
 use Rattle.relay_link.specs.Follows.{closing_of}
-use Rattle.relay_link.specs.Hears.{received_by, received, Passes, allowed_reads, text_of, ReadsOn, Finds, Hears, PassesOn, SendsAndPassesOn, GoesOn, BeginsFresh, ReadsTexts, PassesTexts}
+use Rattle.relay_link.specs.Hears.{received_by, received, Passes, allowed_reads, text_of, ends_link, ReadsOn, ReadsOnce, Finds, Hears, PassesOn, SendsAndPassesOn, GoesOn, BeginsFresh, ReadsTexts, PassesTexts}
 use Rattle.relay_link.specs.Stage.{stage_of, session_of, entered, IsForward}
 use Rattle.relay_link.specs.Stream.{stream_of}
 use Rattle.relay_link.specs.Tells.{Hearing}
@@ -22,32 +22,43 @@ use Rattle.relay_link.specs.declared.state.State.TheVariants.{Head, Replying, Op
 -- ---- how many reads
 
 -- all of them, if the hub may hear the session
-reads_one : (hub : Hub) (s most : ℕ) → may_hear (hub_session hub s) ≡ true → most ≡ 1 → allowed_reads hub (Some s) most ≡ 1
+reads_one : (hub : Hub) (s most : ℕ) → may_hear (hub_session hub s) ≡ true → most ≡ 1
+    → allowed_reads hub (Some s) most ≡ 1
 reads_one hub s most may one = rw (may, one) refl
 
 -- ---- the texts of events
 
-received_both : (made more : List Event) → received (made ++ more) ≡ received made ++ received more
+received_both : (events more : List Event)
+    → received (events ++ more) ≡ received events ++ received more
 received_both [] more = refl
-received_both (event ∷ made) more = ap (λ l. received_by event ++ l) (received_both made more) ∙ sym (append_assoc (received_by event) (received made) (received more))
+received_both (event ∷ events) more =
+    ap (λ l. received_by event ++ l) (received_both events more)
+    ∙ sym (append_assoc (received_by event) (received events) (received more))
 
 -- one more event passes the text that it has
-passes_event : (before after : List Event) (event : Event) → after ≡ before ++ event ∷ [] → Passes before after (received_by event)
-passes_event before after event made = ap received made ∙ received_both before (event ∷ []) ∙ ap (λ l. received before ++ l) (append-nil (received_by event))
+passes_event : (before after : List Event) (event : Event) → after ≡ before ++ event ∷ []
+    → Passes before after (received_by event)
+passes_event before after event events =
+    ap received events ∙ received_both before (event ∷ [])
+    ∙ ap (λ l. received before ++ l) (append-nil (received_by event))
 
 -- no event was made
 pub passes_same : (before after : List Event) → after ≡ before → Passes before after []
 passes_same before after same = ap received same ∙ sym (append-nil (received before))
 
 -- one was made that passes nothing
-pub passes_none : (before after : List Event) (event : Event) → after ≡ before ++ event ∷ [] → received_by event ≡ [] → Passes before after []
-passes_none before after event made none = subst (Passes before after) none (passes_event before after event made)
+pub passes_none : (before after : List Event) (event : Event) → after ≡ before ++ event ∷ []
+    → received_by event ≡ [] → Passes before after []
+passes_none before after event events none =
+    subst (Passes before after) none (passes_event before after event events)
 
-pub passes_text : (before after : List Event) (s : ℕ) (text : List ℕ) → after ≡ before ++ Receive s text ∷ [] → Passes before after (text ∷ [])
-passes_text before after s text made = passes_event before after (Receive s text) made
+pub passes_text : (before after : List Event) (s : ℕ) (text : List ℕ)
+    → after ≡ before ++ Receive s text ∷ [] → Passes before after (text ∷ [])
+passes_text before after s text events = passes_event before after (Receive s text) events
 
 -- then no more
-pub passes_then : (texts : List (List ℕ)) (a b c : List Event) → Passes a b texts → Passes b c [] → Passes a c texts
+pub passes_then : (texts : List (List ℕ)) (a b c : List Event) → Passes a b texts → Passes b c []
+    → Passes a c texts
 passes_then texts a b c some none = none ∙ append-nil (received b) ∙ some
 
 module _ {S : Type 0} where
@@ -65,16 +76,20 @@ module _ {S : Type 0} where
 module _ {S : Type 0} (remaining : S → Option (List ℕ)) where
   -- ---- what a read found
 
-  pub finds_message : (a b : Socket (CorkedWriter S)) (message : Message) → Reads (λ w. remaining (stream_of w)) a b (Ok message) → Finds remaining a b (text_of (Some message))
-  finds_message a b message reads = (Ok message, reads, refl)
+  pub reads_message : (a b : Socket (CorkedWriter S)) (message : Message)
+      → Reads (λ w. remaining (stream_of w)) a b (Ok message)
+      → ReadsOnce remaining a b (Some message)
+  reads_message a b message reads = (Ok message, reads, refl)
 
-  pub finds_none : (a b : Socket (CorkedWriter S)) (error : Error) → Reads (λ w. remaining (stream_of w)) a b (Err error) → Finds remaining a b (text_of None)
-  finds_none a b error reads = (Err error, reads, refl)
+  pub reads_none : (a b : Socket (CorkedWriter S)) (error : Error)
+      → Reads (λ w. remaining (stream_of w)) a b (Err error) → ReadsOnce remaining a b None
+  reads_none a b error reads = (Err error, reads, refl)
 
-  -- of a message that is no text it found none
-  pub finds_no_text : (a b : Socket (CorkedWriter S)) (found : Option Message)
-      → Finds remaining a b (text_of found) → text_of found ≡ [] → Finds remaining a b []
-  finds_no_text a b found finds none = subst (Finds remaining a b) none finds
+  -- the link goes on behind this message, which has these texts
+  pub finds_texts : (a b : Socket (CorkedWriter S)) (found : Option Message)
+      (texts : List (List ℕ)) → ReadsOnce remaining a b found → ends_link found ≡ false
+      → texts ≡ text_of found → Finds remaining a b texts
+  finds_texts a b found texts reads stays is = (found, reads, stays, is)
 
   -- ---- what was heard
 
@@ -123,7 +138,8 @@ module _ {S : Type 0} (remaining : S → Option (List ℕ)) where
 
   pub passes_on_none : (most : ℕ) (a : Socket (CorkedWriter S)) (before after : List Event)
       → Passes before after [] → PassesOn remaining most a before after
-  passes_on_none most a before after none = record { texts = []; passes = none; heard = a; hears = hears_nothing most a }
+  passes_on_none most a before after none =
+      record { texts = []; passes = none; heard = a; hears = hears_nothing most a }
 
   pub passes_on_heard : (most : ℕ) (a b : Socket (CorkedWriter S))
       (before middle after : List Event) → Hearing remaining most before middle a b
@@ -157,12 +173,16 @@ module _ {S : Type 0} (remaining : S → Option (List ℕ)) where
   fresh_closing (Closing socket left) is = tt
   fresh_closing Gone is = tt
 
-  pub passes_closing : (most : ℕ) (hub : Hub) (socket : Socket (CorkedWriter S)) (left : ℕ) (new : State S) (before after : List Event) → IsForward stage.Closing (stage_of new) → after ≡ before
+  pub passes_closing : (most : ℕ) (hub : Hub) (socket : Socket (CorkedWriter S)) (left : ℕ)
+      (new : State S) (before after : List Event) → IsForward stage.Closing (stage_of new)
+      → after ≡ before
       → PassesTexts remaining most hub (Closing socket left) new before after
-  passes_closing most hub socket left new before after over same = (passes_same before after same, fresh_closing new over)
+  passes_closing most hub socket left new before after over same =
+      (passes_same before after same, fresh_closing new over)
 
   -- one that changes nothing
-  unchanged : (most : ℕ) (hub : Hub) (state : State S) (before : List Event) → PassesTexts remaining most hub state state before before
+  unchanged : (most : ℕ) (hub : Hub) (state : State S) (before : List Event)
+      → PassesTexts remaining most hub state state before before
   unfolding sends_none passes_on_none
   unchanged most hub (Open socket s) before = record {
     sends = sends_none (allowed_reads hub (Some s) most) socket before before refl;
@@ -173,8 +193,10 @@ module _ {S : Type 0} (remaining : S → Option (List ℕ)) where
   unchanged most hub (Closing socket left) before = (passes_same before before refl, tt)
   unchanged most hub Gone before = (passes_same before before refl, tt)
 
-  pub passes_unchanged : (most : ℕ) (hub : Hub) (old new : State S) (before after : List Event) → new ≡ old → after ≡ before → PassesTexts remaining most hub old new before after
-  passes_unchanged most hub old new before after same none = rw (same, none) (unchanged most hub old before)
+  pub passes_unchanged : (most : ℕ) (hub : Hub) (old new : State S) (before after : List Event)
+      → new ≡ old → after ≡ before → PassesTexts remaining most hub old new before after
+  passes_unchanged most hub old new before after same none =
+      rw (same, none) (unchanged most hub old before)
 
   -- a turn that reads nothing is one that reads at most once
   hears_wider : (may : Bool) (a b : Socket (CorkedWriter S)) (texts : List (List ℕ))
@@ -203,7 +225,9 @@ module _ {S : Type 0} (remaining : S → Option (List ℕ)) where
         goes_on = reads.goes_on;
       }
 
-  pub passes_wider : (hub : Hub) (old new : State S) (before after : List Event) → PassesTexts remaining 0 hub old new before after → PassesTexts remaining 1 hub old new before after
+  pub passes_wider : (hub : Hub) (old new : State S) (before after : List Event)
+      → PassesTexts remaining 0 hub old new before after
+      → PassesTexts remaining 1 hub old new before after
   passes_wider hub (Open socket s) new before after passes =
       reads_wider (may_hear (hub_session hub s)) socket new before after passes
   passes_wider hub (Head stream bytes) new before after passes = passes
@@ -231,18 +255,26 @@ module _ {S : Type 0} (remaining : S → Option (List ℕ)) where
   ended_fresh (Closing socket left) gone = tt
   ended_fresh Gone gone = tt
 
-  pub passes_ended : (hub : Hub) (old new : State S) (made : List Event) → made ≡ closing_of (session_of old) → stage_of new ≡ stage.Gone → PassesTexts remaining 1 hub old new [] made
+  pub passes_ended : (hub : Hub) (old new : State S) (events : List Event)
+      → events ≡ closing_of (session_of old) → stage_of new ≡ stage.Gone
+      → PassesTexts remaining 1 hub old new [] events
   unfolding passes_on_none
-  passes_ended hub (Open socket s) new made is gone = record {
+  passes_ended hub (Open socket s) new events is gone = record {
     sends = record {
       ready = socket;
       reads_on = reads_on_same socket;
-      passes_on = passes_on_none (allowed_reads hub (Some s) 1) socket [] made
+      passes_on = passes_on_none (allowed_reads hub (Some s) 1) socket [] events
           (subst (λ m. Passes [] m []) (sym is) (closing_passes (Some s)));
     };
     goes_on = ended_goes socket new gone;
   }
-  passes_ended hub (Head stream bytes) new made is gone = (subst (λ m. Passes [] m []) (sym is) refl, ended_fresh new gone)
-  passes_ended hub (Replying stream reply) new made is gone = (subst (λ m. Passes [] m []) (sym is) (closing_passes (entered reply.verdict)), ended_fresh new gone)
-  passes_ended hub (Closing socket left) new made is gone = (subst (λ m. Passes [] m []) (sym is) refl, ended_fresh new gone)
-  passes_ended hub Gone new made is gone = (subst (λ m. Passes [] m []) (sym is) refl, ended_fresh new gone)
+  passes_ended hub (Head stream bytes) new events is gone =
+      (subst (λ m. Passes [] m []) (sym is) refl, ended_fresh new gone)
+  passes_ended hub (Replying stream reply) new events is gone = (
+    subst (λ m. Passes [] m []) (sym is) (closing_passes (entered reply.verdict)),
+    ended_fresh new gone,
+  )
+  passes_ended hub (Closing socket left) new events is gone =
+      (subst (λ m. Passes [] m []) (sym is) refl, ended_fresh new gone)
+  passes_ended hub Gone new events is gone =
+      (subst (λ m. Passes [] m []) (sym is) refl, ended_fresh new gone)

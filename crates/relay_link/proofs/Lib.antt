@@ -7,3 +7,5 @@ pub mod Hearing
 pub mod Replying
 pub mod Terms
 pub mod Telling
+pub mod Visiting
+pub mod BinaryAnswered

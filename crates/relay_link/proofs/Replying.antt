@@ -6,7 +6,7 @@ use Rattle.std.specs.Io.KnownBytes.{Appends, Keeps, Consumes}
 use Rattle.tungstenite.specs.Socket.{Socket, IsFresh}
 use Rattle.websocket.specs.declared.protocol.config.Role.TheVariants.{Server}
 use Rattle.relay_shake.specs.Shaken.{AnswersHead, AnswersNoHead}
-use Rattle.relay_shake.specs.Replies.{refusal_of}
+use Rattle.relay_shake.specs.Replies.{closed_refusal, refusal_of}
 use Rattle.relay_shake.specs.declared.answer.Shake.{Shake}
 use Rattle.relay_shake.specs.declared.answer.Shake.TheVariants.{Accept, Refuse}
 use Rattle.relay_proto.specs.declared.access.Access.{Access}
@@ -16,9 +16,11 @@ use Rattle.relay_link.specs.Hears.{Passes, HasReadNothing, BeginsFresh, PassesTe
 use Rattle.relay_link.specs.Replies.{WritesReply, RepliesTo, RepliesToHead, IfReplies, Replies}
 use Rattle.relay_link.specs.Stream.{stream_of, written}
 use Rattle.relay_link.specs.declared.corked_writer.CorkedWriter.{CorkedWriter}
-use Rattle.relay_link.specs.declared.reply.Reply.{Reply}
-use Rattle.relay_link.specs.declared.reply.Verdict.{Verdict}
-use Rattle.relay_link.specs.declared.reply.Verdict.TheVariants.{Entered, Refused}
+use Rattle.relay_link.specs.declared.entrance.Entrance.{Entrance}
+use Rattle.relay_link.specs.declared.entrance.Entrance.TheVariants as entry
+use Rattle.relay_link.specs.declared.handshake_reply.HandshakeReply.{HandshakeReply}
+use Rattle.relay_link.specs.declared.handshake_reply.Verdict.{Verdict}
+use Rattle.relay_link.specs.declared.handshake_reply.Verdict.TheVariants.{Entered, Refused}
 use Rattle.relay_link.specs.declared.state.State.{State}
 use Rattle.relay_link.specs.declared.state.State.TheVariants.{Head, Replying, Open, Closing, Gone}
 use Rattle.relay_link.proofs.Framing.{appends_kept}
@@ -33,18 +35,31 @@ pub sent_none : (reply : List ℕ) (before : Option (List ℕ)) → IsSent reply
 sent_none reply before = ([], refl, Appends-nil before)
 
 -- a write took some of the rest
-pub sent_more : (reply rest : List ℕ) (n : ℕ) (before now next : Option (List ℕ)) → IsSent reply rest before now → Appends now next (take n rest) → IsSent reply (drop n rest) before next
-sent_more reply rest n before now next (sent, is, appends) took =
-    (sent ++ take n rest, is ∙ ap (λ l. sent ++ l) (sym (take-append-drop n rest)) ∙ sym (append_assoc sent (take n rest) (drop n rest)), Appends-trans before now next sent (take n rest) appends took)
+pub sent_more : (reply rest : List ℕ) (n : ℕ) (before now next : Option (List ℕ))
+    → IsSent reply rest before now → Appends now next (take n rest)
+    → IsSent reply (drop n rest) before next
+sent_more reply rest n before now next (sent, is, appends) took = (
+  sent ++ take n rest,
+  is ∙ ap (λ l. sent ++ l) (sym (take-append-drop n rest))
+      ∙ sym (append_assoc sent (take n rest) (drop n rest)),
+  Appends-trans before now next sent (take n rest) appends took,
+)
 
 -- a call took nothing
-pub sent_kept : (reply rest : List ℕ) (before now next : Option (List ℕ)) → IsSent reply rest before now → Keeps now next → IsSent reply rest before next
-sent_kept reply rest before now next (sent, is, appends) kept =
-    (sent, is, subst (Appends before next) (append-nil sent) (Appends-trans before now next sent [] appends (appends_kept now next kept)))
+pub sent_kept : (reply rest : List ℕ) (before now next : Option (List ℕ))
+    → IsSent reply rest before now → Keeps now next → IsSent reply rest before next
+sent_kept reply rest before now next (sent, is, appends) kept = (
+  sent,
+  is,
+  subst (Appends before next) (append-nil sent)
+      (Appends-trans before now next sent [] appends (appends_kept now next kept)),
+)
 
 -- all of it
-pub sent_all : (reply : List ℕ) (before now : Option (List ℕ)) → IsSent reply [] before now → Appends before now reply
-sent_all reply before now (sent, is, appends) = subst (Appends before now) (sym (is ∙ append-nil sent)) appends
+pub sent_all : (reply : List ℕ) (before now : Option (List ℕ)) → IsSent reply [] before now
+    → Appends before now reply
+sent_all reply before now (sent, is, appends) =
+    subst (Appends before now) (sym (is ∙ append-nil sent)) appends
 
 module _ {S : Type 0} (contents : S → Option (List ℕ)) where
   -- the reply was written, and the link is open
@@ -61,53 +76,85 @@ module _ {S : Type 0} (contents : S → Option (List ℕ)) where
         has_role = fresh.has_role;
         is_active = fresh.is_active;
         no_fragments = fresh.no_fragments;
-      } in
-      (subst (λ w. Appends before (written contents w) reply) (sym fresh.on_stream) all, is, read_nothing)
+      } in (
+        subst (λ w. Appends before (written contents w) reply) (sym fresh.on_stream) all,
+        is,
+        read_nothing,
+      )
 
   -- the reply of a head that is accepted
-  pub replies_open : (before : Option (List ℕ)) (room : String Global) (access : Access) (reply : Vec ℕ Global) (s : ℕ) (state : State S) → WritesReply contents before (Entered s) reply.items state
-      → RepliesTo contents before (Accept room access reply) state
-  replies_open before room access reply s state writes = record { verdict = Entered s; reply = reply.items; is = refl; writes = writes }
+  pub replies_open : (before : Option (List ℕ)) (room : String Global) (access : Access)
+      (reply : Vec ℕ Global) (s : ℕ) (state : State S)
+      → WritesReply contents before (Entered s) reply.items state
+      → RepliesTo contents entry.Open before (Accept room access reply) state
+  replies_open before room access reply s state writes =
+      record { verdict = Entered s; reply = reply.items; is = (refl, refl); writes = writes }
 
-  pub replies_refused : (before : Option (List ℕ)) (room : String Global) (access : Access) (reply refused : Vec ℕ Global) (state : State S) → refused.items ≡ refusal_of 503
-      → WritesReply contents before (Refused 503) refused.items state → RepliesTo contents before (Accept room access reply) state
-  replies_refused before room access reply refused state is writes = record { verdict = Refused 503; reply = refused.items; is = (refl, is); writes = writes }
+  pub replies_refused : (before : Option (List ℕ)) (room : String Global) (access : Access)
+      (reply refused : Vec ℕ Global) (state : State S) → refused.items ≡ refusal_of 503
+      → WritesReply contents before (Refused 503) refused.items state
+      → RepliesTo contents entry.Open before (Accept room access reply) state
+  replies_refused before room access reply refused state is writes =
+      record { verdict = Refused 503; reply = refused.items; is = (refl, is); writes = writes }
+
+  -- and of one that is accepted while clients may not entrance
+  pub replies_closed : (entrance : Entrance) (before : Option (List ℕ)) (room : String Global)
+      (access : Access) (reply : Vec ℕ Global) (state : State S) → entrance ≡ entry.Closed
+      → WritesReply contents before (Refused 503) closed_refusal state
+      → RepliesTo contents entrance before (Accept room access reply) state
+  replies_closed entrance before room access reply state closed writes =
+      rw closed
+      (record { verdict = Refused 503; reply = closed_refusal; is = (refl, refl); writes = writes })
 
   -- the reply of a head that is refused
-  pub replies_refuse : (before : Option (List ℕ)) (status : ℕ) (reply : Vec ℕ Global) (state : State S) → WritesReply contents before (Refused status) reply.items state
-      → RepliesTo contents before (Refuse status reply) state
-  replies_refuse before status reply state writes = record { verdict = Refused status; reply = reply.items; is = (refl, refl); writes = writes }
+  pub replies_refuse : (entrance : Entrance) (before : Option (List ℕ)) (status : ℕ)
+      (reply : Vec ℕ Global) (state : State S)
+      → WritesReply contents before (Refused status) reply.items state
+      → RepliesTo contents entrance before (Refuse status reply) state
+  replies_refuse entrance before status reply state writes =
+      record { verdict = Refused status; reply = reply.items; is = (refl, refl); writes = writes }
 
   -- the stream is gone
-  pub replies_gone : (before : Option (List ℕ)) (room : String Global) (access : Access) (reply : Vec ℕ Global) (state : State S) → state ≡ Gone → RepliesTo contents before (Accept room access reply) state
-  replies_gone before room access reply state gone = rw gone (record { verdict = Refused 503; reply = refusal_of 503; is = (refl, refl); writes = tt })
+  pub replies_gone : (before : Option (List ℕ)) (room : String Global) (access : Access)
+      (reply : Vec ℕ Global) (state : State S) → state ≡ Gone
+      → RepliesTo contents entry.Open before (Accept room access reply) state
+  replies_gone before room access reply state gone =
+      rw gone
+      (record { verdict = Refused 503; reply = refusal_of 503; is = (refl, refl); writes = tt })
 
-module _ {S : Type 0} (remaining contents : S → Option (List ℕ)) where
+module _ {S : Type 0} (remaining contents : S → Option (List ℕ)) (entrance : Entrance) where
   -- a turn that changes nothing
-  unchanged : (state : State S) → Replies remaining contents state state
+  unchanged : (state : State S) → Replies remaining contents entrance state state
   unchanged (Head stream bytes) = tt
   unchanged (Replying stream kept) = ([], refl, Appends-nil (written contents stream), refl)
   unchanged (Open socket s) = tt
   unchanged (Closing socket left) = tt
   unchanged Gone = tt
 
-  pub replies_unchanged : (old new : State S) → new ≡ old → Replies remaining contents old new
-  replies_unchanged old new same = subst (Replies remaining contents old) (sym same) (unchanged old)
+  pub replies_unchanged : (old new : State S) → new ≡ old
+      → Replies remaining contents entrance old new
+  replies_unchanged old new same =
+      subst (Replies remaining contents entrance old) (sym same) (unchanged old)
 
   -- ---- a link that became open has read nothing
 
-  fresh_writes : (before : Option (List ℕ)) (verdict : Verdict) (reply : List ℕ) (state : State S) → WritesReply contents before verdict reply state → BeginsFresh state
+  fresh_writes : (before : Option (List ℕ)) (verdict : Verdict) (reply : List ℕ) (state : State S)
+      → WritesReply contents before verdict reply state → BeginsFresh state
   fresh_writes before verdict reply (Open socket s) writes = writes.2
   fresh_writes before verdict reply (Head stream bytes) writes = tt
   fresh_writes before verdict reply (Replying stream kept) writes = tt
   fresh_writes before verdict reply (Closing socket left) writes = tt
   fresh_writes before verdict reply Gone writes = tt
 
-  pub passes_replying : (most : ℕ) (hub : Hub) (stream : CorkedWriter S) (kept : Reply) (new : State S) (before after : List Event) → Passes before after []
-      → WritesReply contents (written contents stream) kept.verdict kept.rest.items new → PassesTexts remaining most hub (Replying stream kept) new before after
-  passes_replying most hub stream kept new before after passes writes = (passes, fresh_writes (written contents stream) kept.verdict kept.rest.items new writes)
+  pub passes_replying : (most : ℕ) (hub : Hub) (stream : CorkedWriter S) (kept : HandshakeReply)
+      (new : State S) (before after : List Event) → Passes before after []
+      → WritesReply contents (written contents stream) kept.verdict kept.rest.items new
+      → PassesTexts remaining most hub (Replying stream kept) new before after
+  passes_replying most hub stream kept new before after passes writes =
+      (passes, fresh_writes (written contents stream) kept.verdict kept.rest.items new writes)
 
-  fresh_head : (stream : CorkedWriter S) (bytes : Vec ℕ Global) (state : State S) → Replies remaining contents (Head stream bytes) state → BeginsFresh state
+  fresh_head : (stream : CorkedWriter S) (bytes : Vec ℕ Global) (state : State S)
+      → Replies remaining contents entrance (Head stream bytes) state → BeginsFresh state
   fresh_head stream bytes (Open socket s) replies =
       let to = replies.replies in
       fresh_writes replies.before to.verdict to.reply (Open socket s) to.writes
@@ -116,18 +163,25 @@ module _ {S : Type 0} (remaining contents : S → Option (List ℕ)) where
   fresh_head stream bytes (Closing socket left) replies = tt
   fresh_head stream bytes Gone replies = tt
 
-  pub passes_listening : (most : ℕ) (hub : Hub) (stream : CorkedWriter S) (bytes : Vec ℕ Global) (new : State S) (before after : List Event) → Passes before after []
-      → Replies remaining contents (Head stream bytes) new → PassesTexts remaining most hub (Head stream bytes) new before after
-  passes_listening most hub stream bytes new before after passes replies = (passes, fresh_head stream bytes new replies)
+  pub passes_listening : (most : ℕ) (hub : Hub) (stream : CorkedWriter S) (bytes : Vec ℕ Global)
+      (new : State S) (before after : List Event) → Passes before after []
+      → Replies remaining contents entrance (Head stream bytes) new
+      → PassesTexts remaining most hub (Head stream bytes) new before after
+  passes_listening most hub stream bytes new before after passes replies =
+      (passes, fresh_head stream bytes new replies)
 
   -- ---- the reply to a head
 
   -- the answer to what was received and what one read took, and how it was replied to
-  pub replies_head : (stream now : CorkedWriter S) (bytes : Vec ℕ Global) (whole taken : List ℕ) (answer : Shake) (new : State S) → whole ≡ bytes.items ++ taken
-      → Consumes (remaining (stream_of stream)) (remaining (stream_of now)) taken → AnswersHead whole answer → AnswersNoHead whole answer
-      → RepliesTo contents (written contents now) answer new → Replies remaining contents (Head stream bytes) new
+  pub replies_head : (stream now : CorkedWriter S) (bytes : Vec ℕ Global) (whole taken : List ℕ)
+      (answer : Shake) (new : State S) → whole ≡ bytes.items ++ taken
+      → Consumes (remaining (stream_of stream)) (remaining (stream_of now)) taken
+      → AnswersHead whole answer → AnswersNoHead whole answer
+      → RepliesTo contents entrance (written contents now) answer new
+      → Replies remaining contents entrance (Head stream bytes) new
   replies_head stream now bytes whole taken answer new same first head no_head replies =
-      let found : RepliesToHead contents bytes.items (remaining (stream_of stream)) new = record {
+      let left = remaining (stream_of stream) in
+      let found : RepliesToHead contents entrance bytes.items left new = record {
         taken = taken;
         rest = remaining (stream_of now);
         first = first;

@@ -45,13 +45,16 @@ of_read c i error (inl outside) = of_outside error outside
 of_read c i error (inr (inl (x, at, e))) = as_frame error x e
 of_read c i error (inr (inr e)) = as_frame error _ e
 
-of_write : (step : Result Effect FrameError) (error : Error) → WriteFails step error → IsOfSocket error
+of_write : (step : Result Effect FrameError) (error : Error) → WriteFails step error
+    → IsOfSocket error
 of_write step error (inl full) = subst IsOfSocket (sym full) tt
 of_write step error (inr (inl outside)) = of_outside error outside
 of_write step error (inr (inr (x, at, e))) = as_frame error x e
 
 -- a read that failed
-pub read_error : {S : Type 0} (remaining : S → Option (List ℕ)) (old new : Socket S) (error : Error) → Reads remaining old new (Err error) → IsOfSocket error
+pub read_error : {S : Type 0} (remaining : S
+    → Option (List ℕ)) (old new : Socket S) (error : Error) → Reads remaining old new (Err error)
+    → IsOfSocket error
 read_error remaining old new error (ps, got, c, i, sent, runs, gave) = of_read c i error gave.1
 
 -- a flush, or a call that writes
@@ -59,6 +62,7 @@ pub flush_error : (r : Result (Unit {0}) Error) → IfErr r IsOutside → IfErr 
 flush_error (Ok u) h = tt
 flush_error (Err error) h = of_outside error h
 
-pub write_error : (step : Result Effect FrameError) (r : Result (Unit {0}) Error) → IfErr r (WriteFails step) → IfErr r IsOfSocket
+pub write_error : (step : Result Effect FrameError) (r : Result (Unit {0}) Error)
+    → IfErr r (WriteFails step) → IfErr r IsOfSocket
 write_error step (Ok u) h = tt
 write_error step (Err error) h = of_write step error h

@@ -15,10 +15,10 @@ is_draw _ = false
 
 -- how many of the events pass a text to the hub, and how many are draws
 abbrev pub receives : List Event → ℕ
-receives made = count_by is_receive made
+receives events = count_by is_receive events
 
 abbrev pub draws : List Event → ℕ
-draws made = count_by is_draw made
+draws events = count_by is_draw events
 
 -- the maximum number of texts that a turn passes to the hub
 abbrev pub texts_of : TurnPhase → ℕ
@@ -26,7 +26,8 @@ texts_of Read = 1
 texts_of Write = 0
 texts_of Both = 1
 
--- From `before` to `after` the list grows by at most `all` events, with at most `in_of` receives and `out_of` draws among them.
+-- From `before` to `after` the list grows by at most `all` events, with at most `in_of` receives
+-- and `out_of` draws among them.
 pub record Adds (all in_of out_of : ℕ) (before after : List Event) : Type 0 where
   pub events : length after ≤ length before + all
   pub receives_of : receives after ≤ receives before + in_of

@@ -23,9 +23,10 @@ pub record Accepts (bytes room : List ℕ) (access : Access) : Type 0 where
   pub no_head : AnswersNoHead bytes answer
   pub accepts : accepted answer ≡ Some (room, access)
 
--- Such a head is what was received in earlier turns, and what one read took then. If the bytes that the stream had left are known, it
--- took the first of them.
-pub record Asks (received : List ℕ) (left : Option (List ℕ)) (room : List ℕ) (access : Access) : Type 0 where
+-- Such a head is what was received in earlier turns, and what one read took then. If the bytes that
+-- the stream had left are known, it took the first of them.
+pub record Asks (received : List ℕ) (left : Option (List ℕ)) (room : List ℕ)
+    (access : Access) : Type 0 where
   pub taken : List ℕ
   pub rest : Option (List ℕ)
   pub first : Consumes left rest taken
@@ -51,10 +52,12 @@ module _ {S : Type 0} where
   -- the link waited for a head before, and has received what the stream gave since
   abbrev pub IsReceived : (S → Option (List ℕ)) → S → List ℕ → State S → Type 0
   IsReceived remaining now received (Head stream bytes) =
-      (taken : List ℕ) × Consumes (remaining (stream_of stream)) (remaining now) taken × (received ≡ bytes.items ++ taken)
+      (taken : List ℕ) × Consumes (remaining (stream_of stream)) (remaining now) taken
+      × (received ≡ bytes.items ++ taken)
   IsReceived remaining now received _ = ⊥
 
   -- a link that waits for a head after a turn
   abbrev pub Receives : (S → Option (List ℕ)) → State S → State S → Type 0
-  Receives remaining old (Head stream bytes) = IsReceived remaining (stream_of stream) bytes.items old
+  Receives remaining old (Head stream bytes) =
+      IsReceived remaining (stream_of stream) bytes.items old
   Receives remaining old _ = ⊤

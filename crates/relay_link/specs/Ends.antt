@@ -1,24 +1,29 @@
 -- Why a link ends, and how long one that is closing waits.
-use Rattle.std.specs.Prelude.{ℕ, ◌+◌, ◌≢◌}
+use Rattle.std.specs.Prelude.{ℕ, ◌+◌, ◌≢◌, Some, None, Result, Ok, Err}
+use Rattle.tungstenite.specs.Socket.{Socket}
 use Rattle.tungstenite.specs.declared.error.Error.{Error}
 use Rattle.tungstenite.specs.declared.error.Error.TheVariants.{ConnectionClosed, AlreadyClosed, Io, Capacity, Protocol, WriteBufferFull, Utf8, OutOfMemory}
 use Rattle.websocket.specs.declared.error.ProtocolError.{ProtocolError}
 use Rattle.websocket.specs.declared.error.ProtocolError.TheVariants.{ResetWithoutClosingHandshake}
-use Rattle.relay_link.specs.declared.cause.Cause.{Cause}
-use Rattle.relay_link.specs.declared.cause.Cause.TheVariants as cause
+use Rattle.relay_link.specs.declared.end_cause.EndCause.{EndCause}
+use Rattle.relay_link.specs.declared.end_cause.EndCause.TheVariants as cause
 use Rattle.relay_link.specs.declared.closing.TheConstants.{MAX_TURNS}
 use Rattle.relay_link.specs.declared.opened.Ending.{Ending}
 use Rattle.relay_link.specs.declared.opened.Ending.TheVariants as ending
 use Rattle.relay_link.specs.declared.state.State.{State}
-use Rattle.relay_link.specs.declared.state.State.TheVariants.{Closing}
+use Rattle.relay_link.specs.declared.corked_writer.CorkedWriter.{CorkedWriter}
+use Rattle.relay_link.specs.declared.state.State.TheVariants.{Open, Closing, Gone}
+use Rattle.relay_link.specs.declared.transition.Transition.{Transition}
 
--- bytes that end without a close frame are the other side's end; every other violation of the protocol breaks the link
-abbrev pub protocol_cause : ProtocolError → Cause
+-- bytes that end without a close frame are the other side's end; every other violation of the
+-- protocol breaks the link
+abbrev pub protocol_cause : ProtocolError → EndCause
 protocol_cause ResetWithoutClosingHandshake = cause.Peer
 protocol_cause _ = cause.Broken
 
--- the cause for an error of a socket; the last case is never met, since it has the errors of a handshake
-abbrev pub socket_cause : Error → Cause
+-- the cause for an error of a socket; the last case is never met, since it has the errors of a
+-- handshake
+abbrev pub socket_cause : Error → EndCause
 socket_cause ConnectionClosed = cause.Peer
 socket_cause AlreadyClosed = cause.Peer
 socket_cause (Protocol error) = protocol_cause error
@@ -30,14 +35,23 @@ socket_cause WriteBufferFull = cause.Full
 socket_cause _ = cause.Broken
 
 -- a link ends for this cause at once, and does not wait for a close in vain
-abbrev pub IsPrompt : Cause → Type 0
+abbrev pub IsPrompt : EndCause → Type 0
 IsPrompt given = given ≢ cause.Silent
 
-abbrev pub cause_of : Ending → Cause
+abbrev pub cause_of : Ending → EndCause
 cause_of (ending.Closing given) = given
 cause_of (ending.Gone given) = given
 
--- in how many turns, with this one, the other side may still answer a close; one more than all before the close is sent
+-- the state of an open link whose turn came to this, and the cause if it is no longer open
+abbrev pub settled : {S : Type 0} → Result (Unit {0}) Ending → Socket (CorkedWriter S) → ℕ
+    → Transition S
+settled (Ok u) socket s = record { state = Open socket s; cause = None }
+settled (Err (ending.Closing given)) socket s =
+    record { state = Closing socket MAX_TURNS; cause = Some given }
+settled (Err (ending.Gone given)) socket s = record { state = Gone; cause = Some given }
+
+-- in how many turns, with this one, the other side may still answer a close; one more than all
+-- before the close is sent
 abbrev pub turns_left : {S : Type 0} → State S → ℕ
 turns_left (Closing socket turns) = turns
 turns_left _ = MAX_TURNS + 1

@@ -13,10 +13,10 @@ use Rattle.relay_proto.specs.declared.access.Access.{Access}
 pub record Point : Type 0 where
   pub hub : State
   pub session : Option ℕ
-  pub made : List Event
+  pub events : List Event
 
 abbrev pub at : State → Option ℕ → List Event → Point
-at hub session made = record { hub = hub; session = session; made = made }
+at hub session events = record { hub = hub; session = session; events = events }
 
 -- the rooms that may be opened, by name, and with which access
 abbrev pub Rooms : Type 1
@@ -44,13 +44,14 @@ session_after session (Open room access) (Opened o) = Some o.session
 session_after session (Close s) answer = None
 session_after session event answer = session
 
--- The second point is reached from the first by the events that were appended. Each is the link's own, and is a step of the hub
--- with some answer, which is never out of memory. No other room is opened than one of these, and
--- with no other access.
+-- The second point is reached from the first by the events that were appended. Each is the link's
+-- own, and is a step of the hub with some answer, which is never out of memory. No other room is
+-- opened than one of these, and with no other access.
 pub data Follows (rooms : Rooms) : Point → Point → Type 0 where
   stays : {p : Point} → Follows rooms p p
-  makes : {p q : Point} {hub : State} (event : Event) (answer : Answer) → Follows rooms p q → IsOwn rooms q.session event → Step q.hub event answer hub
-      → Follows rooms p (at hub (session_after q.session event answer) (q.made ++ event ∷ []))
+  makes : {p q : Point} {hub : State} (event : Event) (answer : Answer) → Follows rooms p q
+      → IsOwn rooms q.session event → Step q.hub event answer hub
+      → Follows rooms p (at hub (session_after q.session event answer) (q.events ++ event ∷ []))
 
 -- a log with the entries of the events between two points
 abbrev pub with_events : {rooms : Rooms} {p q : Point} → Follows rooms p q → Log → Log

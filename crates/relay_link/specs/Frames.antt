@@ -21,11 +21,14 @@ text_frames [] = []
 text_frames (text ∷ texts) = text_frame text ++ text_frames texts
 
 module _ {S : Type 0} where
-  -- all that was framed on a socket so far, where the bytes of its stream are known: those, and then what waits
+  -- all that was framed on a socket so far, where the bytes of its stream are known: those, and
+  -- then what waits
   abbrev pub framed : (S → Option (List ℕ)) → Socket (CorkedWriter S) → Option (List ℕ)
   framed contents socket = append_known (written contents socket.stream) socket.output
 
-  -- A call framed these bytes on the socket: all of them, and nothing else, behind what was framed before. It read nothing.
-  pub record Frames (contents : S → Option (List ℕ)) (old new : Socket (CorkedWriter S)) (frames : List ℕ) : Type 0 where
+  -- A call framed these bytes on the socket: all of them, and nothing else, behind what was framed
+  -- before. It read nothing.
+  pub record Frames (contents : S → Option (List ℕ)) (old new : Socket (CorkedWriter S))
+      (frames : List ℕ) : Type 0 where
     pub reads_on : ReadsOn old new
     pub bytes : old.conn.role ≡ Server → Appends (framed contents old) (framed contents new) frames

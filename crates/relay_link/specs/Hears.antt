@@ -1,5 +1,5 @@
 -- What a link hears in a turn: the text that it reads, which it passes to the hub in the same turn.
-use Rattle.std.specs.Prelude.{◌≡◌, ◌⊎◌, ⊤, ℕ, zero, suc, List, [], ◌∷◌, ◌++◌, if◌then◌else◌, Option, None, Some, option_and_then, Result, Ok, Err}
+use Rattle.std.specs.Prelude.{◌≡◌, ◌⊎◌, ⊤, ℕ, Bool, true, false, zero, suc, List, [], ◌∷◌, ◌++◌, if◌then◌else◌, Option, None, Some, option_and_then, Result, Ok, Err}
 use Rattle.relay_hub.specs.Queries.{may_hear}
 use Rattle.relay_hub.specs.State.{State as Hub, session_of}
 use Rattle.relay_hub.specs.declared.event.Event.{Event}
@@ -7,7 +7,7 @@ use Rattle.relay_hub.specs.declared.event.Event.TheVariants.{Receive}
 use Rattle.tungstenite.specs.Socket.{Socket, Reads, IsFresh}
 use Rattle.tungstenite.specs.declared.error.Error.{Error}
 use Rattle.tungstenite.specs.declared.message.Message.{Message}
-use Rattle.tungstenite.specs.declared.message.Message.TheVariants.{Text}
+use Rattle.tungstenite.specs.declared.message.Message.TheVariants.{Text, Binary, Close}
 use Rattle.websocket.specs.declared.protocol.config.Role.TheVariants.{Server}
 use Rattle.relay_link.specs.Stream.{stream_of}
 use Rattle.relay_link.specs.declared.corked_writer.CorkedWriter.{CorkedWriter}
@@ -22,7 +22,7 @@ received_by event = []
 -- the texts that events pass to the hub, in order
 abbrev pub received : List Event → List (List ℕ)
 received [] = []
-received (event ∷ made) = received_by event ++ received made
+received (event ∷ events) = received_by event ++ received events
 
 -- from one list of events to another, these texts were passed to the hub
 abbrev pub Passes : List Event → List Event → List (List ℕ) → Type 0
@@ -30,7 +30,8 @@ Passes before after texts = received after ≡ received before ++ texts
 
 -- How many of so many messages a link may read: none unless the hub may hear its session.
 abbrev pub allowed_reads : Hub → Option ℕ → ℕ → ℕ
-allowed_reads hub session most = if may_hear (option_and_then (session_of hub) session) then most else 0
+allowed_reads hub session most =
+    if may_hear (option_and_then (session_of hub) session) then most else 0
 
 -- the text of a message, if there is one and it is a text message (RFC 6455, section 5.6)
 abbrev pub text_of : Option Message → List (List ℕ)
@@ -42,20 +43,39 @@ abbrev pub message_of : Result Message Error → Option Message
 message_of (Ok message) = Some message
 message_of (Err error) = None
 
+-- whether a message ends a link: a close, or a binary message, which a relay does not take
+abbrev pub ends_link : Option Message → Bool
+ends_link (Some (Close frame)) = true
+ends_link (Some (Binary bytes)) = true
+ends_link _ = false
+
 module _ {S : Type 0} where
-  -- the second socket reads on where the first would: what was read before and is not yet part of a message is the same
+  -- the second socket reads on where the first would: what was read before and is not yet part of a
+  -- message is the same
   pub record ReadsOn (old new : Socket (CorkedWriter S)) : Type 0 where
     pub conn : new.conn ≡ old.conn
     pub input : new.input ≡ old.input
 
-  -- The socket read once, with whatever outcome, and found these texts: that of the message, if it is a text message. `Reads` says which
-  -- message that is: the next one in the bytes that were read before and those that the stream gave, frame after frame.
-  abbrev pub Finds : (S → Option (List ℕ)) → Socket (CorkedWriter S) → Socket (CorkedWriter S) → List (List ℕ) → Type 0
+  -- The socket read once, with whatever outcome, and found this message, or none. `Reads` says
+  -- which message that is: the next one in the bytes that were read before and those that the
+  -- stream gave, frame after frame.
+  abbrev pub ReadsOnce : (S → Option (List ℕ)) → Socket (CorkedWriter S)
+      → Socket (CorkedWriter S) → Option Message → Type 0
+  ReadsOnce remaining old new found =
+      (outcome : Result Message Error) × Reads (λ w. remaining (stream_of w)) old new outcome
+      × (found ≡ message_of outcome)
+
+  -- It read once, and found these texts: that of the message, if it is a text message. It found no
+  -- message that ends a link.
+  abbrev pub Finds : (S → Option (List ℕ)) → Socket (CorkedWriter S) → Socket (CorkedWriter S)
+      → List (List ℕ) → Type 0
   Finds remaining old new texts =
-      (outcome : Result Message Error) × Reads (λ w. remaining (stream_of w)) old new outcome × (texts ≡ text_of (message_of outcome))
+      (found : Option Message) × ReadsOnce remaining old new found
+      × (ends_link found ≡ false) × (texts ≡ text_of found)
 
   -- it read nothing
-  abbrev pub FindsNothing : Socket (CorkedWriter S) → Socket (CorkedWriter S) → List (List ℕ) → Type 0
+  abbrev pub FindsNothing : Socket (CorkedWriter S) → Socket (CorkedWriter S) → List (List ℕ)
+      → Type 0
   FindsNothing old new texts = (new ≡ old) × (texts ≡ [])
 
   -- The socket of an open link read once, or not at all, and the link passes on the texts that the
@@ -70,8 +90,8 @@ module _ {S : Type 0} where
   Hears remaining zero old new texts = FindsNothing old new texts
   Hears remaining (suc n) old new texts = HearsOnce remaining old new texts
 
-  -- from one list of events to another, the texts were passed to the hub that the link passes on after at most so many reads: these, and no
-  -- others
+  -- from one list of events to another, the texts were passed to the hub that the link passes on
+  -- after at most so many reads: these, and no others
   pub record PassesOn (remaining : S → Option (List ℕ)) (most : ℕ)
       (socket : Socket (CorkedWriter S)) (before after : List Event) : Type 0 where
     pub texts : List (List ℕ)
@@ -100,15 +120,15 @@ module _ {S : Type 0} where
   BeginsFresh (state.Open socket s) = HasReadNothing socket
   BeginsFresh _ = ⊤
 
-  -- An open link reads on where it stopped, passes the texts that it reads to the hub, and no others, in the order in which it reads them,
-  -- and stops where its next turn goes on.
+  -- An open link reads on where it stopped, passes the texts that it reads to the hub, and no
+  -- others, in the order in which it reads them, and stops where its next turn goes on.
   pub record ReadsTexts (remaining : S → Option (List ℕ)) (most : ℕ)
       (socket : Socket (CorkedWriter S)) (new : State S) (before after : List Event) : Type 0 where
     pub sends : SendsAndPassesOn remaining most socket before after
     pub goes_on : GoesOn sends.passes_on.heard new
 
-  -- The same of any link. One that is open reads nothing if the hub before the turn may not hear its session; one that is not open passes no
-  -- text.
+  -- The same of any link. One that is open reads nothing if the hub before the turn may not hear
+  -- its session; one that is not open passes no text.
   abbrev pub PassesTexts : (S → Option (List ℕ)) → ℕ → Hub → State S → State S → List Event
       → List Event → Type 0
   PassesTexts remaining most hub (state.Open socket s) new before after =

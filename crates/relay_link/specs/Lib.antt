@@ -3,6 +3,7 @@ pub mod Stream
 pub mod Asks
 pub mod Adds
 pub mod Stage
+pub mod Entrance
 pub mod SocketError
 pub mod Turns
 pub mod Ends
@@ -11,3 +12,5 @@ pub mod Hears
 pub mod Frames
 pub mod Tells
 pub mod Replies
+pub mod BinaryAnswered
+pub mod Visits

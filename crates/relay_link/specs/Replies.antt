@@ -1,47 +1,57 @@
 -- What a link writes of its reply to a handshake.
 use Rattle.std.specs.Prelude.{◌≡◌, ℕ, List, ◌++◌, Option, ⊤}
 use Rattle.std.specs.Io.KnownBytes.{Appends, Consumes}
-use Rattle.relay_shake.specs.Replies.{refusal_of}
 use Rattle.relay_shake.specs.Shaken.{AnswersHead, AnswersNoHead}
 use Rattle.relay_shake.specs.declared.answer.Shake.{Shake}
 use Rattle.relay_shake.specs.declared.answer.Shake.TheVariants.{More, Accept, Refuse}
+use Rattle.relay_link.specs.Entrance.{unserved_reply}
 use Rattle.relay_link.specs.Hears.{HasReadNothing}
 use Rattle.relay_link.specs.Stream.{stream_of, written}
-use Rattle.relay_link.specs.declared.reply.Verdict.{Verdict}
-use Rattle.relay_link.specs.declared.reply.Verdict.TheVariants.{Entered, Refused}
+use Rattle.relay_link.specs.declared.entrance.Entrance.{Entrance}
+use Rattle.relay_link.specs.declared.entrance.Entrance.TheVariants as entry
+use Rattle.relay_link.specs.declared.handshake_reply.Verdict.{Verdict}
+use Rattle.relay_link.specs.declared.handshake_reply.Verdict.TheVariants.{Entered, Refused}
 use Rattle.relay_link.specs.declared.state.State.{State}
 use Rattle.relay_link.specs.declared.state.State.TheVariants.{Head, Replying, Open}
 
--- The bytes of the reply to an answer, and what it reports. A head that is accepted gets the reply of the handshake if the hub opened a
--- session, and 503 if it opened none.
-abbrev pub IsReply : Shake → Verdict → List ℕ → Type 0
-IsReply (Accept room access reply) (Entered s) bytes = bytes ≡ reply.items
-IsReply (Accept room access reply) (Refused status) bytes = (status ≡ 503) × (bytes ≡ refusal_of 503)
-IsReply (Refuse status reply) (Refused given) bytes = (given ≡ status) × (bytes ≡ reply.items)
-IsReply (Refuse status reply) (Entered s) bytes = ⊥
-IsReply More verdict bytes = ⊥
+-- The bytes of the reply to an answer, and what it reports. A head that is accepted gets the reply
+-- of the handshake if clients may enter and the hub opened a session, and 503 if none was opened.
+abbrev pub IsReply : Entrance → Shake → Verdict → List ℕ → Type 0
+IsReply entrance (Accept room access reply) (Entered s) bytes =
+    (entrance ≡ entry.Open) × (bytes ≡ reply.items)
+IsReply entrance (Accept room access reply) (Refused status) bytes =
+    (status ≡ 503) × (bytes ≡ unserved_reply entrance)
+IsReply entrance (Refuse status reply) (Refused given) bytes =
+    (given ≡ status) × (bytes ≡ reply.items)
+IsReply entrance (Refuse status reply) (Entered s) bytes = ⊥
+IsReply entrance More verdict bytes = ⊥
 
 module _ {S : Type 0} where
   -- A link wrote a front part of the reply behind what its stream held before, and keeps the rest.
   -- If it is open, it wrote all of the reply, and its WebSocket has read nothing and has nothing to
   -- send.
-  abbrev pub WritesReply : (S → Option (List ℕ)) → Option (List ℕ) → Verdict → List ℕ → State S → Type 0
+  abbrev pub WritesReply : (S → Option (List ℕ)) → Option (List ℕ) → Verdict → List ℕ → State S
+      → Type 0
   WritesReply contents before verdict reply (Replying stream kept) =
-      (sent : List ℕ) × (reply ≡ sent ++ kept.rest.items) × Appends before (written contents stream) sent × (kept.verdict ≡ verdict)
+      (sent : List ℕ) × (reply ≡ sent ++ kept.rest.items)
+      × Appends before (written contents stream) sent × (kept.verdict ≡ verdict)
   WritesReply contents before verdict reply (Open socket s) =
       Appends before (written contents socket.stream) reply × (verdict ≡ Entered s)
       × HasReadNothing socket
   WritesReply contents before verdict reply _ = ⊤
 
   -- a reply to the answer, which may have been written in part
-  pub record RepliesTo (contents : S → Option (List ℕ)) (before : Option (List ℕ)) (answer : Shake) (new : State S) : Type 0 where
+  pub record RepliesTo (contents : S → Option (List ℕ)) (entrance : Entrance)
+      (before : Option (List ℕ)) (answer : Shake) (new : State S) : Type 0 where
     pub verdict : Verdict
     pub reply : List ℕ
-    pub is : IsReply answer verdict reply
+    pub is : IsReply entrance answer verdict reply
     pub writes : WritesReply contents before verdict reply new
 
-  -- The reply to a head: by the definition of the handshake, the answer to what was received in earlier turns and what one read took then.
-  pub record RepliesToHead (contents : S → Option (List ℕ)) (received : List ℕ) (left : Option (List ℕ)) (new : State S) : Type 0 where
+  -- The reply to a head: by the definition of the handshake, the answer to what was received in
+  -- earlier turns and what one read took then.
+  pub record RepliesToHead (contents : S → Option (List ℕ)) (entrance : Entrance)
+      (received : List ℕ) (left : Option (List ℕ)) (new : State S) : Type 0 where
     pub taken : List ℕ
     pub rest : Option (List ℕ)
     pub first : Consumes left rest taken
@@ -49,16 +59,21 @@ module _ {S : Type 0} where
     pub head : AnswersHead (received ++ taken) answer
     pub no_head : AnswersNoHead (received ++ taken) answer
     pub before : Option (List ℕ)
-    pub replies : RepliesTo contents before answer new
+    pub replies : RepliesTo contents entrance before answer new
 
-  -- a link that replies, or that is open, has a reply; a link that is gone has no stream to speak of
+  -- a link that replies, or that is open, has a reply; a link that is gone has no stream to speak
+  -- of
   abbrev pub IfReplies : State S → Type 0 → Type 0
   IfReplies (Replying stream kept) P = P
   IfReplies (Open socket s) P = P
   IfReplies _ P = ⊤
 
-  -- What a turn writes of a reply. A link that waits for its head begins one, and a link that replies goes on with what it kept.
-  abbrev pub Replies : (S → Option (List ℕ)) → (S → Option (List ℕ)) → State S → State S → Type 0
-  Replies remaining contents (Head stream bytes) new = IfReplies new (RepliesToHead contents bytes.items (remaining (stream_of stream)) new)
-  Replies remaining contents (Replying stream kept) new = WritesReply contents (written contents stream) kept.verdict kept.rest.items new
-  Replies remaining contents _ new = ⊤
+  -- What a turn writes of a reply. A link that waits for its head begins one, and a link that
+  -- replies goes on with what it kept.
+  abbrev pub Replies : (S → Option (List ℕ)) → (S → Option (List ℕ)) → Entrance → State S
+      → State S → Type 0
+  Replies remaining contents entrance (Head stream bytes) new =
+      IfReplies new (RepliesToHead contents entrance bytes.items (remaining (stream_of stream)) new)
+  Replies remaining contents entrance (Replying stream kept) new =
+      WritesReply contents (written contents stream) kept.verdict kept.rest.items new
+  Replies remaining contents entrance _ new = ⊤

@@ -1,10 +1,10 @@
 -- The stage and the session of a link.
 use Rattle.std.specs.Prelude.{ℕ, ◌≤◌, ◌&&◌, ◌==◌, length, Bool, true, false, not, Option, Some, None}
 use Rattle.std.specs.Io.Buffered.{writer_buffer, writer_inner}
-use Rattle.relay_link.specs.declared.cause.Cause.{Cause}
-use Rattle.relay_link.specs.declared.cause.Cause.TheVariants as cause
-use Rattle.relay_link.specs.declared.reply.Verdict.{Verdict}
-use Rattle.relay_link.specs.declared.reply.Verdict.TheVariants.{Entered, Refused}
+use Rattle.relay_link.specs.declared.end_cause.EndCause.{EndCause}
+use Rattle.relay_link.specs.declared.end_cause.EndCause.TheVariants as cause
+use Rattle.relay_link.specs.declared.handshake_reply.Verdict.{Verdict}
+use Rattle.relay_link.specs.declared.handshake_reply.Verdict.TheVariants.{Entered, Refused}
 use Rattle.relay_link.specs.declared.stage.Stage.{Stage}
 use Rattle.relay_link.specs.declared.stage.Stage.TheVariants as stage
 use Rattle.relay_link.specs.declared.state.State.{State}
@@ -28,7 +28,8 @@ module _ {S : Type 0} where
   session_of (Open socket s) = Some s
   session_of _ = None
 
-  -- nothing has asked for another turn: there is no work until the stream is ready or a message waits for the session
+  -- nothing has asked for another turn: there is no work until the stream is ready or a message
+  -- waits for the session
   abbrev pub is_idle : State S → Bool
   is_idle (Head stream bytes) = not (writer_inner stream.writer).wants_poll
   is_idle (Replying stream reply) = not (writer_inner stream.writer).wants_poll
@@ -53,8 +54,8 @@ place stage.Gone = 3
 abbrev pub IsForward : Stage → Stage → Type 0
 IsForward old new = place old ≤ place new
 
--- whether a link that passes from the first stage to the second has a cause: a handshake that ends without opening it, an open
--- link that becomes closing or gone, a closing link that becomes gone
+-- whether a link that passes from the first stage to the second has a cause: a handshake that ends
+-- without opening it, an open link that becomes closing or gone, a closing link that becomes gone
 abbrev pub leaves : Stage → Stage → Bool
 leaves stage.Head stage.Gone = true
 leaves stage.Open stage.Closing = true
@@ -69,6 +70,6 @@ is_over stage.Gone = true
 is_over _ = false
 
 -- the cause of an end: none if the link was already gone
-abbrev pub ended : Stage → Option Cause
+abbrev pub ended : Stage → Option EndCause
 ended stage.Gone = None
 ended _ = Some cause.Ended

@@ -7,6 +7,7 @@ module _ {S : Type 0} where
   abbrev pub stream_of : CorkedWriter S → S
   stream_of w = (writer_inner w.writer).stream
 
-  -- the bytes that the stream holds, where those are known, and then the output that is buffered for it
+  -- the bytes that the stream holds, where those are known, and then the output that is buffered
+  -- for it
   abbrev pub written : (S → Option (List ℕ)) → CorkedWriter S → Option (List ℕ)
   written contents w = writer_contents (λ n. contents n.stream) w.writer

@@ -20,9 +20,10 @@ pub record Drew (texts : List (List ℕ)) (p q : Point) : Type 0 where
   pub utf8 : AllByRecursion IsUtf8 texts
 
 module _ {S : Type 0} where
-  -- Between two points, and in the calls on the socket beside them, each text that was drawn was framed: all of them, whole, in order, and
-  -- nothing else. Each is UTF-8.
-  pub record Tells (contents : S → Option (List ℕ)) (p q : Point) (old new : Socket (CorkedWriter S)) : Type 0 where
+  -- Between two points, and in the calls on the socket beside them, each text that was drawn was
+  -- framed: all of them, whole, in order, and nothing else. Each is UTF-8.
+  pub record Tells (contents : S → Option (List ℕ)) (p q : Point)
+      (old new : Socket (CorkedWriter S)) : Type 0 where
     pub follows : Follows no_room p q
     pub utf8 : AllByRecursion IsUtf8 (drawn follows)
     pub frames : Frames contents old new (text_frames (drawn follows))
@@ -39,7 +40,7 @@ module _ {S : Type 0} where
   pub record Exchanges (remaining contents : S → Option (List ℕ)) (most : ℕ) (p q : Point)
       (old new : Socket (CorkedWriter S)) : Type 0 where
     pub heard : Socket (CorkedWriter S)
-    pub hearing : Hearing remaining (allowed_reads p.hub p.session most) p.made q.made old heard
+    pub hearing : Hearing remaining (allowed_reads p.hub p.session most) p.events q.events old heard
     pub tells : Tells contents p q heard new
 
   -- the same of a link that may have something to send, which goes first
@@ -54,24 +55,26 @@ module _ {S : Type 0} where
   IsServing (Open socket s) = Serves socket.conn
   IsServing _ = ⊤
 
-  -- a relation of an open link before a turn, which begins at the point, to it after the turn, if the turn leaves it open
+  -- a relation of an open link before a turn, which begins at the point, to it after the turn, if
+  -- the turn leaves it open
   abbrev pub IfOpen : (Point → Point → Socket (CorkedWriter S) → Socket (CorkedWriter S) → Type 0)
       → Point → Socket (CorkedWriter S) → Hub → List Event → State S → Type 0
-  IfOpen P p old next made (Open new t) = P p (at next (Some t) made) old new
-  IfOpen P p old next made _ = ⊤
+  IfOpen P p old next events (Open new t) = P p (at next (Some t) events) old new
+  IfOpen P p old next events _ = ⊤
 
   -- the same of any link: what it says of one that a turn finds open and leaves open
   abbrev pub WhileOpen :
       (Point → Point → Socket (CorkedWriter S) → Socket (CorkedWriter S) → Type 0)
       → Hub → List Event → State S → Hub → List Event → State S → Type 0
-  WhileOpen P hub before (Open old s) next made new =
-      IfOpen P (at hub (Some s) before) old next made new
-  WhileOpen P hub before _ next made new = ⊤
+  WhileOpen P hub before (Open old s) next events new =
+      IfOpen P (at hub (Some s) before) old next events new
+  WhileOpen P hub before _ next events new = ⊤
 
   -- ---- what a public turn says
 
-  -- The bytes that were framed before, and the frames of the texts that the events drew, each whole and in order: these, and nothing else,
-  -- are what is framed now. Each of the texts is UTF-8. Nothing was read.
+  -- The bytes that were framed before, and the frames of the texts that the events drew, each whole
+  -- and in order: these, and nothing else, are what is framed now. Each of the texts is UTF-8.
+  -- Nothing was read.
   pub record Told (contents : S → Option (List ℕ)) (p q : Point) (old new : Socket (CorkedWriter S))
       : Type 0 where
     pub follows : Follows no_room p q
@@ -79,16 +82,16 @@ module _ {S : Type 0} where
     pub frames : Appends (framed contents old) (framed contents new) (text_frames (drawn follows))
     pub reads_on : ReadsOn old new
 
-  -- The same of a turn that may hear. What was framed before it reads stays, and what the read itself sends is as the WebSocket says of it.
-  -- The text that the read finds is what the events pass to the hub; the next turn reads on behind
-  -- it.
+  -- The same of a turn that may hear. What was framed before it reads stays, and what the read
+  -- itself sends is as the WebSocket says of it. The text that the read finds is what the events
+  -- pass to the hub; the next turn reads on behind it.
   pub record Answered (remaining contents : S → Option (List ℕ)) (p q : Point)
       (old new : Socket (CorkedWriter S)) : Type 0 where
     pub ready : Socket (CorkedWriter S)
     pub sent : Appends (framed contents old) (framed contents ready) []
     pub reads_on : ReadsOn old ready
     pub texts : List (List ℕ)
-    pub passes : Passes p.made q.made texts
+    pub passes : Passes p.events q.events texts
     pub heard : Socket (CorkedWriter S)
     pub hears : Hears remaining (allowed_reads p.hub p.session 1) ready heard texts
     pub told : Told contents p q heard new

@@ -1,12 +1,13 @@
-//! The turn of a closing link, whose session is closed and which waits for the other side's close frame.
+//! The turn of a closing link, whose session is closed and which waits for the other side's close
+//! frame.
 ghost use Rattle.std.specs.Prelude.{◌≡◌, ◌+◌, ◌≤◌, is_some, Some, None, IfErr};
 ghost use Rattle.relay_link.specs.Ends.{IsPrompt, turns_left};
 ghost use Rattle.relay_link.specs.Stage.{leaves, stage_of, session_of, IsForward};
 ghost use Rattle.relay_link.specs.Tells.{IsServing};
-ghost use Rattle.relay_link.specs.declared.cause.Cause.TheVariants.{Silent};
+ghost use Rattle.relay_link.specs.declared.end_cause.EndCause.TheVariants.{Silent};
 ghost use Rattle.relay_link.specs.declared.stage.Stage.TheVariants.{Closing};
 
-use crate::cause::Cause;
+use crate::end_cause::EndCause;
 use crate::socket::{Socket, flush, read};
 use crate::state::State;
 use crate::transition::Transition;
@@ -15,7 +16,8 @@ use std::io::{Read, Write};
 /// The number of turns in which the other side may answer.
 pub(crate) const MAX_TURNS: u64 = 16;
 
-/// A turn of a closing link: it reads one message and drops it. `turns` turns are left, including this one.
+/// A turn of a closing link: it reads one message and drops it. `turns` turns are left, including
+/// this one.
 pub(crate) fn turn<S: Read + Write + Drop>(mut socket: Socket<S>, turns: u64) -> Transition<S>
     ensures session { session_of result.state ≡ None }
     ensures cause { is_some result.cause ≡ leaves Closing (stage_of result.state) }
@@ -34,13 +36,13 @@ pub(crate) fn turn<S: Read + Write + Drop>(mut socket: Socket<S>, turns: u64) ->
             turns: turns - 1,
         })
     } else {
-        Transition::gone(Cause::Silent)
+        Transition::gone(EndCause::Silent)
     }
 }
 
-/// Sends pending output, then reads one message and drops it. The flush behind a message lets the stream know that another turn was
-/// asked for.
-fn let_go<S: Read + Write + Drop>(socket: &mut Socket<S>) -> Result<(), Cause>
+/// Sends pending output, then reads one message and drops it. The flush behind a message lets the
+/// stream know that another turn was asked for.
+fn let_go<S: Read + Write + Drop>(socket: &mut Socket<S>) -> Result<(), EndCause>
     ensures { IfErr result IsPrompt }
 {
     if socket.get_ref().has_output() {

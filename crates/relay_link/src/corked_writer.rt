@@ -8,7 +8,8 @@ use std::alloc::{AllocError, Global};
 use std::cell::Cell;
 use std::io::{BufWriter, Read, Result, Write};
 
-/// The size of an output buffer, in bytes: enough for a reply and a few short patches that are written together.
+/// The size of an output buffer, in bytes: enough for a reply and a few short patches that are
+/// written together.
 const OUTPUT_BUFFER: usize = 640;
 
 /// What a link has asked of its stream since the stream's last call.
@@ -20,11 +21,12 @@ struct Orders {
     holds: bool,
 }
 
-/// A non-blocking stream behind an output buffer. While it is corked, a flush leaves the output in the buffer; output that exceeds
-/// the buffer is written all the same.
+/// A non-blocking stream behind an output buffer. While it is corked, a flush leaves the output in
+/// the buffer; output that exceeds the buffer is written all the same.
 ///
-/// What the link asks of it takes effect at its next call, a flush at the latest. A link can ask while a WebSocket owns the writer, by
-/// a shared reference: a `&mut` out of the socket (`get_mut`) has no contract, and what is known of the connection would be lost.
+/// What the link asks of it takes effect at its next call, a flush at the latest. A link can ask
+/// while a WebSocket owns the writer, by a shared reference: a `&mut` out of the socket (`get_mut`)
+/// has no contract, and what is known of the connection would be lost.
 #[derive(Drop)]
 pub(crate) struct CorkedWriter<S: Write + Drop> {
     writer: BufWriter<NonBlocking<S>>,
@@ -66,7 +68,8 @@ impl<S: Write + Drop> CorkedWriter<S> {
         self.orders.set(orders);
     }
 
-    /// Notes that a message of at least `len` bytes was taken off what was read. Asks for another turn if any may be left.
+    /// Notes that a message of at least `len` bytes was taken off what was read. Asks for another
+    /// turn if any may be left.
     pub(crate) fn note_taken(&self, len: usize) {
         let mut orders = self.orders.get();
         orders.taken = orders.taken.saturating_add(len);

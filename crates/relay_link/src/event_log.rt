@@ -15,6 +15,8 @@ pub(crate) struct EventLog {
     drawn: u64,
     /// Why the hub opened no session, if it was asked for one.
     fault: Cell<Option<OpenFault>>,
+    /// The place of the room of the session that it opened.
+    place: Cell<Option<usize>>,
     /// Whether memory was refused for a text that was to be drawn.
     lacks_memory: bool,
 }
@@ -26,9 +28,9 @@ impl Model for EventLog {
 
     ghost Value = { List Event };
 
-    ghost view = { λ made. made.events.items };
+    ghost view = { λ log. log.events.items };
 
-    ghost invariant = { λ made. MAX_EVENTS ≤ vec_capacity made.events };
+    ghost invariant = { λ log. MAX_EVENTS ≤ vec_capacity log.events };
 }
 
 impl EventLog {
@@ -37,12 +39,13 @@ impl EventLog {
 
     /// An empty log, with capacity for the events of a turn.
     pub(crate) fn new(alloc: Global) -> Result<EventLog, AllocError>
-        ensures { IfOk result (λ made. made ≡ []) }
+        ensures { IfOk result (λ events. events ≡ []) }
     {
         Ok(EventLog {
             events: Vec::with_capacity(alloc, MAX_EVENTS)?,
             drawn: 0,
             fault: Cell::new(None),
+            place: Cell::new(None),
             lacks_memory: false,
         })
     }
@@ -79,6 +82,16 @@ impl EventLog {
     /// Why the hub opened no session, if it was asked for one.
     pub(crate) fn fault(&self) -> Option<OpenFault> {
         self.fault.get()
+    }
+
+    /// Notes the place of the room of the session that the hub opened. Allocates nothing.
+    pub(crate) fn note_place(&self, place: Option<usize>) {
+        self.place.set(place);
+    }
+
+    /// The place of the room of the session that the hub opened, if it opened one.
+    pub(crate) fn place(&self) -> Option<usize> {
+        self.place.get()
     }
 
     /// Notes that memory was refused for a text that was to be drawn. Allocates nothing.

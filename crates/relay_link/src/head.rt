@@ -2,31 +2,36 @@
 ghost use Rattle.std.specs.Prelude.{◌≡◌, ◌≢◌, ◌+◌, ◌≤◌, length, [], is_some, Some, None, string_bytes, false};
 ghost use Rattle.relay_link.specs.Adds.{Adds};
 ghost use Rattle.relay_link.specs.Asks.{Asks, Receives, awaits_head};
+ghost use Rattle.relay_link.specs.Entrance.{OpensNone};
 ghost use Rattle.relay_link.specs.Ends.{turns_left};
 ghost use Rattle.relay_link.specs.Follows.{Follows, no_room, is_room, at};
 ghost use Rattle.relay_link.specs.Stage.{entered, leaves, stage_of, session_of};
 ghost use Rattle.relay_link.specs.Hears.{Passes};
 ghost use Rattle.relay_link.specs.Replies.{Replies, RepliesTo, WritesReply};
 ghost use Rattle.relay_link.specs.Stream.{stream_of, written};
+ghost use Rattle.relay_shake.specs.Replies.{closed_refusal};
 ghost use Rattle.relay_shake.specs.declared.answer.Shake.TheVariants.{Accept};
 ghost use Rattle.relay_link.specs.Tells.{IsServing};
-ghost use Rattle.relay_link.specs.declared.cause.Cause.TheVariants.{Silent};
+ghost use Rattle.relay_link.specs.declared.end_cause.EndCause.TheVariants.{Silent};
+ghost use Rattle.relay_link.specs.declared.entrance.Entrance.TheVariants as entry;
+ghost use Rattle.relay_link.specs.declared.handshake_reply.Verdict.TheVariants.{Refused};
 ghost use Rattle.relay_link.specs.declared.closing.TheConstants.{MAX_TURNS};
 ghost use Rattle.relay_link.specs.declared.event_log.TheConstants.{MAX_EVENTS};
 ghost use Rattle.relay_link.specs.declared.stage.Stage.TheVariants.{Head};
 
-use crate::cause::Cause;
 use crate::corked_writer::CorkedWriter;
+use crate::end_cause::EndCause;
+use crate::entrance::Entrance;
 use crate::event_log::EventLog;
 use crate::events;
+use crate::handshake_reply::{HandshakeReply, Verdict};
 use crate::non_blocking::is_nothing_now;
-use crate::reply::{Reply, Verdict};
 use crate::socket::socket_on;
 use crate::state::State;
 use crate::transition::Transition;
 use relay_hub::Hub;
 use relay_proto::Access;
-use relay_shake::{Shake, refusal, shake};
+use relay_shake::{Shake, closed_refusal, refusal, shake};
 use std::alloc::Global;
 use std::io::{Read, Write};
 
@@ -34,20 +39,25 @@ use std::io::{Read, Write};
 pub(crate) const MAX_READ: usize = 4_096;
 
 /// Reads once, and checks the bytes received so far as a handshake.
-#[tactic(auto, using(crate::proofs::Following::follows_same, crate::proofs::Following::follows_none, crate::proofs::Heads::received_past, crate::proofs::Hearing::passes_same))]
+#[tactic(auto, using(crate::proofs::Following::follows_same, crate::proofs::Following::follows_none, crate::proofs::Following::opens_none, crate::proofs::Heads::received_past, crate::proofs::Hearing::passes_same))]
 pub(crate) fn listen<S: Read + Write + Drop>(
     alloc: Global,
     mut stream: CorkedWriter<S>,
     mut bytes: Vec<u8>,
+    entrance: Entrance,
     hub: &mut Hub,
-    made: &mut EventLog,
+    events: &mut EventLog,
 ) -> Transition<S>
-    requires { length made.old + 2 ≤ MAX_EVENTS }
-    ensures follows { Follows (Asks bytes.items (S.remaining (stream_of stream))) (at hub.old None made.old) (at hub.new (session_of result.state) made.new) }
+    requires { length events.old + 2 ≤ MAX_EVENTS }
+    ensures follows { Follows (Asks bytes.items (S.remaining (stream_of stream)))
+        (at hub.old None events.old) (at hub.new (session_of result.state) events.new) }
     ensures received { Receives S.remaining (State.Head stream bytes) result.state }
-    ensures replies { Replies S.remaining S.contents (State.Head stream bytes) result.state }
-    ensures passes { Passes made.old made.new [] }
-    ensures adds { Adds 2 0 0 made.old made.new }
+    ensures closed { entrance ≡ entry.Closed
+        → OpensNone hub.old (State.Head stream bytes) hub.new result.state }
+    ensures replies { Replies S.remaining S.contents entrance (State.Head stream bytes)
+        result.state }
+    ensures passes { Passes events.old events.new [] }
+    ensures adds { Adds 2 0 0 events.old events.new }
     ensures serving { IsServing result.state }
     ensures cause { is_some result.cause ≡ leaves Head (stage_of result.state) }
     ensures prompt { result.cause ≢ Some Silent }
@@ -56,18 +66,18 @@ pub(crate) fn listen<S: Read + Write + Drop>(
     stream.begin_poll();
     let mut chunk = [0u8; MAX_READ];
     match stream.read(&mut chunk) {
-        Ok(0) => return Transition::gone(Cause::Peer),
+        Ok(0) => return Transition::gone(EndCause::Peer),
         Ok(len) => {
             stream.note_taken(len);
             if bytes.extend_from_slice(&chunk[..len]).is_err() {
-                return Transition::gone(Cause::Memory);
+                return Transition::gone(EndCause::Memory);
             }
         }
         Err(error) if is_nothing_now(&error) => return Transition::on(State::Head {
             stream,
             bytes,
         }),
-        Err(_) => return Transition::gone(Cause::Stream),
+        Err(_) => return Transition::gone(EndCause::Stream),
     }
     match shake(alloc, bytes.as_slice()) {
         Ok(Shake::More) => Transition::on(State::Head { stream, bytes }),
@@ -77,15 +87,19 @@ pub(crate) fn listen<S: Read + Write + Drop>(
                 access,
                 reply,
             },
-        ) => admit(alloc, stream, room, access, reply, hub, made),
+        ) => match entrance {
+            Entrance::Open => admit(alloc, stream, room, access, reply, hub, events),
+            Entrance::Closed => turn_away(alloc, stream, hub, events),
+        },
         Ok(Shake::Refuse { status, reply }) => {
-            answer(alloc, stream, reply, Verdict::Refused(status), hub, made)
+            answer(alloc, stream, reply, Verdict::Refused(status), hub, events)
         }
-        Err(_) => Transition::gone(Cause::Memory),
+        Err(_) => Transition::gone(EndCause::Memory),
     }
 }
 
-/// Opens a session, and begins to write the reply. If the hub opens none, the handshake is refused with 503.
+/// Opens a session, and begins to write the reply. If the hub opens none, the handshake is refused
+/// with 503.
 #[tactic(auto, using(crate::proofs::Following::follows_same, crate::proofs::Following::follows_then, crate::proofs::Following::follows_none, crate::proofs::Hearing::passes_then, crate::proofs::Replying::replies_open, crate::proofs::Replying::replies_refused, crate::proofs::Replying::replies_gone))]
 fn admit<S: Read + Write + Drop>(
     alloc: Global,
@@ -94,32 +108,61 @@ fn admit<S: Read + Write + Drop>(
     access: Access,
     accepted: Vec<u8>,
     hub: &mut Hub,
-    made: &mut EventLog,
+    events: &mut EventLog,
 ) -> Transition<S>
-    requires { length made.old + 2 ≤ MAX_EVENTS }
-    ensures follows { Follows (is_room (string_bytes room) access) (at hub.old None made.old) (at hub.new (session_of result.state) made.new) }
+    requires { length events.old + 2 ≤ MAX_EVENTS }
+    ensures follows { Follows (is_room (string_bytes room) access) (at hub.old None events.old)
+        (at hub.new (session_of result.state) events.new) }
     ensures past { awaits_head result.state ≡ false }
-    ensures replies { RepliesTo S.contents (written S.contents stream) (Accept room access accepted) result.state }
-    ensures passes { Passes made.old made.new [] }
-    ensures adds { Adds 2 0 0 made.old made.new }
+    ensures replies { RepliesTo S.contents entry.Open (written S.contents stream)
+        (Accept room access accepted) result.state }
+    ensures passes { Passes events.old events.new [] }
+    ensures adds { Adds 2 0 0 events.old events.new }
     ensures serving { IsServing result.state }
     ensures cause { is_some result.cause ≡ leaves Head (stage_of result.state) }
     ensures prompt { result.cause ≢ Some Silent }
     ensures patient { MAX_TURNS ≤ turns_left result.state }
 {
-    match events::open(alloc, hub, room, access, made) {
+    match events::open(alloc, hub, room, access, events) {
         Some(session) => answer(
             alloc,
             stream,
             accepted,
             Verdict::Entered(session),
             hub,
-            made,
+            events,
         ),
         None => match refusal(alloc, 503) {
-            Ok(refused) => answer(alloc, stream, refused, Verdict::Refused(503), hub, made),
-            Err(_) => Transition::gone(Cause::Memory),
+            Ok(refused) => answer(alloc, stream, refused, Verdict::Refused(503), hub, events),
+            Err(_) => Transition::gone(EndCause::Memory),
         },
+    }
+}
+
+/// Begins to write the refusal of a good handshake while clients may not entrance.
+#[tactic(auto, using(crate::proofs::Following::follows_same, crate::proofs::Hearing::passes_same))]
+fn turn_away<S: Read + Write + Drop>(
+    alloc: Global,
+    stream: CorkedWriter<S>,
+    hub: &mut Hub,
+    events: &mut EventLog,
+) -> Transition<S>
+    requires { length events.old + 1 ≤ MAX_EVENTS }
+    ensures follows { Follows no_room (at hub.old None events.old)
+        (at hub.new (session_of result.state) events.new) }
+    ensures past { awaits_head result.state ≡ false }
+    ensures writes { WritesReply S.contents (written S.contents stream) (Refused 503)
+        closed_refusal result.state }
+    ensures passes { Passes events.old events.new [] }
+    ensures adds { Adds 1 0 0 events.old events.new }
+    ensures serving { IsServing result.state }
+    ensures cause { is_some result.cause ≡ leaves Head (stage_of result.state) }
+    ensures prompt { result.cause ≢ Some Silent }
+    ensures patient { MAX_TURNS ≤ turns_left result.state }
+{
+    match closed_refusal(alloc) {
+        Ok(refused) => answer(alloc, stream, refused, Verdict::Refused(503), hub, events),
+        Err(_) => Transition::gone(EndCause::Memory),
     }
 }
 
@@ -130,38 +173,42 @@ fn answer<S: Read + Write + Drop>(
     rest: Vec<u8>,
     verdict: Verdict,
     hub: &mut Hub,
-    made: &mut EventLog,
+    events: &mut EventLog,
 ) -> Transition<S>
-    requires { length made.old + 1 ≤ MAX_EVENTS }
-    ensures follows { Follows no_room (at hub.old (entered verdict) made.old) (at hub.new (session_of result.state) made.new) }
+    requires { length events.old + 1 ≤ MAX_EVENTS }
+    ensures follows { Follows no_room (at hub.old (entered verdict) events.old)
+        (at hub.new (session_of result.state) events.new) }
     ensures past { awaits_head result.state ≡ false }
-    ensures writes { WritesReply S.contents (written S.contents stream) verdict rest.items result.state }
-    ensures passes { Passes made.old made.new [] }
-    ensures adds { Adds 1 0 0 made.old made.new }
+    ensures writes { WritesReply S.contents (written S.contents stream) verdict rest.items
+        result.state }
+    ensures passes { Passes events.old events.new [] }
+    ensures adds { Adds 1 0 0 events.old events.new }
     ensures serving { IsServing result.state }
     ensures cause { is_some result.cause ≡ leaves Head (stage_of result.state) }
     ensures prompt { result.cause ≢ Some Silent }
     ensures patient { MAX_TURNS ≤ turns_left result.state }
 {
-    reply(alloc, stream, Reply { rest, verdict }, hub, made)
+    reply(alloc, stream, HandshakeReply { rest, verdict }, hub, events)
 }
 
-/// Writes the rest of a reply. Once it is written the link is open, or gone if the reply is a refusal. If the stream fails, the
-/// session that was opened is closed.
+/// Writes the rest of a reply. Once it is written the link is open, or gone if the reply is a
+/// refusal. If the stream fails, the session that was opened is closed.
 #[tactic(auto, using(crate::proofs::Following::follows_same, crate::proofs::Hearing::passes_same, crate::proofs::Replying::writes_all))]
 pub(crate) fn reply<S: Read + Write + Drop>(
     alloc: Global,
     mut stream: CorkedWriter<S>,
-    mut reply: Reply,
+    mut reply: HandshakeReply,
     hub: &mut Hub,
-    made: &mut EventLog,
+    events: &mut EventLog,
 ) -> Transition<S>
-    requires { length made.old + 1 ≤ MAX_EVENTS }
-    ensures follows { Follows no_room (at hub.old (entered reply.verdict) made.old) (at hub.new (session_of result.state) made.new) }
+    requires { length events.old + 1 ≤ MAX_EVENTS }
+    ensures follows { Follows no_room (at hub.old (entered reply.verdict) events.old)
+        (at hub.new (session_of result.state) events.new) }
     ensures past { awaits_head result.state ≡ false }
-    ensures writes { WritesReply S.contents (written S.contents stream) reply.verdict reply.rest.items result.state }
-    ensures passes { Passes made.old made.new [] }
-    ensures adds { Adds 1 0 0 made.old made.new }
+    ensures writes { WritesReply S.contents (written S.contents stream) reply.verdict
+        reply.rest.items result.state }
+    ensures passes { Passes events.old events.new [] }
+    ensures adds { Adds 1 0 0 events.old events.new }
     ensures serving { IsServing result.state }
     ensures cause { is_some result.cause ≡ leaves Head (stage_of result.state) }
     ensures prompt { result.cause ≢ Some Silent }
@@ -173,14 +220,14 @@ pub(crate) fn reply<S: Read + Write + Drop>(
                 socket: socket_on(alloc, stream),
                 session,
             }),
-            Verdict::Refused(status) => Transition::gone(Cause::Refused(status)),
+            Verdict::Refused(status) => Transition::gone(EndCause::Refused(status)),
         },
         Err(error) if is_nothing_now(&error) => Transition::on(State::Replying { stream, reply }),
         Err(_) => {
             if let Verdict::Entered(session) = reply.verdict {
-                events::close(hub, session, made);
+                events::close(hub, session, events);
             }
-            Transition::gone(Cause::Stream)
+            Transition::gone(EndCause::Stream)
         }
     }
 }

@@ -2,19 +2,23 @@
 ghost use Rattle.std.specs.Prelude.{◌≡◌, ◌+◌, ◌≤◌, [], Some, None, is_some, IfOk, OnOk, OnErr, length};
 ghost use Rattle.relay_link.specs.Adds.{Adds, texts_of};
 ghost use Rattle.relay_link.specs.Asks.{asked_by, IsFresh, Receives};
+ghost use Rattle.relay_link.specs.BinaryAnswered.{BinaryAnsweredIfOpen};
 ghost use Rattle.relay_link.specs.Ends.{turns_left};
+ghost use Rattle.relay_link.specs.Entrance.{OpensNone};
 ghost use Rattle.relay_link.specs.Follows.{Follows, no_room, at, closing_of};
 ghost use Rattle.relay_link.specs.Hears.{PassesTexts};
 ghost use Rattle.relay_link.specs.Replies.{Replies};
 ghost use Rattle.relay_link.specs.Stage.{stage_of, session_of, has_corked_output, is_idle, leaves, ended, IsForward};
 ghost use Rattle.relay_link.specs.Tells.{IsServing, Talks, WhileOpen, Told, Answered};
 ghost use Rattle.relay_link.specs.Turns.{Turns};
-ghost use Rattle.relay_link.specs.declared.cause.Cause.TheVariants.{Silent};
+ghost use Rattle.relay_link.specs.declared.end_cause.EndCause.TheVariants.{Silent};
+ghost use Rattle.relay_link.specs.declared.entrance.Entrance.TheVariants as entry;
 ghost use Rattle.relay_link.specs.declared.event_log.TheConstants.{MAX_EVENTS};
 ghost use Rattle.relay_link.specs.declared.stage.Stage.TheVariants.{Head, Closing, Gone};
 
-use crate::cause::Cause;
 use crate::corked_writer::CorkedWriter;
+use crate::end_cause::EndCause;
+use crate::entrance::Entrance;
 use crate::event_log::EventLog;
 use crate::socket::close;
 use crate::stage::Stage;
@@ -36,7 +40,8 @@ pub const MAX_DRAWS: u64 = 32;
 /// The initial capacity for a head, in bytes.
 const HEAD_CAPACITY: usize = 512;
 
-/// A stream and its session in the hub. Contracts see its state: its stage, its session, and whether it is idle or corked.
+/// A stream and its session in the hub. Contracts see its state: its stage, its session, and
+/// whether it is idle or corked.
 #[derive(Drop)]
 pub struct Link<S: Write + Drop> {
     state: State<S>,
@@ -54,7 +59,14 @@ impl<S: Write + Drop> Model for Link<S> {
 }
 
 impl<S: Read + Write + Drop> Link<S> {
-    /// A link that waits for a handshake, and has no session. After `AllocError` the stream is dropped.
+    /// A link that waits for a handshake, and has no session. After `AllocError` the stream is
+    /// dropped.
+    ///
+    /// ```
+    /// let wire = Wire::new(alloc);
+    /// let link = Link::new(alloc, End { wire: &wire }).ok()?;
+    /// assert!(rt; link.stage() == Stage::Head && link.session() == None);
+    /// ```
     pub fn new(alloc: Global, stream: S) -> Result<Link<S>, AllocError>
         ensures stage { IfOk result (λ link. stage_of link ≡ Head) }
         ensures session { IfOk result (λ link. session_of link ≡ None) }
@@ -99,13 +111,15 @@ impl<S: Read + Write + Drop> Link<S> {
         self.state.has_corked_output()
     }
 
-    /// Runs one turn: it reads a little, changes the hub by the events that it reports, and writes until output is pending. It
-    /// draws at most `draws` messages, and at most 32. `AllocError` comes before anything is read, written or changed.
+    /// Runs one turn: it reads a little, changes the hub by the events that it reports, and writes
+    /// until output is pending. It draws at most `draws` messages, and at most 32. `AllocError`
+    /// comes before anything is read, written or changed.
     ///
-    /// - Head: the turn writes the rest of an unfinished reply. Otherwise it reads up to 4,096 bytes, and checks all bytes
-    ///   received so far as a handshake. A valid one opens a session; if the hub opens none the reply is 503. Once the reply is
-    ///   written the link is Open, or Gone with [`Cause::Refused`]. If the bytes end, the stream fails, or memory runs out before that, it
-    ///   is Gone, and a session that was opened is closed.
+    /// - Head: the turn writes the rest of an unfinished reply. Otherwise it reads up to 4,096
+    ///   bytes, and checks all bytes received so far as a handshake. A valid one opens a session;
+    ///   if the hub opens none the reply is 503. Once the reply is written the link is Open, or
+    ///   Gone with [`EndCause::Refused`]. If the bytes end, the stream fails, or memory runs out
+    ///   before that, it is Gone, and a session that was opened is closed.
     /// - Open: while output is pending the turn only sends. Otherwise it reads one message: a text
     ///   is passed to the hub, a ping is answered, a pong has no effect, a binary message is
     ///   answered by a close with 1003, and a close is answered. If the session is busy
@@ -114,47 +128,80 @@ impl<S: Read + Write + Drop> Link<S> {
     ///   pending; a draw that is out of memory ends the turn. After a binary message or a close
     ///   the link is Closing. If the bytes end, the stream fails, frames violate the protocol, or
     ///   memory runs out, it is Gone.
-    /// - Closing: the turn reads one message and drops it. If the other side's close has not arrived after 16 such turns, the
-    ///   link is Gone with [`Cause::Silent`]. If that close or the end of the bytes comes, the stream fails, frames violate the protocol,
-    ///   or memory runs out, it is Gone at once.
+    /// - Closing: the turn reads one message and drops it. If the other side's close has not
+    ///   arrived after 16 such turns, the link is Gone with [`EndCause::Silent`]. If that close or
+    ///   the end of the bytes comes, the stream fails, frames violate the protocol, or memory runs
+    ///   out, it is Gone at once.
     /// - Gone: the turn does nothing.
     ///
-    /// The turn has a cause exactly if it ended Head without Open, left Open, or ended Closing. [`Cause::Stream`] comes only if
-    /// in this very turn a call on the stream failed or a write accepted no byte.
+    /// The turn has a cause exactly if it ended Head without Open, left Open, or ended Closing.
+    /// [`EndCause::Stream`] comes only if in this very turn a call on the stream failed or a write
+    /// accepted no byte.
+    ///
+    /// ```
+    /// let wire = Wire::new(alloc);
+    /// let mut hub = Hub::new(alloc, 1, 1, 64, 32).ok()?;
+    /// let mut link = Link::new(alloc, End { wire: &wire }).ok()?;
+    /// // A client's handshake for the room `a` arrives, and the session is told where it is.
+    /// wire.try_borrow_mut().ok()?.perform(alloc, "asks 13 /rooms/a").ok()?;
+    /// let turn = link.turn(alloc, &mut hub, MAX_DRAWS).ok()?;
+    /// assert!(rt; link.stage() == Stage::Open && link.session() == Some(1));
+    /// assert!(rt; matches!(&turn.events[0], Event::Open { .. }));
+    /// assert!(rt; hub.waiting(1) == Some(1));
+    /// let turn = link.turn(alloc, &mut hub, MAX_DRAWS).ok()?;
+    /// assert!(rt; matches!(&turn.events[0], Event::Draw { session: 1 }) && link.is_idle());
+    /// ```
     #[tactic(auto, using(crate::proofs::Telling::answers_if))]
     pub fn turn(&mut self, alloc: Global, hub: &mut Hub, draws: u64) -> Result<Turn, AllocError>
         ensures turns { IfOk result (Turns S.remaining 1 draws hub.old self.old hub.new self.new) }
-        ensures frames { IfOk result (λ turn. WhileOpen (Answered S.remaining S.contents) hub.old [] self.old hub.new turn.made.items self.new) }
-        ensures replies { OnOk result (Replies S.remaining S.contents self.old self.new) }
+        ensures frames { IfOk result (λ turn.
+            WhileOpen (Answered S.remaining S.contents) hub.old [] self.old hub.new turn.events.items
+            self.new) }
+        ensures replies { OnOk result
+            (Replies S.remaining S.contents entry.Open self.old self.new) }
+        ensures binary { IfOk result
+            (λ turn. BinaryAnsweredIfOpen S.contents self.old self.new turn.cause) }
         ensures forward { IsForward (stage_of self.old) (stage_of self.new) }
         ensures unchanged { OnErr result (self.new ≡ self.old) }
         ensures hub_unchanged { OnErr result (hub.new ≡ hub.old) }
     {
-        self.take(alloc, TurnPhase::Both, hub, draws)
+        self.take_turn(alloc, TurnPhase::Both, Entrance::Open, hub, draws)
     }
 
-    /// Runs the read part of a turn, for a link that reads more than once before it writes. As [`Link::turn`], but up to 640 bytes of
-    /// an open link's output are corked until [`Link::write_turn`]. A link that ends sends its output first.
+    /// Runs the read part of a turn, for a link that reads more than once before it writes. As
+    /// [`Link::turn`], but up to 640 bytes of an open link's output are corked until
+    /// [`Link::write_turn`]. A link that ends sends its output first. While `entrance` is
+    /// [`Entrance::Closed`], a valid handshake opens no session: the reply is 503, with
+    /// `Retry-After: 1`. A link that has a session is heard as ever.
     #[tactic(auto, using(crate::proofs::Telling::answers_if))]
     pub fn read_turn(
         &mut self,
         alloc: Global,
+        entrance: Entrance,
         hub: &mut Hub,
         draws: u64,
     ) -> Result<Turn, AllocError>
         ensures turns { IfOk result (Turns S.remaining 1 draws hub.old self.old hub.new self.new) }
-        ensures frames { IfOk result (λ turn. WhileOpen (Answered S.remaining S.contents) hub.old [] self.old hub.new turn.made.items self.new) }
-        ensures replies { OnOk result (Replies S.remaining S.contents self.old self.new) }
+        ensures closed { entrance ≡ entry.Closed → OpensNone hub.old self.old hub.new self.new }
+        ensures frames { IfOk result (λ turn.
+            WhileOpen (Answered S.remaining S.contents) hub.old [] self.old hub.new turn.events.items
+            self.new) }
+        ensures replies { OnOk result
+            (Replies S.remaining S.contents entrance self.old self.new) }
+        ensures binary { IfOk result
+            (λ turn. BinaryAnsweredIfOpen S.contents self.old self.new turn.cause) }
         ensures forward { IsForward (stage_of self.old) (stage_of self.new) }
         ensures unchanged { OnErr result (self.new ≡ self.old) }
         ensures hub_unchanged { OnErr result (hub.new ≡ hub.old) }
     {
-        self.take(alloc, TurnPhase::Read, hub, draws)
+        self.take_turn(alloc, TurnPhase::Read, entrance, hub, draws)
     }
 
-    /// Runs the write part of a turn, which reads nothing: it writes the rest of an unfinished reply, and an open link draws
-    /// messages, and sends them and its corked output as in [`Link::turn`]. A link in any other state is unchanged. `AllocError`
-    /// comes before anything is written or changed. A link that stays open has framed the drawn texts, in order, and nothing else.
+    /// Runs the write part of a turn, which reads nothing: it writes the rest of an unfinished
+    /// reply, and an open link draws messages, and sends them and its corked output as in
+    /// [`Link::turn`]. A link in any other state is unchanged. `AllocError` comes before anything
+    /// is written or changed. A link that stays open has framed the drawn texts, in order, and
+    /// nothing else.
     pub fn write_turn(
         &mut self,
         alloc: Global,
@@ -162,21 +209,37 @@ impl<S: Read + Write + Drop> Link<S> {
         draws: u64,
     ) -> Result<Turn, AllocError>
         ensures turns { IfOk result (Turns S.remaining 0 draws hub.old self.old hub.new self.new) }
-        ensures frames { IfOk result (λ turn. WhileOpen (Told S.contents) hub.old [] self.old hub.new turn.made.items self.new) }
-        ensures replies { OnOk result (Replies S.remaining S.contents self.old self.new) }
+        ensures frames { IfOk result (λ turn.
+            WhileOpen (Told S.contents) hub.old [] self.old hub.new turn.events.items self.new) }
+        ensures replies { OnOk result
+            (Replies S.remaining S.contents entry.Open self.old self.new) }
+        ensures binary { IfOk result
+            (λ turn. BinaryAnsweredIfOpen S.contents self.old self.new turn.cause) }
         ensures forward { IsForward (stage_of self.old) (stage_of self.new) }
         ensures unchanged { OnErr result (self.new ≡ self.old) }
         ensures hub_unchanged { OnErr result (hub.new ≡ hub.old) }
     {
-        self.take(alloc, TurnPhase::Write, hub, draws)
+        self.take_turn(alloc, TurnPhase::Write, Entrance::Open, hub, draws)
     }
 
-    /// Ends the link: closes its session, if it has one, and leaves it Gone with [`Cause::Ended`]. An open link tries once to
-    /// send a close frame with 1001. A link that is already Gone is unchanged, and has no cause. `AllocError` comes before
-    /// anything is written or changed.
+    /// Ends the link: closes its session, if it has one, and leaves it Gone with
+    /// [`EndCause::Ended`]. An open link tries once to send a close frame with 1001. A link that is
+    /// already Gone is unchanged, and has no cause. `AllocError` comes before anything is written
+    /// or changed.
+    ///
+    /// ```
+    /// let wire = Wire::new(alloc);
+    /// let mut hub = Hub::new(alloc, 1, 1, 64, 32).ok()?;
+    /// let mut link = Link::new(alloc, End { wire: &wire }).ok()?;
+    /// let turn = link.end(alloc, &mut hub).ok()?;
+    /// assert!(rt; link.stage() == Stage::Gone && turn.cause == Some(EndCause::Ended));
+    /// ```
     pub fn end(&mut self, alloc: Global, hub: &mut Hub) -> Result<Turn, AllocError>
-        ensures follows { IfOk result (λ turn. Follows no_room (at hub.old (session_of self.old) []) (at hub.new (session_of self.new) turn.made.items)) }
-        ensures closes { IfOk result (λ turn. turn.made.items ≡ closing_of (session_of self.old)) }
+        ensures follows { IfOk result (λ turn.
+            Follows no_room (at hub.old (session_of self.old) [])
+            (at hub.new (session_of self.new) turn.events.items)) }
+        ensures closes { IfOk result
+            (λ turn. turn.events.items ≡ closing_of (session_of self.old)) }
         ensures gone { OnOk result (stage_of self.new ≡ Gone) }
         ensures forward { IsForward (stage_of self.old) (stage_of self.new) }
         ensures stage { IfOk result (λ turn. turn.stage ≡ Gone) }
@@ -184,96 +247,113 @@ impl<S: Read + Write + Drop> Link<S> {
         ensures unchanged { OnErr result (self.new ≡ self.old) }
         ensures hub_unchanged { OnErr result (hub.new ≡ hub.old) }
     {
-        let mut made = EventLog::new(alloc)?;
-        events::end(hub, self.session(), &mut made);
+        let mut events = EventLog::new(alloc)?;
+        events::end(hub, self.session(), &mut events);
         let cause = match mem::replace(&mut self.state, State::Gone) {
             State::Gone => None,
             State::Open { mut socket, .. } => {
                 socket.get_ref().hold(false);
                 let _ = close(&mut socket, CloseCode::Away);
-                Some(Cause::Ended)
+                Some(EndCause::Ended)
             }
             State::Head { .. } | State::Replying { .. } | State::Closing { .. } => {
-                Some(Cause::Ended)
+                Some(EndCause::Ended)
             }
         };
         Ok(Turn {
-            drawn: made.drawn(),
+            drawn: events.drawn(),
             cost: 0,
             fault: None,
             lacks_memory: false,
-            made: made.into_events(),
+            events: events.into_events(),
             stage: Stage::Gone,
             cause,
         })
     }
 
     /// Runs a turn, or a part of one.
-    fn take(
+    fn take_turn(
         &mut self,
         alloc: Global,
         phase: TurnPhase,
+        entrance: Entrance,
         hub: &mut Hub,
         draws: u64,
     ) -> Result<Turn, AllocError>
-        ensures turns { IfOk result (Turns S.remaining (texts_of phase) draws hub.old self.old hub.new self.new) }
-        ensures talks { IfOk result (λ turn. WhileOpen (Talks S.remaining S.contents (texts_of phase)) hub.old [] self.old hub.new turn.made.items self.new) }
+        ensures turns { IfOk result (Turns S.remaining (texts_of phase) draws hub.old self.old
+            hub.new self.new) }
+        ensures closed { entrance ≡ entry.Closed → OpensNone hub.old self.old hub.new self.new }
+        ensures talks { IfOk result (λ turn.
+            WhileOpen (Talks S.remaining S.contents (texts_of phase)) hub.old [] self.old hub.new
+            turn.events.items self.new) }
         ensures serving { OnOk result (IsServing self.old) }
-        ensures replies { OnOk result (Replies S.remaining S.contents self.old self.new) }
+        ensures replies { OnOk result
+            (Replies S.remaining S.contents entrance self.old self.new) }
+        ensures binary { IfOk result
+            (λ turn. BinaryAnsweredIfOpen S.contents self.old self.new turn.cause) }
         ensures forward { IsForward (stage_of self.old) (stage_of self.new) }
         ensures unchanged { OnErr result (self.new ≡ self.old) }
         ensures hub_unchanged { OnErr result (hub.new ≡ hub.old) }
     {
-        let mut made = EventLog::new(alloc)?;
+        let mut events = EventLog::new(alloc)?;
         let before = hub.cost();
         let state = mem::replace(&mut self.state, State::Gone);
         let draws = draws.min(MAX_DRAWS);
-        let next = advance(alloc, state, phase, draws, hub, &mut made);
+        let next = advance(alloc, state, phase, entrance, draws, hub, &mut events);
         self.state = next.state;
         Ok(Turn {
-            drawn: made.drawn(),
+            drawn: events.drawn(),
             cost: hub.cost().saturating_sub(before),
-            fault: made.fault(),
-            lacks_memory: made.lacks_memory(),
-            made: made.into_events(),
+            fault: events.fault(),
+            lacks_memory: events.lacks_memory(),
+            events: events.into_events(),
             stage: self.stage(),
             cause: next.cause,
         })
     }
 }
 
-/// Runs a turn by the state of the link. In a write turn a link that waits for a head or a close is unchanged.
-#[tactic(auto, using(crate::proofs::Following::follows_same, crate::proofs::Heads::received_none, crate::proofs::Heads::received_past, crate::proofs::Heads::received_open, crate::proofs::Heads::received_closing, crate::proofs::Hearing::passes_closing, crate::proofs::Hearing::passes_unchanged, crate::proofs::Replying::passes_replying, crate::proofs::Replying::passes_listening, crate::proofs::Replying::replies_unchanged))]
+/// Runs a turn by the state of the link. In a write turn a link that waits for a head or a close is
+/// unchanged.
+#[tactic(auto, using(crate::proofs::Following::follows_same, crate::proofs::Following::opens_none, crate::proofs::Heads::received_none, crate::proofs::Heads::received_past, crate::proofs::Heads::received_open, crate::proofs::Heads::received_closing, crate::proofs::Hearing::passes_closing, crate::proofs::Hearing::passes_unchanged, crate::proofs::Replying::passes_replying, crate::proofs::Replying::passes_listening, crate::proofs::Replying::replies_unchanged))]
 fn advance<S: Read + Write + Drop>(
     alloc: Global,
     state: State<S>,
     phase: TurnPhase,
+    entrance: Entrance,
     draws: u64,
     hub: &mut Hub,
-    made: &mut EventLog,
+    events: &mut EventLog,
 ) -> Transition<S>
-    requires space { length made.old + draws + 2 ≤ MAX_EVENTS }
+    requires space { length events.old + draws + 2 ≤ MAX_EVENTS }
     requires serving { IsServing state }
-    ensures follows { Follows (asked_by S.remaining state) (at hub.old (session_of state) made.old) (at hub.new (session_of result.state) made.new) }
+    ensures follows { Follows (asked_by S.remaining state)
+        (at hub.old (session_of state) events.old)
+        (at hub.new (session_of result.state) events.new) }
     ensures received { Receives S.remaining state result.state }
-    ensures talks { WhileOpen (Talks S.remaining S.contents (texts_of phase)) hub.old made.old state hub.new made.new result.state }
+    ensures talks { WhileOpen (Talks S.remaining S.contents (texts_of phase)) hub.old events.old
+        state hub.new events.new result.state }
     ensures serving { IsServing result.state }
-    ensures replies { Replies S.remaining S.contents state result.state }
-    ensures passes { PassesTexts S.remaining (texts_of phase) hub.old state result.state made.old made.new }
-    ensures adds { Adds (draws + 2) (texts_of phase) draws made.old made.new }
+    ensures closed { entrance ≡ entry.Closed → OpensNone hub.old state hub.new result.state }
+    ensures replies { Replies S.remaining S.contents entrance state result.state }
+    ensures binary { BinaryAnsweredIfOpen S.contents state result.state result.cause }
+    ensures passes { PassesTexts S.remaining (texts_of phase) hub.old state result.state events.old
+        events.new }
+    ensures adds { Adds (draws + 2) (texts_of phase) draws events.old events.new }
     ensures cause { is_some result.cause ≡ leaves (stage_of state) (stage_of result.state) }
     ensures forward { IsForward (stage_of state) (stage_of result.state) }
-    ensures gone { stage_of state ≡ Gone → (made.new ≡ made.old) × (result.state ≡ state) }
+    ensures gone { stage_of state ≡ Gone → (events.new ≡ events.old) × (result.state ≡ state) }
     ensures silent { result.cause ≡ Some Silent → turns_left state ≤ 1 }
-    ensures patient { stage_of result.state ≡ Closing → turns_left state ≤ turns_left result.state + 1 }
+    ensures patient { stage_of result.state ≡ Closing
+        → turns_left state ≤ turns_left result.state + 1 }
 {
     match state {
-        State::Replying { stream, reply } => head::reply(alloc, stream, reply, hub, made),
+        State::Replying { stream, reply } => head::reply(alloc, stream, reply, hub, events),
         State::Open { socket, session } => {
-            opened::turn(alloc, socket, session, phase, draws, hub, made)
+            opened::turn(alloc, socket, session, phase, draws, hub, events)
         }
         State::Head { stream, bytes } if phase != TurnPhase::Write => {
-            head::listen(alloc, stream, bytes, hub, made)
+            head::listen(alloc, stream, bytes, entrance, hub, events)
         }
         State::Closing { socket, turns } if phase != TurnPhase::Write => closing::turn(
             socket, turns,

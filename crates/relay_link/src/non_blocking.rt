@@ -2,12 +2,13 @@
 use std::io;
 use std::io::{Error, ErrorKind, Read, Write};
 
-/// How many bytes the reads of a turn ask for together at most. So a side that never stops sending, in however small frames, cannot delay
-/// the others.
+/// How many bytes the reads of a turn ask for together at most. So a side that never stops sending,
+/// in however small frames, cannot delay the others.
 const MAX_ASKED: usize = 163_840;
 
-/// A stream that returns `WouldBlock` for an interruption, since a socket would otherwise retry at once and forever. It also returns
-/// `WouldBlock` once the reads of a turn have asked for as much as they may, and rejects writes after a write has failed.
+/// A stream that returns `WouldBlock` for an interruption, since a socket would otherwise retry at
+/// once and forever. It also returns `WouldBlock` once the reads of a turn have asked for as much
+/// as they may, and rejects writes after a write has failed.
 #[derive(Drop)]
 pub(crate) struct NonBlocking<S> {
     stream: S,
@@ -57,8 +58,8 @@ impl<S> NonBlocking<S> {
         self.wants_poll = true;
     }
 
-    /// Notes that a message of at least `len` bytes was taken off what was read. Asks for another turn if any may be left, here or in the
-    /// stream, since they may be the next one.
+    /// Notes that a message of at least `len` bytes was taken off what was read. Asks for another
+    /// turn if any may be left, here or in the stream, since they may be the next one.
     pub(crate) fn note_taken(&mut self, len: usize)
         ensures { self.new.stream ≡ self.old.stream }
     {
@@ -68,8 +69,9 @@ impl<S> NonBlocking<S> {
         }
     }
 
-    /// Whether, since the last read turn began, no call was interrupted, and nothing asked for another turn. A write does not ask for one:
-    /// pending output waits until the stream is writable.
+    /// Whether, since the last read turn began, no call was interrupted, and nothing asked for
+    /// another turn. A write does not ask for one: pending output waits until the stream is
+    /// writable.
     pub(crate) fn is_idle(&self) -> bool
         ensures { result ≡ not self.now.wants_poll }
     {

@@ -1,18 +1,19 @@
 //! The turn of an open link: it sends pending output, hears a text, then draws and sends messages.
 ghost use Rattle.std.specs.Prelude.{◌≡◌, ◌≢◌, ◌+◌, ◌≤◌, length, is_some, true, [], Some, IfOk, OnOk, OnErr, IfErr};
 ghost use Rattle.relay_link.specs.Adds.{Adds, texts_of};
-ghost use Rattle.relay_link.specs.Ends.{IsPrompt, cause_of, turns_left};
+ghost use Rattle.relay_link.specs.BinaryAnswered.{BinaryAnswered, BinaryAnsweredIn};
+ghost use Rattle.relay_link.specs.Ends.{IsPrompt, cause_of, settled, turns_left};
 ghost use Rattle.relay_link.specs.Follows.{Follows, no_room, at, given};
 ghost use Rattle.relay_link.specs.Stage.{leaves, stage_of, session_of, is_over, IsForward};
 ghost use Rattle.relay_link.specs.Hears.{allowed_reads, Finds, Passes, PassesOn, SendsAndPassesOn, ReadsTexts};
 ghost use Rattle.relay_link.specs.Tells.{Drew, Hearing, Tells, Exchanges, Talks, IfOpen, IsServing};
 ghost use Rattle.relay_link.specs.Terms.{Serves, KeepsTerms};
-ghost use Rattle.relay_link.specs.declared.cause.Cause.TheVariants.{Silent};
+ghost use Rattle.relay_link.specs.declared.end_cause.EndCause.TheVariants.{Silent};
 ghost use Rattle.relay_link.specs.declared.closing.TheConstants.{MAX_TURNS};
 ghost use Rattle.relay_link.specs.declared.event_log.TheConstants.{MAX_EVENTS};
 ghost use Rattle.relay_link.specs.declared.stage.Stage.TheVariants.{Open};
 
-use crate::cause::Cause;
+use crate::end_cause::EndCause;
 use crate::event_log::EventLog;
 use crate::events;
 use crate::socket::{Socket, close, flush, read, widen, write};
@@ -28,22 +29,22 @@ use tungstenite::{CloseCode, Message, Utf8Bytes};
 #[derive(Clone, Copy)]
 enum Ending {
     /// The link waits for the other side's close.
-    Closing(Cause),
-    Gone(Cause),
+    Closing(EndCause),
+    Gone(EndCause),
 }
 
-impl From<Cause> for Ending {
+impl From<EndCause> for Ending {
     ghost use Rattle.relay_link.specs.declared.opened.Ending.TheVariants as ending;
 
     ghost from_gives = { λ cause given. given ≡ ending.Gone cause };
 
-    fn from(cause: Cause) -> Ending {
+    fn from(cause: EndCause) -> Ending {
         Ending::Gone(cause)
     }
 }
 
 /// A turn of an open link.
-#[tactic(auto, using(crate::proofs::Following::follows_same, crate::proofs::Following::follows_then, crate::proofs::Telling::serves_on))]
+#[tactic(auto, using(crate::proofs::Following::follows_same, crate::proofs::Following::follows_then, crate::proofs::Telling::serves_on, crate::proofs::BinaryAnswered::answered_settled))]
 pub(crate) fn turn<S: Read + Write + Drop>(
     alloc: Global,
     mut socket: Socket<S>,
@@ -51,17 +52,19 @@ pub(crate) fn turn<S: Read + Write + Drop>(
     phase: TurnPhase,
     draws: u64,
     hub: &mut Hub,
-    made: &mut EventLog,
+    events: &mut EventLog,
 ) -> Transition<S>
-    requires space { length made.old + draws + 2 ≤ MAX_EVENTS }
+    requires space { length events.old + draws + 2 ≤ MAX_EVENTS }
     requires serves { Serves socket.conn }
-    ensures follows { Follows no_room (at hub.old (Some session) made.old) (at hub.new (session_of result.state) made.new) }
+    ensures follows { Follows no_room (at hub.old (Some session) events.old)
+        (at hub.new (session_of result.state) events.new) }
     ensures talks { IfOpen (Talks S.remaining S.contents (texts_of phase))
-        (at hub.old (Some session) made.old) socket hub.new made.new result.state }
+        (at hub.old (Some session) events.old) socket hub.new events.new result.state }
+    ensures binary { BinaryAnsweredIn S.contents result.state result.cause }
     ensures serving { IsServing result.state }
     ensures passes { ReadsTexts S.remaining (allowed_reads hub.old (Some session) (texts_of phase))
-        socket result.state made.old made.new }
-    ensures adds { Adds (draws + 2) (texts_of phase) draws made.old made.new }
+        socket result.state events.old events.new }
+    ensures adds { Adds (draws + 2) (texts_of phase) draws events.old events.new }
     ensures cause { is_some result.cause ≡ leaves Open (stage_of result.state) }
     ensures forward { IsForward Open (stage_of result.state) }
     ensures prompt { result.cause ≢ Some Silent }
@@ -71,8 +74,8 @@ pub(crate) fn turn<S: Read + Write + Drop>(
     if phase != TurnPhase::Write {
         socket.get_ref().begin_poll();
     }
-    let talked = talk(alloc, &mut socket, session, phase, draws, hub, made);
-    settle(talked, socket, session, hub, made)
+    let talked = talk(alloc, &mut socket, session, phase, draws, hub, events);
+    settle(talked, socket, session, hub, events)
 }
 
 /// The link after a turn: still open, or its session is closed.
@@ -82,16 +85,18 @@ fn settle<S: Read + Write + Drop>(
     socket: Socket<S>,
     session: u64,
     hub: &mut Hub,
-    made: &mut EventLog,
+    events: &mut EventLog,
 ) -> Transition<S>
-    requires space { length made.old + 1 ≤ MAX_EVENTS }
+    requires space { length events.old + 1 ≤ MAX_EVENTS }
     requires prompt { IfErr turned (λ ending. IsPrompt (cause_of ending)) }
-    ensures follows { Follows no_room (at hub.old (Some session) made.old) (at hub.new (session_of result.state) made.new) }
+    ensures follows { Follows no_room (at hub.old (Some session) events.old)
+        (at hub.new (session_of result.state) events.new) }
+    ensures settled { result ≡ settled turned socket session }
     ensures stays { OnOk turned ((result.state ≡ State.Open socket session) × (hub.new ≡ hub.old)
-        × (made.new ≡ made.old)) }
+        × (events.new ≡ events.old)) }
     ensures over { OnErr turned (is_over (stage_of result.state) ≡ true) }
-    ensures passes { Passes made.old made.new [] }
-    ensures adds { Adds 1 0 0 made.old made.new }
+    ensures passes { Passes events.old events.new [] }
+    ensures adds { Adds 1 0 0 events.old events.new }
     ensures cause { is_some result.cause ≡ leaves Open (stage_of result.state) }
     ensures forward { IsForward Open (stage_of result.state) }
     ensures prompt { result.cause ≢ Some Silent }
@@ -100,7 +105,7 @@ fn settle<S: Read + Write + Drop>(
     match turned {
         Ok(()) => Transition::on(State::Open { socket, session }),
         Err(ending) => {
-            events::close(hub, session, made);
+            events::close(hub, session, events);
             match ending {
                 Ending::Closing(cause) => Transition::closing(socket, cause),
                 Ending::Gone(cause) => Transition::gone(cause),
@@ -109,9 +114,9 @@ fn settle<S: Read + Write + Drop>(
     }
 }
 
-/// Sends pending output that is not corked. When none is left, the link may hear a text and draws messages; its output is sent, or corked
-/// until a write turn.
-#[tactic(auto, using(crate::proofs::Following::follows_same, crate::proofs::Following::follows_then, crate::proofs::Hearing::sends_none, crate::proofs::Hearing::sends_and_passes, crate::proofs::Telling::talked_none, crate::proofs::Telling::talked))]
+/// Sends pending output that is not corked. When none is left, the link may hear a text and draws
+/// messages; its output is sent, or corked until a write turn.
+#[tactic(auto, using(crate::proofs::Following::follows_same, crate::proofs::Following::follows_then, crate::proofs::Hearing::sends_none, crate::proofs::Hearing::sends_and_passes, crate::proofs::Telling::talked_none, crate::proofs::Telling::talked, crate::proofs::BinaryAnswered::answered_and_sent))]
 fn talk<S: Read + Write + Drop>(
     alloc: Global,
     socket: &mut Socket<S>,
@@ -119,23 +124,26 @@ fn talk<S: Read + Write + Drop>(
     phase: TurnPhase,
     draws: u64,
     hub: &mut Hub,
-    made: &mut EventLog,
+    events: &mut EventLog,
 ) -> Result<(), Ending>
-    requires { length made.old + draws + 1 ≤ MAX_EVENTS }
-    ensures follows { Follows no_room (at hub.old (Some session) made.old) (at hub.new (Some session) made.new) }
+    requires { length events.old + draws + 1 ≤ MAX_EVENTS }
+    ensures follows { Follows no_room (at hub.old (Some session) events.old)
+        (at hub.new (Some session) events.new) }
     ensures talks { OnOk result (Talks S.remaining S.contents (texts_of phase)
-        (at hub.old (Some session) made.old) (at hub.new (Some session) made.new)
+        (at hub.old (Some session) events.old) (at hub.new (Some session) events.new)
         socket.old socket.new) }
+    ensures binary { BinaryAnswered S.contents result socket.new }
     ensures passes { SendsAndPassesOn S.remaining
-        (allowed_reads hub.old (Some session) (texts_of phase)) socket.old made.old made.new }
-    ensures adds { Adds (draws + 1) (texts_of phase) draws made.old made.new }
+        (allowed_reads hub.old (Some session) (texts_of phase)) socket.old events.old events.new }
+    ensures adds { Adds (draws + 1) (texts_of phase) draws events.old events.new }
     ensures prompt { IfErr result (λ ending. IsPrompt (cause_of ending)) }
 {
     if !flush(socket)? {
         return Ok(());
     }
-    let exchanged = exchange(alloc, socket, session, phase, draws, hub, made);
-    // A link that ends still sends the messages that were framed before.
+    let exchanged = exchange(alloc, socket, session, phase, draws, hub, events);
+    // A link that ends still sends the messages that were framed before. If it is gone already, it
+    // is so for the cause of that, and not of the flush.
     socket
         .get_ref()
         .hold(phase == TurnPhase::Read && exchanged.is_ok());
@@ -155,20 +163,22 @@ fn exchange<S: Read + Write + Drop>(
     phase: TurnPhase,
     draws: u64,
     hub: &mut Hub,
-    made: &mut EventLog,
+    events: &mut EventLog,
 ) -> Result<(), Ending>
-    requires { length made.old + draws + 1 ≤ MAX_EVENTS }
-    ensures follows { Follows no_room (at hub.old (Some session) made.old) (at hub.new (Some session) made.new) }
+    requires { length events.old + draws + 1 ≤ MAX_EVENTS }
+    ensures follows { Follows no_room (at hub.old (Some session) events.old)
+        (at hub.new (Some session) events.new) }
     ensures exchanges { OnOk result (Exchanges S.remaining S.contents (texts_of phase)
-        (at hub.old (Some session) made.old) (at hub.new (Some session) made.new)
+        (at hub.old (Some session) events.old) (at hub.new (Some session) events.new)
         socket.old socket.new) }
+    ensures binary { BinaryAnswered S.contents result socket.new }
     ensures passes { PassesOn S.remaining (allowed_reads hub.old (Some session) (texts_of phase))
-        socket.old made.old made.new }
-    ensures adds { Adds (draws + 1) (texts_of phase) draws made.old made.new }
+        socket.old events.old events.new }
+    ensures adds { Adds (draws + 1) (texts_of phase) draws events.old events.new }
     ensures prompt { IfErr result (λ ending. IsPrompt (cause_of ending)) }
 {
-    hear(alloc, socket, session, phase, hub, made)?;
-    gather(alloc, socket, session, draws, hub, made)?;
+    hear(alloc, socket, session, phase, hub, events)?;
+    gather(alloc, socket, session, draws, hub, events)?;
     Ok(())
 }
 
@@ -180,22 +190,25 @@ fn hear<S: Read + Write + Drop>(
     session: u64,
     phase: TurnPhase,
     hub: &mut Hub,
-    made: &mut EventLog,
+    events: &mut EventLog,
 ) -> Result<(), Ending>
-    requires { length made.old + 1 ≤ MAX_EVENTS }
-    ensures follows { Follows no_room (at hub.old (Some session) made.old) (at hub.new (Some session) made.new) }
-    ensures drew { OnOk result (Drew [] (at hub.old (Some session) made.old) (at hub.new (Some session) made.new)) }
+    requires { length events.old + 1 ≤ MAX_EVENTS }
+    ensures follows { Follows no_room (at hub.old (Some session) events.old)
+        (at hub.new (Some session) events.new) }
+    ensures drew { OnOk result (Drew [] (at hub.old (Some session) events.old)
+        (at hub.new (Some session) events.new)) }
     ensures hears { OnOk result (Hearing S.remaining
-        (allowed_reads hub.old (Some session) (texts_of phase)) made.old made.new
+        (allowed_reads hub.old (Some session) (texts_of phase)) events.old events.new
         socket.old socket.new) }
-    ensures quiet { OnErr result (Passes made.old made.new []) }
-    ensures adds { Adds 1 (texts_of phase) 0 made.old made.new }
+    ensures binary { BinaryAnswered S.contents result socket.new }
+    ensures quiet { OnErr result (Passes events.old events.new []) }
+    ensures adds { Adds 1 (texts_of phase) 0 events.old events.new }
     ensures prompt { IfErr result (λ ending. IsPrompt (cause_of ending)) }
 {
     if !phase.reads() || !hub.may_hear(session) {
         return Ok(());
     }
-    hear_text(alloc, socket, session, hub, made)
+    hear_text(alloc, socket, session, hub, events)
 }
 
 /// Passes the next text to the hub, if there is one.
@@ -205,29 +218,36 @@ fn hear_text<S: Read + Write + Drop>(
     socket: &mut Socket<S>,
     session: u64,
     hub: &mut Hub,
-    made: &mut EventLog,
+    events: &mut EventLog,
 ) -> Result<(), Ending>
-    requires { length made.old + 1 ≤ MAX_EVENTS }
-    ensures follows { Follows no_room (at hub.old (Some session) made.old) (at hub.new (Some session) made.new) }
-    ensures drew { OnOk result (Drew [] (at hub.old (Some session) made.old) (at hub.new (Some session) made.new)) }
-    ensures hears { OnOk result (Hearing S.remaining 1 made.old made.new socket.old socket.new) }
-    ensures quiet { OnErr result (Passes made.old made.new []) }
-    ensures adds { Adds 1 1 0 made.old made.new }
+    requires { length events.old + 1 ≤ MAX_EVENTS }
+    ensures follows { Follows no_room (at hub.old (Some session) events.old)
+        (at hub.new (Some session) events.new) }
+    ensures drew { OnOk result (Drew [] (at hub.old (Some session) events.old)
+        (at hub.new (Some session) events.new)) }
+    ensures hears { OnOk result
+        (Hearing S.remaining 1 events.old events.new socket.old socket.new) }
+    ensures binary { BinaryAnswered S.contents result socket.new }
+    ensures quiet { OnErr result (Passes events.old events.new []) }
+    ensures adds { Adds 1 1 0 events.old events.new }
     ensures prompt { IfErr result (λ ending. IsPrompt (cause_of ending)) }
 {
     let Some(text) = next_text(socket)? else {
         return Ok(());
     };
-    match events::receive(alloc, hub, session, text, made) {
+    match events::receive(alloc, hub, session, text, events) {
         Ok(()) => Ok(()),
-        Err(_) => Err(Ending::Gone(Cause::Memory)),
+        Err(_) => Err(Ending::Gone(EndCause::Memory)),
     }
 }
 
-/// Reads a message, and takes its text if it is a text.
+/// Reads a message, and takes its text if it is a text. A binary one is answered by a close with
+/// 1003.
+#[tactic(auto, using(crate::proofs::Hearing::finds_texts, crate::proofs::BinaryAnswered::closed_now))]
 fn next_text<S: Read + Write + Drop>(socket: &mut Socket<S>) -> Result<Option<Text>, Ending>
     ensures finds { IfOk result (λ text. Finds S.remaining socket.old socket.new (given text)) }
     ensures terms { OnOk result (KeepsTerms socket.old.conn socket.new.conn) }
+    ensures binary { BinaryAnswered S.contents result socket.new }
     ensures prompt { IfErr result (λ ending. IsPrompt (cause_of ending)) }
 {
     let Some(message) = read(socket)? else {
@@ -237,15 +257,15 @@ fn next_text<S: Read + Write + Drop>(socket: &mut Socket<S>) -> Result<Option<Te
         Message::Text(words) => Ok(Some(Text::shared(words))),
         Message::Binary(_) => {
             close(socket, CloseCode::Unsupported)?;
-            Err(Ending::Closing(Cause::Binary))
+            Err(Ending::Closing(EndCause::Binary))
         }
-        Message::Close(_) => Err(Ending::Closing(Cause::Peer)),
+        Message::Close(_) => Err(Ending::Closing(EndCause::Peer)),
         Message::Ping(_) | Message::Pong(_) => Ok(None),
     }
 }
 
-/// Draws up to `draws` messages and frames each, until output is pending. A draw that is out of memory ends the turn, and asks for
-/// another.
+/// Draws up to `draws` messages and frames each, until output is pending. A draw that is out of
+/// memory ends the turn, and asks for another.
 #[tactic(auto, using(crate::proofs::Following::follows_same, crate::proofs::Following::follows_then, crate::proofs::Hearing::passes_same, crate::proofs::Hearing::passes_then, crate::proofs::Telling::tells_start, crate::proofs::Telling::tells_on, crate::proofs::Telling::tells_text))]
 fn gather<S: Read + Write + Drop>(
     alloc: Global,
@@ -253,27 +273,29 @@ fn gather<S: Read + Write + Drop>(
     session: u64,
     draws: u64,
     hub: &mut Hub,
-    made: &mut EventLog,
-) -> Result<(), Cause>
-    requires { length made.old + draws ≤ MAX_EVENTS }
-    ensures follows { Follows no_room (at hub.old (Some session) made.old) (at hub.new (Some session) made.new) }
-    ensures tells { OnOk result (Tells S.contents (at hub.old (Some session) made.old) (at hub.new (Some session) made.new) socket.old socket.new) }
-    ensures passes { Passes made.old made.new [] }
-    ensures adds { Adds draws 0 draws made.old made.new }
+    events: &mut EventLog,
+) -> Result<(), EndCause>
+    requires { length events.old + draws ≤ MAX_EVENTS }
+    ensures follows { Follows no_room (at hub.old (Some session) events.old)
+        (at hub.new (Some session) events.new) }
+    ensures tells { OnOk result (Tells S.contents (at hub.old (Some session) events.old)
+        (at hub.new (Some session) events.new) socket.old socket.new) }
+    ensures passes { Passes events.old events.new [] }
+    ensures adds { Adds draws 0 draws events.old events.new }
     ensures prompt { IfErr result IsPrompt }
 {
     for _ in 0..draws {
-        let text = match events::draw(alloc, hub, session, made) {
+        let text = match events::draw(alloc, hub, session, events) {
             Ok(Some(text)) => text,
             Ok(None) => return Ok(()),
             Err(_) => {
-                made.note_shortage();
+                events.note_shortage();
                 socket.get_ref().request_poll();
                 return Ok(());
             }
         };
         let Ok(words) = Utf8Bytes::from_string(text) else {
-            return Err(Cause::Memory);
+            return Err(EndCause::Memory);
         };
         if !write(socket, words)? {
             return Ok(());

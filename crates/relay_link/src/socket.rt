@@ -1,18 +1,20 @@
 //! The WebSocket of a link. No call blocks.
-ghost use Rattle.std.specs.Prelude.{◌≡◌, [], IfOk, OnOk, IfErr};
+ghost use Rattle.std.specs.Prelude.{◌≡◌, [], Some, IfOk, OnOk, IfErr};
 ghost use Rattle.tungstenite.specs.Config.{HasLimits};
 ghost use Rattle.tungstenite.specs.Failure.{IsIo};
-ghost use Rattle.tungstenite.specs.Socket.{IsFresh};
+ghost use Rattle.tungstenite.specs.Socket.{IsFresh, Writes};
+ghost use Rattle.websocket.specs.Connection.{close_step};
 ghost use Rattle.websocket.specs.declared.protocol.config.Role.TheVariants.{Server};
-ghost use Rattle.relay_link.specs.declared.cause.Cause.TheVariants.{Stream};
+ghost use Rattle.relay_link.specs.declared.end_cause.EndCause.TheVariants.{Stream};
 ghost use Rattle.relay_link.specs.Frames.{Frames, text_frame};
 ghost use Rattle.relay_link.specs.Ends.{IsPrompt};
-ghost use Rattle.relay_link.specs.Hears.{Finds, text_of};
+ghost use Rattle.relay_link.specs.Hears.{ReadsOnce};
+ghost use Rattle.relay_link.specs.Stream.{written};
 ghost use Rattle.relay_link.specs.SocketError.{IsOfSocket};
 ghost use Rattle.relay_link.specs.Terms.{limits, Serves, KeepsTerms};
 
-use crate::cause::Cause;
 use crate::corked_writer::CorkedWriter;
+use crate::end_cause::EndCause;
 use crate::non_blocking::is_nothing_now;
 use std::alloc::Global;
 use std::io::{Read, Write};
@@ -23,15 +25,18 @@ use tungstenite::{
 /// A WebSocket on the server side, whose frames are not masked.
 pub(crate) type Socket<S> = WebSocket<CorkedWriter<S>, NoMask>;
 
-/// The size of a socket's read buffer, in bytes, which is also the most that one read gives. Most requests are shorter. The default of
-/// `tungstenite`, 128 KiB, is too much if many sockets are held.
+/// The size of a socket's read buffer, in bytes, which is also the most that one read gives. Most
+/// requests are shorter. The default of `tungstenite`, 128 KiB, is too much if many sockets are
+/// held.
 const READ_BUFFER: usize = 1_280;
 
-/// The size of the read buffer once a read has filled the smaller one: so many bytes at once take fewer reads.
+/// The size of the read buffer once a read has filled the smaller one: so many bytes at once take
+/// fewer reads.
 const WIDE_READ_BUFFER: usize = 8_192;
 
-/// The maximum size of an incoming message and of each of its frames, in bytes. It is a little more than the longest request, so
-/// that a request that is slightly too long still gets a reply. A longer message ends the link with [`Cause::Broken`].
+/// The maximum size of an incoming message and of each of its frames, in bytes. It is a little more
+/// than the longest request, so that a request that is slightly too long still gets a reply. A
+/// longer message ends the link with [`EndCause::Broken`].
 const MAX_MESSAGE: usize = 1_056_768;
 
 /// How many bytes of output are collected before they are written.
@@ -75,12 +80,15 @@ pub(crate) fn widen<S: Read + Write + Drop>(socket: &mut Socket<S>)
     }
 }
 
-/// Reads one message. `None` if no complete message is available now. A message may ask for another turn ([`note_found`]).
-#[tactic(auto, using(crate::proofs::SocketErrors::read_error, crate::proofs::Hearing::finds_message, crate::proofs::Hearing::finds_none))]
-pub(crate) fn read<S: Read + Write + Drop>(socket: &mut Socket<S>) -> Result<Option<Message>, Cause>
+/// Reads one message. `None` if no complete message is available now. A message may ask for another
+/// turn ([`note_found`]).
+#[tactic(auto, using(crate::proofs::SocketErrors::read_error, crate::proofs::Hearing::reads_message, crate::proofs::Hearing::reads_none))]
+pub(crate) fn read<S: Read + Write + Drop>(
+    socket: &mut Socket<S>,
+) -> Result<Option<Message>, EndCause>
     ensures prompt { IfErr result IsPrompt }
     ensures terms { OnOk result (KeepsTerms socket.old.conn socket.new.conn) }
-    ensures finds { IfOk result (λ found. Finds S.remaining socket.old socket.new (text_of found)) }
+    ensures reads { IfOk result (λ found. ReadsOnce S.remaining socket.old socket.new found) }
 {
     match socket.read() {
         Ok(message) => {
@@ -88,12 +96,13 @@ pub(crate) fn read<S: Read + Write + Drop>(socket: &mut Socket<S>) -> Result<Opt
             Ok(Some(message))
         }
         Err(Error::Io(error)) if is_nothing_now(&error) => Ok(None),
-        Err(error) => Err(Cause::of(&error)),
+        Err(error) => Err(EndCause::of(&error)),
     }
 }
 
-/// Notes that a message was found. It asks for another turn if bytes behind it were read, since they may be the next message, and if it is
-/// a close, since the next read tells that the connection is over.
+/// Notes that a message was found. It asks for another turn if bytes behind it were read, since
+/// they may be the next message, and if it is a close, since the next read tells that the
+/// connection is over.
 fn note_found<S: Write + Drop>(stream: &CorkedWriter<S>, message: &Message) {
     stream.note_taken(least_len(message));
     if message.is_close() {
@@ -101,7 +110,8 @@ fn note_found<S: Write + Drop>(stream: &CorkedWriter<S>, message: &Message) {
     }
 }
 
-/// How many bytes the frames of a received message have at least: a header with a masking key, and the payload (RFC 6455, section 5.2).
+/// How many bytes the frames of a received message have at least: a header with a masking key, and
+/// the payload (RFC 6455, section 5.2).
 fn least_len(message: &Message) -> usize {
     let payload = message.len();
     let header = match payload {
@@ -114,40 +124,44 @@ fn least_len(message: &Message) -> usize {
 
 /// Sends pending output. `false` if output is still pending; so for `write` and `close`.
 #[tactic(auto, using(crate::proofs::SocketErrors::flush_error, crate::proofs::Framing::flushed))]
-pub(crate) fn flush<S: Read + Write + Drop>(socket: &mut Socket<S>) -> Result<bool, Cause>
+pub(crate) fn flush<S: Read + Write + Drop>(socket: &mut Socket<S>) -> Result<bool, EndCause>
     ensures prompt { IfErr result IsPrompt }
     ensures frames { Frames S.contents socket.old socket.new [] }
 {
     is_sent(socket.flush())
 }
 
-/// Appends a text frame to the collected output. At 64 KiB all of it is sent; `false` if output is still pending then.
+/// Appends a text frame to the collected output. At 64 KiB all of it is sent; `false` if output is
+/// still pending then.
 #[tactic(auto, using(crate::proofs::SocketErrors::write_error, crate::proofs::Framing::wrote_text))]
 pub(crate) fn write<S: Read + Write + Drop>(
     socket: &mut Socket<S>,
     words: Utf8Bytes,
-) -> Result<bool, Cause>
+) -> Result<bool, EndCause>
     ensures prompt { IfErr result IsPrompt }
     ensures frames { OnOk result (Frames S.contents socket.old socket.new (text_frame words)) }
-    ensures stopped { IfErr result (λ cause. cause ≡ Stream → Frames S.contents socket.old socket.new (text_frame words)) }
+    ensures stopped { IfErr result (λ cause. cause ≡ Stream
+        → Frames S.contents socket.old socket.new (text_frame words)) }
 {
     is_sent(socket.write(Message::Text(words)))
 }
 
 /// Sends a close frame with an empty reason.
-#[tactic(auto, using(crate::proofs::SocketErrors::write_error))]
+#[tactic(auto, using(crate::proofs::SocketErrors::write_error, crate::proofs::BinaryAnswered::wrote_close))]
 pub(crate) fn close<S: Read + Write + Drop>(
     socket: &mut Socket<S>,
     code: CloseCode,
-) -> Result<bool, Cause>
-    ensures { IfErr result IsPrompt }
+) -> Result<bool, EndCause>
+    ensures prompt { IfErr result IsPrompt }
+    ensures wrote { OnOk result (Writes (written S.contents) socket.old socket.new
+        (close_step socket.old.conn (Some (code, [])))) }
 {
     let reason = Utf8Bytes::new();
     is_sent(socket.close(Some(CloseFrame { code, reason })))
 }
 
 /// Whether a call has sent all pending output.
-fn is_sent(sent: Result<(), Error>) -> Result<bool, Cause>
+fn is_sent(sent: Result<(), Error>) -> Result<bool, EndCause>
     requires { IfErr sent IsOfSocket }
     ensures prompt { IfErr result IsPrompt }
     ensures waits { OnOk result (IfErr sent IsIo) }
@@ -156,6 +170,6 @@ fn is_sent(sent: Result<(), Error>) -> Result<bool, Cause>
     match sent {
         Ok(()) => Ok(true),
         Err(Error::Io(error)) if is_nothing_now(&error) => Ok(false),
-        Err(error) => Err(Cause::of(&error)),
+        Err(error) => Err(EndCause::of(&error)),
     }
 }

@@ -7,7 +7,8 @@ pub enum Stage {
     Head,
     /// Messages pass in both directions.
     Open,
-    /// The session is closed, and the link waits for the other side's part of the closing handshake.
+    /// The session is closed, and the link waits for the other side's part of the closing
+    /// handshake.
     Closing,
     /// The stream is dropped.
     Gone,

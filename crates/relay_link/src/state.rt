@@ -3,7 +3,7 @@ ghost use Rattle.std.specs.Prelude.{◌≡◌};
 ghost use Rattle.relay_link.specs.Stage.{stage_of, session_of, has_corked_output, is_idle};
 
 use crate::corked_writer::CorkedWriter;
-use crate::reply::{Reply, Verdict};
+use crate::handshake_reply::{HandshakeReply, Verdict};
 use crate::socket::Socket;
 use crate::stage::Stage;
 use std::io::Write;
@@ -18,7 +18,7 @@ pub(crate) enum State<S: Write + Drop> {
     /// The reply to the head is being written.
     Replying {
         stream: CorkedWriter<S>,
-        reply: Reply,
+        reply: HandshakeReply,
     },
     Open {
         socket: Socket<S>,

@@ -1,6 +1,6 @@
 //! The state of a link after a turn.
-use crate::cause::Cause;
 use crate::closing::MAX_TURNS;
+use crate::end_cause::EndCause;
 use crate::socket::Socket;
 use crate::state::State;
 use std::io::Write;
@@ -9,15 +9,12 @@ use std::io::Write;
 #[derive(Drop)]
 pub(crate) struct Transition<S: Write + Drop> {
     pub state: State<S>,
-    pub cause: Option<Cause>,
+    pub cause: Option<EndCause>,
 }
 
 impl<S: Write + Drop> Transition<S> {
     ghost use Rattle.std.specs.Prelude.{◌≡◌, Some, None};
-    ghost use Rattle.relay_link.specs.Ends.{turns_left};
-    ghost use Rattle.relay_link.specs.Stage.{stage_of, session_of};
     ghost use Rattle.relay_link.specs.declared.closing.TheConstants.{MAX_TURNS};
-    ghost use Rattle.relay_link.specs.declared.stage.Stage.TheVariants.{Closing, Gone};
 
     pub(crate) fn on(state: State<S>) -> Transition<S>
         ensures { result ≡ record { state = state; cause = None } }
@@ -25,11 +22,8 @@ impl<S: Write + Drop> Transition<S> {
         Transition { state, cause: None }
     }
 
-    pub(crate) fn closing(socket: Socket<S>, cause: Cause) -> Transition<S>
-        ensures stage { stage_of result.state ≡ Closing }
-        ensures session { session_of result.state ≡ None }
-        ensures cause { result.cause ≡ Some cause }
-        ensures turns { turns_left result.state ≡ MAX_TURNS }
+    pub(crate) fn closing(socket: Socket<S>, cause: EndCause) -> Transition<S>
+        ensures { result ≡ record { state = State.Closing socket MAX_TURNS; cause = Some cause } }
     {
         Transition {
             state: State::Closing {
@@ -40,7 +34,7 @@ impl<S: Write + Drop> Transition<S> {
         }
     }
 
-    pub(crate) fn gone(cause: Cause) -> Transition<S>
+    pub(crate) fn gone(cause: EndCause) -> Transition<S>
         ensures { result ≡ record { state = State.Gone; cause = Some cause } }
     {
         Transition {

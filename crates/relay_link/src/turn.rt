@@ -3,7 +3,7 @@ ghost use Rattle.std.specs.Prelude.{◌≡◌};
 ghost use Rattle.std.specs.List.{list_any};
 ghost use Rattle.relay_link.specs.Adds.{is_receive, is_draw};
 
-use crate::cause::Cause;
+use crate::end_cause::EndCause;
 use crate::stage::Stage;
 use relay_hub::{Event, OpenFault};
 
@@ -11,11 +11,12 @@ use relay_hub::{Event, OpenFault};
 #[derive(Drop)]
 pub struct Turn {
     /// The hub events that the turn made, in order: at most 34.
-    pub made: Vec<Event>,
+    pub events: Vec<Event>,
     /// The link's stage after the turn.
     pub stage: Stage,
-    /// The cause, if the turn ended the handshake without opening the link, ended an open link, or ended its closing.
-    pub cause: Option<Cause>,
+    /// The cause, if the turn ended the handshake without opening the link, ended an open link, or
+    /// ended its closing.
+    pub cause: Option<EndCause>,
     /// How many bytes the texts have that the turn drew.
     pub drawn: u64,
     /// What the hub's work cost, in microseconds ([`relay_hub::Hub::cost`]).
@@ -29,9 +30,9 @@ pub struct Turn {
 impl Turn {
     /// Whether the turn passed a text to the hub. Allocates nothing.
     pub fn has_received(&self) -> bool
-        ensures { result ≡ list_any is_receive self.now.made.items }
+        ensures { result ≡ list_any is_receive self.now.events.items }
     {
-        self.made
+        self.events
             .iter()
             .any(|event| matches!(event, Event::Receive { .. }))
     }
@@ -39,7 +40,7 @@ impl Turn {
     /// How many bytes the texts have that the turn passed to the hub. Allocates nothing.
     pub fn received(&self) -> u64 {
         let mut bytes = 0u64;
-        for event in self.made.iter() {
+        for event in self.events.iter() {
             if let Event::Receive { text, .. } = event {
                 bytes = bytes.saturating_add(text.as_str().len() as u64);
             }
@@ -49,9 +50,9 @@ impl Turn {
 
     /// Whether the turn made a draw, with or without a text. Allocates nothing.
     pub fn has_drawn(&self) -> bool
-        ensures { result ≡ list_any is_draw self.now.made.items }
+        ensures { result ≡ list_any is_draw self.now.events.items }
     {
-        self.made
+        self.events
             .iter()
             .any(|event| matches!(event, Event::Draw { .. }))
     }

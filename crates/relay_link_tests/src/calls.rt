@@ -1,17 +1,18 @@
 //! Fault injection: each call of a link on its stream fails once, with each kind of fault.
 //!
-//! The link joins session 1, which watches the whole document. Its client watches, edits twice and closes.
+//! The link joins session 1, which watches the whole document. Its client watches, edits twice and
+//! closes.
 use crate::link_fixture::{ASKS, LinkFixture, hub_of};
 use relay_hub::{Event, Hub};
 use relay_link::{Stage, Turn};
 use relay_proto::Access;
-use relay_wire::{InjectedFault, Subject, Wire, play};
+use relay_test_stream::{InjectedFault, Subject, Wire, play};
 use std::alloc::{AllocGlobal, Global};
 use std::cell::RefCell;
 use std::mem;
 
-/// The calls of a run in which none fails; and then, for a fault of each kind, how many runs end as that one, by the peer, and by the stream,
-/// of the runs in which one call has the fault.
+/// The calls of a run in which none fails; and then, for a fault of each kind, how many runs end as
+/// that one, by the peer, and by the stream, of the runs in which one call has the fault.
 const ROWS: &str = r#"
 calls => 23 calls: 6 reads, 6 writes
 
@@ -47,14 +48,16 @@ const MAX_CALLS: u64 = 40;
 const WHOLE: &str =
     "Peer Peer Gone, 0 wrong\n{\"kind\":\"patch\",\"patch\":[{\"op\":\"replace\",\"path\":\"/0\",\"value\":[{\"x\":1}]}],\"rev\":1}\n{\"kind\":\"patch\",\"patch\":[{\"op\":\"replace\",\"path\":\"/0/0/x\",\"value\":2}],\"rev\":2}\n > switched > {\"epoch\":1,\"kind\":\"welcome\",\"rev\":0,\"session\":2} > {\"id\":1,\"kind\":\"watching\"} > {\"kind\":\"snapshot\",\"rev\":0,\"view\":[[null]]} > {\"id\":2,\"kind\":\"done\",\"rev\":1} > {\"kind\":\"patch\",\"patch\":[{\"op\":\"replace\",\"path\":\"/0\",\"value\":[{\"x\":1}]}],\"rev\":1} > {\"id\":3,\"kind\":\"done\",\"rev\":2} > {\"kind\":\"patch\",\"patch\":[{\"op\":\"replace\",\"path\":\"/0/0/x\",\"value\":2}],\"rev\":2} > close 1000\n";
 
-/// How the result begins of a run that ends by the peer, by a call that accepts nothing, and by one that fails.
+/// How the result begins of a run that ends by the peer, by a call that accepts nothing, and by one
+/// that fails.
 const BY_PEER: &str = "Peer Gone, 0 wrong\n";
 
 const BY_STREAM: &str = "Stream Gone, 0 wrong\n";
 
 const BY_FAILURE: &str = "Stream ! Gone, 0 wrong\n";
 
-/// A run of a link with session 2, and a twin of its hub, which replays the events that the link reports.
+/// A run of a link with session 2, and a twin of its hub, which replays the events that the link
+/// reports.
 #[derive(Drop)]
 struct Run<'a> {
     side: LinkFixture<'a>,
@@ -139,7 +142,7 @@ impl<'a> Run<'a> {
         self.judge_events(&turn, session);
         let failed = self.side.wire()?.failures > failures;
         self.tell_cause(&turn, failed)?;
-        drop(self.twin.run(alloc, turn.made.as_slice()).ok()?);
+        drop(self.twin.run(alloc, turn.events.as_slice()).ok()?);
         Some(())
     }
 
@@ -155,14 +158,15 @@ impl<'a> Run<'a> {
         self.wrong = self.wrong.saturating_add(u64::from(!holds));
     }
 
-    /// Checks that no event names another session, and that the link loses its session exactly if the last event is its close.
+    /// Checks that no event names another session, and that the link loses its session exactly if
+    /// the last event is its close.
     fn judge_events(&mut self, turn: &Turn, session: Option<u64>) {
-        for event in turn.made.iter() {
+        for event in turn.events.iter() {
             self.must(is_own(event));
         }
-        let had_one = session.is_some() || !turn.made.is_empty();
+        let had_one = session.is_some() || !turn.events.is_empty();
         let is_left = had_one && self.side.link.session().is_none();
-        let is_closed = matches!(turn.made.last(), Some(Event::Close { .. }));
+        let is_closed = matches!(turn.events.last(), Some(Event::Close { .. }));
         self.must(is_left == is_closed);
     }
 
@@ -176,7 +180,8 @@ impl<'a> Run<'a> {
         Some(mem::replace(&mut self.told, String::new(alloc)))
     }
 
-    /// Appends what is left after the turns, and checks that session 1 draws the same from the hub and from its twin.
+    /// Appends what is left after the turns, and checks that session 1 draws the same from the hub
+    /// and from its twin.
     fn tell_rest(&mut self, alloc: Global) -> Option<()> {
         let texts = drawn(alloc, &mut self.hub)?;
         let of_twin = drawn(alloc, &mut self.twin)?;
@@ -213,7 +218,8 @@ struct Ends {
 }
 
 impl Ends {
-    /// Counts a run by its result, if it has one of these ends. `stream` is how it begins if the stream ended it.
+    /// Counts a run by its result, if it has one of these ends. `stream` is how it begins if the
+    /// stream ended it.
     fn count(&mut self, told: &str, stream: &str) {
         if told == WHOLE {
             self.whole = self.whole.saturating_add(1);
@@ -247,7 +253,8 @@ impl<R: AllocGlobal> Subject<R> for Runs {
 }
 
 impl Runs {
-    /// Counts the calls of a run without faults. Nothing is told if it does not come to what it has to.
+    /// Counts the calls of a run without faults. Nothing is told if it does not come to what it has
+    /// to.
     fn count(&mut self, alloc: Global) -> Option<String> {
         let wire = Wire::new(alloc);
         let told = told_of(alloc, &wire)?;

@@ -6,7 +6,7 @@ use relay_delivery::{
 use relay_follow::{Follower, HearFault};
 use relay_hub::Hub;
 use relay_link::MAX_DRAWS;
-use relay_wire::{Subject, Wire, cut, play};
+use relay_test_stream::{Subject, Wire, cut, play};
 use std::alloc::{AllocGlobal, Global};
 use std::cell::RefCell;
 use std::process::Abort;
@@ -45,7 +45,8 @@ impl<'a> Delivery<'a> {
         Some(String::new(alloc))
     }
 
-    /// The client receives what the link writes in a write turn, after a request of its session. Tells what it holds then.
+    /// The client receives what the link writes in a write turn, after a request of its session.
+    /// Tells what it holds then.
     fn receive(&mut self, alloc: Global, request: &str) -> Option<String> {
         drop(self.hub.receive(alloc, 1, request).ok()?);
         let from = self.side.written_len()?;
@@ -56,7 +57,8 @@ impl<'a> Delivery<'a> {
         held(alloc, &self.follower)
     }
 
-    /// The client hears so many messages by a socket, after a turn that read a request of its session. Tells what it holds then.
+    /// The client hears so many messages by a socket, after a turn that read a request of its
+    /// session. Tells what it holds then.
     fn hear(&mut self, alloc: Global, count: &str, request: &str) -> Option<String> {
         let from = self.side.written_len()?;
         let asked = format!(in alloc; "says {request}").ok()?;
@@ -91,7 +93,8 @@ fn hear_all(alloc: Global, bytes: &[u8], count: usize, follower: &mut Follower) 
     hear_texts(alloc, &mut socket, count, follower).ok()
 }
 
-/// The requests of a session that watches one pointer, and what its client holds after it received what the link wrote.
+/// The requests of a session that watches one pointer, and what its client holds after it received
+/// what the link wrote.
 const RECEIVED: &str = r#"
 enter draws 0
 receive {"do":"watch","id":1,"view":["/n"]} => 0 [[]]

@@ -1,4 +1,5 @@
-//! The handshake, from the first byte to the reply: the head may arrive in pieces, and the reply may be written in pieces.
+//! The handshake, from the first byte to the reply: the head may arrive in pieces, and the reply
+//! may be written in pieces.
 use crate::links::play_anew;
 
 /// What a new link makes of a head.
@@ -36,6 +37,62 @@ asks 13 /rooms/a => open a; Gone by Refused(503) > unavailable
 
 # An older version is refused.
 asks 8 /rooms/a => Gone by Refused(426) > upgrade required
+
+# While clients may not enter, a good head opens no session. The reply says when to try again.
+bring closed
+bring asks 13 /rooms/a
+hear => Gone by Refused(503) > try again
+hear => Gone
+waiting 1 => None
+
+# So it is if the hub is full: it is not asked.
+full
+bring closed
+bring asks 13 /rooms/a
+hear => Gone by Refused(503) > try again
+
+# A head that is refused is refused as ever.
+bring closed
+bring asks 8 /rooms/a
+hear => Gone by Refused(426) > upgrade required
+
+# What counts is whether clients may enter once the head is whole.
+bring closed
+bring reads one-byte
+bring asks 13 /rooms/a
+212 hear => Head
+bring opened
+hear => open a; Open as 1 > switched
+
+bring reads one-byte
+bring asks 13 /rooms/a
+212 hear => Head
+bring closed
+hear => Gone by Refused(503) > try again
+
+# A reply that was begun is written to its end.
+bring closed
+bring writes not-ready
+bring asks 13 /rooms/a
+hear => Head
+bring opened
+bring writes well
+hear => Gone by Refused(503) > try again
+
+bring writes not-ready
+bring asks 13 /rooms/a
+hear => open a; Head as 1
+bring closed
+bring writes well
+hear => Open as 1 > switched
+
+# Who is in is heard as ever.
+enter
+draws 2 => draw 1; draw 1; Open as 1 > {"epoch":1,"kind":"welcome","rev":0,"session":1}
+bring closed
+bring says {"do":"edit","id":7,"patch":[]}
+hear => receive 1; draw 1; draw 1; Open as 1
+tell => draw 1; Open as 1 > {"id":7,"kind":"done","rev":1}
 
 # The head may arrive one byte at a time, even after a long wait for the first byte. It has 213 bytes.
 2000 idle => Head

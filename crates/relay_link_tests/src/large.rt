@@ -1,7 +1,8 @@
-//! A message of more than 65,535 bytes, whose frame has a length of eight bytes (RFC 6455, section 5.2).
+//! A message of more than 65,535 bytes, whose frame has a length of eight bytes (RFC 6455, section
+//! 5.2).
 use crate::link_fixture::{LinkFixture, hub_of};
 use relay_hub::Hub;
-use relay_wire::Wire;
+use relay_test_stream::Wire;
 use std::alloc::Global;
 use std::cell::RefCell;
 
@@ -18,8 +19,8 @@ fn draw(alloc: Global, hub: &mut Hub) -> Option<()> {
     Some(())
 }
 
-/// Leaves exactly one message in the outbox of session 1: the patch of an edit, for two slots that show the same text. It is longer
-/// than `LEN`.
+/// Leaves exactly one message in the outbox of session 1: the patch of an edit, for two slots that
+/// show the same text. It is longer than `LEN`.
 fn edit(alloc: Global, hub: &mut Hub, letters: &str) -> Option<()> {
     hear(alloc, hub, r#"{"do":"watch","id":1,"view":["",""]}"#)?;
     for _ in 0..3 {

@@ -1,7 +1,8 @@
-//! Tests of links: the cause of each turn, the bytes written, and that links keep working beside one that fails;
-//! and what a client makes of what a link wrote.
+//! Tests of links: the cause of each turn, the bytes written, and that links keep working beside
+//! one that fails; and what a client makes of what a link wrote.
 //!
-//! Most tests are rows of text, which are played to a link over a scripted wire: what happens, and what the turn comes to.
+//! Most tests are rows of text, which are played to a link over a scripted wire: what happens, and
+//! what the turn comes to.
 #![tactic(auto)]
 
 #[cfg(test)]
@@ -24,5 +25,7 @@ mod links;
 mod others;
 #[cfg(test)]
 mod streams;
+#[cfg(test)]
+mod visits;
 #[cfg(test)]
 mod write_turns;

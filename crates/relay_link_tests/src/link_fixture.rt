@@ -1,8 +1,9 @@
-//! A link over a wire, whose turns are told in words. What finds no memory, or a word that is none, gives nothing, which fails the test.
+//! A link over a wire, whose turns are told in words. What finds no memory, or a word that is none,
+//! gives nothing, which fails the test.
 use relay_hub::{Event, Hub};
-use relay_link::{Link, MAX_DRAWS, Turn};
+use relay_link::{Entrance, Link, MAX_DRAWS, Turn};
 use relay_proto::Access;
-use relay_wire::{End, Wire, cut, in_words};
+use relay_test_stream::{End, Wire, cut, in_words};
 use std::alloc::{AllocError, Global};
 use std::cell::{RefCell, RefMut};
 
@@ -20,6 +21,8 @@ pub(crate) struct LinkFixture<'a> {
     wire: &'a RefCell<Wire>,
     pub link: Link<End<'a>>,
     draws: u64,
+    /// Whether a client may enter by a read turn.
+    entrance: Entrance,
 }
 
 impl<'a> LinkFixture<'a> {
@@ -28,6 +31,7 @@ impl<'a> LinkFixture<'a> {
             wire,
             link: Link::new(alloc, End { wire }).ok()?,
             draws: MAX_DRAWS,
+            entrance: Entrance::Open,
         })
     }
 
@@ -64,7 +68,8 @@ impl<'a> LinkFixture<'a> {
         in_words(alloc, bytes.as_slice()).ok()
     }
 
-    /// Does an act, and tells its turn: the events, the stage, the session, the cause, and each item that was written, after a ` > `.
+    /// Does an act, and tells its turn: the events, the stage, the session, the cause, and each
+    /// item that was written, after a ` > `.
     pub fn act(&mut self, alloc: Global, hub: &mut Hub, act: &str) -> Option<String> {
         let from = self.written_len()?;
         let mut told = self.turn(alloc, hub, act)?;
@@ -78,7 +83,8 @@ impl<'a> LinkFixture<'a> {
     /// - `idle` runs a turn, and `draws N` one with so many draws at most, as each later one;
     /// - `hear` and `tell` run a read turn and a write turn;
     /// - `end` ends the link;
-    /// - `bring ACT` does what comes before a turn;
+    /// - `bring ACT` does what comes before a turn; `bring closed` has no client enter by a read
+    ///   turn, and `bring opened` ends that;
     /// - `look` tells the stage and the session;
     /// - every other act is one of the wire, before a turn.
     fn turn(&mut self, alloc: Global, hub: &mut Hub, act: &str) -> Option<String> {
@@ -86,7 +92,10 @@ impl<'a> LinkFixture<'a> {
         let turn = match word {
             "look" => return self.seen(alloc),
             "bring" => return self.brought(alloc, rest),
-            "hear" => self.link.read_turn(alloc, hub, self.draws).ok()?,
+            "hear" => self
+                .link
+                .read_turn(alloc, self.entrance, hub, self.draws)
+                .ok()?,
             "tell" => self.link.write_turn(alloc, hub, self.draws).ok()?,
             "end" => self.link.end(alloc, hub).ok()?,
             _ => {
@@ -101,6 +110,14 @@ impl<'a> LinkFixture<'a> {
     pub fn prepare(&mut self, alloc: Global, act: &str) -> Option<()> {
         match cut(act) {
             ("idle", _) => Some(()),
+            ("closed", _) => {
+                self.entrance = Entrance::Closed;
+                Some(())
+            }
+            ("opened", _) => {
+                self.entrance = Entrance::Open;
+                Some(())
+            }
             ("draws", draws) => {
                 self.draws = draws.parse::<u64>().ok()?;
                 Some(())
@@ -135,7 +152,7 @@ impl<'a> LinkFixture<'a> {
 
 fn tell_turn(alloc: Global, turn: &Turn, session: Option<u64>) -> Result<String, AllocError> {
     let mut told = String::new(alloc);
-    for event in turn.made.iter() {
+    for event in turn.events.iter() {
         tell_event(&mut told, event)?;
     }
     write!(told, "{:?}", turn.stage)?;
@@ -153,7 +170,7 @@ fn tell_session(told: &mut String, session: Option<u64>) -> Result<(), AllocErro
     }
 }
 
-fn tell_event(told: &mut String, event: &Event) -> Result<(), AllocError> {
+pub(crate) fn tell_event(told: &mut String, event: &Event) -> Result<(), AllocError> {
     match event {
         Event::Open { room, access } => tell_opening(told, room.as_str(), *access),
         Event::Receive { session, .. } => write!(told, "receive {session}; "),

@@ -3,7 +3,7 @@ use crate::link_fixture::{LinkFixture, hub_of};
 use relay_hub::{DEFAULT_SESSIONS, Hub};
 use relay_outbox::MAX_REPLIES;
 use relay_proto::Access;
-use relay_wire::{Subject, Wire, cut, play};
+use relay_test_stream::{Subject, Wire, cut, play};
 use std::alloc::{AllocGlobal, Global};
 use std::cell::RefCell;
 use std::mem;
@@ -35,11 +35,12 @@ impl<R: AllocGlobal> Subject<R> for Links<'_> {
     ///
     /// - `enter` opens the link, which draws nothing until a row sets the draws;
     /// - `other` goes on with the other link;
-    /// - `hub K` is a new hub that lets so many patches wait, and `full` fills it with as many sessions as it allows;
+    /// - `hub K` is a new hub that lets so many patches wait, and `full` fills it with as many
+    ///   sessions as it allows;
     /// - `join` opens session 2, which has no link, and `beside ACT` has it edit after an act;
     /// - `flags ACT` tells whether the link is idle, and has output that is corked, after an act;
-    /// - `waiting N` tells how many messages wait for a session, and `count-reads` and `count-writes` how often the link read or wrote since it
-    ///   was last asked;
+    /// - `waiting N` tells how many messages wait for a session, and `count-reads` and
+    ///   `count-writes` how often the link read or wrote since it was last asked;
     /// - every other act is one of the link.
     fn act(&mut self, rt: &R, act: &str) -> Option<String> {
         let alloc = rt.alloc();
@@ -113,8 +114,9 @@ impl<'a> Links<'a> {
         format!(in alloc; "{writes}").ok()
     }
 
-    /// Does an act of the link, and then an edit of session 2. Tells also whether the edit was done, and whether the outbox of session 1 is
-    /// within the limits of a hub that lets four patches wait.
+    /// Does an act of the link, and then an edit of session 2. Tells also whether the edit was
+    /// done, and whether the outbox of session 1 is within the limits of a hub that lets four
+    /// patches wait.
     fn beside(&mut self, alloc: Global, act: &str) -> Option<String> {
         let mut told = self.link.act(alloc, &mut self.hub, act)?;
         drop(self.hub.receive(alloc, 2, EDIT).ok()?);

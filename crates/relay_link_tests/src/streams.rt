@@ -70,7 +70,8 @@ fn no_stream_hangs_a_turn(rt: HostRuntime) {
     play_anew(&rt, ROWS);
 }
 
-/// Each write takes one byte. `tests/refuse-allocations` refuses each allocation of this test in turn.
+/// Each write takes one byte. `tests/refuse-allocations` refuses each allocation of this test in
+/// turn.
 const BY_BYTES: &str = r#"
 writes one-byte => Head
 asks 13 /rooms/a => open a; Open as 1 > switched

@@ -1,8 +1,8 @@
--- The fault of a port that cannot be opened for listening.
+-- The fault of an address that cannot be opened for listening.
 use Rattle.std.specs.Prelude.{⊤}
 use Rattle.relay_loopback.specs.declared.fault.ServeFault.{ServeFault}
 use Rattle.relay_loopback.specs.declared.fault.ServeFault.TheVariants.{Listen}
 
 abbrev pub IsListen : ServeFault → Type 0
-IsListen (Listen port code) = ⊤
+IsListen (Listen address code) = ⊤
 IsListen _ = ⊥

@@ -4,13 +4,14 @@ use Rattle.relay_hub.specs.declared.event.Answer.TheVariants as answer
 use Rattle.relay_hub.specs.declared.event.Event.{Event}
 use Rattle.relay_hub.specs.declared.event.Event.TheVariants.{Open, Receive, Draw, Close, DoWill}
 use Rattle.relay_hub.specs.declared.event.Heard.TheVariants.{Answered, Busy}
-use Rattle.relay_lines.specs.Script as script
-use Rattle.relay_lines.specs.Script.{Stage, stage}
-use Rattle.relay_lines.specs.declared.outcome.Outcome.{Outcome}
-use Rattle.relay_lines.specs.declared.outcome.Outcome.TheVariants as outcome
+use Rattle.relay_script.specs.Script as script
+use Rattle.relay_script.specs.Script.{Stage, stage}
+use Rattle.relay_script.specs.declared.outcome.Outcome.{Outcome}
+use Rattle.relay_script.specs.declared.outcome.Outcome.TheVariants as outcome
 
--- The outcomes of an event that a client can see: the hub's answer, without the number of outboxes that folded; the status of a
--- refused handshake; or nothing within the limit of turns. A will is done by the hub itself.
+-- The outcomes of an event that a client can see: the hub's answer, without the number of outboxes
+-- that folded; the status of a refused handshake; or nothing within the limit of turns. A will is
+-- done by the hub itself.
 abbrev pub CanCome : Event → Outcome → Type 0
 CanCome (Open room access) (outcome.Answered (answer.Opened o)) = ⊤
 CanCome (Open room access) (outcome.Rejected status) = ⊤
@@ -28,7 +29,8 @@ CanCome event came = ⊥
 -- the answers to a script whose events have any of the outcomes that sockets can give
 abbrev pub LoopbackAnswers : Stage ⊤ → ℕ → List ℕ → Stage ⊤ → List ℕ → Type 0
 LoopbackAnswers old number line new written =
-    script.Answers (λ before event came after. CanCome event came) (λ before session shown. ⊤) old number line new written
+    script.Answers (λ before event came after. CanCome event came) (λ before session shown.
+    ⊤) old number line new written
 
 -- a script before its first line
 abbrev pub unopened : Stage ⊤

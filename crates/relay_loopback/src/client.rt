@@ -20,7 +20,8 @@ pub struct Client<S> {
 }
 
 impl<S: Read + Write + Drop> Client<S> {
-    /// A client over a stream. `first` has the bytes that followed the reply's head: its first messages.
+    /// A client over a stream. `first` has the bytes that followed the reply's head: its first
+    /// messages.
     pub fn of(alloc: Global, stream: S, first: Vec<u8>) -> Client<S> {
         let socket = WebSocket::from_partially_read(
             alloc,
@@ -33,8 +34,8 @@ impl<S: Read + Write + Drop> Client<S> {
         Client { socket }
     }
 
-    /// Sends a text. [`Client::send_rest`] sends what the stream does not accept now. After `AllocError` nothing was sent. Other errors
-    /// are ignored.
+    /// Sends a text. [`Client::send_rest`] sends what the stream does not accept now. After
+    /// `AllocError` nothing was sent. Other errors are ignored.
     pub fn send(&mut self, alloc: Global, text: &str) -> Result<(), AllocError> {
         let _ = self.socket.send(Message::text(alloc, text)?);
         Ok(())

@@ -19,8 +19,8 @@ pub struct ClientHandshake<S> {
 }
 
 impl<S: Read + Write + Drop> ClientHandshake<S> {
-    /// Sends the request for a room, with this access. `None` if it cannot be sent. After `AllocError`
-    /// nothing was sent.
+    /// Sends the request for a room, with this access. `None` if it cannot be sent. After
+    /// `AllocError` nothing was sent.
     pub fn at(
         alloc: Global,
         mut stream: S,
@@ -38,8 +38,8 @@ impl<S: Read + Write + Drop> ClientHandshake<S> {
         Ok(Some(ClientHandshake { stream, reply }))
     }
 
-    /// Reads once, and returns the status of the reply once its head is complete. If it is out of memory nothing is read, and the next
-    /// call tries again.
+    /// Reads once, and returns the status of the reply once its head is complete. If it is out of
+    /// memory nothing is read, and the next call tries again.
     pub fn status(&mut self) -> Option<u16> {
         self.reply.reserve(MAX_READ).ok()?;
         let mut part = [0; MAX_READ];
@@ -51,7 +51,8 @@ impl<S: Read + Write + Drop> ClientHandshake<S> {
         str::from_utf8(digits).ok()?.parse::<u16>().ok()
     }
 
-    /// The client, once its handshake was accepted. The bytes after the reply's head are its first messages.
+    /// The client, once its handshake was accepted. The bytes after the reply's head are its first
+    /// messages.
     pub fn client(self, alloc: Global) -> Client<S> {
         let ClientHandshake { stream, mut reply } = self;
         if let Some(len) = head_len(reply.as_slice()) {
@@ -69,7 +70,8 @@ fn suffix_of(access: Access) -> &'static str {
     }
 }
 
-/// The length of a reply's head in bytes, with the empty line that ends it. `None` if the head is incomplete.
+/// The length of a reply's head in bytes, with the empty line that ends it. `None` if the head is
+/// incomplete.
 fn head_len(reply: &[u8]) -> Option<usize>
     ensures { IfSome result (λ len. len ≤ length reply.now) }
 {

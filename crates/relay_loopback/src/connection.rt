@@ -1,12 +1,13 @@
-//! Both ends of a loopback socket, a client and the server's link to it, which alternate in one thread.
+//! Both ends of a loopback socket, a client and the server's link to it, which alternate in one
+//! thread.
 ghost use Rattle.std.specs.Prelude.{◌≡◌, ℕ, List, IfOk};
 ghost use Rattle.relay_hub.specs.declared.event.Event.TheVariants.{Receive, Draw};
 ghost use Rattle.relay_loopback.specs.Loopback.{CanCome};
 
 use crate::client::Client;
 use relay_hub::{Answer, Heard, Hub, Text};
-use relay_lines::Outcome;
 use relay_link::{Link, Stage};
+use relay_script::Outcome;
 use std::alloc::{AllocError, Global};
 use std::io::{Read, Write};
 use tungstenite::Utf8Bytes;
@@ -23,10 +24,11 @@ pub struct Connection<S: Write + Drop> {
 }
 
 impl<S: Read + Write + Drop> Connection<S> {
-    /// Sends a text, and runs turns of the link until the hub has received it. `Busy`, with nothing sent, if the hub does not accept a
-    /// request of the session.
+    /// Sends a text, and runs turns of the link until the hub has received it. `Busy`, with nothing
+    /// sent, if the hub does not accept a request of the session.
     pub fn say(&mut self, alloc: Global, hub: &mut Hub, text: &str) -> Result<Outcome, AllocError>
-        ensures { (s : ℕ) (sent : List ℕ) → IfOk result (λ outcome. CanCome (Receive s sent) outcome) }
+        ensures { (s : ℕ) (sent : List ℕ)
+            → IfOk result (λ outcome. CanCome (Receive s sent) outcome) }
     {
         if !hub.may_hear(self.session) {
             return Ok(Outcome::Answered(Answer::Heard(Heard::Busy)));
@@ -43,7 +45,8 @@ impl<S: Read + Write + Drop> Connection<S> {
         Ok(Outcome::Stuck)
     }
 
-    /// Runs turns of the link with one draw until the draw is made, and then with none until the client has received the text.
+    /// Runs turns of the link with one draw until the draw is made, and then with none until the
+    /// client has received the text.
     pub fn draw(&mut self, alloc: Global, hub: &mut Hub) -> Result<Outcome, AllocError>
         ensures { (s : ℕ) → IfOk result (λ outcome. CanCome (Draw s) outcome) }
     {
@@ -75,8 +78,9 @@ impl<S: Read + Write + Drop> Connection<S> {
         None
     }
 
-    /// Sends a close, and runs turns of the link until it is gone. While the hub does not accept a request of the session, a turn
-    /// draws one message, so that the close can be read. Returns whether the link is gone.
+    /// Sends a close, and runs turns of the link until it is gone. While the hub does not accept a
+    /// request of the session, a turn draws one message, so that the close can be read. Returns
+    /// whether the link is gone.
     pub fn close(&mut self, alloc: Global, hub: &mut Hub) -> bool {
         self.client.close();
         for _ in 0..MAX_TURNS {

@@ -1,16 +1,21 @@
 //! The fault that ends a job with sockets early.
 use relay_hub::HubNewFault;
-use relay_lines::ScriptFault;
+use relay_script::ScriptFault;
 use std::alloc::AllocError;
 use std::io;
+use std::net::SocketAddr;
 use thiserror::Error;
 
 /// Why a job with sockets ended early. Its connections are dropped.
 #[derive(Clone, Copy, Debug, PartialEq, Eq, Error)]
 pub enum ServeFault {
-    /// The port cannot be opened for listening. `code` is the number of the system's error, if it gave one.
+    /// The address cannot be opened for listening. `code` is the number of the system's error, if
+    /// it gave one.
     #[error("cannot listen")]
-    Listen { port: u16, code: Option<i32> },
+    Listen {
+        address: SocketAddr,
+        code: Option<i32>,
+    },
     /// The system's poll for ready sockets cannot be set up.
     #[error("cannot wait for sockets")]
     Wait,
@@ -22,12 +27,12 @@ pub enum ServeFault {
 impl ServeFault {
     ghost use Rattle.relay_loopback.specs.Faults.{IsListen};
 
-    /// The fault of a port that cannot be opened for this reason.
-    pub fn listen(port: u16, error: &io::Error) -> ServeFault
+    /// The fault of an address that cannot be opened for this reason.
+    pub fn listen(address: SocketAddr, error: &io::Error) -> ServeFault
         ensures { IsListen result }
     {
         ServeFault::Listen {
-            port,
+            address,
             code: error.raw_os_error(),
         }
     }
@@ -46,7 +51,7 @@ impl From<ScriptFault> for ServeFault {
 
 impl From<HubNewFault> for ServeFault {
     ghost use Rattle.std.specs.Prelude.{◌≡◌};
-    ghost use Rattle.relay_lines.specs.Faults.{not_made};
+    ghost use Rattle.relay_script.specs.Faults.{not_made};
     ghost use Rattle.relay_loopback.specs.declared.fault.ServeFault.TheVariants.{Ended};
 
     ghost from_gives = { λ fault ended. ended ≡ Ended (not_made fault) };
@@ -58,7 +63,7 @@ impl From<HubNewFault> for ServeFault {
 
 impl From<AllocError> for ServeFault {
     ghost use Rattle.std.specs.Prelude.{◌≡◌};
-    ghost use Rattle.relay_lines.specs.declared.fault.ScriptFault.TheVariants.{NoMemory};
+    ghost use Rattle.relay_script.specs.declared.fault.ScriptFault.TheVariants.{NoMemory};
     ghost use Rattle.relay_loopback.specs.declared.fault.ServeFault.TheVariants.{Ended};
 
     ghost from_gives = { λ _ ended. ended ≡ Ended NoMemory };

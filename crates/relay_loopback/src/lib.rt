@@ -1,5 +1,5 @@
-//! A transport for scripts that uses loopback sockets (`docs/PROTOCOL.md`). Each session is a client and a link of the server,
-//! which alternate in one thread.
+//! A transport for scripts that uses loopback sockets (`docs/PROTOCOL.md`). Each session is a
+//! client and a link of the server, which alternate in one thread.
 #![tactic(auto)]
 
 mod client;
@@ -14,4 +14,4 @@ pub use client::Client;
 pub use client_handshake::ClientHandshake;
 pub use fault::ServeFault;
 pub use loopback::Loopback;
-pub use sockets::listen;
+pub use sockets::{listen, loopback_at};

@@ -2,7 +2,7 @@
 use crate::client_handshake::ClientHandshake;
 use crate::connection::{Connection, MAX_TURNS};
 use crate::fault::ServeFault;
-use crate::sockets::listen;
+use crate::sockets::{listen, loopback_at};
 use relay_hub::Hub;
 use relay_link::{Link, Stage};
 use relay_proto::Access;
@@ -35,14 +35,15 @@ impl<'n, N: Net> LoopbackListener<'n, N> {
     pub fn new(net: &'n N) -> Result<LoopbackListener<'n, N>, ServeFault>
         ensures { IfErr result IsListen }
     {
-        let listener = listen(net, 0)?;
+        let asked = loopback_at(0);
+        let listener = listen(net, asked)?;
         match listener.local_addr() {
             Ok(address) => Ok(LoopbackListener {
                 net,
                 listener,
                 address,
             }),
-            Err(error) => Err(ServeFault::listen(0, &error)),
+            Err(error) => Err(ServeFault::listen(asked, &error)),
         }
     }
 
@@ -112,8 +113,8 @@ fn accepted<L: OpenListener>(listener: &L) -> Option<L::Stream> {
     None
 }
 
-/// Makes a socket non-blocking, and turns off Nagle's algorithm: otherwise a text could be in transit for longer than the turns of
-/// a line last. Returns whether both succeeded.
+/// Makes a socket non-blocking, and turns off Nagle's algorithm: otherwise a text could be in
+/// transit for longer than the turns of a line last. Returns whether both succeeded.
 fn never_waits<S: OpenStream>(stream: &S) -> bool {
     stream.set_nonblocking(true).is_ok() && stream.set_nodelay(true).is_ok()
 }

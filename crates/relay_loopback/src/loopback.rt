@@ -1,7 +1,7 @@
 //! The transport over loopback sockets: a hub, whose server and clients alternate in one thread.
 ghost use Rattle.std.specs.Prelude.{◌≡◌, ◌↔◌, ◌⊎◌, IfErr, IsErrOf};
 ghost use Rattle.relay_hub.specs.Queries.{BadLimits};
-ghost use Rattle.relay_lines.specs.declared.fault.ScriptFault.TheVariants as script;
+ghost use Rattle.relay_script.specs.declared.fault.ScriptFault.TheVariants as script;
 ghost use Rattle.relay_loopback.specs.declared.fault.ServeFault.TheVariants.{Ended};
 ghost use Rattle.relay_loopback.specs.Faults.{IsListen};
 
@@ -10,8 +10,8 @@ use crate::fault::ServeFault;
 use crate::listener::{Entering, LoopbackListener};
 use indexmap::IndexMap;
 use relay_hub::{Answer, Hub, HubConfig, HubFault, Opening};
-use relay_lines::{Outcome, Transport};
 use relay_proto::Access;
+use relay_script::{Outcome, Transport};
 use relay_tree::Tree;
 use std::alloc::{AllocError, Global};
 use std::net::Net;
@@ -25,13 +25,15 @@ pub struct Loopback<'n, N: Net> {
 }
 
 impl<'n, N: Net> Loopback<'n, N> {
-    /// Creates a hub behind a port that the system chooses, with no sessions. Fails with `BadLimit` or `NoMemory` as [`Hub::with_config`]
-    /// does, before a port is opened, and with [`ServeFault::Listen`] if no port can be.
-    pub fn new(alloc: Global, net: &'n N, made: HubConfig) -> Result<Loopback<'n, N>, ServeFault>
-        ensures fault { IfErr result (λ fault. IsListen fault ⊎ (fault ≡ Ended script.NoMemory) ⊎ (fault ≡ Ended script.BadLimit)) }
-        ensures bad_limit { IsErrOf result (Ended script.BadLimit) ↔ BadLimits made }
+    /// Creates a hub behind a port that the system chooses, with no sessions. Fails with `BadLimit`
+    /// or `NoMemory` as [`Hub::with_config`] does, before a port is opened, and with
+    /// [`ServeFault::Listen`] if no port can be.
+    pub fn new(alloc: Global, net: &'n N, config: HubConfig) -> Result<Loopback<'n, N>, ServeFault>
+        ensures fault { IfErr result (λ fault. IsListen fault ⊎ (fault ≡ Ended script.NoMemory)
+            ⊎ (fault ≡ Ended script.BadLimit)) }
+        ensures bad_limit { IsErrOf result (Ended script.BadLimit) ↔ BadLimits config }
     {
-        let hub = Hub::with_config(alloc, made)?;
+        let hub = Hub::with_config(alloc, config)?;
         Ok(Loopback {
             listener: LoopbackListener::new(net)?,
             hub,
@@ -101,8 +103,8 @@ impl<'n, N: Net> Transport for Loopback<'n, N> {
     }
 }
 
-/// The opening of a session. Nobody edits between the opening and this call, so its room is still at
-/// the revision that it was opened at.
+/// The opening of a session. Nobody edits between the opening and this call, so its room is still
+/// at the revision that it was opened at.
 fn opening_of(hub: &Hub, session: u64) -> Opening {
     let room = hub.room_of(session).and_then(|place| hub.room_at(place));
     Opening {

@@ -1,5 +1,6 @@
-//! A connection to the admin port: one request, one reply.
-use relay_admin::{Ask, MAX_HEAD, ask};
+//! A connection to the admin port: one request, one response.
+use crate::room_request::RoomRequest;
+use relay_admin::{Ask, EditRequest, MAX_HEAD, ask};
 use std::alloc::{AllocError, Global};
 use std::io::{ErrorKind, Read, Write};
 use std::net::{OpenStream, Shutdown};
@@ -10,18 +11,21 @@ const READ: usize = 1_024;
 /// How many reads are enough for a head that is too long.
 const READS: usize = MAX_HEAD / READ + 1;
 
+/// How many reads of a body a turn makes at most.
+const BODY_READS: usize = 128;
+
 /// How often a turn tries to write at most.
 const WRITES: u32 = 64;
 
-/// A stream, what was received on it, and its reply once there is one.
+/// A stream, what was received on it, and its response once there is one.
 #[derive(Drop)]
 pub(crate) struct AdminConnection<S> {
     stream: S,
     received: Vec<u8>,
-    /// The room that it asked to be forgotten, while that has no reply.
-    to_forget: Option<String>,
+    /// What it asks of a room, while that has no response.
+    asked: Option<RoomRequest>,
     reply: Option<String>,
-    /// How many bytes of the reply were sent.
+    /// How many bytes of the response were sent.
     sent: usize,
 }
 
@@ -41,34 +45,82 @@ impl<S: Read + Write + OpenStream + Drop> AdminConnection<S> {
         AdminConnection {
             stream,
             received: Vec::new(alloc),
-            to_forget: None,
+            asked: None,
             reply: None,
             sent: 0,
         }
     }
 
-    /// Whether it has its reply.
+    /// Whether it has its response.
     pub(crate) fn is_answered(&self) -> bool {
         self.reply.is_some()
     }
 
-    /// Gives it its reply.
+    /// Gives it its response.
     pub(crate) fn answer(&mut self, reply: String) {
-        self.to_forget = None;
+        self.asked = None;
         self.reply = Some(reply);
     }
 
-    /// The room that it asked to be forgotten, while that has no reply.
-    pub(crate) fn to_forget(&self) -> Option<&str> {
-        match &self.to_forget {
-            Some(room) => Some(room.as_str()),
-            None => None,
+    /// Notes what it asks of a room.
+    pub(crate) fn ask_of_room(&mut self, request: RoomRequest) {
+        self.asked = Some(request);
+    }
+
+    /// What it asks of a room, while that has no response and all of the request was received.
+    pub(crate) fn asked(&self) -> Option<&RoomRequest> {
+        let asked = self.asked.as_ref()?;
+        match asked {
+            RoomRequest::Edit(edit) if self.missing(edit) > 0 => None,
+            _ => Some(asked),
         }
     }
 
-    /// Notes that it asked for a room to be forgotten.
-    pub(crate) fn ask_to_forget(&mut self, room: String) {
-        self.to_forget = Some(room);
+    /// How many bytes of an edit's body are still to be received.
+    fn missing(&self, edit: &EditRequest) -> usize {
+        let all = edit.head.saturating_add(edit.length as usize);
+        all.saturating_sub(self.received.len())
+    }
+
+    /// The body of an edit, as far as it was received.
+    pub(crate) fn body(&self, edit: &EditRequest) -> &[u8] {
+        let received = self.received.as_slice();
+        let end = edit.head.saturating_add(edit.length as usize);
+        let end = end.min(received.len());
+        &received[edit.head.min(end)..end]
+    }
+
+    /// How much of an edit's body is still to be received, if it asks for one.
+    pub(crate) fn gathers(&self) -> Option<usize> {
+        match self.asked.as_ref()? {
+            RoomRequest::Edit(edit) => Some(self.missing(edit)),
+            _ => None,
+        }
+    }
+
+    /// Reads the rest of an edit's body, as much as is there, and no more than a turn may. `Over`
+    /// if the stream is over or failed.
+    pub(crate) fn gather(&mut self, most: usize) -> Result<Found, AllocError> {
+        let mut missing = most;
+        for _ in 0..BODY_READS {
+            if missing == 0 {
+                return Ok(Found::Nothing);
+            }
+            let mut bytes = [0; READ];
+            match self.stream.read(&mut bytes) {
+                Ok(0) => return Ok(Found::Over),
+                Ok(len) => {
+                    self.received.extend_from_slice(&bytes[..len])?;
+                    missing = missing.saturating_sub(len);
+                }
+                Err(error) => match error.kind() {
+                    ErrorKind::WouldBlock => return Ok(Found::Nothing),
+                    ErrorKind::Interrupted => {}
+                    _ => return Ok(Found::Over),
+                },
+            }
+        }
+        Ok(Found::More)
     }
 
     /// Reads until the bytes received are answered, or no more are there. `None` if the stream is
@@ -95,8 +147,8 @@ impl<S: Read + Write + OpenStream + Drop> AdminConnection<S> {
         Ok(Some(Ask::More))
     }
 
-    /// Sends what is left of the reply, and then waits for the other side to close, dropping what
-    /// it still sends.
+    /// Sends what is left of the response, and then waits for the other side to close, dropping
+    /// what it still sends.
     pub(crate) fn tell(&mut self) -> Found {
         match self.send() {
             Found::Over if self.is_sent() => self.drain(),
@@ -104,7 +156,7 @@ impl<S: Read + Write + OpenStream + Drop> AdminConnection<S> {
         }
     }
 
-    /// Whether the whole reply was sent.
+    /// Whether the whole response was sent.
     fn is_sent(&self) -> bool {
         match &self.reply {
             Some(reply) => self.sent >= reply.len(),
@@ -112,7 +164,7 @@ impl<S: Read + Write + OpenStream + Drop> AdminConnection<S> {
         }
     }
 
-    /// Sends what is left of the reply. `Over` if all was sent, or if the stream failed.
+    /// Sends what is left of the response. `Over` if all was sent, or if the stream failed.
     fn send(&mut self) -> Found {
         let Some(reply) = &self.reply else {
             return Found::Nothing;
@@ -138,7 +190,7 @@ impl<S: Read + Write + OpenStream + Drop> AdminConnection<S> {
         Found::More
     }
 
-    /// Drops what the other side still sends, so that its reply is not lost. Whoever sends more
+    /// Drops what the other side still sends, so that its response is not lost. Whoever sends more
     /// than a head's length is left to be the oldest connection.
     fn drain(&mut self) -> Found {
         for _ in 0..READS {

@@ -1,13 +1,17 @@
-//! The port of a server at which an operator asks how it is, forgets rooms, and stops it.
+//! The port of a server at which an operator asks how it is, reads, edits and forgets rooms, lets
+//! clients in, and stops it.
 use crate::admin_connection::{AdminConnection, Found};
 use crate::admin_readiness::ADMIN_STREAM;
 use crate::admin_view::AdminView;
 use crate::counters::Counters;
 use crate::readiness::Readiness;
-use relay_admin::{AdminRequest, Ask, NotForgotten, Reply, reply_text};
-use relay_hub::ForgetFault;
+use crate::room_request::{self, Prepared, RoomRequest, RoomVisit};
+use relay_admin::{AdminRequest, Ask, Response, response_text};
+use relay_hub::{ForgetFault, Hub};
+use relay_link::Visit;
 use std::alloc::{AllocError, Global};
 use std::io::{Read, Write};
+use std::mem;
 use std::net::{OpenListener, OpenStream};
 
 /// How many connections are held at most. A further one takes the place of the oldest.
@@ -19,6 +23,8 @@ pub const MAX_CONNECTIONS: usize = 8;
 pub struct AdminPort<L: OpenListener> {
     listener: L,
     connections: Vec<AdminConnection<L::Stream>>,
+    /// Whether a response that was given between turns is still to be sent.
+    is_behind: bool,
     /// What the server's log said so far, which the server counts.
     pub counters: Counters,
 }
@@ -28,6 +34,8 @@ pub struct AdminPort<L: OpenListener> {
 pub struct AdminTurn {
     /// Whether it left work for the next round.
     pub has_more: bool,
+    /// Whether it was asked that clients may enter.
+    pub is_opening: bool,
     /// Whether a stop was asked.
     pub is_stopping: bool,
 }
@@ -44,6 +52,7 @@ where
         AdminPort {
             listener,
             connections: Vec::new(alloc),
+            is_behind: false,
             counters: Counters::new(),
         }
     }
@@ -73,19 +82,21 @@ where
         let _ = self.connections.push(connection);
     }
 
-    /// Gives each connection a turn, in which its request is read and the reply is written; but for
-    /// that of a request to forget a room, which has its reply once [`AdminPort::answer_forget`] says
-    /// what came of it.
+    /// Gives each connection a turn, in which its request is read and the response is written; but
+    /// for those that ask something of a room, which have their responses once
+    /// [`AdminPort::answer_forget`] or [`AdminPort::answer_visit`] says what came of it.
     pub fn turn(&mut self, alloc: Global, view: &AdminView<'_>) -> AdminTurn {
         let mut turn = AdminTurn {
-            has_more: false,
+            has_more: mem::replace(&mut self.is_behind, false),
+            is_opening: false,
             is_stopping: false,
         };
         let mut place = 0usize;
         for _ in 0..self.connections.len() {
-            let (found, is_stopping) = self.turn_at(alloc, place, view);
+            let (found, served) = self.turn_at(alloc, place, view);
             turn.has_more = turn.has_more || found == Found::More;
-            turn.is_stopping = turn.is_stopping || is_stopping;
+            turn.is_opening = turn.is_opening || served == Some(AdminRequest::Open);
+            turn.is_stopping = turn.is_stopping || served == Some(AdminRequest::Stop);
             if found == Found::Over && place < self.connections.len() {
                 let _ = self.connections.remove(place);
             } else {
@@ -95,86 +106,158 @@ where
         turn
     }
 
-    /// Gives the connection at a place a turn. Returns what it found, and whether it asked for a
-    /// stop. A connection for which there is no memory is over.
-    fn turn_at(&mut self, alloc: Global, place: usize, view: &AdminView<'_>) -> (Found, bool) {
+    /// Gives the connection at a place a turn. Returns what it found, and the request that has its
+    /// response now. A connection for which there is no memory is over.
+    fn turn_at(
+        &mut self,
+        alloc: Global,
+        place: usize,
+        view: &AdminView<'_>,
+    ) -> (Found, Option<AdminRequest>) {
         let Some(connection) = self.connections.get_mut(place) else {
-            return (Found::Over, false);
+            return (Found::Over, None);
         };
         if connection.is_answered() {
-            return (connection.tell(), false);
+            return (connection.tell(), None);
         }
-        if connection.to_forget().is_some() {
-            return (Found::Nothing, false);
+        if let Some(missing) = connection.gathers() {
+            return (connection.gather(missing).unwrap_or(Found::Over), None);
+        }
+        if connection.asked().is_some() {
+            return (Found::Nothing, None);
         }
         let asked = match connection.hear(alloc) {
             Ok(Some(asked)) => asked,
-            Ok(None) | Err(_) => return (Found::Over, false),
+            Ok(None) | Err(_) => return (Found::Over, None),
         };
-        let is_stop = matches!(asked, Ask::Request(AdminRequest::Stop));
+        let served = match &asked {
+            Ask::Request(request) => Some(*request),
+            _ => None,
+        };
         let reply = match asked {
-            Ask::More => return (Found::Nothing, false),
+            Ask::More => return (Found::Nothing, None),
             Ask::Forget(room) => {
-                connection.ask_to_forget(room);
-                return (Found::Nothing, false);
+                connection.ask_of_room(RoomRequest::Forget(room));
+                return (Found::Nothing, None);
+            }
+            Ask::Read(part) => {
+                connection.ask_of_room(RoomRequest::Read(part));
+                return (Found::Nothing, None);
+            }
+            Ask::Edit(edit) => {
+                connection.ask_of_room(RoomRequest::Edit(edit));
+                return (Found::More, None);
             }
             Ask::Request(request) => view.reply(alloc, &self.counters, request),
-            Ask::Refused(refusal) => reply_text(alloc, &Reply::Refused(refusal)),
+            Ask::Refused(refusal) => response_text(alloc, &Response::Refused(refusal)),
         };
         match reply {
             Ok(reply) => {
                 connection.answer(reply);
-                (connection.tell(), is_stop)
+                (connection.tell(), served)
             }
-            Err(_) => (Found::Over, false),
+            Err(_) => (Found::Over, None),
         }
     }
 
     /// The room that the oldest connection which waits for that asked to be forgotten.
     pub fn room_to_forget(&self) -> Option<&str> {
-        self.connections.get(self.first_to_forget()?)?.to_forget()
-    }
-
-    /// Replies to that connection, by what came of it. Returns whether the reply is sent as far as
-    /// the stream takes it; otherwise the port has work left. A connection for which there is no
-    /// memory is dropped.
-    pub fn answer_forget(&mut self, alloc: Global, forgotten: Result<u64, ForgetFault>) -> bool {
-        let Some(place) = self.first_to_forget() else {
-            return true;
-        };
-        let found = self.answer_at(place, reply_text(alloc, &reply_to_forget(forgotten)));
-        if found == Found::Over && place < self.connections.len() {
-            let _ = self.connections.remove(place);
+        match self.connections.get(self.first_to_forget()?)?.asked()? {
+            RoomRequest::Forget(room) => Some(room.as_str()),
+            _ => None,
         }
-        found != Found::More
     }
 
-    /// Gives the connection at a place its reply, if there was memory for one, and sends it.
-    fn answer_at(&mut self, place: usize, reply: Result<String, AllocError>) -> Found {
-        match (self.connections.get_mut(place), reply) {
+    /// Responds to that connection, by what came of it. A connection for which there is no memory
+    /// is dropped.
+    pub fn answer_forget(&mut self, alloc: Global, came: Result<u64, ForgetFault>) {
+        if let Some(place) = self.first_to_forget() {
+            let response = room_request::forgotten(came);
+            self.answer_at(place, response_text(alloc, &response));
+        }
+    }
+
+    /// The visit that the oldest connection needs which asks to read or to edit a room. Those
+    /// before it that need none have their responses.
+    pub fn next_visit(&mut self, alloc: Global, hub: &Hub) -> Option<RoomVisit> {
+        for _ in 0..MAX_CONNECTIONS {
+            let place = self.first_to_visit()?;
+            match self.prepare_at(alloc, hub, place) {
+                Ok(Prepared::Visit(visit)) => return Some(visit),
+                Ok(Prepared::Response(reply)) => self.answer_at(place, Ok(reply)),
+                Err(AllocError) => self.answer_at(place, Err(AllocError)),
+            }
+        }
+        None
+    }
+
+    fn prepare_at(&self, alloc: Global, hub: &Hub, place: usize) -> Result<Prepared, AllocError> {
+        let connection = self.connections.get(place).ok_or(AllocError)?;
+        match connection.asked() {
+            Some(RoomRequest::Read(part)) => room_request::prepare_read(alloc, hub, part),
+            Some(RoomRequest::Edit(edit)) => {
+                room_request::prepare_edit(alloc, hub, edit, connection.body(edit))
+            }
+            _ => Err(AllocError),
+        }
+    }
+
+    /// Responds to that connection, by what came of its visit. A connection for which there is no
+    /// memory is dropped.
+    pub fn answer_visit(&mut self, alloc: Global, hub: &Hub, came: Result<Visit, AllocError>) {
+        if let Some(place) = self.first_to_visit() {
+            let reply = self.visited_at(alloc, hub, place, came);
+            self.answer_at(place, reply);
+        }
+    }
+
+    fn visited_at(
+        &self,
+        alloc: Global,
+        hub: &Hub,
+        place: usize,
+        came: Result<Visit, AllocError>,
+    ) -> Result<String, AllocError> {
+        let connection = self.connections.get(place).ok_or(AllocError)?;
+        let request = connection.asked().ok_or(AllocError)?;
+        room_request::visited(alloc, hub, request, &came?)
+    }
+
+    /// Gives the connection at a place its response, if there was memory for one, and sends it.
+    fn answer_at(&mut self, place: usize, reply: Result<String, AllocError>) {
+        let found = match (self.connections.get_mut(place), reply) {
             (Some(connection), Ok(reply)) => {
                 connection.answer(reply);
                 connection.tell()
             }
             (_, _) => Found::Over,
+        };
+        if found == Found::Over && place < self.connections.len() {
+            let _ = self.connections.remove(place);
         }
+        self.is_behind = self.is_behind || found == Found::More;
     }
 
-    /// The place of the oldest connection that asked for a room to be forgotten, and has no reply.
+    /// Whether a response that was given between turns is still to be sent.
+    pub fn is_behind(&self) -> bool {
+        self.is_behind
+    }
+
+    /// The place of the oldest connection that asks for a room to be forgotten.
     fn first_to_forget(&self) -> Option<usize> {
-        self.connections
-            .iter()
-            .position(|connection| connection.to_forget().is_some())
+        self.connections.iter().position(|connection| matches!(
+            connection.asked(),
+            Some(RoomRequest::Forget(_))
+        ))
     }
-}
 
-/// The reply to a request to forget a room, by what came of it.
-fn reply_to_forget(forgotten: Result<u64, ForgetFault>) -> Reply<'static> {
-    match forgotten {
-        Ok(_) => Reply::Forgotten,
-        Err(ForgetFault::NoRoom) => Reply::NotForgotten(NotForgotten::NoRoom),
-        Err(ForgetFault::Occupied) => Reply::NotForgotten(NotForgotten::Occupied),
-        Err(ForgetFault::Exhausted) => Reply::NotForgotten(NotForgotten::Exhausted),
-        Err(ForgetFault::NoMemory) => Reply::NotForgotten(NotForgotten::NoMemory),
+    /// The place of the oldest connection that asks to read or to edit a room.
+    fn first_to_visit(&self) -> Option<usize> {
+        self.connections.iter().position(|connection| {
+            matches!(
+                connection.asked(),
+                Some(RoomRequest::Read(_) | RoomRequest::Edit(_))
+            )
+        })
     }
 }

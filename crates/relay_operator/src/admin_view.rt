@@ -1,8 +1,8 @@
 //! What an operator sees of a server.
 use crate::counters::Counters;
 use relay_admin::{
-    AdminRequest, DrawnMessages, Metrics, Reply, RoomRow, SnapshotsBy, begin_rooms, end_rooms,
-    metrics_text, reply_text, write_room,
+    AdminRequest, DrawnMessages, Metrics, Response, RoomRow, SnapshotsBy, begin_rooms, end_rooms,
+    metrics_text, response_text, write_room,
 };
 use relay_hub::{Hub, MAX_ROOMS, SnapshotCounts};
 use std::alloc::{AllocError, Global};
@@ -11,6 +11,8 @@ use std::alloc::{AllocError, Global};
 #[derive(Clone, Copy)]
 pub struct AdminView<'v> {
     pub hub: &'v Hub,
+    /// Whether no client may enter until an operator says so.
+    pub is_closed: bool,
     /// By a room's place in the hub, the second in which a session last left it; 0 beyond the end.
     pub left: &'v [u64],
     /// The present second.
@@ -37,7 +39,7 @@ struct Totals {
 }
 
 impl AdminView<'_> {
-    /// The reply to a request.
+    /// The response to a request.
     pub(crate) fn reply(
         &self,
         alloc: Global,
@@ -45,20 +47,24 @@ impl AdminView<'_> {
         request: AdminRequest,
     ) -> Result<String, AllocError> {
         match request {
-            AdminRequest::Health if counters.is_short_of_memory() => reply_text(
+            AdminRequest::Health if self.is_closed => {
+                response_text(alloc, &Response::Unhealthy("closed\n"))
+            }
+            AdminRequest::Health if counters.is_short_of_memory() => response_text(
                 alloc,
-                &Reply::Unhealthy("memory was refused within the last minute\n"),
+                &Response::Unhealthy("memory was refused within the last minute\n"),
             ),
-            AdminRequest::Health => reply_text(alloc, &Reply::Healthy),
-            AdminRequest::Stop => reply_text(alloc, &Reply::Stopping),
+            AdminRequest::Health => response_text(alloc, &Response::Healthy),
+            AdminRequest::Open => response_text(alloc, &Response::Opened),
+            AdminRequest::Stop => response_text(alloc, &Response::Stopping),
             AdminRequest::Metrics => {
                 let refusals = self.refusals(alloc)?;
                 let text = metrics_text(alloc, &self.metrics(counters, refusals.as_slice()))?;
-                reply_text(alloc, &Reply::Metrics(text.as_str()))
+                response_text(alloc, &Response::Metrics(text.as_str()))
             }
             AdminRequest::Rooms => {
                 let text = self.rooms(alloc)?;
-                reply_text(alloc, &Reply::Rooms(text.as_str()))
+                response_text(alloc, &Response::Rooms(text.as_str()))
             }
         }
     }

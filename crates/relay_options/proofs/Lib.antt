@@ -1,3 +1,4 @@
 -- Lemmas on what the command line means.
+pub mod AddressesRead
 pub mod NumbersRead
 pub mod CommandsMade

@@ -5,7 +5,9 @@ use Rattle.std.specs.Prelude.{Option, Some, None, option_and_then, if◌then◌e
 use Rattle.std.specs.Option.{option_or}
 use Rattle.std.specs.List.{list_all}
 use Rattle.std.specs.Char.{digit_value}
+use Rattle.std.specs.Net.Grammar.{IsIpText}
 use Rattle.std.specs.Str.Parse.{digits_value, without_leading_plus}
+use Rattle.std.specs.declared.net.ip_addr.IpAddr.{IpAddr}
 use Rattle.clap.specs.Words.{App, Row, Rule, Text, new_app, new_rule, one_of, subcommand_of}
 use Rattle.clap.specs.Words.{with_rule, with_subcommand}
 use Rattle.clap.specs.declared.builder.ArgAction.TheVariants.{Set, SetTrue}
@@ -57,6 +59,15 @@ telling_weight_option = number_option (codes "max-telling-weight") 0 MAX_WEIGHT_
 abbrev pub view_weight_option : List Text → Rule
 view_weight_option = number_option (codes "max-view-weight") 0 MAX_WEIGHT_LIMIT
 
+-- an option that takes an address, as a text
+abbrev pub listen_option : Rule
+listen_option = record (new_rule (codes "listen")) {
+  long = Some (codes "listen");
+  action = Some Set;
+  value_names = 1;
+  defaults = codes "127.0.0.1" ∷ [];
+}
+
 abbrev pub port_option : Rule
 port_option = record (number_option (codes "port") 0 MAX_PORT []) { required = true }
 
@@ -76,7 +87,12 @@ log_option = record (new_rule (codes "log")) { long = Some (codes "log"); action
 
 abbrev pub forget_rooms_option : Rule
 forget_rooms_option =
-    record (new_rule (codes "forget-rooms")) { long = Some (codes "forget-rooms"); action = Some SetTrue }
+    record (new_rule (codes "forget-rooms"))
+    { long = Some (codes "forget-rooms"); action = Some SetTrue }
+
+abbrev pub closed_option : Rule
+closed_option =
+    record (new_rule (codes "closed")) { long = Some (codes "closed"); action = Some SetTrue }
 
 -- ---- the commands
 
@@ -85,7 +101,8 @@ with_settings command = with_rule (with_rule (with_rule (with_rule command histo
     outbox_option) rooms_option) sessions_option
 
 abbrev pub with_weights : List Text → List Text → List Text → List Text → App → App
-with_weights history waiting telling view command = with_rule (with_rule (with_rule (with_rule command
+with_weights history waiting telling view command =
+    with_rule (with_rule (with_rule (with_rule command
     (history_weight_option history)) (waiting_weight_option waiting))
     (telling_weight_option telling)) (view_weight_option view)
 
@@ -99,10 +116,13 @@ scripted name = with_script_options (new_app name)
 
 -- a server: its epoch has no default, and its weights have bounds
 abbrev pub with_server_options : App → App
-with_server_options command = with_rule (with_rule (with_rule (with_rule (with_rule (with_rule (with_weights
+with_server_options command =
+    with_rule (with_rule (with_rule (with_rule (with_rule (with_rule (with_rule (with_rule
+    (with_weights
     (codes "262144" ∷ []) (codes "65536" ∷ []) (codes "1048576" ∷ []) (codes "16384" ∷ [])
     (with_rule (with_settings command) (epoch_option [])))
-    port_option) admin_option) turns_option) log_option) forget_rooms_option) output_option
+    listen_option) port_option) admin_option) turns_option) log_option) forget_rooms_option)
+    closed_option) output_option
 
 abbrev pub served : Text → App
 served name = with_server_options (new_app name)
@@ -128,6 +148,12 @@ number_of_text text =
 -- the number under an option's name, from the words or from its default
 unfoldable pub number_in : Text → List Row → Option ℕ
 number_in name rows = option_and_then number_of_text (one_of name rows)
+
+-- the text under an option's name, from the words or its default, writes this IPv4 or IPv6 address
+pub record IsAddressIn (name : Text) (rows : List Row) (address : IpAddr) : Type 0 where
+  pub text : Text
+  pub given : one_of name rows ≡ Some text
+  pub writes : IsIpText text address
 
 -- a flag is set where `true` stands under its name, as it does if the words name it
 pub record IsFlagIn (name : Text) (rows : List Row) (set : Bool) : Type 0 where
@@ -168,10 +194,11 @@ abbrev pub IsJobOf : Text → List Row → Option ℕ → Job → Type 0
 IsJobOf name rows now (Script settings) = (name ≡ codes "script") × AreSettingsOf rows None settings
 IsJobOf name rows now (Loop settings) = (name ≡ codes "loop") × AreSettingsOf rows None settings
 IsJobOf name rows now Follow = name ≡ codes "follow"
-IsJobOf name rows now (Serve port admin turns log forget_rooms output_mib settings) = (name ≡ codes "serve")
+IsJobOf name rows now (Serve listen port admin turns log forget_rooms closed output_mib settings) =
+    (name ≡ codes "serve") × IsAddressIn (codes "listen") rows listen
     × (number_in (codes "port") rows ≡ Some port) × (number_in (codes "admin") rows ≡ admin)
     × (number_in (codes "turns") rows ≡ Some turns) × IsFlagIn (codes "log") rows log
-    × IsFlagIn (codes "forget-rooms") rows forget_rooms
+    × IsFlagIn (codes "forget-rooms") rows forget_rooms × IsFlagIn (codes "closed") rows closed
     × (number_in (codes "max-output-mib") rows ≡ Some output_mib) × AreSettingsOf rows now settings
 
 -- the same for what the words name, if they name a subcommand

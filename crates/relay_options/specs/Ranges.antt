@@ -1,5 +1,5 @@
 -- The ranges of the options' numbers.
-use Rattle.std.specs.Prelude.{ℕ, ◌≤◌, ◌≢◌, ⊤, Option, Some, None}
+use Rattle.std.specs.Prelude.{ℕ, ◌≤◌, ◌≢◌, ⊤, Bool, true, Option, Some, None}
 use Rattle.relay_options.specs.declared.job.Job.{Job}
 use Rattle.relay_options.specs.declared.job.Job.TheVariants.{Script, Loop, Follow, Serve}
 use Rattle.relay_options.specs.declared.settings.Settings.{Settings}
@@ -31,10 +31,17 @@ abbrev pub IsAdmin : ℕ → Option ℕ → Type 0
 IsAdmin port None = ⊤
 IsAdmin port (Some admin) = (1 ≤ admin) × (admin ≤ MAX_PORT) × (admin ≢ port)
 
+-- a server that begins closed has an operator, who can open it
+abbrev pub CanBeOpened : Bool → Option ℕ → Type 0
+CanBeOpened true None = ⊥
+CanBeOpened _ _ = ⊤
+
 -- a job whose numbers are all in range
 abbrev pub IsPossible : Job → Type 0
 IsPossible (Script settings) = AreSettings settings
 IsPossible (Loop settings) = AreSettings settings
 IsPossible Follow = ⊤
-IsPossible (Serve port admin turns log forget_rooms output_mib settings) = (port ≤ MAX_PORT) × IsAdmin port admin
-    × (1 ≤ turns) × (turns ≤ MAX_TURNS) × (1 ≤ output_mib) × (output_mib ≤ MAX_OUTPUT_MIB) × AreSettings settings
+IsPossible (Serve listen port admin turns log forget_rooms closed output_mib settings) =
+    (port ≤ MAX_PORT) × IsAdmin port admin × CanBeOpened closed admin
+    × (1 ≤ turns) × (turns ≤ MAX_TURNS) × (1 ≤ output_mib) × (output_mib ≤ MAX_OUTPUT_MIB)
+    × AreSettings settings

@@ -1,6 +1,7 @@
 //! The job of the program, or the reason why there is none.
 use crate::settings::Settings;
 use std::alloc::AllocError;
+use std::net::IpAddr;
 
 /// The job that the arguments ask for.
 #[derive(Clone, Copy, Debug, PartialEq, Eq)]
@@ -13,6 +14,8 @@ pub enum Job {
     Follow,
     /// `relay serve`: listen on a port, for a number of rounds.
     Serve {
+        /// The address on which it listens for clients.
+        listen: IpAddr,
         /// The port. For 0 the system chooses one.
         port: u16,
         /// The port of the operator, if there is one: another one than `port`, and not 0.
@@ -24,6 +27,8 @@ pub enum Job {
         /// Whether the room that has been empty for the longest time is forgotten once all places
         /// are taken.
         forget_rooms: bool,
+        /// Whether clients may enter only once the operator says so. There is one then.
+        closed: bool,
         /// How much output is held for all connections together, in MiB: 1 to 2^20.
         output_mib: u64,
         settings: Settings,

@@ -1,5 +1,6 @@
-//! The command line of the program `relay`, parsed by `clap` into a job whose numbers are each proved to be in range. It is a crate
-//! of its own so that the other crates can be checked without `clap`.
+//! The command line of the program `relay`, parsed by `clap` into a job whose numbers are each
+//! proved to be in range. It is a crate of its own so that the other crates can be checked without
+//! `clap`.
 #![tactic(auto)]
 
 mod job;

@@ -1,13 +1,14 @@
 //! The parser of the command line, by `clap`.
-ghost use Rattle.std.specs.Prelude.{[], ◌∷◌, ◌≡◌, ◌≤◌, IfOk, Some, codes, map, option_map};
+ghost use Rattle.std.specs.Prelude.{[], ◌∷◌, ◌≡◌, ◌≤◌, IfOk, IfSome, Some, codes, map, option_map};
 ghost use Rattle.std.specs.Prelude.{string_bytes};
 ghost use Rattle.std.specs.Option.{option_or};
 ghost use Rattle.clap.specs.Words.{app_of, found_of, new_app, rows_of, rule_of};
 ghost use Rattle.clap.specs.Words.{subcommand_of, subcommand_rows_of};
-ghost use Rattle.relay_options.specs.CommandLine.{AreSettingsOf, AskFor, IsChosenBy, IsFlagIn};
-ghost use Rattle.relay_options.specs.CommandLine.{IsJobOf, admin_option, epoch_option};
-ghost use Rattle.relay_options.specs.CommandLine.{forget_rooms_option};
+ghost use Rattle.relay_options.specs.CommandLine.{AreSettingsOf, AskFor, IsAddressIn, IsChosenBy};
+ghost use Rattle.relay_options.specs.CommandLine.{IsFlagIn, IsJobOf, admin_option, epoch_option};
+ghost use Rattle.relay_options.specs.CommandLine.{closed_option, forget_rooms_option};
 ghost use Rattle.relay_options.specs.CommandLine.{history_option, history_weight_option};
+ghost use Rattle.relay_options.specs.CommandLine.{listen_option};
 ghost use Rattle.relay_options.specs.CommandLine.{log_option, number_in, number_option};
 ghost use Rattle.relay_options.specs.CommandLine.{outbox_option, output_option, port_option};
 ghost use Rattle.relay_options.specs.CommandLine.{relay_command};
@@ -17,7 +18,7 @@ ghost use Rattle.relay_options.specs.CommandLine.{turns_option, view_weight_opti
 ghost use Rattle.relay_options.specs.CommandLine.{waiting_weight_option};
 ghost use Rattle.relay_options.specs.CommandLine.{with_script_options, with_server_options};
 ghost use Rattle.relay_options.specs.CommandLine.{with_settings, with_version};
-ghost use Rattle.relay_options.specs.Ranges.{AreSettings, IsAdmin, IsLimit, IsPossible};
+ghost use Rattle.relay_options.specs.Ranges.{AreSettings, CanBeOpened, IsAdmin, IsLimit, IsPossible};
 ghost use Rattle.relay_options.specs.declared.settings.TheConstants.{MAX_EPOCH};
 
 use crate::job::{Job, Stop};
@@ -29,6 +30,7 @@ use clap::builder::ValueParser;
 use clap::error::ErrorKind;
 use clap::{Arg, ArgAction, ArgMatches, Command, Error};
 use std::alloc::{AllocError, Global};
+use std::net::IpAddr;
 
 /// The version of the program, and the version line of the kit that proves it (`rt version`).
 const VERSION: &str = "0.2.0\nrattle-kit-13f logic dac8208d650f15bf";
@@ -51,7 +53,7 @@ const LOOP_ABOUT: &str =
 const LOOP_EXAMPLE: &str = "Example:\n\n  relay loop < examples/first.script";
 
 const SERVE_ABOUT: &str =
-    "Listens on 127.0.0.1, and serves WebSocket clients; it sleeps while nothing happens";
+    "Listens on 127.0.0.1, or another address, and serves WebSocket clients; it sleeps while nothing happens";
 
 const SERVE_EXAMPLE: &str =
     "Example, on a port that the system chooses:\n\n  relay serve --port 0\n\nA client connects to ws://127.0.0.1:PORT/rooms/ROOM. Documents end with the program.";
@@ -61,6 +63,9 @@ const FOLLOW_ABOUT: &str =
 
 const FOLLOW_EXAMPLE: &str =
     "Example:\n\n  echo '{\"kind\":\"snapshot\",\"rev\":1,\"view\":[[1]]}' | relay follow";
+
+/// The default of `--listen`: clients on this machine alone.
+const LISTEN: &str = "127.0.0.1";
 
 const HISTORY: &str = "64";
 
@@ -95,6 +100,15 @@ const VIEW_WEIGHT: &str = "16384";
 ///
 /// `now` is the number of seconds since 1970, if the clock can be read. It is the epoch of a server
 /// without `--epoch`, so that each run has another one. Without both, the job is refused.
+///
+/// ```
+/// let mut words = Vec::new(alloc);
+/// for word in "relay script --history 8".split_whitespace() {
+///     words.push(String::from_str(alloc, word).ok()?).ok()?;
+/// }
+/// let settings = Settings { history: 8, ..Settings::DEFAULT };
+/// assert!(rt; matches!(job_of(alloc, &words, None), Ok(job) if job == Job::Script(settings)));
+/// ```
 pub fn job_of(alloc: Global, words: &[String], now: Option<u64>) -> Result<Job, Stop>
     ensures range { IfOk result IsPossible }
     ensures asked { IfOk result (AskFor (map string_bytes words.now) now) }
@@ -192,11 +206,13 @@ fn with_server_options<'a>(alloc: Global, command: Command<'a>) -> Result<Comman
         .arg(waiting_weight(alloc).default_value(WAITING_WEIGHT))?
         .arg(telling_weight(alloc).default_value(TELLING_WEIGHT))?
         .arg(view_weight(alloc).default_value(VIEW_WEIGHT))?
+        .arg(listen(alloc))?
         .arg(port(alloc))?
         .arg(admin(alloc))?
         .arg(turns(alloc))?
         .arg(log(alloc))?
         .arg(forget_rooms(alloc))?
+        .arg(closed(alloc))?
         .arg(output(alloc))?;
     Ok(command)
 }
@@ -301,6 +317,19 @@ fn view_weight<'a>(alloc: Global) -> Arg<'a>
     )
 }
 
+fn listen<'a>(alloc: Global) -> Arg<'a>
+    ensures { rule_of result ≡ listen_option }
+{
+    Arg::new(alloc, "listen")
+        .long("listen")
+        .value_name("ADDRESS")
+        .action(ArgAction::Set)
+        .help(
+            "The IPv4 or IPv6 address for clients; on another one than a loopback address, whoever reaches it can enter",
+        )
+        .default_value(LISTEN)
+}
+
 fn port<'a>(alloc: Global) -> Arg<'a>
     ensures { rule_of result ≡ port_option }
 {
@@ -341,6 +370,17 @@ fn forget_rooms<'a>(alloc: Global) -> Arg<'a>
         .long("forget-rooms")
         .help(
             "Forgets the room that has been empty for the longest time, with its document, when --rooms are taken and another is asked for",
+        )
+        .action(ArgAction::SetTrue)
+}
+
+fn closed<'a>(alloc: Global) -> Arg<'a>
+    ensures { rule_of result ≡ closed_option }
+{
+    Arg::new(alloc, "closed")
+        .long("closed")
+        .help(
+            "Answers clients 503 until an operator says POST /open at the port of --admin: time to put documents back",
         )
         .action(ArgAction::SetTrue)
 }
@@ -397,15 +437,31 @@ fn serve_of(alloc: Global, given: &ArgMatches<'_>, now: Option<u64>) -> Result<J
     ensures asked { IfOk result (IsJobOf (codes "serve") (rows_of (found_of given.now)) now) }
 {
     let port = number_of(alloc, given, "port", 0, MAX_PORT)? as u16;
+    let admin = admin_of(alloc, given, port)?;
     Ok(Job::Serve {
+        listen: listen_of(alloc, given)?,
         port,
-        admin: admin_of(alloc, given, port)?,
+        admin,
         turns: number_of(alloc, given, "turns", 1, MAX_TURNS)?,
         log: is_set(given, "log"),
         forget_rooms: is_set(given, "forget-rooms"),
+        closed: closed_of(alloc, given, admin)?,
         output_mib: number_of(alloc, given, "max-output-mib", 1, MAX_OUTPUT_MIB)?,
         settings: settings_of(alloc, given, now)?,
     })
+}
+
+/// The address for clients.
+fn listen_of(alloc: Global, given: &ArgMatches<'_>) -> Result<IpAddr, Stop>
+    ensures { IfOk result (IsAddressIn (codes "listen") (rows_of (found_of given.now))) }
+{
+    match given_address(given, "listen") {
+        Some(address) => Ok(address),
+        None => Err(Stop::Misuse(String::from_str(
+            alloc,
+            "error: --listen takes an IPv4 or IPv6 address\n",
+        )?)),
+    }
 }
 
 /// The port of the operator, if one is given. It is refused if it is the port of the clients.
@@ -423,6 +479,21 @@ fn admin_of(alloc: Global, given: &ArgMatches<'_>, port: u16) -> Result<Option<u
             "error: --admin takes a port from 1 to {MAX_PORT}, another one than --port\n"
         )?)),
     }
+}
+
+/// Whether the server begins closed. That is refused without an operator, who alone can open it.
+fn closed_of(alloc: Global, given: &ArgMatches<'_>, admin: Option<u16>) -> Result<bool, Stop>
+    ensures range { IfOk result (λ closed. CanBeOpened closed admin) }
+    ensures given { IfOk result (IsFlagIn (codes "closed") (rows_of (found_of given.now))) }
+{
+    let closed = is_set(given, "closed");
+    if closed && admin.is_none() {
+        return Err(Stop::Misuse(String::from_str(
+            alloc,
+            "error: --closed needs --admin: an operator opens the relay there\n",
+        )?));
+    }
+    Ok(closed)
 }
 
 /// The settings of a job. `epoch` is the one that it has without `--epoch`, if it may go without.
@@ -503,6 +574,13 @@ fn given_number(given: &ArgMatches<'_>, name: &str) -> Option<u64>
     ensures { number_in name.now (rows_of (found_of given.now)) ≡ result }
 {
     given.get_one::<u64>(name)
+}
+
+/// The address of an option, if it has a text and the text writes one.
+fn given_address(given: &ArgMatches<'_>, name: &str) -> Option<IpAddr>
+    ensures { IfSome result (IsAddressIn name.now (rows_of (found_of given.now))) }
+{
+    given.get_one::<IpAddr>(name)
 }
 
 /// Whether the words name a flag.

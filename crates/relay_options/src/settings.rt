@@ -38,16 +38,20 @@ pub struct Settings {
     pub rooms: u64,
     /// `--sessions`: the number of sessions that may be open at once, 1 to 65,536.
     pub sessions: u64,
-    /// `--epoch`: the number of this run of the program, 0 to 2^53 - 1. A server takes the seconds since 1970 if it
-    /// is given none.
+    /// `--epoch`: the number of this run of the program, 0 to 2^53 - 1. A server takes the seconds
+    /// since 1970 if it is given none.
     pub epoch: u64,
-    /// `--max-history-weight`: the maximum total weight of the changes that each room holds. `None` means no limit.
+    /// `--max-history-weight`: the maximum total weight of the changes that each room holds. `None`
+    /// means no limit.
     pub history_weight: Option<u64>,
-    /// `--max-waiting-weight`: the maximum total weight of the patches that wait for a session. `None` means no limit.
+    /// `--max-waiting-weight`: the maximum total weight of the patches that wait for a session.
+    /// `None` means no limit.
     pub waiting_weight: Option<u64>,
-    /// `--max-telling-weight`: the maximum total weight of the patches that are made for one edit. `None` means no limit.
+    /// `--max-telling-weight`: the maximum total weight of the patches that are made for one edit.
+    /// `None` means no limit.
     pub telling_weight: Option<u64>,
-    /// `--max-view-weight`: the maximum total weight of the pointers of a view. `None` means no limit.
+    /// `--max-view-weight`: the maximum total weight of the pointers of a view. `None` means no
+    /// limit.
     pub view_weight: Option<u64>,
 }
 

@@ -14,7 +14,8 @@ module _ {R P : Type 0} (r s : R) (p q : P) where
   stays = refl
 
   -- folding and clearing keep the replies
-  keeps_replies : cleared (folded (with_reply s (with_reply r (empty {P = P} 2)))) ≡ contents (r ∷ s ∷ []) [] false 2
+  keeps_replies : cleared (folded (with_reply s (with_reply r (empty {P = P} 2))))
+      ≡ contents (r ∷ s ∷ []) [] false 2
   keeps_replies = refl
 
   -- replies come before patches, and these before the due snapshot
@@ -31,7 +32,8 @@ module _ {R P : Type 0} (r s : R) (p q : P) where
   reply_goes : without_front (contents {P = P} (r ∷ s ∷ []) [] true 2) ≡ contents (s ∷ []) [] true 2
   reply_goes = refl
 
-  patch_goes : without_front (contents {R = R} [] (p ∷ q ∷ []) false 2) ≡ contents [] (q ∷ []) false 2
+  patch_goes : without_front (contents {R = R} [] (p ∷ q ∷ []) false 2)
+      ≡ contents [] (q ∷ []) false 2
   patch_goes = refl
 
   snapshot_goes : without_front (contents {R = R} {P = P} [] [] true 2) ≡ empty 2

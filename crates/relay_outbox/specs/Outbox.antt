@@ -20,9 +20,16 @@ pub data Foremost (R P : Type 0) : Type 0 where
 module _ {R P : Type 0} where
   -- the outbox with these parts
   abbrev pub contents : List R → List P → Bool → ℕ → Contents R P
-  contents replies patches due max_waiting_patches = record { replies = replies; patches = patches; due = due; max_waiting_patches = max_waiting_patches }
+  contents replies patches due max_waiting_patches =
+      record {
+        replies = replies;
+        patches = patches;
+        due = due;
+        max_waiting_patches = max_waiting_patches;
+      }
 
-  -- the invariant of an outbox: replies and patches are within their limits, and no patch waits while a snapshot is due
+  -- the invariant of an outbox: replies and patches are within their limits, and no patch waits
+  -- while a snapshot is due
   pub record IsOutbox (o : Contents R P) : Type 0 where
     pub replies : length o.replies ≤ MAX_REPLIES
     pub patches : length o.patches ≤ o.max_waiting_patches
@@ -45,11 +52,13 @@ module _ {R P : Type 0} where
   abbrev pub cleared : Contents R P → Contents R P
   cleared o = contents o.replies [] false o.max_waiting_patches
 
-  -- if a snapshot is due, nothing changes; else the patch is added after the others, or the outbox folds if the limit is reached
+  -- if a snapshot is due, nothing changes; else the patch is added after the others, or the outbox
+  -- folds if the limit is reached
   abbrev pub with_patch : P → Contents R P → Contents R P
   with_patch p o =
       if o.due then o else
-      (if nat_lt (length o.patches) o.max_waiting_patches then contents o.replies (o.patches ++ p ∷ []) o.due o.max_waiting_patches else folded o)
+      (if nat_lt (length o.patches) o.max_waiting_patches
+      then contents o.replies (o.patches ++ p ∷ []) o.due o.max_waiting_patches else folded o)
 
   -- the first message of these replies, these patches and a snapshot that may be due
   abbrev pub first_of : List R → List P → Bool → Foremost R P
@@ -64,7 +73,8 @@ module _ {R P : Type 0} where
 
   -- the outbox without that first message
   abbrev pub rest_of : List R → List P → Bool → ℕ → Contents R P
-  rest_of (r ∷ replies) patches due max_waiting_patches = contents replies patches due max_waiting_patches
+  rest_of (r ∷ replies) patches due max_waiting_patches =
+      contents replies patches due max_waiting_patches
   rest_of [] (p ∷ patches) due max_waiting_patches = contents [] patches due max_waiting_patches
   rest_of [] [] due max_waiting_patches = contents [] [] false max_waiting_patches
 

@@ -1,5 +1,6 @@
-//! Two ring buffers, one for replies and one for patches, allocated once, and a flag for a due snapshot, which replaces patches that
-//! did not fit. So a slow reader costs a fixed number of messages, and one snapshot in place of all that it missed.
+//! Two ring buffers, one for replies and one for patches, allocated once, and a flag for a due
+//! snapshot, which replaces patches that did not fit. So a slow reader costs a fixed number of
+//! messages, and one snapshot in place of all that it missed.
 use crate::busy::Busy;
 use crate::fault::OutboxFault;
 use crate::front::Front;
@@ -13,8 +14,9 @@ pub const MAX_REPLIES: u64 = 32;
 /// The most patches that an outbox may be asked to hold.
 pub const MAX_PATCHES: u64 = 256;
 
-/// The messages that wait for one session: replies `R` and patches `P`, in the form in which the hub stores patches. Contracts see it
-/// as `Contents`: its replies, its patches, whether a snapshot is due, and the most patches that may wait.
+/// The messages that wait for one session: replies `R` and patches `P`, in the form in which the
+/// hub stores patches. Contracts see it as `Contents`: its replies, its patches, whether a snapshot
+/// is due, and the most patches that may wait.
 #[derive(Drop)]
 pub struct Outbox<R, P> {
     replies: HeapCircularBuffer<R>,
@@ -43,11 +45,13 @@ impl<R: Drop, P: Drop> Outbox<R, P> {
     ghost use Rattle.relay_outbox.specs.Outbox.{IsOutbox, empty, with_reply, with_patch, folded, cleared, front_of, without_front};
     ghost use Rattle.relay_outbox.specs.Front.{shown};
 
-    /// Creates an empty outbox in which at most `max_waiting_patches` patches may wait. Allocates all the memory that its rings need. Returns
-    /// `BadLimit` if `max_waiting_patches` is not 1 to [`MAX_PATCHES`], and `NoMemory` if memory runs out.
+    /// Creates an empty outbox in which at most `max_waiting_patches` patches may wait. Allocates
+    /// all the memory that its rings need. Returns `BadLimit` if `max_waiting_patches` is not 1 to
+    /// [`MAX_PATCHES`], and `NoMemory` if memory runs out.
     pub fn new(alloc: Global, max_waiting_patches: u64) -> Result<Outbox<R, P>, OutboxFault>
         ensures ok { IfOk result (λ outbox. outbox ≡ empty max_waiting_patches) }
-        ensures bad_limit { IsErrOf result OutboxFault.BadLimit ↔ ((max_waiting_patches < 1) ⊎ (MAX_PATCHES < max_waiting_patches)) }
+        ensures bad_limit { IsErrOf result OutboxFault.BadLimit ↔
+            ((max_waiting_patches < 1) ⊎ (MAX_PATCHES < max_waiting_patches)) }
     {
         if max_waiting_patches < 1 || max_waiting_patches > MAX_PATCHES {
             return Err(OutboxFault::BadLimit);
@@ -61,8 +65,8 @@ impl<R: Drop, P: Drop> Outbox<R, P> {
         })
     }
 
-    /// Adds a reply after the others. Returns `Busy` with the reply if [`MAX_REPLIES`] wait already; nothing changes then. Allocates
-    /// nothing.
+    /// Adds a reply after the others. Returns `Busy` with the reply if [`MAX_REPLIES`] wait
+    /// already; nothing changes then. Allocates nothing.
     pub fn reply(&mut self, reply: R) -> Result<(), Busy<R>>
         ensures ok { OnOk result (self.new ≡ with_reply reply self.old) }
         ensures busy { IsErr result ↔ (length self.old.replies ≡ MAX_REPLIES) }
@@ -72,8 +76,20 @@ impl<R: Drop, P: Drop> Outbox<R, P> {
         self.replies.try_push_back(reply).map_err(Busy)
     }
 
-    /// Adds a patch after the others. If a snapshot is due, nothing changes, since the snapshot will include the patch. If `max_waiting_patches`
-    /// patches wait already, the outbox folds, which drops this patch too. Allocates nothing.
+    /// Adds a patch after the others. If a snapshot is due, nothing changes, since the snapshot
+    /// will include the patch. If `max_waiting_patches` patches wait already, the outbox folds,
+    /// which drops this patch too. Allocates nothing.
+    ///
+    /// ```
+    /// let mut outbox: Outbox<&str, u64> = Outbox::new(alloc, 1).ok()?;
+    /// outbox.patch(1);
+    /// outbox.patch(2);
+    /// outbox.reply("watching").ok()?;
+    /// assert!(rt; outbox.patches() == 0 && outbox.is_due());
+    /// assert!(rt; matches!(outbox.front(), Front::Reply(_)));
+    /// outbox.drop_front();
+    /// assert!(rt; matches!(outbox.front(), Front::Snapshot));
+    /// ```
     pub fn patch(&mut self, patch: P)
         ensures { self.new ≡ with_patch patch self.old }
     {
@@ -82,7 +98,8 @@ impl<R: Drop, P: Drop> Outbox<R, P> {
         }
     }
 
-    /// Drops the patches and makes a snapshot due in their place. The replies stay. Allocates nothing.
+    /// Drops the patches and makes a snapshot due in their place. The replies stay. Allocates
+    /// nothing.
     pub fn fold(&mut self)
         ensures { self.new ≡ folded self.old }
     {
@@ -98,7 +115,8 @@ impl<R: Drop, P: Drop> Outbox<R, P> {
         self.due = false;
     }
 
-    /// Returns the next message: the first reply, else the first patch, else the due snapshot. Allocates nothing.
+    /// Returns the next message: the first reply, else the first patch, else the due snapshot.
+    /// Allocates nothing.
     pub fn front(&self) -> Front<'_, R, P>
         ensures { shown result ≡ front_of self.now }
     {
@@ -115,7 +133,8 @@ impl<R: Drop, P: Drop> Outbox<R, P> {
         }
     }
 
-    /// Removes the message that [`Outbox::front`] returns; changes nothing if nothing waits. Allocates nothing.
+    /// Removes the message that [`Outbox::front`] returns; changes nothing if nothing waits.
+    /// Allocates nothing.
     pub fn drop_front(&mut self)
         ensures { self.new ≡ without_front self.old }
     {

@@ -10,11 +10,15 @@ use Rattle.relay_patch.specs.declared.op.Op.{Op}
 
 -- A list within the limit is read element by element; a longer one is refused at once.
 
-pub few : (ops tokens : ℕ) (items : List Document) → length items ≤ ops → patch_of ops tokens (list (items_of items)) ≡ each_from (op_at tokens) 0 (items_of items)
-few ops tokens items h = let test : nat_lt ops (length items) ≡ false = grind (arith, nat_tests) in rw (items_length-items_of items, test) refl
+pub few : (ops tokens : ℕ) (items : List Document) → length items ≤ ops
+    → patch_of ops tokens (list (items_of items)) ≡ each_from (op_at tokens) 0 (items_of items)
+few ops tokens items h = let test : nat_lt ops (length items) ≡ false = grind (arith, nat_tests) in
+    rw (items_length-items_of items, test) refl
 
-pub many : (ops tokens : ℕ) (items : List Document) → ops < length items → patch_of ops tokens (list (items_of items)) ≡ Err TooManyOps
-many ops tokens items h = let test : nat_lt ops (length items) ≡ true = grind (arith, nat_tests) in rw (items_length-items_of items, test) refl
+pub many : (ops tokens : ℕ) (items : List Document) → ops < length items
+    → patch_of ops tokens (list (items_of items)) ≡ Err TooManyOps
+many ops tokens items h = let test : nat_lt ops (length items) ≡ true = grind (arith, nat_tests) in
+    rw (items_length-items_of items, test) refl
 
 abbrev pub op_document : Op → Document
 op_document o = object (op_members o)

@@ -36,7 +36,8 @@ adds_none_past_the_end : effect one_two (Add (codes "a" ∷ codes "3" ∷ []) nu
 unfolding one_two index_of
 adds_none_past_the_end = refl
 
-adds_at_the_end : effect one_two (Add (codes "a" ∷ codes "2" ∷ []) (whole (pos 0))) ≡ Ok (holding (1 ∷ 2 ∷ 0 ∷ []))
+adds_at_the_end : effect one_two (Add (codes "a" ∷ codes "2" ∷ []) (whole (pos 0)))
+    ≡ Ok (holding (1 ∷ 2 ∷ 0 ∷ []))
 unfolding one_two index_of
 adds_at_the_end = refl
 
@@ -48,27 +49,33 @@ adds_none_below_nothing : effect one_two (Add (codes "b" ∷ codes "c" ∷ []) n
 unfolding one_two index_of
 adds_none_below_nothing = refl
 
-adds_none_in_a_number : effect one_two (Add (codes "a" ∷ codes "0" ∷ codes "x" ∷ []) null) ≡ Err NoContainer
+adds_none_in_a_number : effect one_two (Add (codes "a" ∷ codes "0" ∷ codes "x" ∷ []) null)
+    ≡ Err NoContainer
 unfolding one_two index_of
 adds_none_in_a_number = refl
 
-moves_none_past_the_end : effect one_two (Move (codes "a" ∷ codes "0" ∷ []) (codes "a" ∷ codes "2" ∷ [])) ≡ Err PastEnd
+moves_none_past_the_end : effect one_two
+    (Move (codes "a" ∷ codes "0" ∷ []) (codes "a" ∷ codes "2" ∷ [])) ≡ Err PastEnd
 unfolding one_two index_of
 moves_none_past_the_end = refl
 
-moves_to_the_end : effect one_two (Move (codes "a" ∷ codes "0" ∷ []) (codes "a" ∷ codes "1" ∷ [])) ≡ Ok (holding (2 ∷ 1 ∷ []))
+moves_to_the_end : effect one_two (Move (codes "a" ∷ codes "0" ∷ []) (codes "a" ∷ codes "1" ∷ []))
+    ≡ Ok (holding (2 ∷ 1 ∷ []))
 unfolding one_two index_of
 moves_to_the_end = refl
 
-moves_to_its_own_place : effect one_two (Move (codes "a" ∷ codes "1" ∷ []) (codes "a" ∷ codes "-" ∷ [])) ≡ Ok one_two
+moves_to_its_own_place : effect one_two
+    (Move (codes "a" ∷ codes "1" ∷ []) (codes "a" ∷ codes "-" ∷ [])) ≡ Ok one_two
 unfolding one_two index_of index_text
 moves_to_its_own_place = refl
 
-tells_no_move_to_its_own_place : changes_of one_two (Move (codes "a" ∷ codes "1" ∷ []) (codes "a" ∷ codes "-" ∷ [])) ≡ []
+tells_no_move_to_its_own_place : changes_of one_two
+    (Move (codes "a" ∷ codes "1" ∷ []) (codes "a" ∷ codes "-" ∷ [])) ≡ []
 unfolding one_two index_of index_text
 tells_no_move_to_its_own_place = refl
 
-moves_none_into_itself : effect one_two (Move (codes "a" ∷ []) (codes "a" ∷ codes "b" ∷ [])) ≡ Err IntoItself
+moves_none_into_itself : effect one_two (Move (codes "a" ∷ []) (codes "a" ∷ codes "b" ∷ []))
+    ≡ Err IntoItself
 unfolding one_two
 moves_none_into_itself = refl
 
@@ -76,11 +83,14 @@ removes_no_root : effect one_two (Remove []) ≡ Err Root
 unfolding one_two
 removes_no_root = refl
 
-tells_the_index_of_dash : changes_of one_two (Add (codes "a" ∷ codes "-" ∷ []) null) ≡ change.AddItem (codes "a" ∷ codes "2" ∷ []) null ∷ []
+tells_the_index_of_dash : changes_of one_two (Add (codes "a" ∷ codes "-" ∷ []) null)
+    ≡ change.AddItem (codes "a" ∷ codes "2" ∷ []) null ∷ []
 unfolding one_two index_of index_text
 tells_the_index_of_dash = refl
 
-names_the_third : after one_two (Replace (codes "a" ∷ []) null ∷ Add (codes "b" ∷ []) null ∷ Test (codes "a" ∷ []) one_two ∷ []) free ≡ Err (record { at = 2; cause = TestFailed })
+names_the_third : after one_two
+    (Replace (codes "a" ∷ []) null ∷ Add (codes "b" ∷ []) null ∷ Test (codes "a" ∷ []) one_two ∷ [])
+    free ≡ Err (record { at = 2; cause = TestFailed })
 unfolding one_two
 names_the_third = refl
 
@@ -88,13 +98,18 @@ names_the_third = refl
 abbrev paying : ℕ → Bounds
 paying n = record { depth = 2 ^ 64 - 1; weight = 2 ^ 64 - 1; changes = Left n }
 
-pays_for_two_changes : after one_two (Replace (codes "a" ∷ []) null ∷ Replace (codes "a" ∷ []) null ∷ []) (paying 34) ≡ Ok (object (member (codes "a") null no_members))
+pays_for_two_changes : after one_two
+    (Replace (codes "a" ∷ []) null ∷ Replace (codes "a" ∷ []) null ∷ []) (paying 34)
+    ≡ Ok (object (member (codes "a") null no_members))
 unfolding one_two
 pays_for_two_changes = refl
 
-pays_for_one_change : after one_two (Replace (codes "a" ∷ []) null ∷ Replace (codes "a" ∷ []) null ∷ []) (paying 33) ≡ Err (record { at = 1; cause = TooHeavy })
+pays_for_one_change : after one_two
+    (Replace (codes "a" ∷ []) null ∷ Replace (codes "a" ∷ []) null ∷ []) (paying 33)
+    ≡ Err (record { at = 1; cause = TooHeavy })
 unfolding one_two
 pays_for_one_change = refl
 
-composes_nothing : effect (text (codes "é")) (Test [] (text (101 ∷ 204 ∷ 129 ∷ []))) ≡ Err TestFailed
+composes_nothing : effect (text (codes "é")) (Test [] (text (101 ∷ 204 ∷ 129 ∷ [])))
+    ≡ Err TestFailed
 composes_nothing = refl

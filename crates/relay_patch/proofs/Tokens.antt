@@ -14,6 +14,7 @@ pub last_end : (u : Token) (before : Path) (t : Token) → last u (before ++ t �
 last_end u [] t = refl
 last_end u (x ∷ before) t = last_end x before t
 
-pub place_of-end : (d : Document) (before : Path) (t : Token) → place_of d (before ++ t ∷ []) ≡ place_within (at d before) before t
+pub place_of-end : (d : Document) (before : Path) (t : Token)
+    → place_of d (before ++ t ∷ []) ≡ place_within (at d before) before t
 place_of-end d [] t = refl
 place_of-end d (u ∷ before) t = rw (parent_end u before t, last_end u before t) refl

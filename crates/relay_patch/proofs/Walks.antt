@@ -8,7 +8,8 @@ use Rattle.relay_pointer.specs.Path.{Path, child, at}
 use Rattle.relay_patch.specs.Walk.{Cause, Missing, then_do, element, step, walk}
 use Rattle.relay_patch.proofs.Refusals.{ok_or_found}
 
-element-at : (ds : Items) (t : Token) (o : Option ℕ) → result_ok (element ds t o) ≡ option_and_then (item_at ds) o
+element-at : (ds : Items) (t : Token) (o : Option ℕ)
+    → result_ok (element ds t o) ≡ option_and_then (item_at ds) o
 element-at ds t None = refl
 element-at ds t (Some i) = ok_or_found (item_at ds i) Missing
 
@@ -17,13 +18,17 @@ child-step (list ds) t = element-at ds t (index_of t)
 child-step (object ms) t = ok_or_found (member_at ms t) Missing
 child-step _ t = refl
 
-then-found : (path : Path) (r : Result Document Cause) → ((c : Document) → result_ok (walk c path) ≡ at c path) → result_ok (then_do r (λ c. walk c path)) ≡ option_and_then (λ c. at c path) (result_ok r)
+then-found : (path : Path) (r : Result Document Cause)
+    → ((c : Document) → result_ok (walk c path) ≡ at c path)
+    → result_ok (then_do r (λ c. walk c path)) ≡ option_and_then (λ c. at c path) (result_ok r)
 then-found path (Ok c) ih = ih c
 then-found path (Err e) ih = refl
 
 pub at-walk : (path : Path) (d : Document) → result_ok (walk d path) ≡ at d path
 at-walk [] d = refl
-at-walk (t ∷ path) d = then-found path (step d t) (at-walk path) ∙ ap (option_and_then (λ c. at c path)) (child-step d t)
+at-walk (t ∷ path) d =
+    then-found path (step d t) (at-walk path)
+    ∙ ap (option_and_then (λ c. at c path)) (child-step d t)
 
 pub at_reached : (path : Path) (d v : Document) → walk d path ≡ Ok v → at d path ≡ Some v
 at_reached path d v h = sym (at-walk path d) ∙ ap result_ok h
@@ -34,7 +39,9 @@ at_refused path d e h = sym (at-walk path d) ∙ ap result_ok h
 pub child_reached : (d : Document) (t : Token) (c : Document) → step d t ≡ Ok c → child d t ≡ Some c
 child_reached d t c h = sym (child-step d t) ∙ ap result_ok h
 
-walk_then : (p q : Path) (r : Result Document Cause) → ((c : Document) → walk c (p ++ q) ≡ then_do (walk c p) (λ b. walk b q)) → then_do r (λ c. walk c (p ++ q)) ≡ then_do (then_do r (λ c. walk c p)) (λ b. walk b q)
+walk_then : (p q : Path) (r : Result Document Cause)
+    → ((c : Document) → walk c (p ++ q) ≡ then_do (walk c p) (λ b. walk b q))
+    → then_do r (λ c. walk c (p ++ q)) ≡ then_do (then_do r (λ c. walk c p)) (λ b. walk b q)
 walk_then p q (Ok c) ih = ih c
 walk_then p q (Err e) ih = refl
 

@@ -59,7 +59,8 @@ pub record Moves (d : Document) (from to : Place) (v : Document) (d' : Document)
 -- the change takes the document d to d'
 abbrev pub Makes : Document → Change → Document → Type 0
 Makes d (change.Set path v) d' = replaced path v d ≡ Ok d'
-Makes d (change.AddMember path v) d' = (at d path ≡ None) × (at_path (in_object (insert_child v)) path d ≡ Ok d')
+Makes d (change.AddMember path v) d' =
+    (at d path ≡ None) × (at_path (in_object (insert_child v)) path d ≡ Ok d')
 Makes d (change.AddItem path v) d' = at_path (in_list (insert_child v)) path d ≡ Ok d'
 Makes d (change.DropMember path) d' = at_path (in_object drop_child) path d ≡ Ok d'
 Makes d (change.DropItem path) d' = at_path (in_list drop_child) path d ≡ Ok d'
@@ -74,10 +75,13 @@ Leads d (c ∷ cs) d' = (e : Document) × Makes d c e × Leads e cs d'
 -- The changes that an accepted operation makes: one at most.
 
 abbrev pub added_change : Document → Path → Place → Document → Change
-added_change d path place v = if place.item then change.AddItem place.path v else (if is_some (at d path) then change.Set path v else change.AddMember path v)
+added_change d path place v =
+    if place.item then change.AddItem place.path v
+    else (if is_some (at d path) then change.Set path v else change.AddMember path v)
 
 abbrev pub removed_change : Place → Change
-removed_change place = if place.item then change.DropItem place.path else change.DropMember place.path
+removed_change place =
+    if place.item then change.DropItem place.path else change.DropMember place.path
 
 -- a move to its own place changes nothing
 abbrev pub moved_change : Place → Place → Document → List Change
@@ -96,7 +100,8 @@ abbrev pub changes_of : Document → Op → List Change
 changes_of d (op.Add path v) = added_change d path (place_of d path) v ∷ []
 changes_of d (op.Remove path) = removed_change (place_of d path) ∷ []
 changes_of d (op.Replace path v) = change.Set path v ∷ []
-changes_of d (op.Move from path) = moved_changes (place_of d from) path (at d from) (result_ok (at_path drop_child from d))
+changes_of d (op.Move from path) =
+    moved_changes (place_of d from) path (at d from) (result_ok (at_path drop_child from d))
 changes_of d (op.Copy from path) = copied_changes from (place_of d path) (at d from)
 changes_of d (op.Test path v) = []
 

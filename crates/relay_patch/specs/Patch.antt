@@ -69,17 +69,22 @@ abbrev pub replaced : Path → Document → Document → Result Document Cause
 replaced [] v d = Ok v
 replaced (t ∷ path) v d = below (set_child v) t path d
 
--- v, the value at the first path, removed and added at the second; unchanged if both are the same place
+-- v, the value at the first path, removed and added at the second; unchanged if both are the same
+-- place
 abbrev pub moved : Path → Path → Document → Document → Result Document Cause
 moved [] path v d = Ok d
-moved (t ∷ from) path v d = then_do (below drop_child t from d) (λ e. if same_path (t ∷ from) (place_of e path).path then Ok d else added path v e)
+moved (t ∷ from) path v d =
+    then_do (below drop_child t from d)
+    (λ e. if same_path (t ∷ from) (place_of e path).path then Ok d else added path v e)
 
 -- the document after an operation, or the first refusal
 abbrev pub effect : Document → Op → Result Document Cause
 effect d (Add path v) = added path v d
 effect d (Remove path) = at_path drop_child path d
 effect d (Replace path v) = replaced path v d
-effect d (Move from path) = then_do (walk d from) (λ v. if is_proper_prefix from path then Err IntoItself else moved from path v d)
+effect d (Move from path) =
+    then_do (walk d from)
+    (λ v. if is_proper_prefix from path then Err IntoItself else moved from path v d)
 effect d (Copy from path) = then_do (walk d from) (λ v. added path v d)
 effect d (Test path v) = then_do (walk d path) (λ w. if same w v then Ok d else Err TestFailed)
 
@@ -96,4 +101,5 @@ free = record { depth = 2 ^ 64 - 1; weight = 2 ^ 64 - 1; changes = Unbounded }
 -- the document, if it is neither too deep nor too heavy; the depth is checked first
 abbrev pub within : Bounds → Document → Result Document Cause
 within bounds d =
-    if exceeds bounds.depth (depth d) then Err TooDeep else (if exceeds bounds.weight (weight d) then Err TooHeavy else Ok d)
+    if exceeds bounds.depth (depth d) then Err TooDeep
+    else (if exceeds bounds.weight (weight d) then Err TooHeavy else Ok d)

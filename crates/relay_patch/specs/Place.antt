@@ -23,7 +23,8 @@ canonical ds t = if bytes_eq t dash then index_text (items_length ds) else t
 
 -- the place that a token names in a container; it is an item if the container is a list
 abbrev pub place_within : Option Document → Path → Token → Place
-place_within (Some (list ds)) before t = record { path = before ++ canonical ds t ∷ []; item = true }
+place_within (Some (list ds)) before t =
+    record { path = before ++ canonical ds t ∷ []; item = true }
 place_within _ before t = record { path = before ++ t ∷ []; item = false }
 
 -- the place that a path names in a document

@@ -7,7 +7,8 @@ pub const MAX_DEPTH: u64 = 64;
 /// The largest weight of a shared document.
 pub const MAX_WEIGHT: u64 = 262_144;
 
-/// The largest weight of all changes that one patch makes to a shared document: that of four largest documents.
+/// The largest weight of all changes that one patch makes to a shared document: that of four
+/// largest documents.
 pub const MAX_CHANGES_WEIGHT: u64 = 4 * MAX_WEIGHT;
 
 /// The bounds on an application of a patch.
@@ -17,7 +18,8 @@ pub struct Bounds {
     pub depth: u64,
     /// The largest weight of the document after each operation. `u64::MAX` means no bound.
     pub weight: u64,
-    /// What the changes of the patch may weigh together. A change weighs as much as its value and its paths.
+    /// What the changes of the patch may weigh together. A change weighs as much as its value and
+    /// its paths.
     pub changes: Budget,
 }
 

@@ -2,7 +2,8 @@
 use relay_pointer::Pointer;
 use relay_tree::Tree;
 
-/// Where a value is removed or inserted. The path is canonical: `-` is replaced by the index that it names.
+/// Where a value is removed or inserted. The path is canonical: `-` is replaced by the index that
+/// it names.
 #[derive(Drop)]
 pub struct Place {
     pub path: Pointer,
@@ -10,7 +11,8 @@ pub struct Place {
     pub item: bool,
 }
 
-/// What an accepted operation changed. A `test` changes nothing, and neither does a `move` to its own place.
+/// What an accepted operation changed. A `test` changes nothing, and neither does a `move` to its
+/// own place.
 #[derive(Drop)]
 pub enum Change {
     /// The root, or an existing member or element, was set to the value.

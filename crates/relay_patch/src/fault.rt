@@ -2,9 +2,9 @@
 use std::alloc::AllocError;
 use thiserror::Error;
 
-/// Why an operation is refused. An operation's own checks come first, in the order of RFC 6902, then the weight of the changes
-/// so far, and then the depth and the weight of the document that it made. Memory is allocated only after an operation's own
-/// checks have passed.
+/// Why an operation is refused. An operation's own checks come first, in the order of RFC 6902,
+/// then the weight of the changes so far, and then the depth and the weight of the document that it
+/// made. Memory is allocated only after an operation's own checks have passed.
 #[derive(Clone, Copy, Debug, PartialEq, Eq, Error)]
 pub enum Cause {
     /// A path names a part that is not there.

@@ -1,4 +1,5 @@
-//! The JSON form of patches: written as a text and as a tree, and read from a tree (RFC 6902, sections 3 and 4).
+//! The JSON form of patches: written as a text and as a tree, and read from a tree (RFC 6902,
+//! sections 3 and 4).
 
 mod kind;
 mod reading;

@@ -1,8 +1,9 @@
-//! JSON Patch (RFC 6902): patches of six operations as values, read from trees and written to them, the changes that they make, and the
-//! weight of both. `relay_apply` applies them.
+//! JSON Patch (RFC 6902): patches of six operations as values, read from trees and written to them,
+//! the changes that they make, and the weight of both. `relay_apply` applies them.
 //!
-//! What a patch means stands in `specs`: the document after it, or the first operation that is refused, and the changes that lead
-//! there. Contracts see a [`Patch`] as the list of its operations.
+//! What a patch means stands in `specs`: the document after it, or the first operation that is
+//! refused, and the changes that lead there. Contracts see a [`Patch`] as the list of its
+//! operations.
 #![tactic(auto)]
 
 mod bounds;

@@ -5,7 +5,8 @@ use thiserror::Error;
 /// The most operations of a patch in a request.
 pub const MAX_OPS: u64 = 64;
 
-/// The most tokens of a path in a patch that the relay sends: two more than in a request, which name a slot of a view.
+/// The most tokens of a path in a patch that the relay sends: two more than in a request, which
+/// name a slot of a view.
 pub const MAX_RELAYED_TOKENS: u64 = MAX_TOKENS + 2;
 
 /// The most operations of a patch, and the most tokens of each of its paths.
@@ -29,13 +30,15 @@ impl PatchLimits {
     };
 }
 
-/// Why a tree does not read as a patch. A list that is too long is refused before its elements are checked. Otherwise the
-/// fault is that of the first element that is refused, and `at` is its place, counted from 0.
+/// Why a tree does not read as a patch. A list that is too long is refused before its elements are
+/// checked. Otherwise the fault is that of the first element that is refused, and `at` is its
+/// place, counted from 0.
 #[derive(Clone, Copy, Debug, PartialEq, Eq, Error)]
 pub enum PatchFault {
     #[error("too many operations")]
     TooManyOps,
-    /// The tree is not a list (`at` is `None`), or an element lacks a member of the right type that its operation needs.
+    /// The tree is not a list (`at` is `None`), or an element lacks a member of the right type that
+    /// its operation needs.
     #[error("a patch is a list of operations")]
     Shape { at: Option<u64> },
     /// An `op` that is not one of the six.

@@ -1,4 +1,5 @@
-//! The weight of changes and operations: that of the values that they carry, and of their paths. Allocates nothing.
+//! The weight of changes and operations: that of the values that they carry, and of their paths.
+//! Allocates nothing.
 ghost use Rattle.std.specs.Prelude.{◌≡◌, option_copied};
 ghost use Rattle.relay_tree.specs.Budget.{paid};
 ghost use Rattle.relay_patch.specs.Measure.{part_weight};
@@ -11,8 +12,8 @@ use relay_pointer::Pointer;
 use relay_tree::{Budget, Tree};
 
 impl Change {
-    /// Returns what is left of a budget after the change's weight is paid, or `None` if it weighs more. Walks the value only as far
-    /// as the budget pays for.
+    /// Returns what is left of a budget after the change's weight is paid, or `None` if it weighs
+    /// more. Walks the value only as far as the budget pays for.
     #[tactic(auto, using(relay_tree::proofs::Budgets::paid_on, relay_tree::proofs::Budgets::paid_out))]
     pub fn pay(&self, budget: Budget) -> Option<Budget>
         ensures { result ≡ paid (change_weight self.now) budget }
@@ -28,7 +29,8 @@ impl Change {
     }
 }
 
-/// Returns what is left of a budget after the weight of all changes is paid, or `None` if they weigh more.
+/// Returns what is left of a budget after the weight of all changes is paid, or `None` if they
+/// weigh more.
 #[tactic(auto, using(relay_tree::proofs::Budgets::paid_on, relay_tree::proofs::Budgets::paid_out))]
 pub fn pay_changes(changes: &[Change], budget: Budget) -> Option<Budget>
     ensures { result ≡ paid (changes_weight changes.now) budget }
@@ -41,7 +43,8 @@ pub fn pay_changes(changes: &[Change], budget: Budget) -> Option<Budget>
 }
 
 impl Op {
-    /// Returns what is left of a budget after the operation's paths are paid, or `None` if they weigh more.
+    /// Returns what is left of a budget after the operation's paths are paid, or `None` if they
+    /// weigh more.
     #[tactic(auto, using(relay_tree::proofs::Budgets::paid_on, relay_tree::proofs::Budgets::paid_out))]
     pub fn pay_paths(&self, budget: Budget) -> Option<Budget>
         ensures { result ≡ paid (paths_weight self.now) budget }
@@ -55,7 +58,8 @@ impl Op {
         }
     }
 
-    /// Returns what is left of a budget after the operation's value and paths are paid, or `None` if they weigh more.
+    /// Returns what is left of a budget after the operation's value and paths are paid, or `None`
+    /// if they weigh more.
     #[tactic(auto, using(relay_tree::proofs::Budgets::paid_on, relay_tree::proofs::Budgets::paid_out))]
     pub fn pay(&self, budget: Budget) -> Option<Budget>
         ensures { result ≡ paid (op_weight self.now) budget }
@@ -76,7 +80,8 @@ impl Op {
     }
 }
 
-/// Returns what is left of a budget after a value, if there is one, is paid, or `None` if it weighs more.
+/// Returns what is left of a budget after a value, if there is one, is paid, or `None` if it weighs
+/// more.
 pub fn pay_part(part: Option<&Tree>, budget: Budget) -> Option<Budget>
     ensures { result ≡ paid (part_weight (option_copied part.entry)) budget }
 {
@@ -87,7 +92,8 @@ pub fn pay_part(part: Option<&Tree>, budget: Budget) -> Option<Budget>
 }
 
 impl Patch {
-    /// Returns what is left of a budget after the operations are paid, or `None` if they weigh more.
+    /// Returns what is left of a budget after the operations are paid, or `None` if they weigh
+    /// more.
     #[tactic(auto, using(relay_tree::proofs::Budgets::paid_on, relay_tree::proofs::Budgets::paid_out))]
     pub fn pay(&self, budget: Budget) -> Option<Budget>
         ensures { result ≡ paid (ops_weight self.now) budget }

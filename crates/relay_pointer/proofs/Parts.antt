@@ -41,7 +41,8 @@ pub data Behind : ℕ → Type 0 where
 pub behind_kind : (b : ℕ) → Behind b
 behind_kind b = go (b == 48) refl (b == 49) refl (b == 47) refl
   where
-    go : (x : Bool) → (b == 48) ≡ x → (y : Bool) → (b == 49) ≡ y → (z : Bool) → (b == 47) ≡ z → Behind b
+    go : (x : Bool) → (b == 48) ≡ x → (y : Bool) → (b == 49) ≡ y → (z : Bool) → (b == 47) ≡ z
+        → Behind b
     go true e y f z g = let is : 48 ≡ b = grind (arith, nat_tests) in subst Behind is zero_digit
     go false e true f z g = let is : 49 ≡ b = grind (arith, nat_tests) in subst Behind is one_digit
     go false e false f true g = let is : 47 ≡ b = grind (arith, nat_tests) in subst Behind is stroke

@@ -34,10 +34,14 @@ unfolding path_of_text
 tilde_before_slash = refl
 
 -- in `{"a":[1,2]}`
-member_and_element : at (object (member (codes "a") (list (items_of (whole (pos 1) ∷ whole (pos 2) ∷ []))) no_members)) (codes "a" ∷ codes "1" ∷ []) ≡ Some (whole (pos 2))
+member_and_element : at
+    (object (member (codes "a") (list (items_of (whole (pos 1) ∷ whole (pos 2) ∷ []))) no_members))
+    (codes "a" ∷ codes "1" ∷ []) ≡ Some (whole (pos 2))
 unfolding index_of
 member_and_element = refl
 
-leading_zero : at (object (member (codes "a") (list (items_of (whole (pos 1) ∷ whole (pos 2) ∷ []))) no_members)) (codes "a" ∷ codes "01" ∷ []) ≡ None
+leading_zero : at
+    (object (member (codes "a") (list (items_of (whole (pos 1) ∷ whole (pos 2) ∷ []))) no_members))
+    (codes "a" ∷ codes "01" ∷ []) ≡ None
 unfolding index_of
 leading_zero = refl

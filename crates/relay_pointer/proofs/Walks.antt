@@ -8,9 +8,11 @@ use Rattle.relay_tree.proofs.Named.{set_member-same}
 use Rattle.relay_pointer.specs.Index.{Token, index_of, number_of}
 use Rattle.relay_pointer.specs.Path.{Path, child, put_element, with_child, at, put}
 
--- The number of a token, capped at 64 bits, names the same element of a list whose length fits in 64 bits.
+-- The number of a token, capped at 64 bits, names the same element of a list whose length fits in
+-- 64 bits.
 
-pub some_index : (o : Option ℕ) (n : ℕ) → Some n ≡ option_map (min (2 ^ 64 - 1)) o → (i : ℕ) × (o ≡ Some i) × (n ≡ min (2 ^ 64 - 1) i)
+pub some_index : (o : Option ℕ) (n : ℕ) → Some n ≡ option_map (min (2 ^ 64 - 1)) o
+    → (i : ℕ) × (o ≡ Some i) × (n ≡ min (2 ^ 64 - 1) i)
 some_index None n h = cc
 some_index (Some i) n h = (i, refl, cc)
 
@@ -18,7 +20,8 @@ pub no_index : (o : Option ℕ) → None ≡ option_map (min (2 ^ 64 - 1)) o →
 no_index None h = refl
 no_index (Some i) h = cc
 
-item_counted : (ds : Items) (i n : ℕ) → items_length ds < 2 ^ 64 → n ≡ min (2 ^ 64 - 1) i → item_at ds n ≡ item_at ds i
+item_counted : (ds : Items) (i n : ℕ) → items_length ds < 2 ^ 64 → n ≡ min (2 ^ 64 - 1) i
+    → item_at ds n ≡ item_at ds i
 item_counted ds i n few is = go (nat_lt i (2 ^ 64)) refl
   where
     go : (x : Bool) → nat_lt i (2 ^ 64) ≡ x → item_at ds n ≡ item_at ds i
@@ -28,7 +31,8 @@ item_counted ds i n few is = go (nat_lt i (2 ^ 64)) refl
         let past : items_length ds ≤ n = grind (arith, nat_tests) in
         item_at-past ds n past ∙ sym (item_at-past ds i far)
 
-put_counted : (ds : Items) (i n : ℕ) (c : Document) → items_length ds < 2 ^ 64 → n ≡ min (2 ^ 64 - 1) i → put_item ds n c ≡ put_item ds i c
+put_counted : (ds : Items) (i n : ℕ) (c : Document) → items_length ds < 2 ^ 64
+    → n ≡ min (2 ^ 64 - 1) i → put_item ds n c ≡ put_item ds i c
 put_counted ds i n c few is = go (nat_lt i (2 ^ 64)) refl
   where
     go : (x : Bool) → nat_lt i (2 ^ 64) ≡ x → put_item ds n c ≡ put_item ds i c
@@ -40,7 +44,8 @@ put_counted ds i n c few is = go (nat_lt i (2 ^ 64)) refl
 
 -- The child that a token names, by the kind of the document.
 
-pub child-number : (d : Document) (t : Token) (n m : ℕ) → list_len d ≡ Some m → m < 2 ^ 64 → Some n ≡ number_of t → list_item d n ≡ child d t
+pub child-number : (d : Document) (t : Token) (n m : ℕ) → list_len d ≡ Some m → m < 2 ^ 64
+    → Some n ≡ number_of t → list_item d n ≡ child d t
 child-number (list ds) t n m h few is =
     let s = some_index (index_of t) n is in
     let same : items_length ds ≡ m = cc in
@@ -48,7 +53,8 @@ child-number (list ds) t n m h few is =
     rw s.1 (item_counted ds s.0 n small s.2)
 child-number _ t n m h few is = cc
 
-pub with_child-number : (d : Document) (t : Token) (n m : ℕ) (c : Document) → list_len d ≡ Some m → m < 2 ^ 64 → Some n ≡ number_of t → with_item d n c ≡ with_child d t c
+pub with_child-number : (d : Document) (t : Token) (n m : ℕ) (c : Document) → list_len d ≡ Some m
+    → m < 2 ^ 64 → Some n ≡ number_of t → with_item d n c ≡ with_child d t c
 with_child-number (list ds) t n m c h few is =
     let s = some_index (index_of t) n is in
     let same : items_length ds ≡ m = cc in
@@ -61,11 +67,13 @@ pub child-member : (d : Document) (t : Token) → list_len d ≡ None → object
 child-member (list ds) t h = cc
 child-member _ t h = refl
 
-pub with_child-member : (d : Document) (t : Token) (c : Document) → list_len d ≡ None → with_member d t c ≡ with_child d t c
+pub with_child-member : (d : Document) (t : Token) (c : Document) → list_len d ≡ None
+    → with_member d t c ≡ with_child d t c
 with_child-member (list ds) t c h = cc
 with_child-member _ t c h = refl
 
-pub was_list : (o r : Option ℕ) → r ≡ o → IfSome r (λ n. n < 2 ^ 64) → is_some r ≡ true → (m : ℕ) × (o ≡ Some m) × (m < 2 ^ 64)
+pub was_list : (o r : Option ℕ) → r ≡ o → IfSome r (λ n. n < 2 ^ 64) → is_some r ≡ true
+    → (m : ℕ) × (o ≡ Some m) × (m < 2 ^ 64)
 was_list o None e few h = cc
 was_list o (Some m) e few h = (m, sym e, few)
 
@@ -74,22 +82,27 @@ was_other o None e h = sym e
 was_other o (Some m) e h = cc
 
 -- writing a part back unchanged leaves the document as it was
-element_same : (ds : Items) (o : Option ℕ) (c : Document) → option_and_then (item_at ds) o ≡ Some c → put_element ds o c ≡ ds
+element_same : (ds : Items) (o : Option ℕ) (c : Document) → option_and_then (item_at ds) o ≡ Some c
+    → put_element ds o c ≡ ds
 element_same ds None c h = refl
 element_same ds (Some i) c h = put_item-same ds i c h
 
-pub with_child-same : (d : Document) (t : Token) (c : Document) → child d t ≡ Some c → with_child d t c ≡ d
+pub with_child-same : (d : Document) (t : Token) (c : Document) → child d t ≡ Some c
+    → with_child d t c ≡ d
 with_child-same (list ds) t c h = ap list (element_same ds (index_of t) c h)
 with_child-same (object ms) t c h = ap object (set_member-same ms t c h)
 with_child-same _ t c h = refl
 
 -- One step of a walk.
 
-pub put_step : (d e new n : Document) (t : Token) (path : Path) (v : Document) → child d t ≡ Some e → n ≡ with_child d t new → new ≡ put e path v → n ≡ put d (t ∷ path) v
+pub put_step : (d e new n : Document) (t : Token) (path : Path) (v : Document) → child d t ≡ Some e
+    → n ≡ with_child d t new → new ≡ put e path v → n ≡ put d (t ∷ path) v
 put_step d e new n t path v found is below = rw found (is ∙ ap (with_child d t) below)
 
-pub at_step : (d e : Document) (t : Token) (path : Path) → child d t ≡ Some e → at d (t ∷ path) ≡ at e path
+pub at_step : (d e : Document) (t : Token) (path : Path) → child d t ≡ Some e
+    → at d (t ∷ path) ≡ at e path
 at_step d e t path found = rw found refl
 
-pub at_missing : (d : Document) (t : Token) (path : Path) → child d t ≡ None → at d (t ∷ path) ≡ None
+pub at_missing : (d : Document) (t : Token) (path : Path) → child d t ≡ None
+    → at d (t ∷ path) ≡ None
 at_missing d t path missing = rw missing refl

@@ -1,4 +1,5 @@
--- The text of a pointer (RFC 6901, section 3): each token after a `/`, with `~` written `~0` and `/` written `~1`.
+-- The text of a pointer (RFC 6901, section 3): each token after a `/`, with `~` written `~0` and
+-- `/` written `~1`.
 use Rattle.std.specs.Prelude.{◌≡◌, ℕ, List, [], ◌∷◌, ◌==◌, Bool, true, false, ◌&&◌, ◌||◌, if◌then◌else◌, Option, Some, None, option_map, option_and_then, flat_map}
 use Rattle.std.specs.List.{slice_split}
 use Rattle.relay_pointer.specs.Index.{Token}
@@ -47,7 +48,8 @@ abbrev pub tokens_of : List (List ℕ) → Option Path
 tokens_of [] = Some []
 tokens_of (part ∷ parts) = begun (unescaped part) (tokens_of parts)
 
--- the path that a text spells, if it spells one: the empty text spells the root, and each `/` begins a token
+-- the path that a text spells, if it spells one: the empty text spells the root, and each `/`
+-- begins a token
 unfoldable pub path_of_text : List ℕ → Option Path
 path_of_text [] = Some []
 path_of_text (b ∷ bs) = if b == 47 then tokens_of (slice_split (λ c. c == 47) bs) else None

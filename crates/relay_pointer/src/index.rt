@@ -3,8 +3,9 @@ ghost use Rattle.std.specs.Prelude.{◌≡◌, ◌-◌, ◌^◌, min, true};
 ghost use Rattle.std.specs.List.{list_all};
 ghost use Rattle.relay_pointer.specs.Index.{is_digit, is_index, number_of, number_onto};
 
-/// Returns the number of a token that is an index: `0`, or digits of which the first is not `0`. Any other token has none.
-/// A number above `u64::MAX`, which no list reaches, is returned as `u64::MAX`. Allocates nothing.
+/// Returns the number of a token that is an index: `0`, or digits of which the first is not `0`.
+/// Any other token has none. A number above `u64::MAX`, which no list reaches, is returned as
+/// `u64::MAX`. Allocates nothing.
 #[tactic(auto, unfolding(crate::specs::Index::index_of))]
 pub fn index_of(token: &str) -> Option<u64>
     ensures { result ≡ number_of token.now }

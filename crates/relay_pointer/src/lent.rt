@@ -12,21 +12,26 @@ use crate::pointer::Pointer;
 use crate::walk::child_mut;
 use relay_tree::{Node, Tree};
 
-/// Borrows the value to which the pointer leads, as a node for writing. Afterwards the whole is the old one with what was
-/// written put at the path. Returns `None`, with the whole unchanged, if the pointer leads to nothing. Allocates nothing.
+/// Borrows the value to which the pointer leads, as a node for writing. Afterwards the whole is the
+/// old one with what was written put at the path. Returns `None`, with the whole unchanged, if the
+/// pointer leads to nothing. Allocates nothing.
 pub fn resolve_mut<'t>(whole: &'t mut Tree, pointer: &Pointer) -> Option<&'t mut Node>
-    ensures* writes_back { sem 𝓛 (LendsIf tree.the_row node.the_row whole.entry result (λ n. put whole.old pointer.now (document_of n)) whole.old) }
+    ensures* writes_back { sem 𝓛 (LendsIf tree.the_row node.the_row whole.entry result
+        (λ n. put whole.old pointer.now (document_of n)) whole.old) }
     ensures value { option_map document_of (option_copied_mut result) ≡ at whole.old pointer.now }
 {
     let count = pointer.tokens().len();
     part_mut(whole, pointer, count)
 }
 
-// The node to which the first `count` tokens lead. Its proof is written by hand and depends on this body and these parameters.
+// The node to which the first `count` tokens lead. Its proof is written by hand and depends on this
+// body and these parameters.
 fn part_mut<'t>(whole: &'t mut Tree, pointer: &Pointer, count: usize) -> Option<&'t mut Node>
     requires { count ≤ length pointer.now }
-    ensures* writes_back { sem 𝓛 (LendsIf tree.the_row node.the_row whole.entry result (λ n. put whole.old (take count pointer.now) (document_of n)) whole.old) }
-    ensures value { option_map document_of (option_copied_mut result) ≡ at whole.old (take count pointer.now) }
+    ensures* writes_back { sem 𝓛 (LendsIf tree.the_row node.the_row whole.entry result
+        (λ n. put whole.old (take count pointer.now) (document_of n)) whole.old) }
+    ensures value { option_map document_of (option_copied_mut result)
+        ≡ at whole.old (take count pointer.now) }
 {
     let mut part = node_mut(whole);
     let mut index = 0;
@@ -50,8 +55,10 @@ fn node_mut(whole: &mut Tree) -> &mut Node
 // The part that the token at `index` names.
 fn child_at<'t>(node: &'t mut Node, pointer: &Pointer, index: usize) -> Option<&'t mut Tree>
     requires { index < length pointer.now }
-    ensures* writes_back { sem 𝓛 (LendsChild node.entry (slice_index_or pointer.now index []) result) }
-    ensures value { option_copied_mut result ≡ child (document_of node.old) (slice_index_or pointer.now index []) }
+    ensures* writes_back { sem 𝓛
+        (LendsChild node.entry (slice_index_or pointer.now index []) result) }
+    ensures value { option_copied_mut result
+        ≡ child (document_of node.old) (slice_index_or pointer.now index []) }
 {
     child_mut(node, pointer.tokens()[index].as_str())
 }

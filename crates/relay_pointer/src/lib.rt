@@ -1,8 +1,8 @@
 //! JSON Pointer (RFC 6901): paths into a document, and the part that a path names.
 //!
-//! The promise: a text and its pointer agree, [`resolve`] returns the value at the path, and a write through [`resolve_mut`]
-//! changes nothing else in the document. Contracts see a [`Pointer`] as the list of its tokens, each a list of bytes with
-//! nothing escaped.
+//! The promise: a text and its pointer agree, [`resolve`] returns the value at the path, and a
+//! write through [`resolve_mut`] changes nothing else in the document. Contracts see a [`Pointer`]
+//! as the list of its tokens, each a list of bytes with nothing escaped.
 #![tactic(auto)]
 
 mod index;

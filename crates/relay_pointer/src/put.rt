@@ -1,5 +1,5 @@
-//! Writes at a path, through [`resolve_mut`]. Of two writes to one place the last wins, and writing the old value back
-//! restores the old document (`proofs/Puts.antt`).
+//! Writes at a path, through [`resolve_mut`]. Of two writes to one place the last wins, and writing
+//! the old value back restores the old document (`proofs/Puts.antt`).
 ghost use Rattle.std.specs.Prelude.{◌≡◌, Some, None, IfSome, IsNone, IsTrue, IsFalse, is_some};
 ghost use Rattle.relay_tree.specs.Document.{null};
 ghost use Rattle.relay_pointer.specs.Path.{at, put};
@@ -9,8 +9,8 @@ use crate::pointer::Pointer;
 use relay_tree::{Node, Tree};
 use std::mem;
 
-/// Replaces the value at the pointer and returns the old one. Returns `None`, with nothing changed and the new value
-/// dropped, if the pointer leads to nothing. Allocates nothing.
+/// Replaces the value at the pointer and returns the old one. Returns `None`, with nothing changed
+/// and the new value dropped, if the pointer leads to nothing. Allocates nothing.
 pub fn exchange(whole: &mut Tree, pointer: &Pointer, value: Tree) -> Option<Tree>
     ensures old { result ≡ at whole.old pointer.now }
     ensures found { IfSome result (λ _. whole.new ≡ put whole.old pointer.now value) }
@@ -23,8 +23,8 @@ pub fn exchange(whole: &mut Tree, pointer: &Pointer, value: Tree) -> Option<Tree
     })
 }
 
-/// Takes the value at the pointer out and leaves null there. Returns `None`, with nothing changed, if the pointer leads
-/// to nothing. Allocates nothing.
+/// Takes the value at the pointer out and leaves null there. Returns `None`, with nothing changed,
+/// if the pointer leads to nothing. Allocates nothing.
 pub fn take(whole: &mut Tree, pointer: &Pointer) -> Option<Tree>
     ensures old { result ≡ at whole.old pointer.now }
     ensures found { IfSome result (λ _. whole.new ≡ put whole.old pointer.now null) }
@@ -33,8 +33,8 @@ pub fn take(whole: &mut Tree, pointer: &Pointer) -> Option<Tree>
     exchange(whole, pointer, Tree::from(Node::Null))
 }
 
-/// Replaces the value at the pointer. Returns `false`, with nothing changed and the new value dropped, if the pointer
-/// leads to nothing. Allocates nothing.
+/// Replaces the value at the pointer. Returns `false`, with nothing changed and the new value
+/// dropped, if the pointer leads to nothing. Allocates nothing.
 pub fn set(whole: &mut Tree, pointer: &Pointer, value: Tree) -> bool
     ensures found { result ≡ is_some (at whole.old pointer.now) }
     ensures set { IsTrue result → whole.new ≡ put whole.old pointer.now value }

@@ -1,4 +1,5 @@
-//! A reader of pointers (RFC 6901, section 3). A text is checked and its tokens are counted before the first token is built.
+//! A reader of pointers (RFC 6901, section 3). A text is checked and its tokens are counted before
+//! the first token is built.
 ghost use Rattle.std.specs.Prelude.{◌≡◌, ◌<◌, ◌≤◌, ◌==◌, Some, None, IfOk, IfErr, IsSome, IsSomeAnd, IfSome, IsNone, is_some, ◌∷◌, length, count_by, string_bytes};
 ghost use Rattle.std.specs.List.{slice_split};
 ghost use Rattle.std.specs.Option.{option_map};
@@ -17,7 +18,8 @@ pub const MAX_TOKENS: u64 = 64;
 /// Why a text does not read as a pointer, in the order of the checks.
 #[derive(Clone, Copy, Debug, PartialEq, Eq, Error)]
 pub enum PointerFault {
-    /// The text is not empty and does not begin with `/`, or a `~` in it is not followed by `0` or `1`.
+    /// The text is not empty and does not begin with `/`, or a `~` in it is not followed by `0` or
+    /// `1`.
     #[error("not a JSON pointer")]
     BadPointer,
     /// The text spells more tokens than the caller accepts.
@@ -36,16 +38,28 @@ impl From<AllocError> for PointerFault {
 }
 
 impl Pointer {
-    /// Reads the pointer that a text spells, of at most `most` tokens. Costs the text's length in time and memory. The
-    /// whole text is checked before anything is allocated.
+    /// Reads the pointer that a text spells, of at most `most` tokens. Costs the text's length in
+    /// time and memory. The whole text is checked before anything is allocated.
+    ///
+    /// ```
+    /// let pointer = Pointer::read(alloc, "/a~1b/0", 64).ok()?;
+    /// assert!(rt; pointer.tokens()[0].as_str() == "a/b" && pointer.tokens()[1].as_str() == "0");
+    /// assert!(rt; pointer.text(alloc).ok()?.as_str() == "/a~1b/0");
+    /// assert!(rt; matches!(Pointer::read(alloc, "a", 64), Err(PointerFault::BadPointer)));
+    /// assert!(rt; matches!(Pointer::read(alloc, "/a/0", 1), Err(PointerFault::TooManyTokens)));
+    /// ```
     pub fn read(alloc: Global, text: &str, most: u64) -> Result<Pointer, PointerFault>
         ensures ok { IfOk result (λ pointer. path_of_text text.now ≡ Some pointer) }
         ensures spelled { IfOk result (λ pointer. Spells text.now pointer) }
         ensures few { IfOk result (λ pointer. length pointer ≤ most) }
         ensures bad { IfErr result (λ fault. fault ≡ BadPointer → path_of_text text.now ≡ None) }
         ensures unspelled { IfErr result (λ fault. fault ≡ BadPointer → SpellsNone text.now) }
-        ensures many { IfErr result (λ fault. fault ≡ TooManyTokens → IsSomeAnd (path_of_text text.now) (λ path. most < length path)) }
-        ensures no_memory { IfErr result (λ fault. fault ≡ NoMemory → IsSomeAnd (path_of_text text.now) (λ path. length path ≤ most)) }
+        ensures many { IfErr result
+            (λ fault. fault ≡ TooManyTokens
+            → IsSomeAnd (path_of_text text.now) (λ path. most < length path)) }
+        ensures no_memory { IfErr result
+            (λ fault. fault ≡ NoMemory
+            → IsSomeAnd (path_of_text text.now) (λ path. length path ≤ most)) }
     {
         if !is_pointer(text) {
             return Err(PointerFault::BadPointer);
@@ -99,7 +113,9 @@ fn pointer_of(alloc: Global, text: &str) -> Result<Pointer, AllocError>
 // The tokens of a text after its first `/`.
 fn tokens_behind(alloc: Global, written: &str) -> Result<Vec<String>, AllocError>
     requires { IsSome (tokens_of (slice_split (λ b. b == 47) written.now)) }
-    ensures { IfOk result (λ tokens. tokens_of (slice_split (λ b. b == 47) written.now) ≡ Some (path_of tokens.items)) }
+    ensures { IfOk result
+        (λ tokens. tokens_of (slice_split (λ b. b == 47) written.now)
+        ≡ Some (path_of tokens.items)) }
 {
     let mut tokens = Vec::new(alloc);
     for part in written.split('/') {
@@ -125,9 +141,11 @@ fn unescaped(alloc: Global, written: &str) -> Result<String, AllocError>
     Ok(token)
 }
 
-// The character that an escape stands for, given the text after its `~`, and the text after the escape.
+// The character that an escape stands for, given the text after its `~`, and the text after the
+// escape.
 fn escape(behind: &str) -> Option<(char, &str)>
-    ensures found { IfSome result (λ found. after_tilde behind.now ≡ option_map (λ t. found.0 ∷ t) (unescaped found.1.now)) }
+    ensures found { IfSome result
+        (λ found. after_tilde behind.now ≡ option_map (λ t. found.0 ∷ t) (unescaped found.1.now)) }
     ensures ascii { IfSome result (λ found. found.0 < 128) }
     ensures shorter { IfSome result (λ found. length found.1.now < length behind.now) }
     ensures missing { IsNone result → after_tilde behind.now ≡ None }

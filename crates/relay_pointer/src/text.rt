@@ -7,8 +7,8 @@ use crate::pointer::Pointer;
 use std::alloc::{AllocError, Global};
 
 impl Pointer {
-    /// Returns the text that spells this pointer. Costs the text's length in time and memory. If memory runs out, nothing
-    /// stays allocated.
+    /// Returns the text that spells this pointer. Costs the text's length in time and memory. If
+    /// memory runs out, nothing stays allocated.
     pub fn text(&self, alloc: Global) -> Result<String, AllocError>
         ensures { IfOk result (λ text. string_bytes text ≡ spelling self.now) }
     {
@@ -28,7 +28,8 @@ fn spelling_of(alloc: Global, tokens: &[String]) -> Result<String, AllocError>
 }
 
 fn push_escaped(text: &mut String, token: &str) -> Result<(), AllocError>
-    ensures { OnOk result (string_bytes text.new ≡ string_bytes text.old ++ flat_map escaped token.now) }
+    ensures { OnOk result
+        (string_bytes text.new ≡ string_bytes text.old ++ flat_map escaped token.now) }
 {
     for character in token.chars() {
         if character == '~' {

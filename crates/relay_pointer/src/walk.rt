@@ -11,6 +11,15 @@ use crate::pointer::Pointer;
 use relay_tree::{Node, Tree};
 
 /// Returns the value to which the pointer leads, if there is one. Allocates nothing.
+///
+/// ```
+/// let board = read(alloc, r#"{"a/b": [7]}"#).ok()?;
+/// let first = Pointer::read(alloc, "/a~1b/0", 64).ok()?;
+/// assert!(rt; resolve(&board, &first)?.count() == Some(7));
+/// // `-` names the place behind the last element, where nothing is.
+/// let end = Pointer::read(alloc, "/a~1b/-", 64).ok()?;
+/// assert!(rt; resolve(&board, &end).is_none());
+/// ```
 pub fn resolve<'t>(tree: &'t Tree, pointer: &Pointer) -> Option<&'t Tree>
     ensures { option_copied result ≡ at tree.now pointer.now }
 {
@@ -21,7 +30,8 @@ pub fn resolve<'t>(tree: &'t Tree, pointer: &Pointer) -> Option<&'t Tree>
     Some(part)
 }
 
-/// Returns the part that one token names: the member of an object, or the element of a list if the token is its index.
+/// Returns the part that one token names: the member of an object, or the element of a list if the
+/// token is its index.
 pub fn child<'t>(tree: &'t Tree, token: &str) -> Option<&'t Tree>
     ensures { option_copied result ≡ child tree.now token.now }
 {
@@ -32,8 +42,8 @@ pub fn child<'t>(tree: &'t Tree, token: &str) -> Option<&'t Tree>
     }
 }
 
-/// Borrows the part that one token names for writing, or returns `None` if it names none. Only what is written there changes. Allocates
-/// nothing.
+/// Borrows the part that one token names for writing, or returns `None` if it names none. Only what
+/// is written there changes. Allocates nothing.
 pub fn child_mut<'t>(node: &'t mut Node, token: &str) -> Option<&'t mut Tree>
     ensures* writes_back { sem 𝓛 (LendsChild node.entry token.now result) }
     ensures value { option_copied_mut result ≡ child (document_of node.old) token.now }

@@ -11,8 +11,8 @@ use relay_tree::Budget;
 const TOKEN_WEIGHT: u64 = 8;
 
 impl Pointer {
-    /// Returns what is left of a budget after the path's weight is paid: 8 for each token, plus its bytes. Returns `None` if the path
-    /// weighs more. Allocates nothing.
+    /// Returns what is left of a budget after the path's weight is paid: 8 for each token, plus its
+    /// bytes. Returns `None` if the path weighs more. Allocates nothing.
     pub fn pay(&self, budget: Budget) -> Option<Budget>
         ensures { result ≡ paid (path_weight self.now) budget }
     {

@@ -42,12 +42,14 @@ use Rattle.relay_tree.proofs.Each.{IsBelow, few-length, few-place}
 abbrev pub IsShort : View → Type 0
 IsShort pointers = length pointers ≤ MAX_SLOTS
 
--- a request's numbers are counts, and it has at most as many operations or slots as the limit allows
+-- a request's numbers are counts, and it has at most as many operations or slots as the limit
+-- allows
 abbrev pub IsRequest : Request → Type 0
 IsRequest (Edit id base ops) = IsCount id × IsCountOrNull base × (length ops ≤ REQUEST.ops)
 IsRequest (Will id ops) = IsCount id × (length ops ≤ REQUEST.ops)
 IsRequest (Watch id pointers) = IsCount id × IsShort pointers
-IsRequest (Resume id epoch rev pointers) = IsCount id × IsCount epoch × IsCount rev × IsShort pointers
+IsRequest (Resume id epoch rev pointers) =
+    IsCount id × IsCount epoch × IsCount rev × IsShort pointers
 IsRequest (Unwatch id) = IsCount id
 
 -- the numbers of a refusal's reply are counts
@@ -59,17 +61,20 @@ IsRefusal r = HasCounts (Refused r.id r.fault r.at None)
 abbrev Reads : {A : Type 0} → (A → Type 0) → Result A Refusal → Type 0
 Reads P r = MatchResult r P IsRefusal
 
-part_reads : {A B : Type 0} (P : A → Type 0) (Q : B → Type 0) (id : Option ℕ) (o : Option A) (f : A → Result B Refusal)
+part_reads : {A B : Type 0} (P : A → Type 0) (Q : B → Type 0) (id : Option ℕ) (o : Option A)
+    (f : A → Result B Refusal)
     → IsCountOrNull id → IfSome o P → ((x : A) → P x → Reads Q (f x)) → Reads Q (with_part id o f)
 part_reads P Q id (Some x) f counts h k = k x h
 part_reads P Q id None f counts h k = (counts, tt, tt)
 
-then_reads : {A B : Type 0} (P : A → Type 0) (Q : B → Type 0) (r : Result A Refusal) (f : A → Result B Refusal)
+then_reads : {A B : Type 0} (P : A → Type 0) (Q : B → Type 0) (r : Result A Refusal)
+    (f : A → Result B Refusal)
     → Reads P r → ((x : A) → P x → Reads Q (f x)) → Reads Q (and_then r f)
 then_reads P Q (Ok x) f h k = k x h
 then_reads P Q (Err r) f h k = h
 
-either_reads : {A : Type 0} (P : A → Type 0) (b : Bool) (r s : Result A Refusal) → Reads P r → Reads P s → Reads P (if b then r else s)
+either_reads : {A : Type 0} (P : A → Type 0) (b : Bool) (r s : Result A Refusal) → Reads P r
+    → Reads P s → Reads P (if b then r else s)
 either_reads P true r s h k = h
 either_reads P false r s h k = k
 
@@ -97,7 +102,8 @@ count_in_is d name = go (object_member d name)
     go None = tt
     go (Some v) = count_of_is v
 
-optional_count_in_is : (d : Document) (name : List ℕ) → IfSome (optional_count_in d name) IsCountOrNull
+optional_count_in_is : (d : Document) (name : List ℕ)
+    → IfSome (optional_count_in d name) IsCountOrNull
 optional_count_in_is d name = go (object_member d name)
   where
     found : (n : Option ℕ) → IfSome n IsCount → IfSome (option_map Some n) IsCountOrNull
@@ -114,18 +120,27 @@ below_is most (Some n) few h = omega (arith, few, h)
 
 -- Patches.
 
-patch_refused : (id : ℕ) (fault : PatchFault) → IsCount id → IsBelow REQUEST.ops (place fault) → IsRefusal (patch_refusal id fault)
+patch_refused : (id : ℕ) (fault : PatchFault) → IsCount id → IsBelow REQUEST.ops (place fault)
+    → IsRefusal (patch_refusal id fault)
 patch_refused id (patch.Shape at) counts h = (counts, below_is REQUEST.ops at (omega arith) h, tt)
-patch_refused id (patch.UnknownOp at) counts h = (counts, below_is REQUEST.ops (Some at) (omega arith) h, tt)
-patch_refused id (patch.Pointer at) counts h = (counts, below_is REQUEST.ops (Some at) (omega arith) h, tt)
+patch_refused id (patch.UnknownOp at) counts h =
+    (counts, below_is REQUEST.ops (Some at) (omega arith) h, tt)
+patch_refused id (patch.Pointer at) counts h =
+    (counts, below_is REQUEST.ops (Some at) (omega arith) h, tt)
 patch_refused id _ counts h = (counts, tt, tt)
 
-patch_reads : (id : ℕ) (d : Document) → IsCount id → Reads (λ ops. length ops ≤ REQUEST.ops) (patch_in id d)
+patch_reads : (id : ℕ) (d : Document) → IsCount id
+    → Reads (λ ops. length ops ≤ REQUEST.ops) (patch_in id d)
 patch_reads id d counts =
-    part_reads Anything (λ ops. length ops ≤ REQUEST.ops) (Some id) (object_member d (codes "patch")) _ counts (some_anything _)
-    (λ p _. go (patch_of REQUEST.ops REQUEST.tokens p) (patch_of-length REQUEST.ops REQUEST.tokens p) (patch_of-place REQUEST.ops REQUEST.tokens p))
+    part_reads Anything (λ ops. length ops ≤ REQUEST.ops) (Some id)
+    (object_member d (codes "patch")) _ counts (some_anything _)
+    (λ p _. go (patch_of REQUEST.ops REQUEST.tokens p)
+    (patch_of-length REQUEST.ops REQUEST.tokens p)
+    (patch_of-place REQUEST.ops REQUEST.tokens p))
   where
-    go : (r : Result (List Op) PatchFault) → IfOk r (λ ops. length ops ≤ REQUEST.ops) → IfErr r (λ fault. IsBelow REQUEST.ops (place fault)) → Reads (λ ops. length ops ≤ REQUEST.ops) (patch_read id r)
+    go : (r : Result (List Op) PatchFault) → IfOk r (λ ops. length ops ≤ REQUEST.ops)
+        → IfErr r (λ fault. IsBelow REQUEST.ops (place fault))
+        → Reads (λ ops. length ops ≤ REQUEST.ops) (patch_read id r)
     go (Ok ops) h k = h
     go (Err fault) h k = patch_refused id fault counts k
 
@@ -137,18 +152,23 @@ pointer_place (view.Shape at) = at
 pointer_place (view.Pointer at) = Some at
 pointer_place _ = None
 
-spelled_names : (n : ℕ) (kind : SlotKind) (s : List ℕ) → IfErr (slot_spelled n kind s) (λ fault. pointer_place fault ≡ Some n)
+spelled_names : (n : ℕ) (kind : SlotKind) (s : List ℕ)
+    → IfErr (slot_spelled n kind s) (λ fault. pointer_place fault ≡ Some n)
 spelled_names n kind s = go (path_of_text s)
   where
-    short : (b : Bool) (made : Slot) → IfErr (if b then Ok made else Err (view.Pointer n)) (λ fault. pointer_place fault ≡ Some n)
+    short : (b : Bool) (made : Slot)
+        → IfErr (if b then Ok made else Err (view.Pointer n))
+        (λ fault. pointer_place fault ≡ Some n)
     short true made = tt
     short false made = refl
 
     go : (o : Option Path) → IfErr (slot_within n kind o) (λ fault. pointer_place fault ≡ Some n)
     go None = refl
-    go (Some path) = short (nat_le (length path) MAX_TOKENS) (record { pointer = path; kind = kind })
+    go (Some path) =
+        short (nat_le (length path) MAX_TOKENS) (record { pointer = path; kind = kind })
 
-size_names : (n : ℕ) (o : Option Document) → IfErr (size_slot n o) (λ fault. pointer_place fault ≡ Some n)
+size_names : (n : ℕ) (o : Option Document)
+    → IfErr (size_slot n o) (λ fault. pointer_place fault ≡ Some n)
 size_names n (Some (text s)) = spelled_names n Size s
 size_names n _ = refl
 
@@ -157,7 +177,8 @@ slot_at_names n (text s) = spelled_names n Value s
 slot_at_names n (object ms) = size_names n (object_member (object ms) (codes "size"))
 slot_at_names n _ = refl
 
-view_of_place : (d : Document) → IfErr (view_of d) (λ fault. IsBelow MAX_SLOTS (pointer_place fault))
+view_of_place : (d : Document)
+    → IfErr (view_of d) (λ fault. IsBelow MAX_SLOTS (pointer_place fault))
 view_of_place (list ds) = few-place slot_at pointer_place slot_at_names MAX_SLOTS view.TooMany tt ds
 view_of_place _ = tt
 
@@ -165,16 +186,21 @@ view_of_length : (d : Document) → IfOk (view_of d) IsShort
 view_of_length (list ds) = few-length slot_at MAX_SLOTS view.TooMany ds
 view_of_length _ = tt
 
-view_refused : (id : ℕ) (fault : ViewFault) → IsCount id → IsBelow MAX_SLOTS (pointer_place fault) → IsRefusal (view_refusal id fault)
+view_refused : (id : ℕ) (fault : ViewFault) → IsCount id → IsBelow MAX_SLOTS (pointer_place fault)
+    → IsRefusal (view_refusal id fault)
 view_refused id (view.Shape at) counts h = (counts, below_is MAX_SLOTS at (omega arith) h, tt)
-view_refused id (view.Pointer at) counts h = (counts, below_is MAX_SLOTS (Some at) (omega arith) h, tt)
+view_refused id (view.Pointer at) counts h =
+    (counts, below_is MAX_SLOTS (Some at) (omega arith) h, tt)
 view_refused id _ counts h = (counts, tt, tt)
 
 view_reads : (id : ℕ) (d : Document) → IsCount id → Reads IsShort (view_in id d)
 view_reads id d counts =
-    part_reads Anything IsShort (Some id) (object_member d (codes "view")) _ counts (some_anything _) (λ v _. go (view_of v) (view_of_length v) (view_of_place v))
+    part_reads Anything IsShort (Some id) (object_member d (codes "view")) _ counts
+    (some_anything _) (λ v _. go (view_of v) (view_of_length v) (view_of_place v))
   where
-    go : (r : Result View ViewFault) → IfOk r IsShort → IfErr r (λ fault. IsBelow MAX_SLOTS (pointer_place fault)) → Reads IsShort (view_read id r)
+    go : (r : Result View ViewFault) → IfOk r IsShort
+        → IfErr r (λ fault. IsBelow MAX_SLOTS (pointer_place fault))
+        → Reads IsShort (view_read id r)
     go (Ok pointers) h k = h
     go (Err fault) h k = view_refused id fault counts k
 
@@ -182,10 +208,13 @@ view_reads id d counts =
 
 edit_reads : (id : ℕ) (d : Document) → IsCount id → Reads IsRequest (edit_of id d)
 edit_reads id d counts =
-    part_reads IsCountOrNull IsRequest (Some id) (optional_count_in d (codes "base")) _ counts (optional_count_in_is d (codes "base")) (λ base is_base.
-    then_reads (λ ops. length ops ≤ REQUEST.ops) IsRequest (patch_in id d) _ (patch_reads id d counts) (λ ops short. (counts, is_base, short)))
+    part_reads IsCountOrNull IsRequest (Some id) (optional_count_in d (codes "base")) _ counts
+    (optional_count_in_is d (codes "base")) (λ base is_base.
+    then_reads (λ ops. length ops ≤ REQUEST.ops) IsRequest (patch_in id d) _
+    (patch_reads id d counts) (λ ops short. (counts, is_base, short)))
 
-light_will_reads : (id : ℕ) (ops : List Op) → IsCount id → length ops ≤ REQUEST.ops → Reads IsRequest (light_will id ops)
+light_will_reads : (id : ℕ) (ops : List Op) → IsCount id → length ops ≤ REQUEST.ops
+    → Reads IsRequest (light_will id ops)
 light_will_reads id ops counts short =
     either_reads IsRequest (is_some (paid (ops_weight ops) (Left MAX_WILL_WEIGHT)))
     (Ok (Will id ops)) (Err (refusal TooHeavy (Some id) None)) (counts, short) (counts, tt, tt)
@@ -199,25 +228,35 @@ will_reads id d counts =
 
 resume_reads : (id : ℕ) (d : Document) → IsCount id → Reads IsRequest (resume_of id d)
 resume_reads id d counts =
-    part_reads IsCount IsRequest (Some id) (count_in d (codes "epoch")) _ counts (count_in_is d (codes "epoch")) (λ epoch is_epoch.
-    part_reads IsCount IsRequest (Some id) (count_in d (codes "rev")) _ counts (count_in_is d (codes "rev")) (λ rev is_rev.
-    then_reads IsShort IsRequest (view_in id d) _ (view_reads id d counts) (λ v few. (counts, is_epoch, is_rev, few))))
+    part_reads IsCount IsRequest (Some id) (count_in d (codes "epoch")) _ counts
+    (count_in_is d (codes "epoch")) (λ epoch is_epoch.
+    part_reads IsCount IsRequest (Some id) (count_in d (codes "rev")) _ counts
+    (count_in_is d (codes "rev")) (λ rev is_rev.
+    then_reads IsShort IsRequest (view_in id d) _ (view_reads id d counts)
+    (λ v few. (counts, is_epoch, is_rev, few))))
 
-asked_reads : (name : List ℕ) (id : ℕ) (d : Document) → IsCount id → Reads IsRequest (asked name id d)
+asked_reads : (name : List ℕ) (id : ℕ) (d : Document) → IsCount id
+    → Reads IsRequest (asked name id d)
 asked_reads name id d counts =
     either_reads IsRequest (bytes_eq name (codes "edit")) _ _ (edit_reads id d counts)
     (either_reads IsRequest (bytes_eq name (codes "will")) _ _ (will_reads id d counts)
-    (either_reads IsRequest (bytes_eq name (codes "watch")) _ _ (then_reads IsShort IsRequest (view_in id d) _ (view_reads id d counts) (λ v few. (counts, few)))
+    (either_reads IsRequest (bytes_eq name (codes "watch")) _ _
+    (then_reads IsShort IsRequest (view_in id d) _ (view_reads id d counts)
+    (λ v few. (counts, few)))
     (either_reads IsRequest (bytes_eq name (codes "resume")) _ _ (resume_reads id d counts)
     (either_reads IsRequest (bytes_eq name (codes "unwatch")) _ _ counts (counts, tt, tt)))))
 
 request_reads : (d : Document) → Reads IsRequest (request_of d)
 request_reads d =
-    part_reads IsCount IsRequest None (count_in d (codes "id")) _ tt (count_in_is d (codes "id")) (λ id counts.
-    part_reads Anything IsRequest (Some id) (text_in d (codes "do")) _ counts (some_anything _) (λ name _. asked_reads name id d counts))
+    part_reads IsCount IsRequest None (count_in d (codes "id")) _ tt (count_in_is d (codes "id"))
+    (λ id counts.
+    part_reads Anything IsRequest (Some id) (text_in d (codes "do")) _ counts (some_anything _)
+    (λ name _. asked_reads name id d counts))
 
 text_reads : (s : List ℕ) → Reads IsRequest (request_of_text s)
-text_reads s = either_reads IsRequest (nat_lt MAX_REQUEST (length s)) _ _ (tt, tt, tt) (data_reads (json.read s))
+text_reads s =
+    either_reads IsRequest (nat_lt MAX_REQUEST (length s)) _ _ (tt, tt, tt)
+    (data_reads (json.read s))
   where
     tree_reads : (d : Option Document) → Reads IsRequest (request_of_tree d)
     tree_reads None = (tt, tt, tt)
@@ -227,7 +266,8 @@ text_reads s = either_reads IsRequest (nat_lt MAX_REQUEST (length s)) _ _ (tt, t
     data_reads None = (tt, tt, tt)
     data_reads (Some value) = tree_reads (tree_of value)
 
-pub request_counts : (s : List ℕ) (request : Request) → request_of_text s ≡ Ok request → IsRequest request
+pub request_counts : (s : List ℕ) (request : Request) → request_of_text s ≡ Ok request
+    → IsRequest request
 request_counts s request h = subst (Reads IsRequest) h (text_reads s)
 
 pub refusal_counts : (s : List ℕ) (r : Refusal) → request_of_text s ≡ Err r → IsRefusal r

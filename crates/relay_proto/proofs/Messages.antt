@@ -33,17 +33,22 @@ nullable_back None h = refl
 nullable_back (Some n) h = rw (count_back n h) refl
 
 pub reply_back : (r : Reply) → HasCounts r → message_of (reply_document r) ≡ Some (message.Reply r)
-reply_back (reply.Welcome epoch rev session) h = rw (count_back epoch h.0, count_back rev h.1, count_back session h.2) refl
+reply_back (reply.Welcome epoch rev session) h =
+    rw (count_back epoch h.0, count_back rev h.1, count_back session h.2) refl
 reply_back (reply.Done id rev) h = rw (count_back id h.0, count_back rev h.1) refl
-reply_back (reply.Refused id fault at None) h = rw (nullable_back id h.0, word_back fault, nullable_back at h.1) refl
-reply_back (reply.Refused id fault at (Some rev)) h = rw (nullable_back id h.0, word_back fault, nullable_back at h.1, count_back rev h.2) refl
+reply_back (reply.Refused id fault at None) h =
+    rw (nullable_back id h.0, word_back fault, nullable_back at h.1) refl
+reply_back (reply.Refused id fault at (Some rev)) h =
+    rw (nullable_back id h.0, word_back fault, nullable_back at h.1, count_back rev h.2) refl
 reply_back (reply.Willing id) h = rw (count_back id h) refl
 reply_back (reply.Watching id) h = rw (count_back id h) refl
 reply_back (reply.Resumed id how) h = rw (count_back id h, how_back how) refl
 reply_back (reply.Unwatched id) h = rw (count_back id h) refl
 
-pub patch_message_back : (rev : ℕ) (ops : List Op) → HasForms (message.Patch rev ops) → length ops < 2 ^ 64 → message_of (patch_message rev ops) ≡ Some (message.Patch rev ops)
+pub patch_message_back : (rev : ℕ) (ops : List Op) → HasForms (message.Patch rev ops)
+    → length ops < 2 ^ 64 → message_of (patch_message rev ops) ≡ Some (message.Patch rev ops)
 patch_message_back rev ops h few = rw (count_back rev h.0, patch_back ops h.1 few) refl
 
-pub snapshot_back : (rev : ℕ) (view : Document) → HasForms (message.Snapshot rev view) → message_of (snapshot_message rev view) ≡ Some (message.Snapshot rev view)
+pub snapshot_back : (rev : ℕ) (view : Document) → HasForms (message.Snapshot rev view)
+    → message_of (snapshot_message rev view) ≡ Some (message.Snapshot rev view)
 snapshot_back rev view h = rw (count_back rev h.0, h.1) refl

@@ -15,7 +15,8 @@ use Rattle.relay_patch.specs.declared.op.Op.{Op}
 use Rattle.relay_patch.specs.declared.op.Op.TheVariants.{Add, Remove, Replace, Move, Copy, Test}
 use Rattle.relay_proto.specs.Written.{HasShortPaths}
 
-path_back : (n : ℕ) (path : Path) → IsShort RELAYED.tokens path → path_in RELAYED.tokens n (spelling path) ≡ Ok path
+path_back : (n : ℕ) (path : Path) → IsShort RELAYED.tokens path
+    → path_in RELAYED.tokens n (spelling path) ≡ Ok path
 path_back n path h =
     let short : nat_le (length path) RELAYED.tokens ≡ true = grind (arith, nat_tests) in
     ap (path_within RELAYED.tokens n) (path_of_text-spelling path) ∙ rw short refl
@@ -28,7 +29,8 @@ op_back n (Move from path) h = rw (path_back n path h.1, path_back n from h.0) r
 op_back n (Copy from path) h = rw (path_back n path h.1, path_back n from h.0) refl
 op_back n (Test path v) h = rw (path_back n path h) refl
 
-ops_back : (n : ℕ) (ops : List Op) → AllByRecursion HasShortPaths ops → each_from (op_at RELAYED.tokens) n (ops_items ops) ≡ Ok ops
+ops_back : (n : ℕ) (ops : List Op) → AllByRecursion HasShortPaths ops
+    → each_from (op_at RELAYED.tokens) n (ops_items ops) ≡ Ok ops
 ops_back n [] h = refl
 ops_back n (o ∷ ops) h = rw (op_back n o h.0, ops_back (suc n) ops h.1) refl
 
@@ -36,7 +38,8 @@ items_length-ops_items : (ops : List Op) → items_length (ops_items ops) ≡ le
 items_length-ops_items [] = refl
 items_length-ops_items (o ∷ ops) = ap suc (items_length-ops_items ops)
 
-pub patch_back : (ops : List Op) → AllByRecursion HasShortPaths ops → length ops < 2 ^ 64 → patch_of RELAYED.ops RELAYED.tokens (patch_document ops) ≡ Ok ops
+pub patch_back : (ops : List Op) → AllByRecursion HasShortPaths ops → length ops < 2 ^ 64
+    → patch_of RELAYED.ops RELAYED.tokens (patch_document ops) ≡ Ok ops
 patch_back ops short few =
     let test : nat_lt RELAYED.ops (length ops) ≡ false = grind (arith, nat_tests) in
     rw (items_length-ops_items ops, test) (ops_back 0 ops short)

@@ -8,7 +8,8 @@ use Rattle.relay_tree.specs.Text.{tree_of, tree_of_text}
 use Rattle.relay_proto.specs.Request.{request_of_text, request_of_json, request_of}
 use Rattle.relay_proto.specs.declared.reading.TheConstants.{MAX_REQUEST}
 
-pub asks_as_its_tree : (s : List ℕ) (d e : Document) → length s ≤ MAX_REQUEST → tree_of_text s ≡ Some d → e ≡ d → request_of e ≡ request_of_text s
+pub asks_as_its_tree : (s : List ℕ) (d e : Document) → length s ≤ MAX_REQUEST
+    → tree_of_text s ≡ Some d → e ≡ d → request_of e ≡ request_of_text s
 asks_as_its_tree s d e short is same =
     let few : nat_lt MAX_REQUEST (length s) ≡ false = grind (arith, nat_tests) in
     rw few (ap request_of same ∙ sym (go (json.read s) is))

@@ -12,5 +12,6 @@ all_slots_of (d ∷ ds) = ap (λ b. is_slot d && b) (all_slots_of ds)
 pub all_slots : (slots : List Document) → list_all is_slot slots ≡ is_view (list (items_of slots))
 all_slots slots = all_slots_of slots
 
-pub few_values : (values : List Document) → nat_le (length values) 1 ≡ is_slot (list (items_of values))
+pub few_values : (values : List Document)
+    → nat_le (length values) 1 ≡ is_slot (list (items_of values))
 few_values values = ap (λ n. nat_le n 1) (sym (items_length-items_of values))

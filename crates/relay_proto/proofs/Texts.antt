@@ -15,7 +15,10 @@ pub record Reads (d : Document) : Type 0 where
   pub numbers : HasNumbers (outline (data_of d))
   pub back : ReadsBack d
 
-pub text_reads : (d : Document) → Reads d → depth (data_of d) ≤ max_depth → tree_of_text (text_of d) ≡ Some d
+pub text_reads : (d : Document) → Reads d → depth (data_of d) ≤ max_depth
+    → tree_of_text (text_of d) ≡ Some d
 text_reads d r shallow =
-    let printed = ap tokens (sym (print-tokens_of d)) ∙ tokens-print (tokens_of d) (ArePrintable-json_tokens (outline (data_of d)) r.numbers) in
+    let printed =
+    ap tokens (sym (print-tokens_of d))
+    ∙ tokens-print (tokens_of d) (ArePrintable-json_tokens (outline (data_of d)) r.numbers) in
     text_back (text_of d) d printed r.back shallow

@@ -7,11 +7,16 @@ use Rattle.relay_patch.specs.Form.{patch_document}
 use Rattle.relay_patch.specs.declared.op.Op.{Op}
 use Rattle.relay_proto.specs.Message.{patch_message, snapshot_message}
 
-pub patch_written : {a b c d e : List Token} (rev : ℕ) (ops : List Op) → a ≡ begin_object ∷ key (codes "kind") ∷ string (codes "patch") ∷ [] → b ≡ a ++ key (codes "patch") ∷ []
-    → c ≡ b ++ tokens_of (patch_document ops) → d ≡ c ++ key (codes "rev") ∷ [] → e ≡ d ++ number (decimal rev) ∷ [] → e ++ end_object ∷ [] ≡ tokens_of (patch_message rev ops)
+pub patch_written : {a b c d e : List Token} (rev : ℕ) (ops : List Op)
+    → a ≡ begin_object ∷ key (codes "kind") ∷ string (codes "patch") ∷ []
+    → b ≡ a ++ key (codes "patch") ∷ []
+    → c ≡ b ++ tokens_of (patch_document ops) → d ≡ c ++ key (codes "rev") ∷ []
+    → e ≡ d ++ number (decimal rev) ∷ []
+    → e ++ end_object ∷ [] ≡ tokens_of (patch_message rev ops)
 patch_written rev ops a b c d e = rw (e, d, c, b, a) (simp append_assoc)
 
 pub snapshot_written : {a b : List Token} (rev : ℕ) (view : Document)
-    → a ≡ begin_object ∷ key (codes "kind") ∷ string (codes "snapshot") ∷ key (codes "rev") ∷ number (decimal rev) ∷ key (codes "view") ∷ [] → b ≡ a ++ tokens_of view
+    → a ≡ begin_object ∷ key (codes "kind") ∷ string (codes "snapshot") ∷ key (codes "rev")
+    ∷ number (decimal rev) ∷ key (codes "view") ∷ [] → b ≡ a ++ tokens_of view
     → b ++ end_object ∷ [] ≡ tokens_of (snapshot_message rev view)
 snapshot_written rev view a b = rw (b, a) (simp append_assoc)

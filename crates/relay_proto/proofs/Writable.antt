@@ -1,4 +1,5 @@
--- Patch and snapshot messages are writable if the document and the patch keep to the relay's bounds.
+-- Patch and snapshot messages are writable if the document and the patch keep to the relay's
+-- bounds.
 use Rattle.std.proofs.Common.{◌≡◌, ℕ, suc, ◌+◌, ◌≤◌, List, [], ◌∷◌, true, Option, Some, None, option_and_then, Result, Ok, Err, refl, ap, ◌∙◌, arith}
 use Rattle.std.specs.List.{AllByRecursion}
 use Rattle.std.specs.Result.{result_ok}
@@ -41,7 +42,8 @@ mutual
 
 -- Patches.
 
-short_paths : (m : ℕ) (ops : List Op) → AllByRecursion (OpFits RELAYED.tokens m) ops → AllByRecursion HasShortPaths ops
+short_paths : (m : ℕ) (ops : List Op) → AllByRecursion (OpFits RELAYED.tokens m) ops
+    → AllByRecursion HasShortPaths ops
 short_paths m [] h = tt
 short_paths m (Add path v ∷ ops) h = (h.0.0, short_paths m ops h.1)
 short_paths m (Remove path ∷ ops) h = (h.0, short_paths m ops h.1)
@@ -50,18 +52,25 @@ short_paths m (Move from path ∷ ops) h = (h.0, short_paths m ops h.1)
 short_paths m (Copy from path ∷ ops) h = (h.0, short_paths m ops h.1)
 short_paths m (Test path v ∷ ops) h = (h.0.0, short_paths m ops h.1)
 
-op_nests : (m : ℕ) (o : Op) → OpFits RELAYED.tokens m o → seen.members_depth (members_data (op_members o)) ≤ m
+op_nests : (m : ℕ) (o : Op) → OpFits RELAYED.tokens m o
+    → seen.members_depth (members_data (op_members o)) ≤ m
 op_nests m (Add path v) h = omega (arith, nests v, h.1)
 op_nests m (Replace path v) h = omega (arith, nests v, h.1)
 op_nests m (Test path v) h = omega (arith, nests v, h.1)
 op_nests m _ h = omega arith
 
-ops_nest : (m : ℕ) (ops : List Op) → AllByRecursion (OpFits RELAYED.tokens m) ops → seen.items_depth (items_data (ops_items ops)) ≤ suc m
+ops_nest : (m : ℕ) (ops : List Op) → AllByRecursion (OpFits RELAYED.tokens m) ops
+    → seen.items_depth (items_data (ops_items ops)) ≤ suc m
 ops_nest m [] h = omega arith
 ops_nest m (o ∷ ops) h = omega (arith, op_nests m o h.0, ops_nest m ops h.1)
 
-pub patch_is_writable : (rev : ℕ) (ops : List Op) → IsCount rev → AllByRecursion (OpFits RELAYED.tokens (DOCUMENT.depth + 1)) ops → IsWritable (message.Patch rev ops)
-patch_is_writable rev ops count fits = ((count, short_paths (DOCUMENT.depth + 1) ops fits), omega (arith, ops_nest (DOCUMENT.depth + 1) ops fits))
+pub patch_is_writable : (rev : ℕ) (ops : List Op) → IsCount rev
+    → AllByRecursion (OpFits RELAYED.tokens (DOCUMENT.depth + 1)) ops
+    → IsWritable (message.Patch rev ops)
+patch_is_writable rev ops count fits = (
+  (count, short_paths (DOCUMENT.depth + 1) ops fits),
+  omega (arith, ops_nest (DOCUMENT.depth + 1) ops fits),
+)
 
 -- Views.
 
@@ -71,9 +80,12 @@ slot_is_slot (Some v) = refl
 
 are_slots_slots : (pointers : View) (d : Document) → are_slots (slots pointers d) ≡ true
 are_slots_slots [] d = refl
-are_slots_slots (s ∷ pointers) d = rw (slot_is_slot (option_and_then (shown s.kind) (at d s.pointer)), are_slots_slots pointers d) refl
+are_slots_slots (s ∷ pointers) d =
+    rw (slot_is_slot (option_and_then (shown s.kind) (at d s.pointer)), are_slots_slots pointers d)
+    refl
 
-slot_depth : (o : Option Document) (n : ℕ) → ((v : Document) → o ≡ Some v → depth v ≤ n) → depth (slot_of o) ≤ suc n
+slot_depth : (o : Option Document) (n : ℕ) → ((v : Document) → o ≡ Some v → depth v ≤ n)
+    → depth (slot_of o) ≤ suc n
 slot_depth None n h = omega arith
 slot_depth (Some v) n h = omega (arith, h v refl)
 
@@ -84,16 +96,27 @@ part_depth q d v h = go (walk d q) refl (at-walk q d ∙ h)
     go (Ok w) there same = let is : w ≡ v = cc in omega (arith, walk_depth q d w there, ap depth is)
     go (Err e) there same = absurd cc
 
-shown_part_depth : (s : Slot) (d v : Document) → option_and_then (shown s.kind) (at d s.pointer) ≡ Some v → depth v ≤ depth d
+shown_part_depth : (s : Slot) (d v : Document)
+    → option_and_then (shown s.kind) (at d s.pointer) ≡ Some v → depth v ≤ depth d
 shown_part_depth s d v h = go (at d s.pointer) refl h
   where
-    go : (o : Option Document) → at d s.pointer ≡ o → option_and_then (shown s.kind) o ≡ Some v → depth v ≤ depth d
+    go : (o : Option Document) → at d s.pointer ≡ o → option_and_then (shown s.kind) o ≡ Some v
+        → depth v ≤ depth d
     go None there e = absurd cc
     go (Some w) there e = omega (arith, part_depth s.pointer d w there, shown_depth s.kind w v e)
 
 slots_depth : (pointers : View) (d : Document) → items_depth (slots pointers d) ≤ suc (depth d)
 slots_depth [] d = omega arith
-slots_depth (s ∷ pointers) d = omega (arith, slot_depth (option_and_then (shown s.kind) (at d s.pointer)) (depth d) (shown_part_depth s d), slots_depth pointers d)
+slots_depth (s ∷ pointers) d =
+    omega (
+      arith,
+      slot_depth (option_and_then (shown s.kind) (at d s.pointer)) (depth d) (shown_part_depth s d),
+      slots_depth pointers d,
+    )
 
-pub snapshot_is_writable : (rev : ℕ) (pointers : View) (d : Document) → IsCount rev → depth d ≤ DOCUMENT.depth → IsWritable (message.Snapshot rev (view pointers d))
-snapshot_is_writable rev pointers d count flat = ((count, are_slots_slots pointers d), omega (arith, nests (view pointers d), slots_depth pointers d, flat))
+pub snapshot_is_writable : (rev : ℕ) (pointers : View) (d : Document) → IsCount rev
+    → depth d ≤ DOCUMENT.depth → IsWritable (message.Snapshot rev (view pointers d))
+snapshot_is_writable rev pointers d count flat = (
+  (count, are_slots_slots pointers d),
+  omega (arith, nests (view pointers d), slots_depth pointers d, flat),
+)

@@ -14,12 +14,14 @@ pub data Client : Type 0 where
   holds : ℕ → Document → Client
   lost : Client
 
--- after a patch the client holds the patched tree and the patch's revision; if the patch was refused, it is lost
+-- after a patch the client holds the patched tree and the patch's revision; if the patch was
+-- refused, it is lost
 abbrev pub led_to : ℕ → Result Document ApplyFault → Client
 led_to rev (Ok tree) = holds rev tree
 led_to rev (Err fault) = lost
 
--- a patch applies if the client holds a tree and the patch's revision is above the one held; else the client is lost
+-- a patch applies if the client holds a tree and the patch's revision is above the one held; else
+-- the client is lost
 abbrev pub patched : ℕ → List Op → Client → Client
 patched rev ops (holds r tree) = if nat_lt r rev then led_to rev (after tree ops free) else lost
 patched rev ops _ = lost

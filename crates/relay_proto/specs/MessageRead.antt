@@ -1,4 +1,5 @@
--- The message that a text reads as: the members of its kind must have their forms, and other members are ignored.
+-- The message that a text reads as: the members of its kind must have their forms, and other
+-- members are ignored.
 use Rattle.std.specs.Prelude.{ℕ, List, codes, bytes_eq, Bool, true, false, ◌&&◌, nat_le, Option, Some, None, option_map, if◌then◌else◌}
 use Rattle.std.specs.Result.{result_ok}
 use Rattle.relay_tree.specs.Document.{Document, null, list, Items, no_items, item}
@@ -46,7 +47,8 @@ welcome_in d =
     with_form (count_in d (codes "session")) (λ session. Some (Welcome epoch rev session))))
 
 abbrev pub done_in : Document → Option Reply
-done_in d = with_form (count_in d (codes "id")) (λ id. with_form (count_in d (codes "rev")) (λ rev. Some (Done id rev)))
+done_in d = with_form (count_in d (codes "id"))
+    (λ id. with_form (count_in d (codes "rev")) (λ rev. Some (Done id rev)))
 
 abbrev pub refused_in : Document → Option Reply
 refused_in d =
@@ -62,7 +64,8 @@ abbrev pub watching_in : Document → Option Reply
 watching_in d = with_form (count_in d (codes "id")) (λ id. Some (Watching id))
 
 abbrev pub resumed_in : Document → Option Reply
-resumed_in d = with_form (count_in d (codes "id")) (λ id. with_form (how_in d) (λ how. Some (Resumed id how)))
+resumed_in d =
+    with_form (count_in d (codes "id")) (λ id. with_form (how_in d) (λ how. Some (Resumed id how)))
 
 abbrev pub unwatched_in : Document → Option Reply
 unwatched_in d = with_form (count_in d (codes "id")) (λ id. Some (Unwatched id))
@@ -117,7 +120,8 @@ snapshot_in d =
 abbrev pub message_in : List ℕ → Document → Option Message
 message_in kind d =
     if bytes_eq kind (codes "patch") then patch_message_in d else
-    if bytes_eq kind (codes "snapshot") then snapshot_in d else option_map message.Reply (reply_in kind d)
+    if bytes_eq kind (codes "snapshot") then snapshot_in d
+    else option_map message.Reply (reply_in kind d)
 
 -- the message that a document reads as
 abbrev pub message_of : Document → Option Message

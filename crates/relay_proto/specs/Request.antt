@@ -1,4 +1,5 @@
--- The request that a text reads as, or its first fault: the checks come in the order of docs/PROTOCOL.md, "Requests".
+-- The request that a text reads as, or its first fault: the checks come in the order of
+-- docs/PROTOCOL.md, "Requests".
 use Rattle.std.specs.Prelude.{◌≡◌, ℕ, List, length, codes, bytes_eq, is_some, nat_lt, Option, Some, None, Result, Ok, Err, if◌then◌else◌}
 use Rattle.serde_json.specs.Data.{Data}
 use Rattle.serde_json.specs.Read as json
@@ -32,7 +33,8 @@ abbrev pub refusal : Word → Option ℕ → Option ℕ → Refusal
 refusal fault id at = record { fault = fault; id = id; at = at }
 
 -- continues with a part if it is there; else the request is refused as Shape
-abbrev pub with_part : {A B : Type 0} → Option ℕ → Option A → (A → Result B Refusal) → Result B Refusal
+abbrev pub with_part : {A B : Type 0} → Option ℕ → Option A → (A → Result B Refusal)
+    → Result B Refusal
 with_part id (Some x) f = f x
 with_part id None f = Err (refusal Shape id None)
 
@@ -53,7 +55,9 @@ patch_read id (Ok ops) = Ok ops
 patch_read id (Err fault) = Err (patch_refusal id fault)
 
 abbrev pub patch_in : ℕ → Document → Result (List Op) Refusal
-patch_in id d = with_part (Some id) (object_member d (codes "patch")) (λ p. patch_read id (patch_of REQUEST.ops REQUEST.tokens p))
+patch_in id d =
+    with_part (Some id) (object_member d (codes "patch"))
+    (λ p. patch_read id (patch_of REQUEST.ops REQUEST.tokens p))
 
 abbrev pub view_refusal : ℕ → ViewFault → Refusal
 view_refusal id view.TooMany = refusal TooMany (Some id) None
@@ -102,7 +106,9 @@ asked name id d =
     if bytes_eq name (codes "unwatch") then Ok (Unwatch id) else Err (refusal Shape (Some id) None)
 
 abbrev pub request_of : Document → Result Request Refusal
-request_of d = with_part None (count_in d (codes "id")) (λ id. with_part (Some id) (text_in d (codes "do")) (λ name. asked name id d))
+request_of d =
+    with_part None (count_in d (codes "id"))
+    (λ id. with_part (Some id) (text_in d (codes "do")) (λ name. asked name id d))
 
 abbrev pub request_of_tree : Option Document → Result Request Refusal
 request_of_tree None = Err (refusal Number None None)
@@ -114,7 +120,9 @@ request_of_json (Some value) = request_of_tree (tree_of value)
 
 -- the request that a text reads as
 abbrev pub request_of_text : List ℕ → Result Request Refusal
-request_of_text s = if nat_lt MAX_REQUEST (length s) then Err (refusal TooLong None None) else request_of_json (json.read s)
+request_of_text s =
+    if nat_lt MAX_REQUEST (length s) then Err (refusal TooLong None None)
+    else request_of_json (json.read s)
 
 -- the fault is the refusal that reading gives, or out of memory
 abbrev pub IsRefusedAs : {A : Type 0} → RequestFault → Result A Refusal → Type 0

@@ -10,4 +10,5 @@ is_room_byte b = is_ascii_alphanumeric b || b == 45 || b == 95
 
 -- 1 to MAX_NAME such bytes
 abbrev pub is_room_name : List ℕ → Bool
-is_room_name name = nat_le 1 (length name) && nat_le (length name) MAX_NAME && list_all is_room_byte name
+is_room_name name =
+    nat_le 1 (length name) && nat_le (length name) MAX_NAME && list_all is_room_byte name

@@ -43,7 +43,10 @@ spelled spells (w ∷ words) s = if bytes_eq s (spells w) then Some w else spell
 
 abbrev pub words : List Word
 words =
-    word.TooLong ∷ word.NotJson ∷ word.Number ∷ word.Shape ∷ word.TooMany ∷ word.UnknownOp ∷ word.Pointer ∷ word.Missing ∷ word.NotIndex ∷ word.PastEnd ∷ word.NoContainer ∷ word.Root ∷ word.IntoItself ∷ word.TestFailed ∷ word.TooDeep ∷ word.TooHeavy ∷ word.Exhausted ∷ word.Stale ∷ word.Future ∷ word.ReadOnly ∷ []
+    word.TooLong ∷ word.NotJson ∷ word.Number ∷ word.Shape ∷ word.TooMany ∷ word.UnknownOp
+    ∷ word.Pointer ∷ word.Missing ∷ word.NotIndex ∷ word.PastEnd ∷ word.NoContainer ∷ word.Root
+    ∷ word.IntoItself ∷ word.TestFailed ∷ word.TooDeep ∷ word.TooHeavy ∷ word.Exhausted
+    ∷ word.Stale ∷ word.Future ∷ word.ReadOnly ∷ []
 
 abbrev pub word_of_text : List ℕ → Option Word
 word_of_text s = spelled word_text words s

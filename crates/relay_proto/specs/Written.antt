@@ -1,4 +1,5 @@
--- Messages that round-trip: their members have the forms that the reader accepts, so their text reads back as the message.
+-- Messages that round-trip: their members have the forms that the reader accepts, so their text
+-- reads back as the message.
 use Rattle.std.specs.Prelude.{◌≡◌, ℕ, ◌≤◌, Option, Some, None, true}
 use Rattle.std.specs.List.{AllByRecursion}
 use Rattle.serde_json.specs.Data.{depth}

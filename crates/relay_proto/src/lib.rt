@@ -1,7 +1,9 @@
-//! The JSON texts of requests, replies and messages between clients and the relay (`docs/PROTOCOL.md`).
+//! The JSON texts of requests, replies and messages between clients and the relay
+//! (`docs/PROTOCOL.md`).
 //!
-//! The promise: each message has one text, the compact text of the object in `docs/PROTOCOL.md`, and that text reads back as the
-//! message. A request is checked in a fixed order, and the first fault is the result.
+//! The promise: each message has one text, the compact text of the object in `docs/PROTOCOL.md`,
+//! and that text reads back as the message. A request is checked in a fixed order, and the first
+//! fault is the result.
 #![tactic(auto)]
 
 mod access;

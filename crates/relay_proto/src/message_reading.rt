@@ -1,5 +1,5 @@
-//! The reader of message texts, as a client needs it. Members that a message does not need are ignored. A text with an unknown word
-//! or without a required member is no message.
+//! The reader of message texts, as a client needs it. Members that a message does not need are
+//! ignored. A text with an unknown word or without a required member is no message.
 ghost use Rattle.std.specs.Prelude.{◌≡◌, Some, None, IfOk, IfErr};
 ghost use Rattle.std.specs.List.{list_all};
 ghost use Rattle.relay_proto.specs.MessageRead.{message_of_text, message_of, patch_message_in, snapshot_in, reply_in, refused_in, resumed_in, nullable_in, word_in, how_in, is_view, is_slot};
@@ -17,7 +17,8 @@ use thiserror::Error;
 /// The reason why no message was read.
 #[derive(Clone, Copy, Debug, PartialEq, Eq, Error)]
 pub enum MessageFault {
-    /// [`relay_tree::read`] reads no tree from the text, or its members do not have the forms of a message.
+    /// [`relay_tree::read`] reads no tree from the text, or its members do not have the forms of a
+    /// message.
     #[error("not a message")]
     NotMessage,
     #[error("out of memory")]
@@ -25,11 +26,12 @@ pub enum MessageFault {
 }
 
 impl Message {
-    /// Reads a message from its text. A patch may have any number of operations, with paths of at most 66 tokens.
-    /// See `docs/PROTOCOL.md`, "Messages".
+    /// Reads a message from its text. A patch may have any number of operations, with paths of at
+    /// most 66 tokens. See `docs/PROTOCOL.md`, "Messages".
     pub fn read(alloc: Global, text: &str) -> Result<Message, MessageFault>
         ensures ok { IfOk result (λ message. message_of_text text.now ≡ Some message) }
-        ensures not_message { IfErr result (λ fault. fault ≡ NotMessage → message_of_text text.now ≡ None) }
+        ensures not_message { IfErr result
+            (λ fault. fault ≡ NotMessage → message_of_text text.now ≡ None) }
     {
         match relay_tree::read(alloc, text) {
             Ok(tree) => message_of(alloc, tree),
@@ -58,7 +60,8 @@ fn message_of(alloc: Global, tree: Tree) -> Result<Message, MessageFault>
 
 fn patch_of(alloc: Global, tree: Tree) -> Result<Message, MessageFault>
     ensures ok { IfOk result (λ message. patch_message_in tree ≡ Some message) }
-    ensures not_message { IfErr result (λ fault. fault ≡ NotMessage → patch_message_in tree ≡ None) }
+    ensures not_message { IfErr result
+        (λ fault. fault ≡ NotMessage → patch_message_in tree ≡ None) }
 {
     let mut tree = tree;
     let Some(rev) = tree.count_at("rev") else {

@@ -1,5 +1,6 @@
-//! The reader of request texts. The checks have a fixed order, and the first that fails is the result: the length of the text, JSON,
-//! its numbers, an object with `id`, then `do`, the counts that the request requires or allows, and then its patch or its view.
+//! The reader of request texts. The checks have a fixed order, and the first that fails is the
+//! result: the length of the text, JSON, its numbers, an object with `id`, then `do`, the counts
+//! that the request requires or allows, and then its patch or its view.
 ghost use Rattle.std.specs.Prelude.{◌≡◌, ◌≤◌, Ok, Err, IfOk, IfErr, IsErrOf, length};
 ghost use Rattle.relay_proto.specs.declared.reading.TheConstants.{MAX_REQUEST};
 ghost use Rattle.relay_proto.specs.Request.{request_of_text, request_of, edit_of, will_of, light_will, resume_of, patch_in, view_in, refusal, IsRefusedAs};
@@ -20,8 +21,19 @@ pub const MAX_REQUEST: u64 = 1_048_576;
 pub const MAX_WILL_WEIGHT: u64 = 65_536;
 
 impl Request {
-    /// Reads a request from its text, or returns the first fault. Members that a request does not need are ignored. `NoMemory` comes
-    /// only for a text of at most [`MAX_REQUEST`] bytes. See `docs/PROTOCOL.md`, "Requests".
+    /// Reads a request from its text, or returns the first fault. Members that a request does not
+    /// need are ignored. `NoMemory` comes only for a text of at most [`MAX_REQUEST`] bytes. See
+    /// `docs/PROTOCOL.md`, "Requests".
+    ///
+    /// ```
+    /// let edit = r#"{"do": "edit", "id": 1, "patch": [{"op": "remove", "path": "/a"}]}"#;
+    /// let request = Request::read(alloc, edit);
+    /// assert!(rt; matches!(request, Ok(Request::Edit { id: 1, base: None, .. })));
+    /// let Err(RequestFault::Refused(refusal)) = Request::read(alloc, r#"{"id": 2}"#) else {
+    ///     return None;
+    /// };
+    /// assert!(rt; refusal == Refusal { fault: Word::Shape, id: Some(2), at: None });
+    /// ```
     pub fn read(alloc: Global, text: &str) -> Result<Request, RequestFault>
         ensures ok { IfOk result (λ request. request_of_text text.now ≡ Ok request) }
         ensures refused { IfErr result (λ fault. IsRefusedAs fault (request_of_text text.now)) }
@@ -31,7 +43,8 @@ impl Request {
         Request::read_with(alloc, text, &mut scratch)
     }
 
-    /// Reads a request as [`Request::read`] does, in memory that is kept from text to text ([`relay_tree::read_with`]).
+    /// Reads a request as [`Request::read`] does, in memory that is kept from text to text
+    /// ([`relay_tree::read_with`]).
     pub fn read_with(
         alloc: Global,
         text: &str,

@@ -2,8 +2,9 @@
 use crate::reply::Reply;
 use crate::word::Word;
 
-/// The reason why a text is no request, with the fields of the reply. `id` is the request's id, and `None` after `TooLong`, `NotJson` and
-/// `Number`, or if the text is no object whose `id` is a count. `at` is the place of the operation or pointer at fault, counted from 0.
+/// The reason why a text is no request, with the fields of the reply. `id` is the request's id, and
+/// `None` after `TooLong`, `NotJson` and `Number`, or if the text is no object whose `id` is a
+/// count. `at` is the place of the operation or pointer at fault, counted from 0.
 #[derive(Clone, Copy, Debug, PartialEq, Eq)]
 pub struct Refusal {
     pub fault: Word,

@@ -54,8 +54,9 @@ pub enum Reply {
         id: u64,
         rev: u64,
     },
-    /// A request was refused. `id` is `None` if none was read ([`crate::Refusal`]). `at` is the place of the operation or pointer at fault,
-    /// counted from 0. `rev` is the present revision of the room, if the reply names it.
+    /// A request was refused. `id` is `None` if none was read ([`crate::Refusal`]). `at` is the
+    /// place of the operation or pointer at fault, counted from 0. `rev` is the present revision of
+    /// the room, if the reply names it.
     Refused {
         id: Option<u64>,
         fault: Word,

@@ -11,8 +11,8 @@ pub enum Request {
         base: Option<u64>,
         patch: Patch,
     },
-    /// Leave the patch for when the session has ended, in place of one that was left before. An empty
-    /// one leaves nothing.
+    /// Leave the patch for when the session has ended, in place of one that was left before. An
+    /// empty one leaves nothing.
     Will {
         id: u64,
         patch: Patch,

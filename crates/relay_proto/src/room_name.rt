@@ -1,7 +1,7 @@
 //! The names of rooms.
 //!
-//! A room name comes from the target of a handshake or from a line of a script. The same bytes are allowed in both, and none needs
-//! an escape in either.
+//! A room name comes from the target of a handshake or from a line of a script. The same bytes are
+//! allowed in both, and none needs an escape in either.
 ghost use Rattle.std.specs.Prelude.{◌≡◌};
 ghost use Rattle.std.specs.List.{list_all};
 ghost use Rattle.relay_proto.specs.RoomName.{is_room_name, is_room_byte};
@@ -9,8 +9,8 @@ ghost use Rattle.relay_proto.specs.RoomName.{is_room_name, is_room_byte};
 /// The most bytes of a room name.
 pub const MAX_NAME: usize = 64;
 
-/// Returns whether the text is a room name: 1 to [`MAX_NAME`] bytes, each an ASCII letter, an ASCII digit, `-` or `_`.
-/// Allocates nothing.
+/// Returns whether the text is a room name: 1 to [`MAX_NAME`] bytes, each an ASCII letter, an ASCII
+/// digit, `-` or `_`. Allocates nothing.
 pub fn is_room_name(name: &str) -> bool
     ensures { result ≡ is_room_name name.now }
 {

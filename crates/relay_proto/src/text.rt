@@ -15,9 +15,18 @@ use std::alloc::{AllocError, Global};
 
 impl Reply {
     /// Returns the text of the reply. It reads back as the reply if its numbers are counts.
+    ///
+    /// ```
+    /// let text = Reply::Done { id: 1, rev: 4 }.text(alloc).ok()?;
+    /// assert!(rt; text.as_str() == r#"{"id":1,"kind":"done","rev":4}"#);
+    /// let message = Message::read(alloc, text.as_str());
+    /// assert!(rt; matches!(message, Ok(Message::Reply(Reply::Done { id: 1, rev: 4 }))));
+    /// ```
     pub fn text(&self, alloc: Global) -> Result<String, AllocError>
         ensures text { IfOk result (λ text. string_bytes text ≡ text_of (reply_document self.now)) }
-        ensures reads_back { IfOk result (λ text. HasCounts self.now → message_of_text (string_bytes text) ≡ Some (message.Reply self.now)) }
+        ensures reads_back { IfOk result
+            (λ text. HasCounts self.now
+            → message_of_text (string_bytes text) ≡ Some (message.Reply self.now)) }
     {
         match *self {
             Reply::Welcome {
@@ -50,7 +59,8 @@ fn refused_text(
     at: Option<u64>,
     rev: Option<u64>,
 ) -> Result<String, AllocError>
-    ensures { IfOk result (λ text. string_bytes text ≡ text_of (reply_document (reply.Refused id fault at rev))) }
+    ensures { IfOk result
+        (λ text. string_bytes text ≡ text_of (reply_document (reply.Refused id fault at rev))) }
 {
     let fault = fault.text();
     let id = count_text(alloc, id)?;
@@ -76,11 +86,13 @@ fn count_text(alloc: Global, count: Option<u64>) -> Result<String, AllocError>
 }
 
 impl Message {
-    /// Returns the text of the message. It reads back as the message if its members have the forms that [`Message::read`] accepts
-    /// and it nests at most 127 containers.
+    /// Returns the text of the message. It reads back as the message if its members have the forms
+    /// that [`Message::read`] accepts and it nests at most 127 containers.
     pub fn text(&self, alloc: Global) -> Result<String, AllocError>
-        ensures text { IfOk result (λ text. string_bytes text ≡ text_of (message_document self.now)) }
-        ensures reads_back { IfOk result (λ text. IsWritable self.now → message_of_text (string_bytes text) ≡ Some self.now) }
+        ensures text { IfOk result
+            (λ text. string_bytes text ≡ text_of (message_document self.now)) }
+        ensures reads_back { IfOk result
+            (λ text. IsWritable self.now → message_of_text (string_bytes text) ≡ Some self.now) }
     {
         match self {
             Message::Reply(reply) => reply.text(alloc),

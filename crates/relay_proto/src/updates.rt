@@ -1,4 +1,5 @@
-//! The texts of patch and snapshot messages, written token by token: compact JSON, member names in byte order.
+//! The texts of patch and snapshot messages, written token by token: compact JSON, member names in
+//! byte order.
 ghost use Rattle.std.specs.Prelude.{◌≡◌, Some, [], ◌∷◌, ◌++◌, IfOk, string_bytes, codes, decimal};
 ghost use Rattle.json.specs.Lex.{tokens};
 ghost use Rattle.json.specs.Print.{print};
@@ -28,12 +29,14 @@ const SNAPSHOT_BYTES: usize = 128;
 /// A patch that weighs more begins with room for as many bytes.
 const LIKELY_BYTES: u64 = 65_536;
 
-/// Returns the text of a patch message: the operations that bring a view to the revision `rev`. Copies no value; the text of each pointer is
-/// allocated briefly. It reads back as the message if the revision is a count, paths have at most 66 tokens and the text nests at most 127
-/// containers.
+/// Returns the text of a patch message: the operations that bring a view to the revision `rev`.
+/// Copies no value; the text of each pointer is allocated briefly. It reads back as the message if
+/// the revision is a count, paths have at most 66 tokens and the text nests at most 127 containers.
 pub fn patch_text(alloc: Global, rev: u64, patch: &Patch) -> Result<String, AllocError>
     ensures text { IfOk result (λ text. string_bytes text ≡ text_of (patch_message rev patch.now)) }
-    ensures reads_back { IfOk result (λ text. IsWritable (message.Patch rev patch.now) → message_of_text (string_bytes text) ≡ Some (message.Patch rev patch.now)) }
+    ensures reads_back { IfOk result
+        (λ text. IsWritable (message.Patch rev patch.now)
+        → message_of_text (string_bytes text) ≡ Some (message.Patch rev patch.now)) }
 {
     let mut out = begin_message(alloc, "patch", likely_length(patch))?;
     out.key("patch")?;
@@ -43,34 +46,43 @@ pub fn patch_text(alloc: Global, rev: u64, patch: &Patch) -> Result<String, Allo
     end_message(out)
 }
 
-/// Returns the text of a snapshot: the whole view of the revision `rev`. Allocates only that text and copies no value. It reads back
-/// as the message if the revision is a count, the view is a list of slots and the text nests at most 127 containers.
+/// Returns the text of a snapshot: the whole view of the revision `rev`. Allocates only that text
+/// and copies no value. It reads back as the message if the revision is a count, the view is a list
+/// of slots and the text nests at most 127 containers.
 pub fn snapshot_text(alloc: Global, rev: u64, view: &Tree) -> Result<String, AllocError>
-    ensures text { IfOk result (λ text. string_bytes text ≡ text_of (snapshot_message rev view.now)) }
-    ensures reads_back { IfOk result (λ text. IsWritable (message.Snapshot rev view.now) → message_of_text (string_bytes text) ≡ Some (message.Snapshot rev view.now)) }
+    ensures text { IfOk result
+        (λ text. string_bytes text ≡ text_of (snapshot_message rev view.now)) }
+    ensures reads_back { IfOk result
+        (λ text. IsWritable (message.Snapshot rev view.now)
+        → message_of_text (string_bytes text) ≡ Some (message.Snapshot rev view.now)) }
 {
     let mut out = begin_snapshot(alloc, rev)?;
     view.write(&mut out)?;
     end_message(out)
 }
 
-/// Returns the same text as [`snapshot_text`] for what a view shows of the document of the revision `rev`. Allocates only that text:
-/// each part is written straight from the document.
+/// Returns the same text as [`snapshot_text`] for what a view shows of the document of the revision
+/// `rev`. Allocates only that text: each part is written straight from the document.
 pub fn shown_text(
     alloc: Global,
     rev: u64,
     view: &View,
     document: &Tree,
 ) -> Result<String, AllocError>
-    ensures text { IfOk result (λ text. string_bytes text ≡ text_of (snapshot_message rev (shown view.now document.now))) }
-    ensures reads_back { IfOk result (λ text. IsWritable (message.Snapshot rev (shown view.now document.now)) → message_of_text (string_bytes text) ≡ Some (message.Snapshot rev (shown view.now document.now))) }
+    ensures text { IfOk result
+        (λ text. string_bytes text ≡ text_of (snapshot_message rev (shown view.now document.now))) }
+    ensures reads_back { IfOk result
+        (λ text. IsWritable (message.Snapshot rev (shown view.now document.now))
+        → message_of_text (string_bytes text)
+        ≡ Some (message.Snapshot rev (shown view.now document.now))) }
 {
     let mut out = begin_snapshot(alloc, rev)?;
     view.write(document, &mut out)?;
     end_message(out)
 }
 
-/// About as many bytes as the text of a patch message has, so that it seldom grows: what the operations weigh, and their words.
+/// About as many bytes as the text of a patch message has, so that it seldom grows: what the
+/// operations weigh, and their words.
 fn likely_length(patch: &Patch) -> usize {
     let carried = match patch.pay(Budget::Left(LIKELY_BYTES)) {
         Some(Budget::Left(left)) => LIKELY_BYTES.saturating_sub(left),
@@ -87,7 +99,8 @@ fn likely_length(patch: &Patch) -> usize {
 /// Writes a message up to its kind, into a text with room for so many bytes.
 fn begin_message(alloc: Global, kind: &str, room: usize) -> Result<Writer, AllocError>
     ensures before { IfOk result (λ out. out.before ≡ []) }
-    ensures tokens { IfOk result (λ out. out.tokens ≡ begin_object ∷ key (codes "kind") ∷ string kind.now ∷ []) }
+    ensures tokens { IfOk result
+        (λ out. out.tokens ≡ begin_object ∷ key (codes "kind") ∷ string kind.now ∷ []) }
 {
     let mut out = Writer::new(Vec::with_capacity(alloc, room)?);
     out.begin_object()?;
@@ -99,7 +112,9 @@ fn begin_message(alloc: Global, kind: &str, room: usize) -> Result<Writer, Alloc
 /// Writes a snapshot up to its view.
 fn begin_snapshot(alloc: Global, rev: u64) -> Result<Writer, AllocError>
     ensures before { IfOk result (λ out. out.before ≡ []) }
-    ensures tokens { IfOk result (λ out. out.tokens ≡ begin_object ∷ key (codes "kind") ∷ string (codes "snapshot") ∷ key (codes "rev") ∷ number (decimal rev) ∷ key (codes "view") ∷ []) }
+    ensures tokens { IfOk result
+        (λ out. out.tokens ≡ begin_object ∷ key (codes "kind") ∷ string (codes "snapshot")
+        ∷ key (codes "rev") ∷ number (decimal rev) ∷ key (codes "view") ∷ []) }
 {
     let mut out = begin_message(alloc, "snapshot", SNAPSHOT_BYTES)?;
     out.key("rev")?;
@@ -112,7 +127,8 @@ fn begin_snapshot(alloc: Global, rev: u64) -> Result<Writer, AllocError>
 fn end_message(mut out: Writer) -> Result<String, AllocError>
     requires { out.before ≡ [] }
     ensures text { IfOk result (λ text. string_bytes text ≡ print (out.tokens ++ end_object ∷ [])) }
-    ensures reads_back { IfOk result (λ text. tokens (string_bytes text) ≡ out.tokens ++ end_object ∷ []) }
+    ensures reads_back { IfOk result
+        (λ text. tokens (string_bytes text) ≡ out.tokens ++ end_object ∷ []) }
 {
     out.end_object()?;
     Ok(end_text(out))

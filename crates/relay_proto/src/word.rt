@@ -2,8 +2,9 @@
 ghost use Rattle.std.specs.Prelude.{◌≡◌};
 ghost use Rattle.relay_proto.specs.Words.{word_text, word_of_text};
 
-/// The reason why a request is refused, in the order of the list in `docs/PROTOCOL.md`, "Messages". That is not the order of the checks: an
-/// edit is checked for `Exhausted` and `Stale` before its patch.
+/// The reason why a request is refused, in the order of the list in `docs/PROTOCOL.md`, "Messages".
+/// That is not the order of the checks: an edit is checked for `Exhausted` and `Stale` before its
+/// patch.
 #[derive(Clone, Copy, Debug, PartialEq, Eq)]
 pub enum Word {
     TooLong,

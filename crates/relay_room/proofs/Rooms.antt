@@ -22,17 +22,20 @@ no_changes zero = refl
 no_changes (suc n) = refl
 
 pub begun_is_room : (document : Document) (rev limit : ℕ)
-    → exceeds DOCUMENT.depth (depth document) ≡ false → exceeds DOCUMENT.weight (weight document) ≡ false
+    → exceeds DOCUMENT.depth (depth document) ≡ false
+    → exceeds DOCUMENT.weight (weight document) ≡ false
     → 1 ≤ limit → limit ≤ MAX_REVISIONS → rev ≤ LAST_REVISION
     → IsRoom (begun document rev limit)
 begun_is_room document rev limit flat light least most last = record {
-  history = record { limited = (least, most); within = omega arith; made = omega arith; last = last };
+  history =
+      record { limited = (least, most); within = omega arith; made = omega arith; last = last };
   within = rw (flat, light) refl;
   fit = tt;
   led = λ r reaches. (document, rw (no_changes (rev - r)) refl);
 }
 
-fit_take : (n : ℕ) (revisions : List (List Change)) → AllByRecursion Fit revisions → AllByRecursion Fit (take n revisions)
+fit_take : (n : ℕ) (revisions : List (List Change)) → AllByRecursion Fit revisions
+    → AllByRecursion Fit (take n revisions)
 fit_take (suc n) (changes ∷ revisions) h = (h.0, fit_take n revisions h.1)
 fit_take _ _ h = tt
 
@@ -41,8 +44,13 @@ pub trimmed_is_room : (budget : Budget) (room : State) → IsRoom room → IsRoo
 trimmed_is_room budget room is = record {
   history = trimmed_is_history budget room.history is.history;
   within = is.within;
-  fit = rw (afforded_front budget room.history.changes) (fit_take (length (afforded budget room.history.changes)) room.history.changes is.fit);
-  led = λ rev reaches. rw (trimmed_changes_since budget room.history rev reaches) (is.led rev (trimmed_reaches budget room.history rev reaches));
+  fit =
+      rw (afforded_front budget room.history.changes)
+      (fit_take (length (afforded budget room.history.changes)) room.history.changes is.fit);
+  led =
+      λ rev reaches.
+      rw (trimmed_changes_since budget room.history rev reaches)
+      (is.led rev (trimmed_reaches budget room.history rev reaches));
 }
 
 pub edited_is_room : (room : State) (changes : List Change) (document : Document)
@@ -59,13 +67,20 @@ edited_is_room room changes document was is inside fit leads = record {
     next : State
     next = record { document = document; history = with_revision changes room.history }
 
-    from : (rev : ℕ) → Reaches next.history rev → (room.history.newest < rev) ⊎ (rev ≤ room.history.newest) → (d : Document) × Leads d (changes_since rev next.history) document
+    from : (rev : ℕ) → Reaches next.history rev
+        → (room.history.newest < rev) ⊎ (rev ≤ room.history.newest)
+        → (d : Document) × Leads d (changes_since rev next.history) document
     from rev reaches (inl above) =
         let newest : rev ≡ room.history.newest + 1 = omega (arith, above, reaches.made) in
         (document, rw (newest, changes_since-newest next.history) refl)
     from rev reaches (inr below) =
         let back = reaches.back in
         let held = held-with_revision changes room.history in
-        let earlier : Reaches room.history rev = record { back = omega (arith, back, held, below); made = below } in
-        let led = was.led rev earlier in
-        (led.0, rw (changes_since-with_revision rev changes room.history below reaches) (Leads-append (changes_since rev room.history) changes led.0 room.document document led.1 leads))
+        let earlier : Reaches room.history rev =
+        record { back = omega (arith, back, held, below); made = below } in
+        let led = was.led rev earlier in (
+          led.0,
+          rw (changes_since-with_revision rev changes room.history below reaches)
+              (Leads-append (changes_since rev room.history) changes led.0 room.document document
+              led.1 leads),
+        )

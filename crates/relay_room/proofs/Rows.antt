@@ -1,5 +1,5 @@
--- The definitions computed for a room that holds the last two of five revisions, for limits that are exceeded, and for edits with a
--- base.
+-- The definitions computed for a room that holds the last two of five revisions, for limits that
+-- are exceeded, and for edits with a base.
 use Rattle.std.specs.Prelude.{◌≡◌, ◌+◌, List, [], ◌∷◌, Some, None, Ok, Err, true, false, refl, codes}
 use Rattle.relay_tree.specs.Document.{null, truth, list, object, no_items, item, no_members, member}
 use Rattle.relay_pointer.specs.Index.{index_text}
@@ -46,14 +46,18 @@ module _ (a b c : List Change) where
   five : State
   five = record {
     document = object (member (codes "n") (truth true) no_members);
-    history = with_revision (Set n (truth true) ∷ []) (with_revision (Set n (truth false) ∷ []) (with_revision c (with_revision b (with_revision a (history.begun 2 0)))));
+    history =
+        with_revision (Set n (truth true) ∷ [])
+        (with_revision (Set n (truth false) ∷ [])
+        (with_revision c (with_revision b (with_revision a (history.begun 2 0)))));
   }
 
   from_5 : caught_up five 5 (seen n) ≡ Nothing
   unfolding five n index_text
   from_5 = refl
 
-  from_3 : caught_up five 3 (seen n) ≡ Patch (Replace (codes "0" ∷ []) (list (item (truth true) no_items)) ∷ [])
+  from_3 : caught_up five 3 (seen n)
+      ≡ Patch (Replace (codes "0" ∷ []) (list (item (truth true) no_items)) ∷ [])
   unfolding five n index_text
   from_3 = refl
 
@@ -65,8 +69,9 @@ module _ (a b c : List Change) where
   unfolding five
   from_2 = refl
 
--- an edit for a revision other than the present one is stale, whatever its patch is; one for the present revision, or without a
--- base, is done; and one in a room at its last revision is exhausted before that
+-- an edit for a revision other than the present one is stale, whatever its patch is; one for the
+-- present revision, or without a base, is done; and one in a room at its last revision is exhausted
+-- before that
 
 stale_below : edited_at 2 null (Some 1) (Remove [] ∷ []) ≡ Err (Stale 2)
 stale_below = refl

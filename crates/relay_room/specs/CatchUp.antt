@@ -28,7 +28,9 @@ patch_or_nothing (op ∷ ops) = Patch (op ∷ ops)
 
 -- the update for the view of a revision that is not above the present one
 abbrev pub caught_up : State → ℕ → View → CatchUp
-caught_up room rev pointers = if nat_lt rev (oldest room.history) then Snapshot else patch_or_nothing (missed room rev pointers)
+caught_up room rev pointers =
+    if nat_lt rev (oldest room.history) then Snapshot
+    else patch_or_nothing (missed room rev pointers)
 
 -- a patch, or a snapshot in place of one that is too heavy
 abbrev pub patch_or_snapshot : Option (List Op) → CatchUp
@@ -38,22 +40,25 @@ patch_or_snapshot None = Snapshot
 -- the same, but with a snapshot in place of a patch that weighs more than the budget
 abbrev pub caught_up_within : Budget → State → ℕ → View → CatchUp
 caught_up_within budget room rev pointers =
-    if nat_lt rev (oldest room.history) then Snapshot else patch_or_snapshot (afforded budget (missed room rev pointers))
+    if nat_lt rev (oldest room.history) then Snapshot
+    else patch_or_snapshot (afforded budget (missed room rev pointers))
 
 -- the update turns the view of document d into the present view; a snapshot always does
 abbrev pub MakesPresent : State → View → Document → CatchUp → Type 0
 MakesPresent room pointers d Nothing = view pointers d ≡ view pointers room.document
-MakesPresent room pointers d (Patch ops) = after (view pointers d) ops free ≡ Ok (view pointers room.document)
+MakesPresent room pointers d (Patch ops) =
+    after (view pointers d) ops free ≡ Ok (view pointers room.document)
 MakesPresent room pointers d Snapshot = ⊤
 
--- for every document from which the changes since the revision lead to the present one, the update turns its view into the present
--- view
+-- for every document from which the changes since the revision lead to the present one, the update
+-- turns its view into the present view
 abbrev pub LeadsOn : State → ℕ → View → CatchUp → Type 0
 LeadsOn room rev pointers how =
-    (d : Document) → Leads d (changes_since rev room.history) room.document → MakesPresent room pointers d how
+    (d : Document) → Leads d (changes_since rev room.history) room.document
+    → MakesPresent room pointers d how
 
--- an operation that is sent: its paths have at most as many tokens as a relayed patch may have, and its values are at most one level
--- deeper than a document may be
+-- an operation that is sent: its paths have at most as many tokens as a relayed patch may have, and
+-- its values are at most one level deeper than a document may be
 abbrev pub IsSent : Op → Type 0
 IsSent op = OpFits RELAYED.tokens (DOCUMENT.depth + 1) op
 

@@ -29,7 +29,8 @@ begun document rev limit = record { document = document; history = history.begun
 
 -- the room without the oldest revisions that a budget does not pay for
 abbrev pub trimmed : Budget → State → State
-trimmed budget room = record { document = room.document; history = trim.trimmed budget room.history }
+trimmed budget room =
+    record { document = room.document; history = trim.trimmed budget room.history }
 
 -- each change fits: no path has more tokens than a document may be deep, and no value is deeper
 abbrev pub Fit : List Change → Type 0
@@ -42,8 +43,10 @@ pub record IsRoom (room : State) : Type 0 where
   pub within : within DOCUMENT room.document ≡ Ok room.document
   -- each change held fits
   pub fit : AllByRecursion Fit room.history.changes
-  -- for each revision that the history reaches, some document is led to the present one by the changes since
-  pub led : (rev : ℕ) → Reaches room.history rev → (d : Document) × Leads d (changes_since rev room.history) room.document
+  -- for each revision that the history reaches, some document is led to the present one by the
+  -- changes since
+  pub led : (rev : ℕ) → Reaches room.history rev
+      → (d : Document) × Leads d (changes_since rev room.history) room.document
 
 -- how the logic encodes a room
 abbrev pub state_code : Coded Change → Coded State

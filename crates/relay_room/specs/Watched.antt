@@ -19,8 +19,10 @@ newest_of (changes ∷ older) = changes
 abbrev pub newest_changes : Past → List Change
 newest_changes past = newest_of past.changes
 
--- if the changes of the newest revision are held: every watcher that is not in the list, and was at the revision before, missed nothing
+-- if the changes of the newest revision are held: every watcher that is not in the list, and was at
+-- the revision before, missed nothing
 abbrev pub OthersMissNothing : State → Watches → List ℕ → Type 0
 OthersMissNothing room watches sessions =
-    (session rev : ℕ) (view : View) → map.get watches session ≡ Some view → list_any (nat_eq session) sessions ≡ false
+    (session rev : ℕ) (view : View) → map.get watches session ≡ Some view
+    → list_any (nat_eq session) sessions ≡ false
     → rev + 1 ≡ revision room → Reaches room.history rev → caught_up room rev view ≡ Nothing

@@ -22,19 +22,33 @@ pub enum CatchUp {
     Nothing,
     /// A patch that turns the view into that of the present document.
     Patch(Patch),
-    /// The whole view of the present document is needed: the changes since that revision are no longer all held, or the patch would
-    /// weigh more than the budget.
+    /// The whole view of the present document is needed: the changes since that revision are no
+    /// longer all held, or the patch would weigh more than the budget.
     Snapshot,
 }
 
 impl Room {
-    /// Returns what a client that holds its view of revision `rev` has missed: `Nothing` if `rev` is the present revision or no change
-    /// since then touches the view; `Snapshot` if `rev` is below the oldest revision after which all changes are held; else a patch
-    /// that turns the old view into the present one. The patch has paths of at most 66 tokens and values at most 65 deep. Returns
-    /// `Future` if `rev` is above the present revision, and `NoMemory` if memory runs out.
+    /// Returns what a client that holds its view of revision `rev` has missed: `Nothing` if `rev`
+    /// is the present revision or no change since then touches the view; `Snapshot` if `rev` is
+    /// below the oldest revision after which all changes are held; else a patch that turns the old
+    /// view into the present one. The patch has paths of at most 66 tokens and values at most 65
+    /// deep. Returns `Future` if `rev` is above the present revision, and `NoMemory` if memory runs
+    /// out.
     ///
-    /// Costs the number of changes since `rev` times the number of the view's pointers, and a copy of each value that the patch carries.
-    /// See `docs/PROTOCOL.md`, "What a request does".
+    /// Costs the number of changes since `rev` times the number of the view's pointers, and a copy
+    /// of each value that the patch carries. See `docs/PROTOCOL.md`, "What a request does".
+    ///
+    /// ```
+    /// let mut room = Room::starting_at(alloc, read(alloc, "[1]").ok()?, 7, 64).ok()?;
+    /// let ops = read(alloc, r#"[{"op": "add", "path": "/0", "value": 2}]"#).ok()?;
+    /// let patch = Patch::from_owned(alloc, ops, PatchLimits::REQUEST).ok()?;
+    /// let rev = room.edit(alloc, ReservedRevision::new(alloc).ok()?, None, &patch).ok()?;
+    /// // A view is a list of slots, so the document is the part `/0/0` of what the client holds.
+    /// let view = View::read(alloc, &read(alloc, r#"[""]"#).ok()?).ok()?;
+    /// assert!(rt; matches!(room.catch_up(alloc, 7, &view), Ok(CatchUp::Patch(_))));
+    /// assert!(rt; matches!(room.catch_up(alloc, rev, &view), Ok(CatchUp::Nothing)));
+    /// assert!(rt; matches!(room.catch_up(alloc, 6, &view), Ok(CatchUp::Snapshot)));
+    /// ```
     pub fn catch_up(&self, alloc: Global, rev: u64, view: &View) -> Result<CatchUp, CatchFault>
         ensures exact { IfOk result (λ how. how ≡ caught_up self.now rev view.now) }
         ensures present { rev ≡ revision self.now → IfOk result (λ how. how ≡ Nothing) }
@@ -45,7 +59,8 @@ impl Room {
         self.catch_up_within(alloc, rev, view, Budget::Unbounded)
     }
 
-    /// Like [`Room::catch_up`], but returns `Snapshot` in place of a patch that weighs more than the budget. No such patch is built.
+    /// Like [`Room::catch_up`], but returns `Snapshot` in place of a patch that weighs more than
+    /// the budget. No such patch is built.
     pub fn catch_up_within(
         &self,
         alloc: Global,
@@ -77,7 +92,8 @@ pub(crate) fn held_since<'a>(
     rev: u64,
 ) -> Result<Option<Vec<&'a Change>>, AllocError>
     ensures reaches { IfOk result (λ found. IsSome found ↔ Reaches history.now rev) }
-    ensures changes { IfOk result (λ found. IfSome found (λ changes. map (λ c. c.now) changes.items ≡ changes_since rev history.now)) }
+    ensures changes { IfOk result (λ found.
+        IfSome found (λ changes. map (λ c. c.now) changes.items ≡ changes_since rev history.now)) }
 {
     match history.since(rev) {
         None => Ok(None),

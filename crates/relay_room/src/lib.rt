@@ -1,8 +1,11 @@
-//! A room: a shared document, its revision, and the updates that bring an earlier view to the present revision.
+//! A room: a shared document, its revision, and the updates that bring an earlier view to the
+//! present revision.
 //!
-//! The promise: a document changes only by whole patches, each of which makes one revision, and stays within its bounds. A client
-//! that knows the revision of its view gets from [`Room::catch_up`] exactly what the view missed, or learns that it needs a snapshot.
-//! The same call serves clients that return and clients that were connected all along. Contracts see a room as a `State` of `specs/`.
+//! The promise: a document changes only by whole patches, each of which makes one revision, and
+//! stays within its bounds. A client that knows the revision of its view gets from
+//! [`Room::catch_up`] exactly what the view missed, or learns that it needs a snapshot. The same
+//! call serves clients that return and clients that were connected all along. Contracts see a room
+//! as a `State` of `specs/`.
 #![tactic(auto)]
 
 mod catch_up;

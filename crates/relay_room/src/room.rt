@@ -1,4 +1,5 @@
-//! A room: its document and its history. Only the history stores the revision, so the two cannot disagree.
+//! A room: its document and its history. Only the history stores the revision, so the two cannot
+//! disagree.
 use crate::fault::RoomFault;
 use relay_history::{History, LAST_REVISION};
 use relay_patch::Bounds;
@@ -6,8 +7,8 @@ use relay_tree::{Budget, Node, Tree};
 use std::alloc::Global;
 use std::marker::Model;
 
-/// A shared document and the changes of its last revisions. Contracts see it as a `State`: the document, and the `Past` of a
-/// history.
+/// A shared document and the changes of its last revisions. Contracts see it as a `State`: the
+/// document, and the `Past` of a history.
 #[derive(Drop)]
 pub struct Room {
     pub(crate) document: Tree,
@@ -26,7 +27,8 @@ impl Model for Room {
 
     ghost view = { λ r. record { document = r.document; history = r.history } };
 
-    ghost invariant = { λ r. IsWeighed (record { document = r.document; history = r.history }) r.weight };
+    ghost invariant = { λ r.
+        IsWeighed (record { document = r.document; history = r.history }) r.weight };
 }
 
 impl Room {
@@ -39,8 +41,14 @@ impl Room {
     ghost use Rattle.relay_room.specs.Fault.{room_fault};
     ghost use Rattle.relay_room.specs.declared.fault.RoomFault.TheVariants.{BadLimit, NoMemory};
 
-    /// Creates a room with the document `null` at revision 0, which holds the changes of the last `limit` revisions. Returns `BadLimit`
-    /// if `limit` is not 1 to 1,024, and `NoMemory` if memory runs out.
+    /// Creates a room with the document `null` at revision 0, which holds the changes of the last
+    /// `limit` revisions. Returns `BadLimit` if `limit` is not 1 to 1,024, and `NoMemory` if memory
+    /// runs out.
+    ///
+    /// ```
+    /// let room = Room::new(alloc, 64).ok()?;
+    /// assert!(rt; room.revision() == 0 && room.document().same(&Tree::from(Node::Null)));
+    /// ```
     pub fn new(alloc: Global, limit: u64) -> Result<Room, RoomFault>
         ensures ok { IfOk result (λ room. room ≡ begun null 0 limit) }
         ensures bad_limit { IsErrOf result BadLimit ↔ ((limit < 1) ⊎ (MAX_REVISIONS < limit)) }
@@ -49,19 +57,29 @@ impl Room {
         Room::starting_at(alloc, Tree::from(Node::Null), 0, limit)
     }
 
-    /// Creates a room with this document at revision `rev`, which holds the changes of the last `limit` revisions after it.
+    /// Creates a room with this document at revision `rev`, which holds the changes of the last
+    /// `limit` revisions after it.
     ///
-    /// Checks in this order and returns the first error: `TooDeep` and `TooHeavy` if the document is not within `Bounds::DOCUMENT`,
-    /// `BadRevision` if `rev` is above `2^53 - 1`, `BadLimit` if `limit` is not 1 to 1,024, and `NoMemory` if memory runs out. An error
-    /// drops the document. Costs a walk over the document, to measure it.
+    /// Checks in this order and returns the first error: `TooDeep` and `TooHeavy` if the document
+    /// is not within `Bounds::DOCUMENT`, `BadRevision` if `rev` is above `2^53 - 1`, `BadLimit` if
+    /// `limit` is not 1 to 1,024, and `NoMemory` if memory runs out. An error drops the document.
+    /// Costs a walk over the document, to measure it.
+    ///
+    /// ```
+    /// let document = read(alloc, "[1, 2]").ok()?;
+    /// let room = Room::starting_at(alloc, document, 7, 64).ok()?;
+    /// assert!(rt; room.revision() == 7);
+    /// ```
     pub fn starting_at(
         alloc: Global,
         document: Tree,
         rev: u64,
         limit: u64,
     ) -> Result<Room, RoomFault>
-        ensures ok { IfOk result (λ room. (room ≡ begun document rev limit) × (room_fault document rev limit ≡ None)) }
-        ensures refused { IfErr result (λ fault. (room_fault document rev limit ≡ Some fault) ⊎ ((fault ≡ NoMemory) × (room_fault document rev limit ≡ None))) }
+        ensures ok { IfOk result (λ room. (room ≡ begun document rev limit)
+            × (room_fault document rev limit ≡ None)) }
+        ensures refused { IfErr result (λ fault. (room_fault document rev limit ≡ Some fault)
+            ⊎ ((fault ≡ NoMemory) × (room_fault document rev limit ≡ None))) }
     {
         if document.depth() > Bounds::DOCUMENT.depth {
             return Err(RoomFault::TooDeep);
@@ -81,8 +99,9 @@ impl Room {
         })
     }
 
-    /// Forgets the changes of the oldest revisions until those held weigh no more than the budget ([`History::trim`]). A client that
-    /// returns from an earlier revision gets a snapshot. Allocates nothing.
+    /// Forgets the changes of the oldest revisions until those held weigh no more than the budget
+    /// ([`History::trim`]). A client that returns from an earlier revision gets a snapshot.
+    /// Allocates nothing.
     pub fn trim(&mut self, budget: Budget)
         ensures { self.new ≡ trimmed budget self.old }
     {
@@ -105,14 +124,16 @@ impl Room {
         self.history.newest()
     }
 
-    /// Returns the weight of the present document, which the room keeps, so that nothing is measured. Allocates nothing.
+    /// Returns the weight of the present document, which the room keeps, so that nothing is
+    /// measured. Allocates nothing.
     pub fn weight(&self) -> u64
         ensures { result ≡ weight self.now.document }
     {
         self.weight
     }
 
-    /// Returns what the changes that it holds weigh together ([`History::weight`]). Allocates nothing.
+    /// Returns what the changes that it holds weigh together ([`History::weight`]). Allocates
+    /// nothing.
     pub fn history_weight(&self) -> u64
         ensures { result ≡ history_weight self.now.history }
     {

@@ -13,14 +13,19 @@ use relay_translate::WatchIndex;
 use std::alloc::{AllocError, Global};
 
 impl Room {
-    /// Returns the sessions whose views the newest revision touched, in ascending order, each once. If the history holds the changes of
-    /// that revision, every other watcher that was at the revision before missed nothing; if it does not, the list is empty.
+    /// Returns the sessions whose views the newest revision touched, in ascending order, each once.
+    /// If the history holds the changes of that revision, every other watcher that was at the
+    /// revision before missed nothing; if it does not, the list is empty.
     ///
-    /// Costs a copy of the list of its changes, and a lookup of each of them ([`WatchIndex::touched`]).
+    /// Costs a copy of the list of its changes, and a lookup of each of them
+    /// ([`WatchIndex::touched`]).
     pub fn touched(&self, alloc: Global, watched: &WatchIndex) -> Result<Vec<u64>, AllocError>
         ensures rising { IfOk result (λ sessions. IsStrictlyIncreasing sessions.items) }
-        ensures exact { IfOk result (λ sessions. (s : ℕ) → list_any (nat_eq s) sessions.items ≡ sees (newest_changes self.now.history) watched.now s) }
-        ensures others { IfOk result (λ sessions. OthersMissNothing self.now watched.now sessions.items) }
+        ensures exact { IfOk result (λ sessions. (s : ℕ)
+            → list_any (nat_eq s) sessions.items
+            ≡ sees (newest_changes self.now.history) watched.now s) }
+        ensures others { IfOk result (λ sessions.
+            OthersMissNothing self.now watched.now sessions.items) }
     {
         let changes = newest_changes(alloc, &self.history)?;
         watched.touched(alloc, changes.as_slice())

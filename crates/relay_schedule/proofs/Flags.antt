@@ -8,7 +8,8 @@ use Rattle.std.proofs.lemmas.Option.{get_or_from_slice_get, slice_get-get_or}
 abbrev one_if : Bool → ℕ
 one_if b = cond b 1 0
 
-module _ (flags : List Bool) (i : ℕ) (flag : Bool) (at : flag ≡ slice_index_or flags i flag) (unset : flag ≡ false) where
+module _ (flags : List Bool) (i : ℕ) (flag : Bool) (at : flag ≡ slice_index_or flags i flag)
+    (unset : flag ≡ false) where
   pub has_room : i < length flags → count_by (λ b. b) flags < length flags
   has_room within =
       let sums = sum_by-set one_if flags i true flag within in
@@ -20,7 +21,10 @@ module _ (flags : List Bool) (i : ℕ) (flag : Bool) (at : flag ≡ slice_index_
   is_unset set = sym unset ∙ at ∙ get_or_from_slice_get flags i true flag set
 
 -- A flag that was set is set.
-pub now_set : (flags : List Bool) (i : ℕ) → i < length flags → slice_get (slice_set flags i true) i ≡ Some true
+pub now_set : (flags : List Bool) (i : ℕ) → i < length flags
+    → slice_get (slice_set flags i true) i ≡ Some true
 now_set flags i within =
-    let inside : i < length (slice_set flags i true) = omega (arith, within, length-set flags i true) in
-    slice_get-get_or (slice_set flags i true) i false inside ∙ ap Some (get_or-set_same flags i true false within)
+    let inside : i < length (slice_set flags i true) =
+    omega (arith, within, length-set flags i true) in
+    slice_get-get_or (slice_set flags i true) i false inside
+    ∙ ap Some (get_or-set_same flags i true false within)

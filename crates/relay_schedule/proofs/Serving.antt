@@ -1,4 +1,5 @@
--- Each that waits is served once before any is served twice: as many turns as wait serve them in their order.
+-- Each that waits is served once before any is served twice: as many turns as wait serve them in
+-- their order.
 use Rattle.std.proofs.Common.{◌≡◌, ℕ, List, [], ◌∷◌, ◌++◌, length, refl, ap, ◌∙◌, sym}
 use Rattle.relay_schedule.specs.Queue.{served}
 
@@ -6,7 +7,10 @@ use Rattle.relay_schedule.specs.Queue.{served}
 pub served_in_front : (front behind : List ℕ) → served (length front) (front ++ behind) ≡ front
 unfolding served
 served_in_front [] behind = refl
-served_in_front (key ∷ front) behind = ap (λ keys. key ∷ keys) (ap (served (length front)) (assoc front behind key) ∙ served_in_front front (behind ++ key ∷ []))
+served_in_front (key ∷ front) behind =
+    ap (λ keys. key ∷ keys)
+    (ap (served (length front)) (assoc front behind key)
+    ∙ served_in_front front (behind ++ key ∷ []))
   where
     assoc : (xs ys : List ℕ) (z : ℕ) → (xs ++ ys) ++ z ∷ [] ≡ xs ++ (ys ++ z ∷ [])
     assoc [] ys z = refl
@@ -17,4 +21,5 @@ append_none [] = refl
 append_none (x ∷ xs) = ap (λ ys. x ∷ ys) (append_none xs)
 
 pub once_before_twice : (keys : List ℕ) → served (length keys) keys ≡ keys
-once_before_twice keys = ap (served (length keys)) (sym (append_none keys)) ∙ served_in_front keys []
+once_before_twice keys =
+    ap (served (length keys)) (sym (append_none keys)) ∙ served_in_front keys []

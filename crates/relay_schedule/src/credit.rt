@@ -39,7 +39,9 @@ impl Credit {
 
     /// Gives a round's credit, once a round. What is left never exceeds it.
     pub fn renew(&mut self, round: u64)
-        ensures spent { self.new.spent ≡ (if nat_lt self.old.round round then self.old.spent - ROUND_CREDIT else self.old.spent) }
+        ensures spent { self.new.spent
+            ≡ (if nat_lt self.old.round round then self.old.spent - ROUND_CREDIT
+            else self.old.spent) }
         ensures bounded { left self.new ≤ ROUND_CREDIT }
     {
         if self.round < round {

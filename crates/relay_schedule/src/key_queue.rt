@@ -48,7 +48,8 @@ impl KeyQueue {
     pub fn push(&mut self, key: usize)
         ensures queued { Admits self.old key → IsQueued self.new key }
         ensures once { IsQueued self.old key → keys_of self.new ≡ keys_of self.old }
-        ensures behind { (keys_of self.new ≡ keys_of self.old) ⊎ (keys_of self.new ≡ keys_of self.old ++ key ∷ []) }
+        ensures behind { (keys_of self.new ≡ keys_of self.old)
+            ⊎ (keys_of self.new ≡ keys_of self.old ++ key ∷ []) }
     {
         if key >= self.queued.len() {
             return;

@@ -2,9 +2,9 @@
 //!
 //! Each connection has a [`Credit`], to which each round adds the same. A turn takes what it cost,
 //! which is counted and not known before, so a credit may be overdrawn. Whoever has credit left has
-//! turns first, in order ([`ReadyQueue`]). Those who have none have theirs behind them, in order too:
-//! one of them at least in each round. A room is read no further ahead than may wait for a watcher
-//! that keeps up ([`RoomShares`]), and a round ends once it has cost as much as it may
+//! turns first, in order ([`ReadyQueue`]). Those who have none have theirs behind them, in order
+//! too: one of them at least in each round. A room is read no further ahead than may wait for a
+//! watcher that keeps up ([`RoomShares`]), and a round ends once it has cost as much as it may
 //! ([`Spending`]). Output that is not sent is counted, link by link ([`LinkOutput`],
 //! [`OutputTotal`]).
 //!

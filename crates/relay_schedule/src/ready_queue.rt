@@ -44,6 +44,16 @@ impl ReadyQueue {
     }
 
     /// Puts a key behind those in its line, unless it stands in one. Allocates nothing.
+    ///
+    /// ```
+    /// let mut ready = ReadyQueue::new(alloc);
+    /// ready.admit(1).ok()?;
+    /// // Connection 0 is new and owes; connection 1 has spent nothing.
+    /// ready.push(0, Credit::of_new(ready.round()));
+    /// ready.push(1, Credit { spent: 0, round: ready.round() });
+    /// assert!(rt; ready.pop_credited() == Some(1) && ready.pop_credited() == None);
+    /// assert!(rt; ready.pop_owing() == Some(0));
+    /// ```
     pub fn push(&mut self, key: usize, credit: Credit) {
         if self.contains(key) {
             return;
@@ -57,7 +67,8 @@ impl ReadyQueue {
 
     /// Takes the first key out of those with credit. Allocates nothing.
     pub fn pop_credited(&mut self) -> Option<usize>
-        ensures credited { keys_of self.old.credited ≡ option_to_list result ++ keys_of self.new.credited }
+        ensures credited { keys_of self.old.credited ≡ option_to_list result
+            ++ keys_of self.new.credited }
         ensures owing { keys_of self.new.owing ≡ keys_of self.old.owing }
     {
         self.credited.pop()

@@ -5,11 +5,11 @@ use Rattle.std.proofs.Math.Seq.{take-append-add, take-length}
 use Rattle.std.specs.Io.KnownBytes.{Appends, Keeps}
 use Rattle.std.proofs.KnownBytes.{Appends-nil, Appends-trans, Keeps-refl}
 use Rattle.relay_hub.specs.declared.fault.HubNewFault.{HubNewFault}
-use Rattle.relay_hub.specs.declared.fault.HubNewFault.TheVariants as made
-use Rattle.relay_lines.specs.Faults.{not_made}
-use Rattle.relay_lines.specs.Lines.{AppendsPart}
+use Rattle.relay_hub.specs.declared.fault.HubNewFault.TheVariants as hub_fault
+use Rattle.relay_script.specs.Faults.{not_made}
+use Rattle.relay_script.specs.Lines.{AppendsPart}
 use Rattle.relay_server.specs.Printed.{listening_text, served_text, turns_text}
-use Rattle.relay_lines.specs.declared.fault.ScriptFault.TheVariants.{BadLimit, Output, NoMemory}
+use Rattle.relay_script.specs.declared.fault.ScriptFault.TheVariants.{BadLimit, Output, NoMemory}
 use Rattle.relay_loopback.specs.declared.fault.ServeFault.{ServeFault}
 use Rattle.relay_loopback.specs.declared.fault.ServeFault.TheVariants.{Ended, Listen, Wait}
 use Rattle.relay_loopback.specs.Faults.{IsListen}
@@ -20,29 +20,42 @@ pub part_none : (old : Option (List ℕ)) (bs : List ℕ) → AppendsPart old ol
 part_none old bs = (0, omega arith, Appends-nil old)
 
 -- writing all bytes writes a prefix
-pub part_whole : (old new : Option (List ℕ)) (bs : List ℕ) → Appends old new bs → AppendsPart old new bs
-part_whole old new bs wrote = (length bs, omega arith, subst (Appends old new) (sym (take-length bs)) wrote)
+pub part_whole : (old new : Option (List ℕ)) (bs : List ℕ) → Appends old new bs
+    → AppendsPart old new bs
+part_whole old new bs wrote =
+    (length bs, omega arith, subst (Appends old new) (sym (take-length bs)) wrote)
 
 -- a prefix of the first bytes is a prefix of the whole
-pub part_front : (old new : Option (List ℕ)) (bs more : List ℕ) → AppendsPart old new bs → AppendsPart old new (bs ++ more)
-part_front old new bs more (n, few, wrote) =
-    (n, omega (arith, few, length-append bs more), subst (Appends old new) (sym (take-append-le n bs more few)) wrote)
+pub part_front : (old new : Option (List ℕ)) (bs more : List ℕ) → AppendsPart old new bs
+    → AppendsPart old new (bs ++ more)
+part_front old new bs more (n, few, wrote) = (
+  n,
+  omega (arith, few, length-append bs more),
+  subst (Appends old new) (sym (take-append-le n bs more few)) wrote,
+)
 
 -- the first bytes, then a prefix of the rest, are a prefix of the whole
-part_behind : (old mid new : Option (List ℕ)) (bs more : List ℕ) → Appends old mid bs → AppendsPart mid new more → AppendsPart old new (bs ++ more)
+part_behind : (old mid new : Option (List ℕ)) (bs more : List ℕ) → Appends old mid bs
+    → AppendsPart mid new more → AppendsPart old new (bs ++ more)
 part_behind old mid new bs more first (n, few, wrote) = (
   length bs + n,
   omega (arith, few, length-append bs more),
-  subst (Appends old new) (sym (take-append-add bs more n)) (Appends-trans old mid new bs (take n more) first wrote),
+  subst (Appends old new) (sym (take-append-add bs more n))
+      (Appends-trans old mid new bs (take n more) first wrote),
 )
 
 -- the output of a server that ran its rounds, or ended early while printing
-pub ends_hosting : (turns port : ℕ) (ended : Result (Unit {0}) ServeFault) (old new : Option (List ℕ)) → OnOk ended (Appends old new (served_text port turns))
-    → OnErr ended (AppendsPart old new (served_text port turns)) → IfErr ended (λ fault. fault ≡ Ended NoMemory → Listens port old new)
-    → IfErr ended (λ fault. (fault ≡ Ended Output) ⊎ (fault ≡ Ended NoMemory)) → ServeEnds turns ended old new
+pub ends_hosting : (turns port : ℕ) (ended : Result (Unit {0}) ServeFault)
+    (old new : Option (List ℕ)) → OnOk ended (Appends old new (served_text port turns))
+    → OnErr ended (AppendsPart old new (served_text port turns))
+    → IfErr ended (λ fault. fault ≡ Ended NoMemory → Listens port old new)
+    → IfErr ended (λ fault. (fault ≡ Ended Output) ⊎ (fault ≡ Ended NoMemory))
+    → ServeEnds turns ended old new
 ends_hosting turns port (Ok u) old new all part uncut which = (port, all)
-ends_hosting turns port (Err fault) old new all part uncut (inl output) = subst (λ f. ServeEnds turns (Err f) old new) (sym output) (port, part)
-ends_hosting turns port (Err fault) old new all part uncut (inr memory) = subst (λ f. ServeEnds turns (Err f) old new) (sym memory) (port, uncut memory)
+ends_hosting turns port (Err fault) old new all part uncut (inl output) =
+    subst (λ f. ServeEnds turns (Err f) old new) (sym output) (port, part)
+ends_hosting turns port (Err fault) old new all part uncut (inr memory) =
+    subst (λ f. ServeEnds turns (Err f) old new) (sym memory) (port, uncut memory)
 
 -- all rounds are as many as a server may make
 made_all : (admin : Option ℕ) (turns : ℕ) → HasMade admin turns turns
@@ -50,99 +63,136 @@ made_all None turns = refl
 made_all (Some admin) turns = omega arith
 
 -- the same of a server without an operator's port
-pub ends_all : (admin : Option ℕ) (turns port : ℕ) (ended : Result (Unit {0}) ServeFault) (old new : Option (List ℕ)) → admin ≡ None
-    → OnOk ended (Appends old new (served_text port turns)) → OnErr ended (AppendsPart old new (served_text port turns))
-    → IfErr ended (λ fault. fault ≡ Ended NoMemory → Listens port old new) → IfErr ended (λ fault. (fault ≡ Ended Output) ⊎ (fault ≡ Ended NoMemory))
+pub ends_all : (admin : Option ℕ) (turns port : ℕ) (ended : Result (Unit {0}) ServeFault)
+    (old new : Option (List ℕ)) → admin ≡ None
+    → OnOk ended (Appends old new (served_text port turns))
+    → OnErr ended (AppendsPart old new (served_text port turns))
+    → IfErr ended (λ fault. fault ≡ Ended NoMemory → Listens port old new)
+    → IfErr ended (λ fault. (fault ≡ Ended Output) ⊎ (fault ≡ Ended NoMemory))
     → ServesUpTo admin turns ended old new
-ends_all None turns port ended old new e all part uncut which = (turns, refl, ends_hosting turns port ended old new all part uncut which)
+ends_all None turns port ended old new e all part uncut which =
+    (turns, refl, ends_hosting turns port ended old new all part uncut which)
 ends_all (Some admin) turns port ended old new e all part uncut which = absurd (cc)
 
 -- and of one with such a port, which may have made fewer rounds
-pub ends_stopped : (admin : Option ℕ) (operator turns port : ℕ) (ended : Result (Unit {0}) ServeFault) (old new : Option (List ℕ)) → admin ≡ Some operator
-    → OnOk ended ((made : ℕ) × (made ≤ turns) × Appends old new (served_text port made))
-    → OnErr ended ((made : ℕ) × (made ≤ turns) × AppendsPart old new (served_text port made))
-    → IfErr ended (λ fault. fault ≡ Ended NoMemory → Listens port old new) → IfErr ended (λ fault. (fault ≡ Ended Output) ⊎ (fault ≡ Ended NoMemory))
+pub ends_stopped : (admin : Option ℕ) (operator turns port : ℕ)
+    (ended : Result (Unit {0}) ServeFault) (old new : Option (List ℕ)) → admin ≡ Some operator
+    → OnOk ended ((rounds : ℕ) × (rounds ≤ turns) × Appends old new (served_text port rounds))
+    → OnErr ended ((rounds : ℕ) × (rounds ≤ turns) × AppendsPart old new (served_text port rounds))
+    → IfErr ended (λ fault. fault ≡ Ended NoMemory → Listens port old new)
+    → IfErr ended (λ fault. (fault ≡ Ended Output) ⊎ (fault ≡ Ended NoMemory))
     → ServesUpTo admin turns ended old new
 ends_stopped None operator turns port ended old new e all part uncut which = absurd (cc)
-ends_stopped (Some admin) operator turns port (Ok u) old new e (made, few, wrote) part uncut which = (made, few, (port, wrote))
-ends_stopped (Some admin) operator turns port (Err fault) old new e all (made, few, wrote) uncut (inl output) =
-    (made, few, subst (λ f. ServeEnds made (Err f) old new) (sym output) (port, wrote))
-ends_stopped (Some admin) operator turns port (Err fault) old new e all (made, few, wrote) uncut (inr memory) =
-    (made, few, subst (λ f. ServeEnds made (Err f) old new) (sym memory) (port, uncut memory))
+ends_stopped (Some admin) operator turns port (Ok u) old new e
+    (rounds, few, wrote) part uncut which =
+    (rounds, few, (port, wrote))
+ends_stopped (Some admin) operator turns port (Err fault) old new e all (
+  rounds,
+  few,
+  wrote,
+) uncut (inl output) =
+    (rounds, few, subst (λ f. ServeEnds rounds (Err f) old new) (sym output) (port, wrote))
+ends_stopped (Some admin) operator turns port (Err fault) old new e all (
+  rounds,
+  few,
+  wrote,
+) uncut (inr memory) =
+    (rounds, few, subst (λ f. ServeEnds rounds (Err f) old new) (sym memory) (port, uncut memory))
 
 -- without sockets nothing is printed
-pub ends_unheard : (admin : Option ℕ) (turns : ℕ) (fault : ServeFault) (old : Option (List ℕ)) → HasNoSockets fault → ServesUpTo admin turns (Err fault) old old
-ends_unheard admin turns (Listen port code) old none = (turns, made_all admin turns, refl)
+pub ends_unheard : (admin : Option ℕ) (turns : ℕ) (fault : ServeFault) (old : Option (List ℕ))
+    → HasNoSockets fault → ServesUpTo admin turns (Err fault) old old
+ends_unheard admin turns (Listen address code) old none = (turns, made_all admin turns, refl)
 ends_unheard admin turns Wait old none = (turns, made_all admin turns, refl)
 ends_unheard admin turns (Ended fault) old none = absurd none
 
 -- and that is no fault of a limit
 pub unheard_unlimited : (fault : ServeFault) → HasNoSockets fault → fault ≢ Ended BadLimit
-unheard_unlimited (Listen port code) none = λ limit. cc
+unheard_unlimited (Listen address code) none = λ limit. cc
 unheard_unlimited Wait none = λ limit. cc
 unheard_unlimited (Ended fault) none = absurd none
 
 -- so ends a port that cannot be opened
 pub listen_none : (fault : ServeFault) → IsListen fault → HasNoSockets fault
-listen_none (Listen port code) is = tt
+listen_none (Listen address code) is = tt
 listen_none Wait is = absurd is
 listen_none (Ended fault) is = absurd is
 
--- ---- want of memory cuts no line
+-- ---- out of memory cuts no line
 
-pub uncut_first : {E : Type 0} (r : Result E ServeFault) (old new : Option (List ℕ)) (port : ℕ) → IfErr r (λ fault. fault ≡ Ended NoMemory → new ≡ old)
+pub uncut_first : {E : Type 0} (r : Result E ServeFault) (old new : Option (List ℕ)) (port : ℕ)
+    → IfErr r (λ fault. fault ≡ Ended NoMemory → new ≡ old)
     → IfErr r (λ fault. fault ≡ Ended NoMemory → Listens port old new)
 uncut_first (Ok x) old new port none = tt
-uncut_first (Err fault) old new port none = λ memory. inl (subst (Keeps old) (sym (none memory)) (Keeps-refl old))
+uncut_first (Err fault) old new port none =
+    λ memory. inl (subst (Keeps old) (sym (none memory)) (Keeps-refl old))
 
-pub uncut_last : {E : Type 0} (r : Result E ServeFault) (old mid new : Option (List ℕ)) (port : ℕ) → Appends old mid (listening_text port)
-    → IfErr r (λ fault. fault ≡ Ended NoMemory → new ≡ mid) → IfErr r (λ fault. fault ≡ Ended NoMemory → Listens port old new)
+pub uncut_last : {E : Type 0} (r : Result E ServeFault) (old mid new : Option (List ℕ)) (port : ℕ)
+    → Appends old mid (listening_text port)
+    → IfErr r (λ fault. fault ≡ Ended NoMemory → new ≡ mid)
+    → IfErr r (λ fault. fault ≡ Ended NoMemory → Listens port old new)
 uncut_last (Ok x) old mid new port first none = tt
-uncut_last (Err fault) old mid new port first none = λ memory. inr (subst (λ c. Appends old c (listening_text port)) (sym (none memory)) first)
+uncut_last (Err fault) old mid new port first none =
+    λ memory. inr (subst (λ c. Appends old c (listening_text port)) (sym (none memory)) first)
 
 -- a last print, after what was printed
-pub then_all : {E : Type 0} (r : Result (Unit {0}) E) (old mid new : Option (List ℕ)) (bs more : List ℕ) → Appends old mid bs → OnOk r (Appends mid new more)
+pub then_all : {E : Type 0} (r : Result (Unit {0}) E) (old mid new : Option (List ℕ))
+    (bs more : List ℕ) → Appends old mid bs → OnOk r (Appends mid new more)
     → OnOk r (Appends old new (bs ++ more))
 then_all (Ok u) old mid new bs more first last = Appends-trans old mid new bs more first last
 then_all (Err fault) old mid new bs more first last = tt
 
-pub then_part : {E : Type 0} (r : Result (Unit {0}) E) (old mid new : Option (List ℕ)) (bs more : List ℕ) → Appends old mid bs
+pub then_part : {E : Type 0} (r : Result (Unit {0}) E) (old mid new : Option (List ℕ))
+    (bs more : List ℕ) → Appends old mid bs
     → OnErr r (AppendsPart mid new more) → OnErr r (AppendsPart old new (bs ++ more))
 then_part (Ok u) old mid new bs more first last = tt
 then_part (Err fault) old mid new bs more first last = part_behind old mid new bs more first last
 
 -- a server whose hub cannot be created printed nothing
-pub ends_unmade : (admin : Option ℕ) (turns : ℕ) (fault : HubNewFault) (old : Option (List ℕ)) → ServesUpTo admin turns (Err (Ended (not_made fault))) old old
-ends_unmade admin turns made.BadLimit old = (turns, made_all admin turns, refl)
-ends_unmade admin turns made.NoMemory old = (turns, made_all admin turns, (0, inl (Keeps-refl old)))
+pub ends_unmade : (admin : Option ℕ) (turns : ℕ) (fault : HubNewFault) (old : Option (List ℕ))
+    → ServesUpTo admin turns (Err (Ended (not_made fault))) old old
+ends_unmade admin turns hub_fault.BadLimit old = (turns, made_all admin turns, refl)
+ends_unmade admin turns hub_fault.NoMemory old =
+    (turns, made_all admin turns, (0, inl (Keeps-refl old)))
 
 -- The output of a server that may be stopped, for some number of rounds.
 
 -- the last line, behind the first
-pub then_all_made : {E : Type 0} (r : Result (Unit {0}) E) (old mid new : Option (List ℕ)) (port made turns : ℕ) → made ≤ turns
-    → Appends old mid (listening_text port) → OnOk r (Appends mid new (turns_text made))
+pub then_all_made : {E : Type 0} (r : Result (Unit {0}) E) (old mid new : Option (List ℕ))
+    (port rounds turns : ℕ) → rounds ≤ turns
+    → Appends old mid (listening_text port) → OnOk r (Appends mid new (turns_text rounds))
     → OnOk r ((count : ℕ) × (count ≤ turns) × Appends old new (served_text port count))
-then_all_made (Ok u) old mid new port made turns few first last = (made, few, Appends-trans old mid new (listening_text port) (turns_text made) first last)
-then_all_made (Err fault) old mid new port made turns few first last = tt
+then_all_made (Ok u) old mid new port rounds turns few first last =
+    (rounds, few, Appends-trans old mid new (listening_text port) (turns_text rounds) first last)
+then_all_made (Err fault) old mid new port rounds turns few first last = tt
 
 -- or a part of it
-pub then_part_made : {E : Type 0} (r : Result (Unit {0}) E) (old mid new : Option (List ℕ)) (port made turns : ℕ) → made ≤ turns
-    → Appends old mid (listening_text port) → OnErr r (AppendsPart mid new (turns_text made))
+pub then_part_made : {E : Type 0} (r : Result (Unit {0}) E) (old mid new : Option (List ℕ))
+    (port rounds turns : ℕ) → rounds ≤ turns
+    → Appends old mid (listening_text port) → OnErr r (AppendsPart mid new (turns_text rounds))
     → OnErr r ((count : ℕ) × (count ≤ turns) × AppendsPart old new (served_text port count))
-then_part_made (Ok u) old mid new port made turns few first last = tt
-then_part_made (Err fault) old mid new port made turns few first last = (made, few, part_behind old mid new (listening_text port) (turns_text made) first last)
+then_part_made (Ok u) old mid new port rounds turns few first last = tt
+then_part_made (Err fault) old mid new port rounds turns few first last =
+    (rounds, few, part_behind old mid new (listening_text port) (turns_text rounds) first last)
 
 -- or a part of the first line
-pub front_made : (old new : Option (List ℕ)) (port turns : ℕ) → AppendsPart old new (listening_text port)
+pub front_made : (old new : Option (List ℕ)) (port turns : ℕ)
+    → AppendsPart old new (listening_text port)
     → (count : ℕ) × (count ≤ turns) × AppendsPart old new (served_text port count)
-front_made old new port turns part = (0, omega arith, part_front old new (listening_text port) (turns_text 0) part)
+front_made old new port turns part =
+    (0, omega arith, part_front old new (listening_text port) (turns_text 0) part)
 
 -- or nothing
-pub none_made : (old : Option (List ℕ)) (port turns : ℕ) → (count : ℕ) × (count ≤ turns) × AppendsPart old old (served_text port count)
+pub none_made : (old : Option (List ℕ)) (port turns : ℕ)
+    → (count : ℕ) × (count ≤ turns) × AppendsPart old old (served_text port count)
 none_made old port turns = front_made old old port turns (part_none old (listening_text port))
 
 -- what ended for its output, or for memory, did not end for a limit
-pub never_limited : {A : Type 0} (r : Result A ServeFault) → IfErr r (λ fault. (fault ≡ Ended Output) ⊎ (fault ≡ Ended NoMemory)) → IfErr r (λ fault. fault ≢ Ended BadLimit)
+pub never_limited : {A : Type 0} (r : Result A ServeFault)
+    → IfErr r (λ fault. (fault ≡ Ended Output) ⊎ (fault ≡ Ended NoMemory))
+    → IfErr r (λ fault. fault ≢ Ended BadLimit)
 never_limited (Ok x) h = tt
-never_limited (Err e) (inl h) = λ limit. let same : Ended Output ≡ Ended BadLimit = sym h ∙ limit in absurd (cc same)
-never_limited (Err e) (inr h) = λ limit. let same : Ended NoMemory ≡ Ended BadLimit = sym h ∙ limit in absurd (cc same)
+never_limited (Err e) (inl h) =
+    λ limit. let same : Ended Output ≡ Ended BadLimit = sym h ∙ limit in absurd (cc same)
+never_limited (Err e) (inr h) =
+    λ limit. let same : Ended NoMemory ≡ Ended BadLimit = sym h ∙ limit in absurd (cc same)

@@ -10,9 +10,15 @@ settings_fit settings fit (inl epoch) = omega (arith, epoch, fit.epoch)
 settings_fit settings fit (inr (inl first)) = omega (arith, first)
 settings_fit settings fit (inr (inr (inl none))) = omega (arith, none, fit.some_history)
 settings_fit settings fit (inr (inr (inr (inl more)))) = omega (arith, more, fit.history)
-settings_fit settings fit (inr (inr (inr (inr (inl none))))) = omega (arith, none, fit.some_waiting_patches)
-settings_fit settings fit (inr (inr (inr (inr (inr (inl more)))))) = omega (arith, more, fit.max_waiting_patches)
-settings_fit settings fit (inr (inr (inr (inr (inr (inr (inl none))))))) = omega (arith, none, fit.some_rooms)
-settings_fit settings fit (inr (inr (inr (inr (inr (inr (inr (inl more)))))))) = omega (arith, more, fit.rooms)
-settings_fit settings fit (inr (inr (inr (inr (inr (inr (inr (inr (inl none))))))))) = omega (arith, none, fit.some_sessions)
-settings_fit settings fit (inr (inr (inr (inr (inr (inr (inr (inr (inr more))))))))) = omega (arith, more, fit.sessions)
+settings_fit settings fit (inr (inr (inr (inr (inl none))))) =
+    omega (arith, none, fit.some_waiting_patches)
+settings_fit settings fit (inr (inr (inr (inr (inr (inl more)))))) =
+    omega (arith, more, fit.max_waiting_patches)
+settings_fit settings fit (inr (inr (inr (inr (inr (inr (inl none))))))) =
+    omega (arith, none, fit.some_rooms)
+settings_fit settings fit (inr (inr (inr (inr (inr (inr (inr (inl more)))))))) =
+    omega (arith, more, fit.rooms)
+settings_fit settings fit (inr (inr (inr (inr (inr (inr (inr (inr (inl none))))))))) =
+    omega (arith, none, fit.some_sessions)
+settings_fit settings fit (inr (inr (inr (inr (inr (inr (inr (inr (inr more))))))))) =
+    omega (arith, more, fit.sessions)

@@ -1,7 +1,7 @@
 -- The configuration of a job's hub.
 use Rattle.relay_hub.specs.Config.{bounded_by}
 use Rattle.relay_hub.specs.declared.config.HubConfig.{HubConfig}
-use Rattle.relay_lines.specs.declared.script.TheConstants.{FIRST_SESSION}
+use Rattle.relay_script.specs.declared.script.TheConstants.{FIRST_SESSION}
 use Rattle.relay_options.specs.declared.settings.Settings.{Settings}
 
 -- the hub configuration for some settings, with the number of the first session

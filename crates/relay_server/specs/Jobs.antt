@@ -11,15 +11,15 @@ use Rattle.relay_options.specs.declared.job.Stop.TheVariants as stop
 use Rattle.relay_options.specs.declared.settings.Settings.{Settings}
 use Rattle.relay_options.specs.CommandLine.{AskFor}
 use Rattle.relay_options.specs.Ranges.{IsPossible}
-use Rattle.relay_lines.specs.Follow as follow
-use Rattle.relay_lines.specs.Lines.{AppendsPart}
-use Rattle.relay_lines.specs.Respond.{Answering, AnswersAll, AnswersSome}
-use Rattle.relay_lines.specs.Script.{HubAnswers, new_stage}
+use Rattle.relay_script.specs.Follow as follow
+use Rattle.relay_script.specs.Lines.{AppendsPart}
+use Rattle.relay_script.specs.Respond.{Answering, AnswersAll, AnswersSome}
+use Rattle.relay_script.specs.Script.{HubAnswers, new_stage}
 use Rattle.relay_server.specs.Config.{config_of}
 use Rattle.relay_loopback.specs.Loopback.{LoopbackAnswers, unopened}
 use Rattle.relay_server.specs.Printed.{listening_text, served_text}
-use Rattle.relay_lines.specs.declared.fault.ScriptFault.{ScriptFault}
-use Rattle.relay_lines.specs.declared.fault.ScriptFault.TheVariants.{BadLimit, NoMemory}
+use Rattle.relay_script.specs.declared.fault.ScriptFault.{ScriptFault}
+use Rattle.relay_script.specs.declared.fault.ScriptFault.TheVariants.{BadLimit, NoMemory}
 use Rattle.relay_loopback.specs.declared.fault.ServeFault.{ServeFault}
 use Rattle.relay_loopback.specs.declared.fault.ServeFault.TheVariants as serve
 use Rattle.relay_server.specs.declared.status.Status.{Status}
@@ -37,16 +37,21 @@ status_of (Err BadLimit) = is.Misused
 status_of (Err NoMemory) = is.NoMemory
 status_of (Err _) = is.Failed
 
--- How a run ends, by the input before it, what is left of the input, and what was written before and after. On success every
--- line was answered and none is left. At `BadLimit` nothing was read or written. At another fault the first lines were answered.
-abbrev pub Ends : {S : Type 0} → Answering S → S → Result (Unit {0}) ScriptFault → Option (List ℕ) → Option (List ℕ) → Option (List ℕ) → Option (List ℕ) → Type 0
+-- How a run ends, by the input before it, what is left of the input, and what was written before
+-- and after. On success every line was answered and none is left. At `BadLimit` nothing was read or
+-- written. At another fault the first lines were answered.
+abbrev pub Ends : {S : Type 0} → Answering S → S → Result (Unit {0}) ScriptFault → Option (List ℕ)
+    → Option (List ℕ) → Option (List ℕ) → Option (List ℕ) → Type 0
 Ends answers from (Ok u) input left old new = AnswersAll answers from input old new × IsAtEnd left
 Ends answers from (Err BadLimit) input left old new = (left ≡ input) × (new ≡ old)
 Ends answers from (Err fault) input left old new = AnswersSome answers fault from input old new
 
--- the same for a job that ends with this status, and at `BadLimit` exactly if a limit is out of range
-abbrev pub EndsAs : {S : Type 0} → Answering S → S → Type 0 → Status → Option (List ℕ) → Option (List ℕ) → Option (List ℕ) → Option (List ℕ) → Type 0
-EndsAs answers from is_bad status input left old new = (ended : Result (Unit {0}) ScriptFault) × (status ≡ status_of ended)
+-- the same for a job that ends with this status, and at `BadLimit` exactly if a limit is out of
+-- range
+abbrev pub EndsAs : {S : Type 0} → Answering S → S → Type 0 → Status → Option (List ℕ)
+    → Option (List ℕ) → Option (List ℕ) → Option (List ℕ) → Type 0
+EndsAs answers from is_bad status input left old new =
+    (ended : Result (Unit {0}) ScriptFault) × (status ≡ status_of ended)
     × (IsErrOf ended BadLimit ↔ is_bad) × Ends answers from ended input left old new
 
 -- The jobs with sockets.
@@ -57,9 +62,11 @@ sockets_status (Err (serve.Ended fault)) = status_of (Err fault)
 sockets_status (Err _) = is.Failed
 
 -- the run ends as a script does; or it had no sockets, and nothing was read or written
-abbrev pub LoopEnds : Result (Unit {0}) ServeFault → Option (List ℕ) → Option (List ℕ) → Option (List ℕ) → Option (List ℕ) → Type 0
+abbrev pub LoopEnds : Result (Unit {0}) ServeFault → Option (List ℕ) → Option (List ℕ)
+    → Option (List ℕ) → Option (List ℕ) → Type 0
 LoopEnds (Ok u) input left old new = Ends LoopbackAnswers unopened (Ok u) input left old new
-LoopEnds (Err (serve.Ended fault)) input left old new = Ends LoopbackAnswers unopened (Err fault) input left old new
+LoopEnds (Err (serve.Ended fault)) input left old new =
+    Ends LoopbackAnswers unopened (Err fault) input left old new
 LoopEnds (Err _) input left old new = (left ≡ input) × (new ≡ old)
 
 -- there were no sockets, or no poll of them
@@ -71,37 +78,49 @@ HasNoSockets _ = ⊤
 abbrev pub Listens : ℕ → Option (List ℕ) → Option (List ℕ) → Type 0
 Listens port old new = Keeps old new ⊎ Appends old new (listening_text port)
 
--- How a server that made `turns` rounds ends, by what was written before and after. On success it wrote both of its lines, for
--- some port. At `BadLimit`, or without sockets, it wrote nothing; at `NoMemory`, nothing or the first line; at another fault, a
--- prefix of both lines.
+-- How a server that made `turns` rounds ends, by what was written before and after. On success it
+-- wrote both of its lines, for some port. At `BadLimit`, or without sockets, it wrote nothing; at
+-- `NoMemory`, nothing or the first line; at another fault, a prefix of both lines.
 abbrev pub ServeEnds : ℕ → Result (Unit {0}) ServeFault → Option (List ℕ) → Option (List ℕ) → Type 0
 ServeEnds turns (Ok u) old new = (port : ℕ) × Appends old new (served_text port turns)
 ServeEnds turns (Err (serve.Ended BadLimit)) old new = new ≡ old
 ServeEnds turns (Err (serve.Ended NoMemory)) old new = (port : ℕ) × Listens port old new
-ServeEnds turns (Err (serve.Ended fault)) old new = (port : ℕ) × AppendsPart old new (served_text port turns)
+ServeEnds turns (Err (serve.Ended fault)) old new =
+    (port : ℕ) × AppendsPart old new (served_text port turns)
 ServeEnds turns (Err _) old new = new ≡ old
 
--- How many rounds a server made that should run `turns`: all of them, or, if it has an operator's port, no more.
+-- How many rounds a server made that should run `turns`: all of them, or, if it has an operator's
+-- port, no more.
 abbrev pub HasMade : Option ℕ → ℕ → ℕ → Type 0
-HasMade None turns made = made ≡ turns
-HasMade (Some admin) turns made = made ≤ turns
+HasMade None turns rounds = rounds ≡ turns
+HasMade (Some admin) turns rounds = rounds ≤ turns
 
 -- how a server ends that should run `turns` rounds, and may have an operator's port
-abbrev pub ServesUpTo : Option ℕ → ℕ → Result (Unit {0}) ServeFault → Option (List ℕ) → Option (List ℕ) → Type 0
-ServesUpTo admin turns ended old new = (made : ℕ) × HasMade admin turns made × ServeEnds made ended old new
+abbrev pub ServesUpTo : Option ℕ → ℕ → Result (Unit {0}) ServeFault → Option (List ℕ)
+    → Option (List ℕ) → Type 0
+ServesUpTo admin turns ended old new =
+    (rounds : ℕ) × HasMade admin turns rounds × ServeEnds rounds ended old new
 
--- the same for a job that ends with this status, and at `BadLimit` exactly if a limit is out of range
+-- the same for a job that ends with this status, and at `BadLimit` exactly if a limit is out of
+-- range
 abbrev pub EndsBy : (Result (Unit {0}) ServeFault → Type 0) → Settings → Status → Type 0
-EndsBy ends settings status = (ended : Result (Unit {0}) ServeFault) × (status ≡ sockets_status ended)
+EndsBy ends settings status =
+    (ended : Result (Unit {0}) ServeFault) × (status ≡ sockets_status ended)
     × (IsErrOf ended (serve.Ended BadLimit) ↔ BadLimits (config_of settings)) × ends ended
 
 -- How a job ends. A server reads nothing.
-abbrev pub JobEnds : Job → Status → Option (List ℕ) → Option (List ℕ) → Option (List ℕ) → Option (List ℕ) → Type 0
+abbrev pub JobEnds : Job → Status → Option (List ℕ) → Option (List ℕ) → Option (List ℕ)
+    → Option (List ℕ) → Type 0
 JobEnds (job.Script settings) status input left old new =
-    EndsAs HubAnswers (new_stage (config_of settings)) (BadLimits (config_of settings)) status input left old new
-JobEnds job.Follow status input left old new = EndsAs follow.Answers None ⊥ status input left old new
-JobEnds (job.Loop settings) status input left old new = EndsBy (λ ended. LoopEnds ended input left old new) settings status
-JobEnds (job.Serve port admin turns log forget_rooms output_mib settings) status input left old new = (left ≡ input) × EndsBy (λ ended. ServesUpTo admin turns ended old new) settings status
+    EndsAs HubAnswers (new_stage (config_of settings)) (BadLimits (config_of settings)) status
+    input left old new
+JobEnds job.Follow status input left old new =
+    EndsAs follow.Answers None ⊥ status input left old new
+JobEnds (job.Loop settings) status input left old new =
+    EndsBy (λ ended. LoopEnds ended input left old new) settings status
+JobEnds (job.Serve listen port admin turns log forget_rooms closed output_mib settings) status
+    input left old new =
+    (left ≡ input) × EndsBy (λ ended. ServesUpTo admin turns ended old new) settings status
 
 -- the text was written, or a prefix of it if the writer failed
 abbrev pub Shows : List ℕ → Status → Option (List ℕ) → Option (List ℕ) → Type 0
@@ -123,8 +142,8 @@ WordsEnd words status input left old new = ((now : Option ℕ) × (job : Job) ×
     × AskFor words now job × JobEnds job status input left old new)
     ⊎ ((why : Stop) × (left ≡ input) × StopEnds why status old new)
 
--- The status if the arguments could not be read: one of them is not UTF-8, which is a fault of the arguments; out of memory; or
--- the system failed.
+-- The status if the arguments could not be read: one of them is not UTF-8, which is a fault of the
+-- arguments; out of memory; or the system failed.
 abbrev pub unread_status : ErrorKind → Status
 unread_status kind.InvalidData = is.Misused
 unread_status kind.OutOfMemory = is.NoMemory

@@ -1,4 +1,5 @@
--- The output of a server: a line with the port that it listens on, and, at its end, one with the number of rounds that it ran.
+-- The output of a server: a line with the port that it listens on, and, at its end, one with the
+-- number of rounds that it ran.
 use Rattle.std.specs.Prelude.{ℕ, List, ◌++◌, codes, decimal}
 
 -- a line of a word and a number

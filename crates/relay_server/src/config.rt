@@ -4,8 +4,8 @@ ghost use Rattle.relay_hub.specs.Config.{bounded_by};
 ghost use Rattle.relay_server.specs.Config.{config_of};
 
 use relay_hub::HubConfig;
-use relay_lines::FIRST_SESSION;
 use relay_options::Settings;
+use relay_script::FIRST_SESSION;
 use relay_tree::Budget;
 
 /// The hub configuration for some settings. Sessions are numbered from [`FIRST_SESSION`].

@@ -3,24 +3,25 @@ ghost use Rattle.std.specs.Prelude.{◌≡◌, ◌↔◌, IsErrOf, map, string_b
 ghost use Rattle.relay_hub.specs.Queries.{BadLimits};
 ghost use Rattle.relay_server.specs.Config.{config_of};
 ghost use Rattle.relay_server.specs.Jobs.{JobEnds, LoopEnds, Starts, StopEnds, code_of, sockets_status, unread_status};
-ghost use Rattle.relay_lines.specs.declared.fault.ScriptFault.TheVariants.{BadLimit};
+ghost use Rattle.relay_script.specs.declared.fault.ScriptFault.TheVariants.{BadLimit};
 ghost use Rattle.relay_loopback.specs.declared.fault.ServeFault.TheVariants.{Ended};
 
 use crate::config::config_of;
-use crate::serve::{Served, serve};
+use crate::serve::{ServeOptions, serve};
 use crate::status::{Status, report, say};
-use relay_lines::{Script, ScriptFault, run_follow, run_lines, run_script, write_whole};
 use relay_loopback::{Loopback, ServeFault};
 use relay_options::{Job, Settings, Stop, job_of};
+use relay_script::{Script, ScriptFault, run_follow, run_lines, run_script, write_whole};
 use std::alloc::{AllocGlobal, Global};
 use std::io::{self, ErrorKind, Read, Write};
 use std::net::Net;
 use std::time::Clock;
 
-/// Runs the job that the arguments `words` ask for, over a reader and a writer, and reports faults on `errors`. The first word is the
-/// program's name. Returns the exit status: 0 if all was done or help was asked for, 1 for a fault of input, output, a line, a port or
-/// sockets, 2 for a fault of the arguments, 3 if out of memory. Requested help goes to the writer. If the arguments ask for no job,
-/// nothing is read.
+/// Runs the job that the arguments `words` ask for, over a reader and a writer, and reports faults
+/// on `errors`. The first word is the program's name. Returns the exit status: 0 if all was done or
+/// help was asked for, 1 for a fault of input, output, a line, a port or sockets, 2 for a fault of
+/// the arguments, 3 if out of memory. Requested help goes to the writer. If the arguments ask for
+/// no job, nothing is read.
 pub fn start<H: AllocGlobal + Clock + Net, R: Read, W: Write, E: Write>(
     rt: &H,
     words: &[String],
@@ -43,8 +44,8 @@ fn seconds_since_1970<C: Clock>(clock: &C) -> Option<u64> {
     Some(clock.since_1970().ok()?.as_secs())
 }
 
-/// Reports on `errors` why the arguments could not be read. Returns the exit status: 2 if one of them is not UTF-8, 3 if out of
-/// memory, otherwise 1.
+/// Reports on `errors` why the arguments could not be read. Returns the exit status: 2 if one of
+/// them is not UTF-8, 3 if out of memory, otherwise 1.
 pub fn refuse_words<E: Write>(why: ErrorKind, errors: &mut E) -> u8
     ensures { result ≡ code_of (unread_status why) }
 {
@@ -71,7 +72,8 @@ pub fn carry_out<N: Clock + Net, R: Read, W: Write, E: Write>(
     writer: &mut W,
     errors: &mut E,
 ) -> Status
-    ensures { JobEnds job result (R.remaining reader.old) (R.remaining reader.new) (W.contents writer.old) (W.contents writer.new) }
+    ensures { JobEnds job result (R.remaining reader.old) (R.remaining reader.new)
+        (W.contents writer.old) (W.contents writer.new) }
 {
     match job {
         Job::Script(settings) => report(
@@ -84,23 +86,27 @@ pub fn carry_out<N: Clock + Net, R: Read, W: Write, E: Write>(
             report_sockets(ended, errors)
         }
         Job::Serve {
+            listen,
             port,
             admin,
             turns,
             log,
             forget_rooms,
+            closed,
             output_mib,
             settings,
         } => {
-            let served = Served {
+            let options = ServeOptions {
+                listen,
                 port,
                 admin,
                 turns,
                 log,
                 forget_rooms,
+                closed,
                 output_mib,
             };
-            let ended = serve(alloc, net, writer, errors, served, settings);
+            let ended = serve(alloc, net, writer, errors, options, settings);
             report_sockets(ended, errors)
         }
     }
@@ -114,7 +120,8 @@ fn run_loop<N: Net, R: Read, W: Write>(
     writer: &mut W,
     settings: Settings,
 ) -> Result<(), ServeFault>
-    ensures ends { LoopEnds result (R.remaining reader.old) (R.remaining reader.new) (W.contents writer.old) (W.contents writer.new) }
+    ensures ends { LoopEnds result (R.remaining reader.old) (R.remaining reader.new)
+        (W.contents writer.old) (W.contents writer.new) }
     ensures bad_limit { IsErrOf result (Ended BadLimit) ↔ BadLimits (config_of settings) }
 {
     let loopback = Loopback::new(alloc, net, config_of(settings))?;
@@ -128,8 +135,8 @@ fn report_sockets<E: Write>(ended: Result<(), ServeFault>, errors: &mut E) -> St
 {
     match ended {
         Ok(()) => Status::Done,
-        Err(ServeFault::Listen { port, code }) => {
-            let _ = writeln!(errors, "relay: cannot listen on port {port}");
+        Err(ServeFault::Listen { address, code }) => {
+            let _ = writeln!(errors, "relay: cannot listen on {address}");
             say_code(code, errors);
             Status::Failed
         }

@@ -1,10 +1,10 @@
-//! The program `relay` as a library over any reader and writer (`docs/PROTOCOL.md`): its jobs, from command-line arguments to an exit
-//! status. Scripts and followers are in `relay_lines`, loopback sockets in `relay_loopback`, and the rounds of a server in
-//! `relay_serving`.
+//! The program `relay` as a library over any reader and writer (`docs/PROTOCOL.md`): its jobs, from
+//! command-line arguments to an exit status. Scripts and followers are in `relay_script`, loopback
+//! sockets in `relay_loopback`, and the rounds of a server in `relay_event_loop`.
 #![tactic(auto)]
 
+mod bound_listener;
 mod config;
-mod entrance;
 mod jobs;
 mod log_level;
 mod log_lines;
@@ -16,13 +16,14 @@ mod status;
 pub use jobs::{carry_out, refuse_words, start};
 pub use log_lines::LogLines;
 pub use polled_output::PolledOutput;
-pub use relay_lines::{
-    MAX_LINE, MAX_LINES, Respond, Script, ScriptFault, Transport, run_follow, run_script,
+pub use relay_event_loop::{
+    ConnectionId, ConnectionLog, HandshakeRefusal, LogEntry, NoLog, RoomSession, Server,
+    connection_limit,
 };
-pub use relay_link::Cause;
+pub use relay_link::EndCause;
 pub use relay_loopback::{Client, ClientHandshake, ServeFault};
 pub use relay_operator::{AdminPort, AdminReadiness, Polling, Readiness, ReadyEvent, StreamReady};
-pub use relay_serving::{
-    ConnectionId, ConnectionLog, LogEntry, NoLog, Refusal, RoomSession, Server, connection_limit,
+pub use relay_script::{
+    MAX_LINE, MAX_LINES, Respond, Script, ScriptFault, Transport, run_follow, run_script,
 };
 pub use status::{Status, report};

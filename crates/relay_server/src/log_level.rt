@@ -1,6 +1,6 @@
 //! The level of a log line.
-use relay_link::Cause;
-use relay_serving::{LogEntry, Refusal};
+use relay_event_loop::{HandshakeRefusal, LogEntry};
+use relay_link::EndCause;
 use std::fmt;
 use std::fmt::{Display, Formatter};
 
@@ -18,11 +18,11 @@ impl LogLevel {
         match entry {
             LogEntry::Opened { .. }
             | LogEntry::Refused {
-                refusal: Refusal::Status(_),
+                refusal: HandshakeRefusal::Status(_) | HandshakeRefusal::Closed,
                 ..
             } => LogLevel::Info,
             LogEntry::Ended { cause, .. } => match cause {
-                Cause::Memory | Cause::Full => LogLevel::Warn,
+                EndCause::Memory | EndCause::Full => LogLevel::Warn,
                 _ => LogLevel::Info,
             },
             LogEntry::Refused { .. } | LogEntry::Evicted { .. } | LogEntry::OutOfMemory =>

@@ -1,14 +1,14 @@
 //! The lines that `serve --log` writes.
 use crate::log_level::LogLevel;
 use crate::rfc3339::Rfc3339;
-use relay_serving::{ConnectionLog, LogEntry};
+use relay_event_loop::{ConnectionLog, LogEntry};
 use std::alloc::{AllocError, Global};
 use std::fmt::Display;
 use std::io::Write;
 use std::time::{Clock, Duration};
 
-/// A log that writes one line for each entry, with the time and the level, each by one write. A line that the writer does not take is
-/// dropped. The next line that it takes says how many were.
+/// A log that writes one line for each entry, with the time and the level, each by one write. A
+/// line that the writer does not take is dropped. The next line that it takes says how many were.
 #[derive(Drop)]
 pub struct LogLines<'a, W, C> {
     writer: &'a mut W,

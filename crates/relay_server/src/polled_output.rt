@@ -8,12 +8,13 @@ use std::net::Net;
 use std::os::fd::AsRawFd;
 use std::time::Duration;
 
-/// The most bytes that one write passes on. A pipe that is writable takes as many without waiting (`PIPE_BUF`).
+/// The most bytes that one write passes on. A pipe that is writable takes as many without waiting
+/// (`PIPE_BUF`).
 const MAX_WRITE: usize = 4_096;
 
-/// A writer over a descriptor that another program reads. A write passes on at most 4,096 bytes, and returns `WouldBlock` in place of
-/// waiting until they are taken. The descriptor may block: other processes may share it, so it is asked before each write, and its mode
-/// stays as it is.
+/// A writer over a descriptor that another program reads. A write passes on at most 4,096 bytes,
+/// and returns `WouldBlock` in place of waiting until they are taken. The descriptor may block:
+/// other processes may share it, so it is asked before each write, and its mode stays as it is.
 #[derive(Drop)]
 pub struct PolledOutput<W> {
     output: W,
@@ -21,8 +22,8 @@ pub struct PolledOutput<W> {
 }
 
 impl<W: Write + AsRawFd> PolledOutput<W> {
-    /// Watches a descriptor. A file is never waited for, and is written to without being asked. So is a descriptor that the system does not
-    /// watch, for whatever reason: a write to it may wait.
+    /// Watches a descriptor. A file is never waited for, and is written to without being asked. So
+    /// is a descriptor that the system does not watch, for whatever reason: a write to it may wait.
     pub fn new<N: Net>(alloc: Global, net: &N, output: W) -> PolledOutput<W>
     where
         W: Drop,
@@ -71,7 +72,8 @@ impl OutputReadiness {
         })
     }
 
-    /// Whether a write would not wait. An event comes only at a change, so the descriptor is registered again before it is asked.
+    /// Whether a write would not wait. An event comes only at a change, so the descriptor is
+    /// registered again before it is asked.
     fn is_writable(&mut self) -> bool {
         let mut source = SourceFd(&self.descriptor);
         let again = self

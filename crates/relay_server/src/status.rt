@@ -2,7 +2,7 @@
 ghost use Rattle.std.specs.Prelude.{◌≡◌, Err};
 ghost use Rattle.relay_server.specs.Jobs.{code_of, status_of};
 
-use relay_lines::ScriptFault;
+use relay_script::ScriptFault;
 use std::io::Write;
 
 /// The exit statuses of the program.

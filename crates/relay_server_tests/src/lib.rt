@@ -1,8 +1,8 @@
-//! Tests of the command line and of the program: its statuses and texts, the limits on lines, failing streams, a faulty network, `serve`,
-//! and its log.
+//! Tests of the command line and of the program: its statuses and texts, the limits on lines,
+//! failing streams, a faulty network, `serve`, and its log.
 //!
-//! They test what no script can. The answers to lines are data in `tests/scripts`. Each module has rows of text, and a subject that
-//! does their acts.
+//! They test what no script can. The answers to lines are data in `tests/scripts`. Each module has
+//! rows of text, and a subject that does their acts.
 #![tactic(auto)]
 
 #[cfg(test)]

@@ -2,7 +2,7 @@
 use crate::story::{number, on_one_line, played};
 use relay_options::{MAX_HISTORY, MAX_ROOMS, MAX_SESSIONS, MAX_WAITING_PATCHES};
 use relay_server::{MAX_LINE, MAX_LINES, connection_limit};
-use relay_wire::{Subject, cut, play};
+use relay_test_stream::{Subject, cut, play};
 use std::alloc::{AllocGlobal, Global};
 
 const ROWS: &str = r#"
@@ -69,8 +69,9 @@ fn connections(alloc: Global, sessions: &str) -> Option<String> {
     format!(in alloc; "{limit}").ok()
 }
 
-/// The output of a script, and the fault that ended it, if there was one. The words are the number of revisions of its histories and that of
-/// patches in its outboxes, the number of lines, the length of a comment after them, and the lines' text.
+/// The output of a script, and the fault that ended it, if there was one. The words are the number
+/// of revisions of its histories and that of patches in its outboxes, the number of lines, the
+/// length of a comment after them, and the lines' text.
 fn play_script(alloc: Global, words: &str) -> Option<String> {
     let (history, words) = cut(words);
     let (max_waiting_patches, words) = cut(words);

@@ -1,7 +1,9 @@
 //! Tests of the log's lines: their time and level, and what becomes of those that nobody takes.
 use crate::story::{number, on_one_line, text_of};
-use relay_server::{Cause, ConnectionId, ConnectionLog, LogEntry, LogLines, Refusal, RoomSession};
-use relay_wire::{Subject, cut, play};
+use relay_server::{
+    ConnectionId, ConnectionLog, EndCause, HandshakeRefusal, LogEntry, LogLines, RoomSession,
+};
+use relay_test_stream::{Subject, cut, play};
 use std::alloc::{AllocGlobal, Global};
 use std::io;
 use std::io::{ErrorKind, Write};
@@ -30,6 +32,7 @@ says refused NotFound => time=1970-01-01T00:00:00.000Z level=info event=refused 
 says refused SessionsFull => time=1970-01-01T00:00:00.000Z level=warn event=refused peer=127.0.0.1:51000 link=7 status=503 cause=sessions\n
 says refused RoomsFull => time=1970-01-01T00:00:00.000Z level=warn event=refused peer=127.0.0.1:51000 link=7 status=503 cause=rooms\n
 says refused NoMemory => time=1970-01-01T00:00:00.000Z level=warn event=refused peer=127.0.0.1:51000 link=7 status=503 cause=memory\n
+says refused Closed => time=1970-01-01T00:00:00.000Z level=info event=refused peer=127.0.0.1:51000 link=7 status=503 cause=closed\n
 
 # The words for the other causes.
 says ended Binary => time=1970-01-01T00:00:00.000Z level=info event=ended peer=127.0.0.1:51000 link=7 cause=binary rounds=3\n
@@ -87,7 +90,8 @@ impl Clock for Still {
     }
 }
 
-/// A writer whose next writes take at most so many bytes each, for 0 none and as if they had to wait. Later ones take all.
+/// A writer whose next writes take at most so many bytes each, for 0 none and as if they had to
+/// wait. Later ones take all.
 #[derive(Drop)]
 struct PlannedWriter<'a> {
     bytes: Vec<u8>,
@@ -184,27 +188,28 @@ fn entry_of(words: &str) -> Option<LogEntry<'static>> {
 }
 
 /// A reason for a refusal, by its name.
-fn refusal_of(name: &str) -> Option<Refusal> {
+fn refusal_of(name: &str) -> Option<HandshakeRefusal> {
     Some(match name {
-        "NotFound" => Refusal::Status(404),
-        "SessionsFull" => Refusal::SessionsFull,
-        "RoomsFull" => Refusal::RoomsFull,
-        "NoMemory" => Refusal::NoMemory,
+        "NotFound" => HandshakeRefusal::Status(404),
+        "SessionsFull" => HandshakeRefusal::SessionsFull,
+        "RoomsFull" => HandshakeRefusal::RoomsFull,
+        "NoMemory" => HandshakeRefusal::NoMemory,
+        "Closed" => HandshakeRefusal::Closed,
         _ => return None,
     })
 }
 
 /// A cause for an end, by its name.
-fn cause_of(name: &str) -> Option<Cause> {
+fn cause_of(name: &str) -> Option<EndCause> {
     Some(match name {
-        "Peer" => Cause::Peer,
-        "Binary" => Cause::Binary,
-        "Broken" => Cause::Broken,
-        "Stream" => Cause::Stream,
-        "Memory" => Cause::Memory,
-        "Full" => Cause::Full,
-        "Silent" => Cause::Silent,
-        "Ended" => Cause::Ended,
+        "Peer" => EndCause::Peer,
+        "Binary" => EndCause::Binary,
+        "Broken" => EndCause::Broken,
+        "Stream" => EndCause::Stream,
+        "Memory" => EndCause::Memory,
+        "Full" => EndCause::Full,
+        "Silent" => EndCause::Silent,
+        "Ended" => EndCause::Ended,
         _ => return None,
     })
 }

@@ -2,27 +2,34 @@
 use crate::story::{on_one_line, with_status};
 use relay_options::{Job, Settings};
 use relay_server::carry_out;
-use relay_wire::{Subject, cut, play};
+use relay_test_stream::{Subject, cut, play};
 use std::alloc::{AllocGlobal, Global};
 use std::io;
 use std::io::ErrorKind;
-use std::net::{Ipv4Addr, Net, OpenListener, SocketAddr, TcpStream};
+use std::net::{IpAddr, Ipv4Addr, Net, OpenListener, SocketAddr, TcpStream};
 use std::os::fd::{AsRawFd, RawFd};
 use std::time::{Clock, Duration};
 
 /// A job, and what its network lacks.
 const ROWS: &str = r#"
 # A server says what its network lacks. It prints nothing before it listens and its poll is set up.
-serve Port => relay: cannot listen on port 7\nstatus 1
-serve NonBlocking => relay: cannot listen on port 7\nstatus 1
-serve Address => relay: cannot listen on port 7\nstatus 1
+serve Port => relay: cannot listen on 127.0.0.1:7\nstatus 1
+serve NonBlocking => relay: cannot listen on 127.0.0.1:7\nstatus 1
+serve Address => relay: cannot listen on 127.0.0.1:7\nstatus 1
 serve Descriptor => relay: cannot wait for sockets\nstatus 1
+
+# It binds the address that it is given, and no other, and warns of one that others may reach.
+serve Loopback => relay: cannot listen on 127.0.0.1:7\nstatus 1
+serve-at 127.0.0.2 Loopback => relay: cannot wait for sockets\nstatus 1
+serve-at ::1 Port => relay: cannot listen on [::1]:7\nstatus 1
+serve-at 0.0.0.0 Port => relay: --listen 0.0.0.0: every machine that reaches this address can enter\nrelay: cannot listen on 0.0.0.0:7\nstatus 1
+serve-at :: Descriptor => relay: --listen ::: every machine that reaches this address can enter\nrelay: cannot wait for sockets\nstatus 1
 
 # The loop says so too. It polls nothing, so an invalid descriptor does not stop it. Its line is answered `stuck`, since its client cannot
 # connect.
-loop Port => relay: cannot listen on port 0\nstatus 1
-loop NonBlocking => relay: cannot listen on port 0\nstatus 1
-loop Address => relay: cannot listen on port 0\nstatus 1
+loop Port => relay: cannot listen on 127.0.0.1:0\nstatus 1
+loop NonBlocking => relay: cannot listen on 127.0.0.1:0\nstatus 1
+loop Address => relay: cannot listen on 127.0.0.1:0\nstatus 1
 loop Descriptor => a stuck\nstatus 0
 "#;
 
@@ -37,29 +44,34 @@ struct Nets;
 impl<R: AllocGlobal> Subject<R> for Nets {
     fn act(&mut self, rt: &R, act: &str) -> Option<String> {
         let alloc = rt.alloc();
-        let (job, lack) = cut(act);
+        let (job, lack) = act.rsplit_once(' ')?;
         let told = done(alloc, FaultyNet::without(lack)?, job_named(job)?);
         on_one_line(alloc, told?.as_str())
     }
 }
 
-const SERVE: Job = Job::Serve {
-    port: 7,
-    admin: None,
-    turns: 1,
-    log: false,
-    forget_rooms: false,
-    output_mib: 256,
-    settings: Settings {
-        epoch: 2,
-        ..Settings::DEFAULT
-    },
-};
+fn serve_at(listen: IpAddr) -> Job {
+    Job::Serve {
+        listen,
+        port: 7,
+        admin: None,
+        turns: 1,
+        log: false,
+        forget_rooms: false,
+        closed: false,
+        output_mib: 256,
+        settings: Settings {
+            epoch: 2,
+            ..Settings::DEFAULT
+        },
+    }
+}
 
 fn job_named(name: &str) -> Option<Job> {
-    match name {
-        "serve" => Some(SERVE),
-        "loop" => Some(Job::Loop(Settings::DEFAULT)),
+    match cut(name) {
+        ("serve", _) => Some(serve_at(IpAddr::V4(Ipv4Addr::LOCALHOST))),
+        ("serve-at", address) => Some(serve_at(address.parse::<IpAddr>().ok()?)),
+        ("loop", _) => Some(Job::Loop(Settings::DEFAULT)),
         _ => None,
     }
 }
@@ -69,11 +81,14 @@ fn job_named(name: &str) -> Option<Job> {
 enum FaultyNet {
     /// A listener cannot be bound to its port.
     NoPort,
+    /// A listener can be bound to 127.0.0.2 alone.
+    NoLoopback,
     /// A listener cannot be made non-blocking.
     NoNonBlocking,
     /// A listener's address is unknown.
     NoAddress,
-    /// A listener lacks nothing but what all of them lack: its descriptor is invalid, so it cannot be polled.
+    /// A listener lacks nothing but what all of them lack: its descriptor is invalid, so it cannot
+    /// be polled.
     NoDescriptor,
 }
 
@@ -81,6 +96,7 @@ impl FaultyNet {
     fn without(lack: &str) -> Option<FaultyNet> {
         match lack {
             "Port" => Some(FaultyNet::NoPort),
+            "Loopback" => Some(FaultyNet::NoLoopback),
             "NonBlocking" => Some(FaultyNet::NoNonBlocking),
             "Address" => Some(FaultyNet::NoAddress),
             "Descriptor" => Some(FaultyNet::NoDescriptor),
@@ -94,9 +110,11 @@ impl Net for FaultyNet {
 
     type Listener = FaultyNet;
 
-    fn bind(&self, _addr: SocketAddr) -> io::Result<FaultyNet> {
+    fn bind(&self, addr: SocketAddr) -> io::Result<FaultyNet> {
+        let is_other = addr.ip() == IpAddr::V4(Ipv4Addr::new(127, 0, 0, 2));
         match self {
             FaultyNet::NoPort => Err(io::Error::from(ErrorKind::Other)),
+            FaultyNet::NoLoopback if !is_other => Err(io::Error::from(ErrorKind::Other)),
             _ => Ok(*self),
         }
     }

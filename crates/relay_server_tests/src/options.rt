@@ -1,7 +1,7 @@
 //! Tests of the command line's parser.
 use crate::story::{on_one_line, owned};
 use relay_options::{Job, Settings, Stop, job_of};
-use relay_wire::{Subject, cut, play};
+use relay_test_stream::{Subject, cut, play};
 use std::alloc::{AllocGlobal, Global};
 use std::fmt::Debug;
 
@@ -28,20 +28,36 @@ relay loop --rooms 2 => Loop(Settings { history: 64, max_waiting_patches: 32, ro
 relay loop --sessions 3 => Loop(Settings { history: 64, max_waiting_patches: 32, rooms: 64, sessions: 3, epoch: 1, history_weight: None, waiting_weight: None, telling_weight: None, view_weight: None })
 
 # Reads the jobs of servers, which have defaults of their own for weights.
-relay serve --port 0 --turns 1 => Serve { port: 0, admin: None, turns: 1, log: false, forget_rooms: false, output_mib: 256, settings: Settings { history: 64, max_waiting_patches: 32, rooms: 64, sessions: 256, epoch: 1764000000, history_weight: Some(262144), waiting_weight: Some(65536), telling_weight: Some(1048576), view_weight: Some(16384) } }
-relay serve --port 7 => Serve { port: 7, admin: None, turns: 1000000000000, log: false, forget_rooms: false, output_mib: 256, settings: Settings { history: 64, max_waiting_patches: 32, rooms: 64, sessions: 256, epoch: 1764000000, history_weight: Some(262144), waiting_weight: Some(65536), telling_weight: Some(1048576), view_weight: Some(16384) } }
-relay serve --port 7 --log => Serve { port: 7, admin: None, turns: 1000000000000, log: true, forget_rooms: false, output_mib: 256, settings: Settings { history: 64, max_waiting_patches: 32, rooms: 64, sessions: 256, epoch: 1764000000, history_weight: Some(262144), waiting_weight: Some(65536), telling_weight: Some(1048576), view_weight: Some(16384) } }
-relay serve --port 7 --forget-rooms => Serve { port: 7, admin: None, turns: 1000000000000, log: false, forget_rooms: true, output_mib: 256, settings: Settings { history: 64, max_waiting_patches: 32, rooms: 64, sessions: 256, epoch: 1764000000, history_weight: Some(262144), waiting_weight: Some(65536), telling_weight: Some(1048576), view_weight: Some(16384) } }
-relay serve --turns 1000000000000 --port 65535 => Serve { port: 65535, admin: None, turns: 1000000000000, log: false, forget_rooms: false, output_mib: 256, settings: Settings { history: 64, max_waiting_patches: 32, rooms: 64, sessions: 256, epoch: 1764000000, history_weight: Some(262144), waiting_weight: Some(65536), telling_weight: Some(1048576), view_weight: Some(16384) } }
-relay serve --port 7 --turns 1 --rooms 1000 --sessions 2000 => Serve { port: 7, admin: None, turns: 1, log: false, forget_rooms: false, output_mib: 256, settings: Settings { history: 64, max_waiting_patches: 32, rooms: 1000, sessions: 2000, epoch: 1764000000, history_weight: Some(262144), waiting_weight: Some(65536), telling_weight: Some(1048576), view_weight: Some(16384) } }
-relay serve --port 7 --admin 65535 --turns 1 => Serve { port: 7, admin: Some(65535), turns: 1, log: false, forget_rooms: false, output_mib: 256, settings: Settings { history: 64, max_waiting_patches: 32, rooms: 64, sessions: 256, epoch: 1764000000, history_weight: Some(262144), waiting_weight: Some(65536), telling_weight: Some(1048576), view_weight: Some(16384) } }
-relay serve --port 0 --admin 1 --turns 1 => Serve { port: 0, admin: Some(1), turns: 1, log: false, forget_rooms: false, output_mib: 256, settings: Settings { history: 64, max_waiting_patches: 32, rooms: 64, sessions: 256, epoch: 1764000000, history_weight: Some(262144), waiting_weight: Some(65536), telling_weight: Some(1048576), view_weight: Some(16384) } }
-relay serve --port 7 --max-output-mib 1 => Serve { port: 7, admin: None, turns: 1000000000000, log: false, forget_rooms: false, output_mib: 1, settings: Settings { history: 64, max_waiting_patches: 32, rooms: 64, sessions: 256, epoch: 1764000000, history_weight: Some(262144), waiting_weight: Some(65536), telling_weight: Some(1048576), view_weight: Some(16384) } }
-relay serve --port 7 --max-output-mib 1048576 => Serve { port: 7, admin: None, turns: 1000000000000, log: false, forget_rooms: false, output_mib: 1048576, settings: Settings { history: 64, max_waiting_patches: 32, rooms: 64, sessions: 256, epoch: 1764000000, history_weight: Some(262144), waiting_weight: Some(65536), telling_weight: Some(1048576), view_weight: Some(16384) } }
+relay serve --port 0 --turns 1 => Serve { listen: 127.0.0.1, port: 0, admin: None, turns: 1, log: false, forget_rooms: false, closed: false, output_mib: 256, settings: Settings { history: 64, max_waiting_patches: 32, rooms: 64, sessions: 256, epoch: 1764000000, history_weight: Some(262144), waiting_weight: Some(65536), telling_weight: Some(1048576), view_weight: Some(16384) } }
+relay serve --port 7 => Serve { listen: 127.0.0.1, port: 7, admin: None, turns: 1000000000000, log: false, forget_rooms: false, closed: false, output_mib: 256, settings: Settings { history: 64, max_waiting_patches: 32, rooms: 64, sessions: 256, epoch: 1764000000, history_weight: Some(262144), waiting_weight: Some(65536), telling_weight: Some(1048576), view_weight: Some(16384) } }
+relay serve --port 7 --log => Serve { listen: 127.0.0.1, port: 7, admin: None, turns: 1000000000000, log: true, forget_rooms: false, closed: false, output_mib: 256, settings: Settings { history: 64, max_waiting_patches: 32, rooms: 64, sessions: 256, epoch: 1764000000, history_weight: Some(262144), waiting_weight: Some(65536), telling_weight: Some(1048576), view_weight: Some(16384) } }
+relay serve --port 7 --forget-rooms => Serve { listen: 127.0.0.1, port: 7, admin: None, turns: 1000000000000, log: false, forget_rooms: true, closed: false, output_mib: 256, settings: Settings { history: 64, max_waiting_patches: 32, rooms: 64, sessions: 256, epoch: 1764000000, history_weight: Some(262144), waiting_weight: Some(65536), telling_weight: Some(1048576), view_weight: Some(16384) } }
+relay serve --turns 1000000000000 --port 65535 => Serve { listen: 127.0.0.1, port: 65535, admin: None, turns: 1000000000000, log: false, forget_rooms: false, closed: false, output_mib: 256, settings: Settings { history: 64, max_waiting_patches: 32, rooms: 64, sessions: 256, epoch: 1764000000, history_weight: Some(262144), waiting_weight: Some(65536), telling_weight: Some(1048576), view_weight: Some(16384) } }
+relay serve --port 7 --turns 1 --rooms 1000 --sessions 2000 => Serve { listen: 127.0.0.1, port: 7, admin: None, turns: 1, log: false, forget_rooms: false, closed: false, output_mib: 256, settings: Settings { history: 64, max_waiting_patches: 32, rooms: 1000, sessions: 2000, epoch: 1764000000, history_weight: Some(262144), waiting_weight: Some(65536), telling_weight: Some(1048576), view_weight: Some(16384) } }
+relay serve --port 7 --admin 65535 --turns 1 => Serve { listen: 127.0.0.1, port: 7, admin: Some(65535), turns: 1, log: false, forget_rooms: false, closed: false, output_mib: 256, settings: Settings { history: 64, max_waiting_patches: 32, rooms: 64, sessions: 256, epoch: 1764000000, history_weight: Some(262144), waiting_weight: Some(65536), telling_weight: Some(1048576), view_weight: Some(16384) } }
+relay serve --port 0 --admin 1 --turns 1 => Serve { listen: 127.0.0.1, port: 0, admin: Some(1), turns: 1, log: false, forget_rooms: false, closed: false, output_mib: 256, settings: Settings { history: 64, max_waiting_patches: 32, rooms: 64, sessions: 256, epoch: 1764000000, history_weight: Some(262144), waiting_weight: Some(65536), telling_weight: Some(1048576), view_weight: Some(16384) } }
+relay serve --port 7 --max-output-mib 1 => Serve { listen: 127.0.0.1, port: 7, admin: None, turns: 1000000000000, log: false, forget_rooms: false, closed: false, output_mib: 1, settings: Settings { history: 64, max_waiting_patches: 32, rooms: 64, sessions: 256, epoch: 1764000000, history_weight: Some(262144), waiting_weight: Some(65536), telling_weight: Some(1048576), view_weight: Some(16384) } }
+relay serve --port 7 --max-output-mib 1048576 => Serve { listen: 127.0.0.1, port: 7, admin: None, turns: 1000000000000, log: false, forget_rooms: false, closed: false, output_mib: 1048576, settings: Settings { history: 64, max_waiting_patches: 32, rooms: 64, sessions: 256, epoch: 1764000000, history_weight: Some(262144), waiting_weight: Some(65536), telling_weight: Some(1048576), view_weight: Some(16384) } }
+
+# A server listens on 127.0.0.1, or on another IPv4 or IPv6 address.
+relay serve --port 7 --listen 0.0.0.0 => Serve { listen: 0.0.0.0, port: 7, admin: None, turns: 1000000000000, log: false, forget_rooms: false, closed: false, output_mib: 256, settings: Settings { history: 64, max_waiting_patches: 32, rooms: 64, sessions: 256, epoch: 1764000000, history_weight: Some(262144), waiting_weight: Some(65536), telling_weight: Some(1048576), view_weight: Some(16384) } }
+relay serve --port 7 --listen ::1 => Serve { listen: ::1, port: 7, admin: None, turns: 1000000000000, log: false, forget_rooms: false, closed: false, output_mib: 256, settings: Settings { history: 64, max_waiting_patches: 32, rooms: 64, sessions: 256, epoch: 1764000000, history_weight: Some(262144), waiting_weight: Some(65536), telling_weight: Some(1048576), view_weight: Some(16384) } }
+relay serve --port 7 --listen localhost => misuse
+relay serve --port 7 --listen 127.0.0.1:7 => misuse
+relay serve --port 7 --listen 127.1 => misuse
+relay serve --port 7 --listen [::1] => misuse
+relay serve --port 7 --listen => misuse
+relay loop --listen 127.0.0.1 => misuse
+
+# A server with an operator may begin closed.
+relay serve --port 7 --admin 8 --closed => Serve { listen: 127.0.0.1, port: 7, admin: Some(8), turns: 1000000000000, log: false, forget_rooms: false, closed: true, output_mib: 256, settings: Settings { history: 64, max_waiting_patches: 32, rooms: 64, sessions: 256, epoch: 1764000000, history_weight: Some(262144), waiting_weight: Some(65536), telling_weight: Some(1048576), view_weight: Some(16384) } }
+relay serve --port 7 --closed => misuse
+relay serve --port 7 --admin 8 --closed 1 => misuse
+relay loop --closed => misuse
 
 # A server's epoch is the seconds since 1970, or the one that it is given; without a clock it has to be given one.
-relay serve --port 7 --epoch 3 => Serve { port: 7, admin: None, turns: 1000000000000, log: false, forget_rooms: false, output_mib: 256, settings: Settings { history: 64, max_waiting_patches: 32, rooms: 64, sessions: 256, epoch: 3, history_weight: Some(262144), waiting_weight: Some(65536), telling_weight: Some(1048576), view_weight: Some(16384) } }
-timeless relay serve --port 7 --epoch 3 => Serve { port: 7, admin: None, turns: 1000000000000, log: false, forget_rooms: false, output_mib: 256, settings: Settings { history: 64, max_waiting_patches: 32, rooms: 64, sessions: 256, epoch: 3, history_weight: Some(262144), waiting_weight: Some(65536), telling_weight: Some(1048576), view_weight: Some(16384) } }
+relay serve --port 7 --epoch 3 => Serve { listen: 127.0.0.1, port: 7, admin: None, turns: 1000000000000, log: false, forget_rooms: false, closed: false, output_mib: 256, settings: Settings { history: 64, max_waiting_patches: 32, rooms: 64, sessions: 256, epoch: 3, history_weight: Some(262144), waiting_weight: Some(65536), telling_weight: Some(1048576), view_weight: Some(16384) } }
+timeless relay serve --port 7 --epoch 3 => Serve { listen: 127.0.0.1, port: 7, admin: None, turns: 1000000000000, log: false, forget_rooms: false, closed: false, output_mib: 256, settings: Settings { history: 64, max_waiting_patches: 32, rooms: 64, sessions: 256, epoch: 3, history_weight: Some(262144), waiting_weight: Some(65536), telling_weight: Some(1048576), view_weight: Some(16384) } }
 timeless relay serve --port 7 => misuse
 timeless relay script --epoch 7 => Script(Settings { history: 64, max_waiting_patches: 32, rooms: 64, sessions: 256, epoch: 7, history_weight: None, waiting_weight: None, telling_weight: None, view_weight: None })
 timeless relay loop => Loop(Settings { history: 64, max_waiting_patches: 32, rooms: 64, sessions: 256, epoch: 1, history_weight: None, waiting_weight: None, telling_weight: None, view_weight: None })
@@ -91,6 +107,8 @@ finds relay script --help: --history => true
 finds relay script --help: --rooms => true
 finds relay serve --help: --sessions => true
 finds relay serve --help: --admin => true
+finds relay serve --help: --listen <ADDRESS> => true
+finds relay serve --help: --closed => true
 finds relay loop --help: relay loop < examples/first.script => true
 finds relay follow --help: | relay follow => true
 finds relay serve --help: it sleeps while nothing happens => true
@@ -131,7 +149,8 @@ pub fn words_of(alloc: Global, line: &str) -> Option<Vec<String>> {
     Some(words)
 }
 
-/// What a command line comes to at that time: a job, a text that is to be printed, or misuse, of which there has to be a message.
+/// What a command line comes to at that time: a job, a text that is to be printed, or misuse, of
+/// which there has to be a message.
 fn outcome(alloc: Global, line: &str, now: Option<u64>) -> Option<String> {
     match job_of(alloc, words_of(alloc, line)?.as_slice(), now) {
         Ok(job) => shown(alloc, &job),

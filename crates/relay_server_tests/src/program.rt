@@ -2,7 +2,7 @@
 use crate::options::words_of;
 use crate::story::{kind_of, on_one_line, typed, with_end, with_status};
 use relay_server::{ScriptFault, refuse_words, report, run_follow, start};
-use relay_wire::{Subject, cut, play};
+use relay_test_stream::{Subject, cut, play};
 use std::alloc::{AllocGlobal, Global};
 use std::net::Net;
 use std::time::Clock;

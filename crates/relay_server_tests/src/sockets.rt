@@ -1,7 +1,7 @@
 //! Tests of the output of `serve`.
 use crate::program::{run, with_complaint};
 use crate::story::{on_one_line, text_of};
-use relay_wire::{Subject, cut, play};
+use relay_test_stream::{Subject, cut, play};
 use std::alloc::AllocGlobal;
 use std::net::{Ipv4Addr, Net, OpenListener, SocketAddr};
 use std::time::Clock;
@@ -12,7 +12,7 @@ relay serve --port 0 --turns 1 => listening, turns 1\nstatus 0
 relay serve --port 0 --turns 1 --epoch 2 => listening, turns 1\nstatus 0
 
 # A server whose port is in use says what it could not do, and the system's reason.
-taken => status 1, relay: cannot listen on port PORT\nrelay: REASON\n
+taken => status 1, relay: cannot listen on 127.0.0.1:PORT\nrelay: REASON\n
 "#;
 
 #[test]

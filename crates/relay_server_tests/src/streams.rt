@@ -2,7 +2,7 @@
 use crate::story::{kind_of, number, on_one_line, with_end};
 use relay_hub::HubConfig;
 use relay_server::run_script;
-use relay_wire::{Subject, cut, play};
+use relay_test_stream::{Subject, cut, play};
 use std::alloc::{AllocGlobal, Global};
 use std::io;
 use std::io::{ErrorKind, Read, Write};
@@ -117,7 +117,8 @@ impl Write for FailingWriter {
 /// Two lines, for names that are not open.
 const TWO_LINES: &[u8] = b"x draw\ny draw";
 
-/// The output of a script that is read and written with faults, followed by the fault that ended it.
+/// The output of a script that is read and written with faults, followed by the fault that ended
+/// it.
 fn played_with(alloc: Global, of_reads: Faults, of_writes: Faults) -> Option<String> {
     let mut input = FailingReader {
         bytes: TWO_LINES,

@@ -1,7 +1,7 @@
 -- Worked heads, by computation.
 use Rattle.std.proofs.Common.{◌≡◌, ℕ, List, [], ◌∷◌, codes, true, Some, None, refl}
 use Rattle.httparse.specs.Grammar.{RequestHead, crlf, Field, trim_ows}
-use Rattle.relay_head.specs.Head.{has_element, only_value}
+use Rattle.relay_http_head.specs.Head.{has_element, only_value}
 use Rattle.relay_shake.specs.Key.{key_of}
 use Rattle.relay_proto.specs.declared.access.Access.TheVariants.{ReadWrite, ReadOnly}
 use Rattle.relay_shake.specs.Route.{asked_of}
@@ -37,10 +37,14 @@ room_with_a_slash_behind = refl
 key_of_23 : key_of ((codes "Sec-WebSocket-Key", codes "dGhlIHNhbXBsZSBub25jZQ=") ∷ []) ≡ None
 key_of_23 = refl
 
-two_hosts : only_value (codes "Host") ((codes "host", codes "a") ∷ (codes "HOST", codes "a") ∷ []) ≡ None
+two_hosts : only_value (codes "Host") ((codes "host", codes "a") ∷ (codes "HOST", codes "a") ∷ [])
+    ≡ None
 two_hosts = refl
 
-element_among_others : has_element (codes "Connection") (codes "Upgrade") ((codes "connection", codes "keep-alive,\t upgrade ,x") ∷ []) ≡ true
+element_among_others : has_element (codes "Connection") (codes "Upgrade") ((
+  codes "connection",
+  codes "keep-alive,\t upgrade ,x",
+) ∷ []) ≡ true
 unfolding trim_ows
 element_among_others = refl
 
@@ -65,7 +69,8 @@ sample version = record {
   last = crlf;
 }
 
-accepted : verdict_of (sample (codes " 13")) [] ≡ accept (codes "a") ReadWrite (codes "dGhlIHNhbXBsZSBub25jZQ==")
+accepted : verdict_of (sample (codes " 13")) []
+    ≡ accept (codes "a") ReadWrite (codes "dGhlIHNhbXBsZSBub25jZQ==")
 unfolding trim_ows
 accepted = refl
 

@@ -5,9 +5,9 @@ use Rattle.relay_proto.specs.declared.access.Access.{Access}
 use Rattle.relay_proto.specs.declared.access.Access.TheVariants.{ReadOnly}
 use Rattle.relay_shake.specs.declared.reading.TheConstants.{MAX_HEAD}
 use Rattle.relay_shake.specs.declared.checks.TheConstants.{MAX_FIELDS}
-use Rattle.relay_head.specs.Checks.{first_failed}
-use Rattle.relay_head.specs.Head.{only_value, kept, has_element}
-use Rattle.relay_head.specs.Parsing.{Parts, parts_of}
+use Rattle.relay_http_head.specs.Checks.{first_failed}
+use Rattle.relay_http_head.specs.Head.{only_value, kept, has_element}
+use Rattle.relay_http_head.specs.Parsing.{Parts, parts_of}
 use Rattle.relay_shake.specs.Key.{key_of}
 use Rattle.relay_shake.specs.Route.{asked_of}
 
@@ -22,7 +22,11 @@ checks head =
     ∷ (has_element (codes "Upgrade") (codes "websocket") head.fields, 400)
     ∷ (has_element (codes "Connection") (codes "Upgrade") head.fields, 400)
     ∷ (is_some (only_value (codes "Sec-WebSocket-Version") head.fields), 400)
-    ∷ (is_some (kept (bytes_eq (codes "13")) (only_value (codes "Sec-WebSocket-Version") head.fields)), 426)
+    ∷ (
+      is_some (kept (bytes_eq (codes "13"))
+          (only_value (codes "Sec-WebSocket-Version") head.fields)),
+      426,
+    )
     ∷ (is_some (key_of head.fields), 400)
     ∷ (not head.has_surplus, 400)
     ∷ []
@@ -42,7 +46,8 @@ verdict_by (Some status) asked key = refuse status
 
 -- the verdict on the parts of a head
 abbrev pub verdict_on : Parts → Verdict
-verdict_on head = verdict_by (first_failed (checks head)) (asked_of head.target) (key_of head.fields)
+verdict_on head =
+    verdict_by (first_failed (checks head)) (asked_of head.target) (key_of head.fields)
 
 -- the verdict on a head that is followed by the surplus bytes
 abbrev pub verdict_of : RequestHead → List ℕ → Verdict

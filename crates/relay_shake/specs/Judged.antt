@@ -1,7 +1,7 @@
 -- The results of the checks related to verdicts.
 use Rattle.std.specs.Prelude.{◌≡◌, ℕ, Result, Ok, Err, IsTrue}
-use Rattle.relay_head.specs.declared.checks.Fault.{Fault}
-use Rattle.relay_head.specs.declared.checks.Fault.TheVariants.{Refused, NoMemory}
+use Rattle.relay_http_head.specs.declared.checks.Fault.{Fault}
+use Rattle.relay_http_head.specs.declared.checks.Fault.TheVariants.{Refused, NoMemory}
 use Rattle.relay_shake.specs.Handshake.{Verdict, accept, refuse}
 use Rattle.relay_shake.specs.Replies.{is_refusal}
 use Rattle.relay_shake.specs.declared.checks.Accepted.{Accepted}

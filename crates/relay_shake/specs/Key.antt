@@ -2,7 +2,7 @@
 use Rattle.std.specs.Prelude.{ℕ, Bool, ◌==◌, ◌&&◌, ◌||◌, List, take, drop, codes, bytes_eq, Option}
 use Rattle.std.specs.List.{list_all}
 use Rattle.std.specs.Char.{is_ascii_alphanumeric}
-use Rattle.relay_head.specs.Head.{Fields, only_value, kept}
+use Rattle.relay_http_head.specs.Head.{Fields, only_value, kept}
 
 -- a letter, a digit, `+` or `/` (RFC 4648, section 4)
 abbrev pub is_base64_byte : ℕ → Bool

@@ -11,13 +11,15 @@ accept_value key = encode_of standard (sha1 (key ++ codes "258EAFA5-E914-47DA-95
 -- the reply to a good handshake with the key
 abbrev pub accept_reply : List ℕ → List ℕ
 accept_reply key =
-    codes "HTTP/1.1 101 Switching Protocols\r\nUpgrade: websocket\r\nConnection: Upgrade\r\nSec-WebSocket-Accept: "
+    codes
+    "HTTP/1.1 101 Switching Protocols\r\nUpgrade: websocket\r\nConnection: Upgrade\r\nSec-WebSocket-Accept: "
     ++ accept_value key ++ codes "\r\n\r\n"
 
 -- the statuses of refusals
 abbrev pub is_refusal : ℕ → Bool
 is_refusal status =
-    status == 400 || status == 404 || status == 405 || status == 426 || status == 431 || status == 503
+    status == 400 || status == 404 || status == 405 || status == 426 || status == 431
+    || status == 503
 
 -- a status with its phrase (RFC 9110, section 15; RFC 6585, section 5)
 abbrev pub status_text : ℕ → List ℕ
@@ -32,11 +34,20 @@ status_text status =
 -- the header fields of a refusal, from the end of the status line on
 abbrev pub refusal_fields : ℕ → List ℕ
 refusal_fields status =
-    if status == 405 then codes "\r\nAllow: GET\r\nContent-Length: 0\r\nConnection: close\r\n\r\n" else
+    if status == 405 then codes "\r\nAllow: GET\r\nContent-Length: 0\r\nConnection: close\r\n\r\n"
+    else
     if status == 426 then
-    codes "\r\nUpgrade: websocket\r\nSec-WebSocket-Version: 13\r\nContent-Length: 0\r\nConnection: close, Upgrade\r\n\r\n"
+    codes
+    "\r\nUpgrade: websocket\r\nSec-WebSocket-Version: 13\r\nContent-Length: 0\r\nConnection: close, Upgrade\r\n\r\n"
     else codes "\r\nContent-Length: 0\r\nConnection: close\r\n\r\n"
 
 -- the reply that refuses a handshake
 abbrev pub refusal_of : ℕ → List ℕ
 refusal_of status = codes "HTTP/1.1 " ++ status_text status ++ refusal_fields status
+
+-- the reply that refuses a good handshake while no client is let in: it may be tried again after a
+-- second (RFC 9110, section 10.2.3)
+abbrev pub closed_refusal : List ℕ
+closed_refusal =
+    codes
+    "HTTP/1.1 503 Service Unavailable\r\nRetry-After: 1\r\nContent-Length: 0\r\nConnection: close\r\n\r\n"

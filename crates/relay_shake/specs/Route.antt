@@ -5,7 +5,7 @@ use Rattle.std.specs.Option.{option_or}
 use Rattle.relay_proto.specs.RoomName.{is_room_name}
 use Rattle.relay_proto.specs.declared.access.Access.{Access}
 use Rattle.relay_proto.specs.declared.access.Access.TheVariants.{ReadWrite, ReadOnly}
-use Rattle.relay_head.specs.Head.{kept}
+use Rattle.relay_http_head.specs.Head.{kept}
 use Rattle.relay_shake.specs.declared.route.Asked.{Asked}
 
 -- the rest of the text after a prefix, if it begins with it

@@ -21,8 +21,8 @@ AnswersHead bytes answer =
     (head : RequestHead) (rest : List ℕ) → ReadsRequest (window bytes) head rest
     → Shows answer (verdict_of head (rest ++ drop MAX_HEAD bytes))
 
--- if there is no head: the verdict before a head, only if one can still come or the bytes end in a target; or 400, only if none can
--- come
+-- if there is no head: the verdict before a head, only if one can still come or the bytes end in a
+-- target; or 400, only if none can come
 abbrev pub AnswersNoHead : List ℕ → Shake → Type 0
 AnswersNoHead bytes answer =
     HasNoRequest (window bytes)

@@ -1,12 +1,12 @@
 //! The checks of a head, in their order (RFC 6455, section 4.2.1).
 ghost use Rattle.std.specs.Prelude.{IfErr};
-ghost use Rattle.relay_head.specs.Parsing.{parts};
+ghost use Rattle.relay_http_head.specs.Parsing.{parts};
 ghost use Rattle.relay_shake.specs.Judged.{Judges, HasReply};
 ghost use Rattle.relay_shake.specs.Handshake.{verdict_on};
 
 use crate::key::key_of;
 use crate::route::asked_of;
-use relay_head::{Fault, Head, demand, has_element, only_value};
+use relay_http_head::{Fault, Head, demand, has_element, only_value};
 use relay_proto::Access;
 use std::alloc::Global;
 

@@ -5,12 +5,13 @@ ghost use Rattle.httparse.specs.Borrowed.{header_parts};
 ghost use Rattle.relay_shake.specs.Key.{is_base64_byte, is_key, key_of};
 
 use httparse::Header;
-use relay_head::only_value;
+use relay_http_head::only_value;
 
 /// The number of base64 characters before the `==` in the encoding of 16 bytes.
 const DIGITS: usize = 22;
 
-/// Returns the value of the key field if there is exactly one and the value has the form of 16 bytes in base64.
+/// Returns the value of the key field if there is exactly one and the value has the form of 16
+/// bytes in base64.
 pub(crate) fn key_of<'b>(fields: &[Header<'b>]) -> Option<&'b [u8]>
     ensures { option_map (λ key. key.now) result ≡ key_of (map header_parts fields.now) }
 {

@@ -1,6 +1,6 @@
 //! The path from bytes to a head, and from the head to the answer.
 ghost use Rattle.std.specs.Prelude.{IfOk, IsTrue};
-ghost use Rattle.relay_head.specs.Parsing.{parts};
+ghost use Rattle.relay_http_head.specs.Parsing.{parts};
 ghost use Rattle.relay_shake.specs.Handshake.{verdict_on, refuse};
 ghost use Rattle.relay_shake.specs.Replies.{is_refusal};
 ghost use Rattle.relay_shake.specs.Shaken.{Shows, AnswersHead, AnswersNoHead};
@@ -9,7 +9,7 @@ use crate::answer::Shake;
 use crate::checks::judge;
 use crate::reply::{accept_reply, refusal};
 use httparse::{EMPTY_HEADER, Request};
-use relay_head::{Fault, Head, Parsed, head_of, parse_head};
+use relay_http_head::{Fault, Head, Parsed, head_of, parse_head};
 use std::alloc::{AllocError, Global};
 
 /// The most bytes of a head.
@@ -20,8 +20,8 @@ pub(crate) const MAX_HEAD_FIELDS: usize = 2_730;
 
 /// Answers all bytes received so far.
 ///
-/// The head must be within the first 8,192 bytes. If they begin with one, the first check that fails gives the status of
-/// [`Shake::Refuse`]:
+/// The head must be within the first 8,192 bytes. If they begin with one, the first check that
+/// fails gives the status of [`Shake::Refuse`]:
 ///
 /// 1. at most 32 header fields, else 431;
 /// 2. the method `GET`, else 405;
@@ -35,14 +35,17 @@ pub(crate) const MAX_HEAD_FIELDS: usize = 2_730;
 /// 9. one field `Sec-WebSocket-Key`, whose value is 16 bytes in base64, else 400;
 /// 10. no byte after the head, since a client must wait for the reply, else 400.
 ///
-/// A head that passes is accepted, and other headers are ignored: no extension and no subprotocol is negotiated.
+/// A head that passes is accepted, and other headers are ignored: no extension and no subprotocol
+/// is negotiated.
 ///
-/// If there is no head but one can still come, the answer is [`Shake::More`], or 431 after more than 8,192 bytes. If none can come,
-/// it is 400. One case is left open: if the bytes end in a target that no head can have, such as one that is not UTF-8, either answer
-/// may come until the target has ended.
+/// If there is no head but one can still come, the answer is [`Shake::More`], or 431 after more
+/// than 8,192 bytes. If none can come, it is 400. One case is left open: if the bytes end in a
+/// target that no head can have, such as one that is not UTF-8, either answer may come until the
+/// target has ended.
 ///
-/// Each call reads from the first byte and allocates about 90 KB for the header fields, which it frees before it returns. If memory
-/// runs out, it returns `AllocError` and leaves nothing behind. See `docs/PROTOCOL.md`, "The handshake".
+/// Each call reads from the first byte and allocates about 90 KB for the header fields, which it
+/// frees before it returns. If memory runs out, it returns `AllocError` and leaves nothing behind.
+/// See `docs/PROTOCOL.md`, "The handshake".
 pub fn shake(alloc: Global, bytes: &[u8]) -> Result<Shake, AllocError>
     ensures head { IfOk result (AnswersHead bytes.now) }
     // Both cases of `AnswersNoHead` hold only if the bytes end in a target that no head can have.

@@ -1,6 +1,6 @@
 //! The bytes of the handshake replies.
 ghost use Rattle.std.specs.Prelude.{◌≡◌, ◌++◌, IfOk, OnOk, IsTrue, codes, string_bytes};
-ghost use Rattle.relay_shake.specs.Replies.{accept_value, accept_reply, status_text, refusal_fields, refusal_of, is_refusal};
+ghost use Rattle.relay_shake.specs.Replies.{accept_value, accept_reply, closed_refusal, status_text, refusal_fields, refusal_of, is_refusal};
 
 use base64::engine::general_purpose::STANDARD;
 use http::StatusCode;
@@ -36,8 +36,9 @@ fn accept_value(alloc: Global, key: &[u8]) -> Result<String, AllocError>
 
 /// Returns the reply that refuses a handshake, after which the socket is closed.
 ///
-/// The status is one of 400, 404, 405, 426 and 431, as in [`crate::Shake::Refuse`], or 503 if the relay has no place for another
-/// session. Returns `AllocError` if memory runs out. See `docs/PROTOCOL.md`, "The handshake".
+/// The status is one of 400, 404, 405, 426 and 431, as in [`crate::Shake::Refuse`], or 503 if the
+/// relay has no place for another session. Returns `AllocError` if memory runs out. See
+/// `docs/PROTOCOL.md`, "The handshake".
 pub fn refusal(alloc: Global, status: u16) -> Result<Vec<u8>, AllocError>
     requires { IsTrue (is_refusal status) }
     ensures { IfOk result (λ reply. reply.items ≡ refusal_of status) }
@@ -46,6 +47,19 @@ pub fn refusal(alloc: Global, status: u16) -> Result<Vec<u8>, AllocError>
     reply.extend_from_slice(b"HTTP/1.1 ")?;
     write_status(&mut reply, status)?;
     reply.extend_from_slice(refusal_fields(status).as_bytes())?;
+    Ok(reply)
+}
+
+/// Returns the reply to a good handshake while the relay lets no client in: 503, with the number of
+/// seconds after which the client may try again (RFC 9110, section 10.2.3). The socket is closed
+/// afterwards. Returns `AllocError` if memory runs out.
+pub fn closed_refusal(alloc: Global) -> Result<Vec<u8>, AllocError>
+    ensures { IfOk result (λ reply. reply.items ≡ closed_refusal) }
+{
+    let mut reply = Vec::new(alloc);
+    reply.extend_from_slice(
+        b"HTTP/1.1 503 Service Unavailable\r\nRetry-After: 1\r\nContent-Length: 0\r\nConnection: close\r\n\r\n",
+    )?;
     Ok(reply)
 }
 

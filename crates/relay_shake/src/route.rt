@@ -17,8 +17,8 @@ pub(crate) struct Asked<'b> {
     pub access: Access,
 }
 
-/// Returns what a target asks for, if it is that of a room: `/rooms/NAME`, or `/rooms/NAME/watch` to
-/// watch only.
+/// Returns what a target asks for, if it is that of a room: `/rooms/NAME`, or `/rooms/NAME/watch`
+/// to watch only.
 ///
 /// The whole target is tried first. No target is of both forms, since a room name has no slash.
 pub(crate) fn asked_of<'b>(alloc: Global, target: &'b str) -> Result<Option<Asked<'b>>, AllocError>
@@ -46,7 +46,8 @@ fn without_watch(target: &str) -> Option<&str>
     target.strip_suffix(WATCH)
 }
 
-/// Returns the room if the whole target matches the route `/rooms/{room}` and that part is a room name.
+/// Returns the room if the whole target matches the route `/rooms/{room}` and that part is a room
+/// name.
 fn room_of<'b>(alloc: Global, target: &'b str) -> Result<Option<&'b str>, AllocError>
     ensures { IfOk result (λ room. option_copied room ≡ room_of target.now) }
 {

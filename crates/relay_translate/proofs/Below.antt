@@ -11,19 +11,25 @@ use Rattle.relay_patch.proofs.Inside.{WasInside, was_inside, step-was_inside}
 use Rattle.relay_translate.specs.Touch.{Apart, Inside, Reset, shifts, touch_last, touch_below}
 use Rattle.relay_translate.proofs.Leaves.{Leaves}
 
-pub below_apart : (is_item : Bool) (act : Act) → Leaves is_item act → (t : Token) (path q : Path) (d d' : Document) → below act t path d ≡ Ok d' → touch_below is_item t path q ≡ Apart → walk d' q ≡ walk d q
+pub below_apart : (is_item : Bool) (act : Act) → Leaves is_item act
+    → (t : Token) (path q : Path) (d d' : Document) → below act t path d ≡ Ok d'
+    → touch_below is_item t path q ≡ Apart → walk d' q ≡ walk d q
 below_apart is_item act leaves t path [] d d' h k = cc
 below_apart is_item act leaves t [] (b ∷ q) d d' h k = rw (leaves t b d d' h k) refl
-below_apart is_item act leaves t (u ∷ path) (b ∷ q) d d' h k = go (bytes_eq t b) refl (below_apart is_item act leaves u path q)
+below_apart is_item act leaves t (u ∷ path) (b ∷ q) d d' h k =
+    go (bytes_eq t b) refl (below_apart is_item act leaves u path q)
   where
     w : WasInside (below act u path) t d d'
     w = was_inside (below act u path) t d d' h
 
-    go : (x : Bool) → bytes_eq t b ≡ x → ((c c' : Document) → below act u path c ≡ Ok c' → touch_below is_item u path q ≡ Apart → walk c' q ≡ walk c q) → walk d' (b ∷ q) ≡ walk d (b ∷ q)
+    go : (x : Bool) → bytes_eq t b ≡ x
+        → ((c c' : Document) → below act u path c ≡ Ok c' → touch_below is_item u path q ≡ Apart
+        → walk c' q ≡ walk c q) → walk d' (b ∷ q) ≡ walk d (b ∷ q)
     go true e ih =
         let same : t ≡ b = equal_bytes t b e in
         let stood : step d b ≡ Ok w.before = subst (λ s. step d s ≡ Ok w.before) same w.stood in
-        let stands : step d' b ≡ Ok w.later = subst (λ s. step d' s ≡ Ok w.later) same (step-was_inside _ t d d' w) in
+        let stands : step d' b ≡ Ok w.later =
+        subst (λ s. step d' s ≡ Ok w.later) same (step-was_inside _ t d d' w) in
         let apart : touch_below is_item u path q ≡ Apart = rw e at k in
         rw (stood, stands) (ih w.before w.later w.changed apart)
     go false e ih = rw (w.whole, step-with_other d t b w.later e) refl
@@ -55,21 +61,45 @@ last_never_inside false t b h = go (bytes_eq t b) refl
     go true e = let k : Reset ≡ Inside = rw e at h in cc
     go false e = let k : Apart ≡ Inside = rw e at h in cc
 
-pub below_inside : (is_item : Bool) (act : Act) (t : Token) (path q : Path) (d d' : Document) → below act t path d ≡ Ok d' → touch_below is_item t path q ≡ Inside → IsInside act (t ∷ path) q d d'
+pub below_inside : (is_item : Bool) (act : Act) (t : Token) (path q : Path) (d d' : Document)
+    → below act t path d ≡ Ok d' → touch_below is_item t path q ≡ Inside
+    → IsInside act (t ∷ path) q d d'
 below_inside is_item act t path [] d d' h k =
-    record { before = d; later = d'; stood = refl; stands = refl; token = t; rest = path; path_is = refl; acted = h }
+    record {
+      before = d;
+      later = d';
+      stood = refl;
+      stands = refl;
+      token = t;
+      rest = path;
+      path_is = refl;
+      acted = h;
+    }
 below_inside is_item act t [] (b ∷ q) d d' h k = absurd (last_never_inside is_item t b k)
-below_inside is_item act t (u ∷ path) (b ∷ q) d d' h k = go (bytes_eq t b) refl (below_inside is_item act u path q)
+below_inside is_item act t (u ∷ path) (b ∷ q) d d' h k =
+    go (bytes_eq t b) refl (below_inside is_item act u path q)
   where
     w : WasInside (below act u path) t d d'
     w = was_inside (below act u path) t d d' h
 
-    go : (x : Bool) → bytes_eq t b ≡ x → ((c c' : Document) → below act u path c ≡ Ok c' → touch_below is_item u path q ≡ Inside → IsInside act (u ∷ path) q c c') → IsInside act (t ∷ u ∷ path) (b ∷ q) d d'
+    go : (x : Bool) → bytes_eq t b ≡ x
+        → ((c c' : Document) → below act u path c ≡ Ok c' → touch_below is_item u path q ≡ Inside
+        → IsInside act (u ∷ path) q c c') → IsInside act (t ∷ u ∷ path) (b ∷ q) d d'
     go true e ih =
         let same : t ≡ b = equal_bytes t b e in
         let stood : step d b ≡ Ok w.before = subst (λ s. step d s ≡ Ok w.before) same w.stood in
-        let stands : step d' b ≡ Ok w.later = subst (λ s. step d' s ≡ Ok w.later) same (step-was_inside _ t d d' w) in
+        let stands : step d' b ≡ Ok w.later =
+        subst (λ s. step d' s ≡ Ok w.later) same (step-was_inside _ t d d' w) in
         let inside_touch : touch_below is_item u path q ≡ Inside = rw e at k in
         let i = ih w.before w.later w.changed inside_touch in
-        record { before = i.before; later = i.later; stood = rw stood i.stood; stands = rw stands i.stands; token = i.token; rest = i.rest; path_is = i.path_is; acted = i.acted }
+        record {
+          before = i.before;
+          later = i.later;
+          stood = rw stood i.stood;
+          stands = rw stands i.stands;
+          token = i.token;
+          rest = i.rest;
+          path_is = i.path_is;
+          acted = i.acted;
+        }
     go false e ih = let apart : Apart ≡ Inside = rw e at k in cc

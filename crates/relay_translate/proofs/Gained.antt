@@ -19,38 +19,51 @@ use Rattle.relay_translate.proofs.Standing.{slots_same}
 use Rattle.relay_translate.proofs.Watched.{any_some}
 
 -- nothing begins with a path that is longer than all pointers
-pub gains_beyond : (c : Change) (path : Path) (deepest : ℕ) (index : SlotIndex) (sessions : List ℕ) → IsWithin deepest index → deepest < length path → Gains (is_prefix path) c index sessions sessions
+pub gains_beyond : (c : Change) (path : Path) (deepest : ℕ) (index : SlotIndex) (sessions : List ℕ)
+    → IsWithin deepest index → deepest < length path
+    → Gains (is_prefix path) c index sessions sessions
 gains_beyond c path deepest index sessions within beyond =
     record {
       kept = λ s h. h;
-      found = λ v s there touched begins. absurd (omega (arith, within v s there, prefix_length path v.pointer begins, beyond));
+      found = λ v s there touched begins. absurd
+          (omega (arith, within v s there, prefix_length path v.pointer begins, beyond));
       only = λ s h. inl h;
     }
 
 -- two gains, one after the other
-pub gains_either : (f g : Path → Bool) (c : Change) (index : SlotIndex) (old between new : List ℕ) → Gains f c index old between → Gains g c index between new → Gains (λ q. f q || g q) c index old new
+pub gains_either : (f g : Path → Bool) (c : Change) (index : SlotIndex) (old between new : List ℕ)
+    → Gains f c index old between → Gains g c index between new
+    → Gains (λ q. f q || g q) c index old new
 gains_either f g c index old between new h k =
     record {
       kept = λ s there. k.kept s (h.kept s there);
-      found = λ v s there touched near. either v s there touched (f v.pointer) (g v.pointer) refl refl near;
+      found = λ v s there touched near. either v s there touched (f v.pointer)
+          (g v.pointer) refl refl near;
       only = λ s there. back s (k.only s there);
     }
   where
-    either : (v : Slot) (s : ℕ) → stands index v s ≡ true → touches c v ≡ true → (x y : Bool) → f v.pointer ≡ x → g v.pointer ≡ y → (x || y) ≡ true → named new s ≡ true
+    either : (v : Slot) (s : ℕ) → stands index v s ≡ true → touches c v ≡ true → (x y : Bool)
+        → f v.pointer ≡ x → g v.pointer ≡ y → (x || y) ≡ true → named new s ≡ true
     either v s there touched true y is also near = k.kept s (h.found v s there touched is)
     either v s there touched false true is also near = k.found v s there touched also
     either v s there touched false false is also near = cc
 
-    back : (s : ℕ) → (named between s ≡ true) ⊎ ((v : Slot) × (stands index v s ≡ true) × (touches c v ≡ true)) → (named old s ≡ true) ⊎ ((v : Slot) × (stands index v s ≡ true) × (touches c v ≡ true))
+    back : (s : ℕ)
+        → (named between s ≡ true) ⊎ ((v : Slot) × (stands index v s ≡ true) × (touches c v ≡ true))
+        → (named old s ≡ true) ⊎ ((v : Slot) × (stands index v s ≡ true) × (touches c v ≡ true))
     back s (inl there) = h.only s there
     back s (inr some) = inr some
 
 -- checking the slots near the places of a change finds all sessions that it touches
-pub gains_all : (c : Change) (near : Path → Bool) (index : SlotIndex) (old new : List ℕ) → ((q : Path) → near_places c q ≡ near q) → Gains near c index old new → Gains (λ q. true) c index old new
+pub gains_all : (c : Change) (near : Path → Bool) (index : SlotIndex) (old new : List ℕ)
+    → ((q : Path) → near_places c q ≡ near q) → Gains near c index old new
+    → Gains (λ q. true) c index old new
 gains_all c near index old new same h =
     record {
       kept = h.kept;
-      found = λ v s there touched all. h.found v s there touched (sym (same v.pointer) ∙ touched_near c v.pointer v.kind (not_apart (is_apart (touch_slot c v)) touched));
+      found = λ v s there touched all. h.found v s there touched
+          (sym (same v.pointer)
+          ∙ touched_near c v.pointer v.kind (not_apart (is_apart (touch_slot c v)) touched));
       only = h.only;
     }
   where
@@ -60,7 +73,8 @@ gains_all c near index old new same h =
 
 -- ---- one change after the other
 
-pub any_map : {A B : Type 0} (f : A → B) (p : B → Bool) (xs : List A) → list_any p (map f xs) ≡ list_any (λ x. p (f x)) xs
+pub any_map : {A B : Type 0} (f : A → B) (p : B → Bool) (xs : List A)
+    → list_any p (map f xs) ≡ list_any (λ x. p (f x)) xs
 any_map f p [] = refl
 any_map f p (x ∷ xs) = ap (λ b. p (f x) || b) (any_map f p xs)
 
@@ -72,7 +86,9 @@ slot_itself v = rw (same_itself v.pointer) (go v.kind)
     go Size = refl
 
 -- what stands in the index are the slots of the views
-pub found_exactly : (test : Slot → Bool) (index : SlotIndex) (watches : Watches) (sessions : List ℕ) → IsIndex index watches → Found test index sessions → (s : ℕ) → named sessions s ≡ list_any test (slots_of (map.get watches s))
+pub found_exactly : (test : Slot → Bool) (index : SlotIndex) (watches : Watches) (sessions : List ℕ)
+    → IsIndex index watches → Found test index sessions → (s : ℕ)
+    → named sessions s ≡ list_any test (slots_of (map.get watches s))
 found_exactly test index watches sessions is h s = both_ways _ _ seen there
   where
     view : List Slot

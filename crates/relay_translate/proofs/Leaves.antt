@@ -16,7 +16,8 @@ use Rattle.relay_translate.specs.Touch.{Apart, Reset, shifts, touch_last}
 
 -- the act leaves the children that it doesn't touch
 abbrev pub Leaves : Bool → Act → Type 0
-Leaves is_item act = (t b : Token) (d d' : Document) → act t d ≡ Ok d' → touch_last is_item t b ≡ Apart → step d' b ≡ step d b
+Leaves is_item act = (t b : Token) (d d' : Document) → act t d ≡ Ok d'
+    → touch_last is_item t b ≡ Apart → step d' b ≡ step d b
 
 -- apart from a member means another token
 pub apart_other : (t b : Token) → touch_last false t b ≡ Apart → bytes_eq t b ≡ false
@@ -53,26 +54,36 @@ below_shift i j h = go (nat_le i j) refl
     go true e = let k : Reset ≡ Apart = rw e at h in cc
     go false e = grind arith
 
-same_element : (ds es : Items) (b : Token) (i : ℕ) (p : Option ℕ) → shifts (Some (min (2 ^ 64 - 1) i)) (option_map (min (2 ^ 64 - 1)) p) ≡ Apart → ((j : ℕ) → j < i → item_at es j ≡ item_at ds j) → element es b p ≡ element ds b p
+same_element : (ds es : Items) (b : Token) (i : ℕ) (p : Option ℕ)
+    → shifts (Some (min (2 ^ 64 - 1) i)) (option_map (min (2 ^ 64 - 1)) p) ≡ Apart
+    → ((j : ℕ) → j < i → item_at es j ≡ item_at ds j) → element es b p ≡ element ds b p
 same_element ds es b i None h same = refl
-same_element ds es b i (Some j) h same = let less = below_shift (min (2 ^ 64 - 1) i) (min (2 ^ 64 - 1) j) h in rw (same j (omega (arith, less))) refl
+same_element ds es b i (Some j) h same =
+    let less = below_shift (min (2 ^ 64 - 1) i) (min (2 ^ 64 - 1) j) h in
+    rw (same j (omega (arith, less))) refl
 
 pub insert_in_list_leaves : (v : Document) → Leaves true (in_list (insert_child v))
 insert_in_list_leaves v t b (list ds) d' h k =
     let a = at_index (insert_child v) t (list ds) d' (index_of t) h in
-    let done : then_do (ok_or (insert_item ds a.0 v) PastEnd) (λ es. Ok (list es)) ≡ Ok d' = subst (λ o. insert_element v ds o ≡ Ok d') (place_in_at_index ds t a.0 a.1) a.2 in
+    let done : then_do (ok_or (insert_item ds a.0 v) PastEnd) (λ es. Ok (list es)) ≡ Ok d' =
+    subst (λ o. insert_element v ds o ≡ Ok d') (place_in_at_index ds t a.0 a.1) a.2 in
     let s = then_ok (ok_or (insert_item ds a.0 v) PastEnd) (λ es. Ok (list es)) d' done in
-    let apart : shifts (Some (min (2 ^ 64 - 1) a.0)) (number_of b) ≡ Apart = subst (λ o. shifts (option_map (min (2 ^ 64 - 1)) o) (number_of b) ≡ Apart) a.1 k in
+    let apart : shifts (Some (min (2 ^ 64 - 1) a.0)) (number_of b) ≡ Apart =
+    subst (λ o. shifts (option_map (min (2 ^ 64 - 1)) o) (number_of b) ≡ Apart) a.1 k in
     let is : d' ≡ list s.0 = let e = s.2 in cc in
-    rw is (same_element ds s.0 b a.0 (index_of b) apart (λ j l. item_at-insert_below ds a.0 j v s.0 l (ok_or_some _ _ _ s.1)))
+    rw is (same_element ds s.0 b a.0 (index_of b) apart
+    (λ j l. item_at-insert_below ds a.0 j v s.0 l (ok_or_some _ _ _ s.1)))
 insert_in_list_leaves v t b _ d' h k = cc
 
 pub drop_in_list_leaves : Leaves true (in_list drop_child)
 drop_in_list_leaves t b (list ds) d' h k =
     let a = at_index drop_child t (list ds) d' (index_of t) h in
-    let done : then_do (ok_or (drop_item ds a.0) Missing) (λ es. Ok (list es)) ≡ Ok d' = subst (λ o. drop_element ds t o ≡ Ok d') a.1 a.2 in
+    let done : then_do (ok_or (drop_item ds a.0) Missing) (λ es. Ok (list es)) ≡ Ok d' =
+    subst (λ o. drop_element ds t o ≡ Ok d') a.1 a.2 in
     let s = then_ok (ok_or (drop_item ds a.0) Missing) (λ es. Ok (list es)) d' done in
-    let apart : shifts (Some (min (2 ^ 64 - 1) a.0)) (number_of b) ≡ Apart = subst (λ o. shifts (option_map (min (2 ^ 64 - 1)) o) (number_of b) ≡ Apart) a.1 k in
+    let apart : shifts (Some (min (2 ^ 64 - 1) a.0)) (number_of b) ≡ Apart =
+    subst (λ o. shifts (option_map (min (2 ^ 64 - 1)) o) (number_of b) ≡ Apart) a.1 k in
     let is : d' ≡ list s.0 = let e = s.2 in cc in
-    rw is (same_element ds s.0 b a.0 (index_of b) apart (λ j l. item_at-drop_below ds a.0 j s.0 l (ok_or_some _ _ _ s.1)))
+    rw is (same_element ds s.0 b a.0 (index_of b) apart
+    (λ j l. item_at-drop_below ds a.0 j s.0 l (ok_or_some _ _ _ s.1)))
 drop_in_list_leaves t b _ d' h k = cc

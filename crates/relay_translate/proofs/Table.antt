@@ -18,29 +18,36 @@ bytes_eq-swap a b true h = (bytes_eq-Decides b a).1 (sym ((bytes_eq-Decides a b)
 bytes_eq-swap a b false h = go (bytes_eq b a) refl
   where
     go : (y : Bool) → bytes_eq b a ≡ y → bytes_eq b a ≡ false
-    go true e = let k : bytes_eq a b ≡ true = (bytes_eq-Decides a b).1 (sym ((bytes_eq-Decides b a).0 e)) in cc
+    go true e = let k : bytes_eq a b
+        ≡ true = (bytes_eq-Decides a b).1 (sym ((bytes_eq-Decides b a).0 e)) in cc
     go false e = e
 
 and_true : (x : Bool) → (x && true) ≡ x
 and_true true = refl
 and_true false = refl
 
-below_table : (is_item : Bool) (t : Token) (path q : Path) → touch_below is_item t path q ≡ table_at Inside is_item (t ∷ path) q
+below_table : (is_item : Bool) (t : Token) (path q : Path)
+    → touch_below is_item t path q ≡ table_at Inside is_item (t ∷ path) q
 below_table is_item t path [] = refl
 below_table true t [] (b ∷ q) = rw (and_false (bytes_eq b t)) refl
 below_table false t [] (b ∷ q) = rw (and_false (bytes_eq b t), and_true (bytes_eq t b)) refl
 below_table true t (u ∷ path) (b ∷ q) = go (bytes_eq t b) refl (below_table true u path q)
   where
-    go : (x : Bool) → bytes_eq t b ≡ x → touch_below true u path q ≡ table_at Inside true (u ∷ path) q → touch_below true t (u ∷ path) (b ∷ q) ≡ table_at Inside true (t ∷ u ∷ path) (b ∷ q)
+    go : (x : Bool) → bytes_eq t b ≡ x
+        → touch_below true u path q ≡ table_at Inside true (u ∷ path) q
+        → touch_below true t (u ∷ path) (b ∷ q) ≡ table_at Inside true (t ∷ u ∷ path) (b ∷ q)
     go true e ih = rw (e, bytes_eq-swap t b true e) ih
     go false e ih = rw (e, bytes_eq-swap t b false e) refl
 below_table false t (u ∷ path) (b ∷ q) = go (bytes_eq t b) refl (below_table false u path q)
   where
-    go : (x : Bool) → bytes_eq t b ≡ x → touch_below false u path q ≡ table_at Inside false (u ∷ path) q → touch_below false t (u ∷ path) (b ∷ q) ≡ table_at Inside false (t ∷ u ∷ path) (b ∷ q)
+    go : (x : Bool) → bytes_eq t b ≡ x
+        → touch_below false u path q ≡ table_at Inside false (u ∷ path) q
+        → touch_below false t (u ∷ path) (b ∷ q) ≡ table_at Inside false (t ∷ u ∷ path) (b ∷ q)
     go true e ih = rw (e, bytes_eq-swap t b true e) ih
     go false e ih = rw (e, bytes_eq-swap t b false e) refl
 
-path_table : (is_item : Bool) (path q : Path) → touch_path is_item path q ≡ table_at Inside is_item path q
+path_table : (is_item : Bool) (path q : Path)
+    → touch_path is_item path q ≡ table_at Inside is_item path q
 path_table is_item [] q = refl
 path_table is_item (t ∷ path) q = below_table is_item t path q
 
@@ -64,7 +71,8 @@ record Keeps (judge : Touch → Touch) (within : Touch) : Type 0 where
   inside : judge Inside ≡ within
   reset : judge Reset ≡ Reset
 
-shifts_kept : (judge : Touch → Touch) (within : Touch) → Keeps judge within → (o p : Option ℕ) → judge (shifts o p) ≡ shifts o p
+shifts_kept : (judge : Touch → Touch) (within : Touch) → Keeps judge within → (o p : Option ℕ)
+    → judge (shifts o p) ≡ shifts o p
 shifts_kept judge within keeps (Some i) (Some j) = go (nat_le i j)
   where
     go : (x : Bool) → judge (if x then Reset else Apart) ≡ (if x then Reset else Apart)
@@ -72,11 +80,19 @@ shifts_kept judge within keeps (Some i) (Some j) = go (nat_le i j)
     go false = keeps.apart
 shifts_kept judge within keeps _ _ = keeps.apart
 
-aside_kept : (judge : Touch → Touch) (within : Touch) → Keeps judge within → (is_item : Bool) (t : Token) (path q : Path) → judge (not_inside is_item t path q) ≡ not_inside is_item t path q
+aside_kept : (judge : Touch → Touch) (within : Touch) → Keeps judge within
+    → (is_item : Bool) (t : Token) (path q : Path)
+    → judge (not_inside is_item t path q) ≡ not_inside is_item t path q
 aside_kept judge within keeps true t path q = go (is_prefix (parent t path) q)
   where
-    go : (x : Bool) → judge (if x then shifts (number_of (last t path)) (next_index (drop (length (parent t path)) q)) else Apart) ≡ (if x then shifts (number_of (last t path)) (next_index (drop (length (parent t path)) q)) else Apart)
-    go true = shifts_kept judge within keeps (number_of (last t path)) (next_index (drop (length (parent t path)) q))
+    go : (x : Bool)
+        → judge (if x
+        then shifts (number_of (last t path)) (next_index (drop (length (parent t path)) q))
+        else Apart) ≡ (if x
+        then shifts (number_of (last t path)) (next_index (drop (length (parent t path)) q))
+        else Apart)
+    go true = shifts_kept judge within keeps (number_of (last t path))
+        (next_index (drop (length (parent t path)) q))
     go false = keeps.apart
 aside_kept judge within keeps false t path q = go (is_prefix (t ∷ path) q)
   where
@@ -84,11 +100,16 @@ aside_kept judge within keeps false t path q = go (is_prefix (t ∷ path) q)
     go true = keeps.reset
     go false = keeps.apart
 
-judged_table : (judge : Touch → Touch) (within : Touch) → Keeps judge within → (is_item : Bool) (path q : Path) → judge (touch_path is_item path q) ≡ table_at within is_item path q
+judged_table : (judge : Touch → Touch) (within : Touch) → Keeps judge within
+    → (is_item : Bool) (path q : Path)
+    → judge (touch_path is_item path q) ≡ table_at within is_item path q
 judged_table judge within keeps is_item [] q = keeps.reset
-judged_table judge within keeps is_item (t ∷ path) q = ap judge (path_table is_item (t ∷ path) q) ∙ go (is_proper_prefix q (t ∷ path))
+judged_table judge within keeps is_item (t ∷ path) q =
+    ap judge (path_table is_item (t ∷ path) q) ∙ go (is_proper_prefix q (t ∷ path))
   where
-    go : (x : Bool) → judge (if x then Inside else not_inside is_item t path q) ≡ (if x then within else not_inside is_item t path q)
+    go : (x : Bool)
+        → judge (if x then Inside else not_inside is_item t path q)
+        ≡ (if x then within else not_inside is_item t path q)
     go true = keeps.inside
     go false = aside_kept judge within keeps is_item t path q
 
@@ -98,8 +119,10 @@ size_keeps path q = record { apart = refl; inside = refl; reset = refl }
 exchange_keeps : Keeps exchange_touch Apart
 exchange_keeps = record { apart = refl; inside = refl; reset = refl }
 
-path_size_table : (is_item : Bool) (path q : Path) → size_touch path q (touch_path is_item path q) ≡ table_at (part_touch path q) is_item path q
-path_size_table is_item path q = judged_table (size_touch path q) (part_touch path q) (size_keeps path q) is_item path q
+path_size_table : (is_item : Bool) (path q : Path)
+    → size_touch path q (touch_path is_item path q) ≡ table_at (part_touch path q) is_item path q
+path_size_table is_item path q =
+    judged_table (size_touch path q) (part_touch path q) (size_keeps path q) is_item path q
 
 place_size_table : (place : Place) (q : Path) → touch_place_size place q ≡ size_by_table place q
 place_size_table place q = path_size_table place.item place.path q
@@ -113,6 +136,7 @@ size_table (change.DropItem path) q = path_size_table true path q
 size_table (change.Move from to v) q = rw (place_size_table from q, place_size_table to q) refl
 size_table (change.Copy from to v) q = place_size_table to q
 
-pub change_table : (c : Change) (q : Path) (kind : SlotKind) → touch c q kind ≡ touch_by_table c q kind
+pub change_table : (c : Change) (q : Path) (kind : SlotKind)
+    → touch c q kind ≡ touch_by_table c q kind
 change_table c q Value = value_table c q
 change_table c q Size = size_table c q

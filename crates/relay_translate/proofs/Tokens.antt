@@ -23,9 +23,12 @@ none_behind [] = refl
 none_behind (t ∷ ts) = none_behind ts
 
 -- the range from the n-th to the end
-pub path_of-range : (n : ℕ) (ts : List (String Global)) → n ≤ length ts → path_of (slice_range ts n (length ts)) ≡ drop n (path_of ts)
+pub path_of-range : (n : ℕ) (ts : List (String Global)) → n ≤ length ts
+    → path_of (slice_range ts n (length ts)) ≡ drop n (path_of ts)
 path_of-range n ts h =
-    ap path_of (sym (append-nil (slice_range ts n (length ts))) ∙ (ap (λ rest. slice_range ts n (length ts) ++ rest) (sym (none_behind ts)) ∙ sym (drop_split ts n (length ts) h)))
+    ap path_of (sym (append-nil (slice_range ts n (length ts)))
+    ∙ (ap (λ rest. slice_range ts n (length ts) ++ rest) (sym (none_behind ts))
+    ∙ sym (drop_split ts n (length ts) h)))
     ∙ path_of-drop n ts
 
 pub path_of-take : (n : ℕ) (ts : List (String Global)) → path_of (take n ts) ≡ take n (path_of ts)

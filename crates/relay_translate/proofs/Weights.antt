@@ -30,22 +30,31 @@ pub one_weighs : (o : Op) → ops_weight (o ∷ []) ≡ op_weight o
 one_weighs o = omega arith
 
 -- the operations on a slot, followed by those on the later slots
-pub further_ops : (changes : List Change) (now : Document) (slots : List Slot) (n : ℕ) (s : Slot) → n < length slots → s ≡ get_or slots n s
-    → local_from n changes now (drop n slots) ≡ slot_ops n s changes now ++ local_from (n + 1) changes now (drop (n + 1) slots)
+pub further_ops : (changes : List Change) (now : Document) (slots : List Slot) (n : ℕ) (s : Slot)
+    → n < length slots → s ≡ get_or slots n s
+    → local_from n changes now (drop n slots) ≡ slot_ops n s changes now
+    ++ local_from (n + 1) changes now (drop (n + 1) slots)
 further_ops changes now slots n s within is =
     let next : n + 1 ≡ suc n = omega arith in
     rw (drop_more slots n s within, ← is, next) refl
 
 -- the operations of a change, followed by those of the later changes
-pub further_changes : (op : Change → List Op) (changes : List (Bor Change)) (n : ℕ) (c : Bor Change) → n < length changes → c ≡ get_or changes n c
-    → flat_map op (map (λ c. c.now) (drop n changes)) ≡ op c.now ++ flat_map op (map (λ c. c.now) (drop (n + 1) changes))
+pub further_changes : (op : Change → List Op) (changes : List (Bor Change)) (n : ℕ) (c : Bor Change)
+    → n < length changes → c ≡ get_or changes n c
+    → flat_map op (map (λ c. c.now) (drop n changes)) ≡ op c.now
+    ++ flat_map op (map (λ c. c.now) (drop (n + 1) changes))
 further_changes op changes n c within is =
     let next : n + 1 ≡ suc n = omega arith in
     rw (drop_more changes n c within, ← is, next) refl
 
 -- a budget that pays for the first operations pays for the others from what is left
-pub paid_further : (all done rest : List Op) (x y : Budget) → all ≡ done ++ rest → paid (ops_weight done) x ≡ Some y → paid (ops_weight rest) y ≡ paid (ops_weight all) x
-paid_further all done rest x y is h = paid_on (ops_weight done) (ops_weight rest) x y h ∙ sym (rw (is, ops_weight_append done rest) refl)
+pub paid_further : (all done rest : List Op) (x y : Budget) → all ≡ done ++ rest
+    → paid (ops_weight done) x ≡ Some y → paid (ops_weight rest) y ≡ paid (ops_weight all) x
+paid_further all done rest x y is h =
+    paid_on (ops_weight done) (ops_weight rest) x y h
+    ∙ sym (rw (is, ops_weight_append done rest) refl)
 
-pub paid_no_further : (all done rest : List Op) (x : Budget) → all ≡ done ++ rest → paid (ops_weight done) x ≡ None → paid (ops_weight all) x ≡ None
-paid_no_further all done rest x is h = rw (is, ops_weight_append done rest) (paid_out (ops_weight done) (ops_weight rest) x h)
+pub paid_no_further : (all done rest : List Op) (x : Budget) → all ≡ done ++ rest
+    → paid (ops_weight done) x ≡ None → paid (ops_weight all) x ≡ None
+paid_no_further all done rest x is h =
+    rw (is, ops_weight_append done rest) (paid_out (ops_weight done) (ops_weight rest) x h)

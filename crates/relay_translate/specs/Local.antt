@@ -1,5 +1,5 @@
--- The operations of a translation on each slot: none if no change touches it, one for each change inside its value, or one
--- replacement if a change reset it.
+-- The operations of a translation on each slot: none if no change touches it, one for each change
+-- inside its value, or one replacement if a change reset it.
 use Rattle.std.specs.Prelude.{◌≡◌, ℕ, List, [], ◌∷◌, map, Bool, true, false, ◌||◌, Some, bytes_eq, slice_get}
 use Rattle.std.specs.List.{filter, list_all, list_any}
 use Rattle.relay_tree.specs.Document.{Document}
@@ -56,7 +56,8 @@ on_slot k ops = filter (names k) ops
 -- A slot has no operation if every change is apart from it.
 abbrev pub LeavesApart : List Change → View → List Op → Type 0
 LeavesApart changes pointers ops =
-    (k : ℕ) (s : Slot) → slice_get pointers k ≡ Some s → all_apart s changes ≡ true → on_slot k ops ≡ []
+    (k : ℕ) (s : Slot) → slice_get pointers k ≡ Some s → all_apart s changes ≡ true
+    → on_slot k ops ≡ []
 
 -- A slot that no change resets has one operation for each change inside its value, in order.
 abbrev pub FollowsInside : List Change → View → List Op → Type 0
@@ -64,7 +65,8 @@ FollowsInside changes pointers ops =
     (k : ℕ) (s : Slot) → slice_get pointers k ≡ Some s → some_reset s changes ≡ false
     → on_slot k ops ≡ map (λ c. in_view k s.pointer (op_of s.pointer c)) (changes_inside s changes)
 
--- A slot that some change resets has one operation, which replaces it with what it shows of the present document.
+-- A slot that some change resets has one operation, which replaces it with what it shows of the
+-- present document.
 abbrev pub ReplacesReset : List Change → Document → View → List Op → Type 0
 ReplacesReset changes now pointers ops =
     (k : ℕ) (s : Slot) → slice_get pointers k ≡ Some s → some_reset s changes ≡ true

@@ -8,12 +8,14 @@ use Rattle.relay_patch.specs.declared.op.Op.{Op}
 use Rattle.relay_patch.specs.Sizes.{IsFlat, OpFits, ChangeFits}
 use Rattle.relay_translate.specs.Translate.{local}
 
--- Paths are at most two tokens longer than those of the changes, and values at most one level deeper than those of the changes and
--- the document.
+-- Paths are at most two tokens longer than those of the changes, and values at most one level
+-- deeper than those of the changes and the document.
 abbrev pub FitsWith : List Change → Document → List Op → Type 0
 FitsWith changes now ops =
-    (n m : ℕ) → AllByRecursion (ChangeFits n m) changes → IsFlat m now → AllByRecursion (OpFits (n + 2) (m + 1)) ops
+    (n m : ℕ) → AllByRecursion (ChangeFits n m) changes → IsFlat m now
+    → AllByRecursion (OpFits (n + 2) (m + 1)) ops
 
 -- Every translation keeps these bounds.
 abbrev pub FitsWithChanges : Type 0
-FitsWithChanges = (changes : List Change) (now : Document) (pointers : View) → FitsWith changes now (local changes now pointers)
+FitsWithChanges = (changes : List Change) (now : Document) (pointers : View)
+    → FitsWith changes now (local changes now pointers)

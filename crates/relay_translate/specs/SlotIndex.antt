@@ -53,16 +53,22 @@ watchers_at index path = lookup (λ key. same_path (path_of key.items) path) ind
 
 -- the session has the slot, by the index
 abbrev pub stands : SlotIndex → Slot → ℕ → Bool
-stands index v session = option_map_or (watches_by v.kind session) (watchers_at index v.pointer) false
+stands index v session =
+    option_map_or (watches_by v.kind session) (watchers_at index v.pointer) false
 
 -- the new index has the slots of the old one and, for the session, these
 abbrev pub Joins : SlotIndex → SlotIndex → ℕ → List Slot → Type 0
-Joins old new session slots = (v : Slot) (s : ℕ) → stands new v s ≡ (stands old v s || ((s == session) && list_any (same_slot v) slots))
+Joins old new session slots = (v : Slot) (s : ℕ)
+    → stands new v s ≡ (stands old v s || ((s == session) && list_any (same_slot v) slots))
 
 -- the new index has the slots of the old one but, for the session, those of these that are not kept
 abbrev pub Leaves : SlotIndex → SlotIndex → ℕ → List Slot → List Slot → Type 0
 Leaves old new session slots kept =
-    (v : Slot) (s : ℕ) → stands new v s ≡ (stands old v s && not ((s == session) && (list_any (same_slot v) slots && not (list_any (same_slot v) kept))))
+    (v : Slot) (s : ℕ)
+    → stands new v s
+    ≡ (stands old v s
+    && not ((s == session)
+    && (list_any (same_slot v) slots && not (list_any (same_slot v) kept))))
 
 -- the same slots stand in both
 abbrev pub IsSameIndex : SlotIndex → SlotIndex → Type 0
@@ -74,23 +80,26 @@ watches_of views = map.from_entries views.entries
 
 -- the invariant of an index: the slots of each session are those of its view
 abbrev pub IsIndex : SlotIndex → Watches → Type 0
-IsIndex index watches = (v : Slot) (session : ℕ) → stands index v session ≡ list_any (same_slot v) (slots_of (map.get watches session))
+IsIndex index watches = (v : Slot) (session : ℕ)
+    → stands index v session ≡ list_any (same_slot v) (slots_of (map.get watches session))
 
 -- no pointer that some session watches has more tokens
 abbrev pub IsWithin : ℕ → SlotIndex → Type 0
-IsWithin deepest index = (v : Slot) (session : ℕ) → stands index v session ≡ true → length v.pointer ≤ deepest
+IsWithin deepest index = (v : Slot) (session : ℕ) → stands index v session ≡ true
+    → length v.pointer ≤ deepest
 
 -- no slot of the list has a pointer with more tokens
 abbrev pub AreWithin : ℕ → List Slot → Type 0
-AreWithin deepest slots = (v : Slot) → list_any (same_slot v) slots ≡ true → length v.pointer ≤ deepest
+AreWithin deepest slots = (v : Slot) → list_any (same_slot v) slots ≡ true
+    → length v.pointer ≤ deepest
 
 -- the path without its last token
 abbrev pub container : Path → Path
 container [] = []
 container (t ∷ path) = parent t path
 
--- the path such that a change at the place touches only pointers that are a prefix of it or begin with it: for an item its list,
--- since the later elements move
+-- the path such that a change at the place touches only pointers that are a prefix of it or begin
+-- with it: for an item its list, since the later elements move
 abbrev pub scope : Bool → Path → Path
 scope true path = container path
 scope false path = path
@@ -109,20 +118,28 @@ slot_of path kind = record { pointer = path; kind = kind }
 
 -- the session has a slot at the path that the change touches, by the path's watchers
 abbrev pub tells : Change → Path → ℕ → Watchers → Bool
-tells c path session w = (watches_by Value session w && touches c (slot_of path Value)) || (watches_by Size session w && touches c (slot_of path Size))
+tells c path session w =
+    (watches_by Value session w && touches c (slot_of path Value))
+    || (watches_by Size session w && touches c (slot_of path Size))
 
 -- the session is in the list
 abbrev pub named : List ℕ → ℕ → Bool
 named sessions session = list_any (nat_eq session) sessions
 
--- The new list has the sessions of the old one and others with a slot that the change touches, and among them each with such a slot at a pointer
--- that passes the test.
-pub record Gains (test : Path → Bool) (c : Change) (index : SlotIndex) (old new : List ℕ) : Type 0 where
+-- The new list has the sessions of the old one and others with a slot that the change touches, and
+-- among them each with such a slot at a pointer that passes the test.
+pub record Gains (test : Path → Bool) (c : Change) (index : SlotIndex)
+    (old new : List ℕ) : Type 0 where
   pub kept : (session : ℕ) → named old session ≡ true → named new session ≡ true
-  pub found : (v : Slot) (session : ℕ) → stands index v session ≡ true → touches c v ≡ true → test v.pointer ≡ true → named new session ≡ true
-  pub only : (session : ℕ) → named new session ≡ true → (named old session ≡ true) ⊎ ((v : Slot) × (stands index v session ≡ true) × (touches c v ≡ true))
+  pub found : (v : Slot) (session : ℕ) → stands index v session ≡ true → touches c v ≡ true
+      → test v.pointer ≡ true → named new session ≡ true
+  pub only : (session : ℕ) → named new session ≡ true
+      → (named old session ≡ true)
+      ⊎ ((v : Slot) × (stands index v session ≡ true) × (touches c v ≡ true))
 
 -- the list has exactly the sessions with a slot that passes the test
 pub record Found (test : Slot → Bool) (index : SlotIndex) (sessions : List ℕ) : Type 0 where
-  pub found : (v : Slot) (session : ℕ) → stands index v session ≡ true → test v ≡ true → named sessions session ≡ true
-  pub only : (session : ℕ) → named sessions session ≡ true → (v : Slot) × (stands index v session ≡ true) × (test v ≡ true)
+  pub found : (v : Slot) (session : ℕ) → stands index v session ≡ true → test v ≡ true
+      → named sessions session ≡ true
+  pub only : (session : ℕ) → named sessions session ≡ true
+      → (v : Slot) × (stands index v session ≡ true) × (test v ≡ true)

@@ -17,16 +17,19 @@ shifts (Some i) (Some j) = if nat_le i j then Reset else Apart
 shifts None j = Apart
 shifts (Some i) None = Apart
 
--- t is the last token of a place, which is an item or not; b is the pointer's token at the same depth
+-- t is the last token of a place, which is an item or not; b is the pointer's token at the same
+-- depth
 abbrev pub touch_last : Bool → Token → Token → Touch
 touch_last true t b = shifts (number_of t) (number_of b)
 touch_last false t b = if bytes_eq t b then Reset else Apart
 
--- a place with the tokens t, path: the pointer ends above it, reaches its last token, or has the same or another token as t
+-- a place with the tokens t, path: the pointer ends above it, reaches its last token, or has the
+-- same or another token as t
 abbrev pub touch_below : Bool → Token → Path → Path → Touch
 touch_below is_item t path [] = Inside
 touch_below is_item t [] (b ∷ q) = touch_last is_item t b
-touch_below is_item t (u ∷ path) (b ∷ q) = if bytes_eq t b then touch_below is_item u path q else Apart
+touch_below is_item t (u ∷ path) (b ∷ q) =
+    if bytes_eq t b then touch_below is_item u path q else Apart
 
 -- a change at a path, which is that of an item or not; at the root it resets every pointer
 abbrev pub touch_path : Bool → Path → Path → Touch
@@ -44,7 +47,8 @@ touch_either Inside Inside = Inside
 touch_either Inside Reset = Reset
 touch_either Reset b = Reset
 
--- How a change touches the value at the pointer q: a move is judged as a removal and an insertion, a copy at its target.
+-- How a change touches the value at the pointer q: a move is judged as a removal and an insertion,
+-- a copy at its target.
 abbrev pub touch_value : Change → Path → Touch
 touch_value (change.Set path v) q = touch_path false path q
 touch_value (change.AddMember path v) q = touch_path false path q
@@ -56,7 +60,8 @@ touch_value (change.Copy from to v) q = touch_place to q
 
 -- How a change touches the size of that value.
 
--- a place within the value: Reset if one of the value's own parts is added or removed there, Apart below its parts
+-- a place within the value: Reset if one of the value's own parts is added or removed there, Apart
+-- below its parts
 abbrev pub part_touch : Path → Path → Touch
 part_touch path q = if length path == length q + 1 then Reset else Apart
 
@@ -81,7 +86,8 @@ touch_size (change.AddMember path v) q = size_touch path q (touch_path false pat
 touch_size (change.AddItem path v) q = size_touch path q (touch_path true path q)
 touch_size (change.DropMember path) q = size_touch path q (touch_path false path q)
 touch_size (change.DropItem path) q = size_touch path q (touch_path true path q)
-touch_size (change.Move from to v) q = touch_either (touch_place_size from q) (touch_place_size to q)
+touch_size (change.Move from to v) q =
+    touch_either (touch_place_size from q) (touch_place_size to q)
 touch_size (change.Copy from to v) q = touch_place_size to q
 
 -- How a change touches what a slot with this pointer and kind shows.

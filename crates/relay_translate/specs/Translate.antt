@@ -23,7 +23,8 @@ is_reset Apart = false
 is_reset Inside = false
 is_reset Reset = true
 
--- a move within the value stays a move; one that leaves it is a removal, and one that enters it an insertion
+-- a move within the value stays a move; one that leaves it is a removal, and one that enters it an
+-- insertion
 abbrev pub move_op : Touch → Touch → Path → Path → Document → Op
 move_op Inside Inside from to v = Move from to
 move_op Inside Apart from to v = Remove from
@@ -38,7 +39,8 @@ op_of q (change.AddMember path v) = Add path v
 op_of q (change.AddItem path v) = Add path v
 op_of q (change.DropMember path) = Remove path
 op_of q (change.DropItem path) = Remove path
-op_of q (change.Move from to v) = move_op (touch_place from q) (touch_place to q) from.path to.path v
+op_of q (change.Move from to v) =
+    move_op (touch_place from q) (touch_place to q) from.path to.path v
 op_of q (change.Copy from to v) = if is_prefix q from then Copy from to.path else Add to.path v
 
 -- the operation with f applied to each of its paths
@@ -71,15 +73,18 @@ when_inside Reset op = []
 abbrev pub slot_op : ℕ → Slot → Change → List Op
 slot_op k s c = when_inside (touch_slot c s) (in_view k s.pointer (op_of s.pointer c))
 
--- one replacement of the whole slot if some change is Reset, else one operation for each change inside, in order
+-- one replacement of the whole slot if some change is Reset, else one operation for each change
+-- inside, in order
 abbrev pub slot_ops : ℕ → Slot → List Change → Document → List Op
 slot_ops k s changes now =
-    if list_any (λ c. is_reset (touch_slot c s)) changes then Replace (index_text k ∷ []) (slot s now) ∷ [] else flat_map (slot_op k s) changes
+    if list_any (λ c. is_reset (touch_slot c s)) changes
+    then Replace (index_text k ∷ []) (slot s now) ∷ [] else flat_map (slot_op k s) changes
 
 -- the operations on all slots in order, the first of which is slot k
 abbrev pub local_from : ℕ → List Change → Document → View → List Op
 local_from k changes now [] = []
-local_from k changes now (s ∷ pointers) = slot_ops k s changes now ++ local_from (suc k) changes now pointers
+local_from k changes now (s ∷ pointers) =
+    slot_ops k s changes now ++ local_from (suc k) changes now pointers
 
 -- the operations that the changes, which led to the document now, become on a view
 abbrev pub local : List Change → Document → View → List Op
@@ -89,10 +94,13 @@ local changes now pointers = local_from 0 changes now pointers
 abbrev pub afforded : Budget → List Op → Option (List Op)
 afforded budget ops = option_map (λ _. ops) (paid (ops_weight ops) budget)
 
--- For every document from which the changes lead to the document now, the operations turn its view into the view of now.
+-- For every document from which the changes lead to the document now, the operations turn its view
+-- into the view of now.
 abbrev pub LeadsViews : List Change → Document → View → List Op → Type 0
-LeadsViews changes now pointers ops = (d : Document) → Leads d changes now → after (view pointers d) ops free ≡ Ok (view pointers now)
+LeadsViews changes now pointers ops = (d : Document) → Leads d changes now
+    → after (view pointers d) ops free ≡ Ok (view pointers now)
 
 -- The translation of every list of changes turns every view into the new one, as above.
 abbrev pub IsTranslation : Type 0
-IsTranslation = (changes : List Change) (now : Document) (pointers : View) → LeadsViews changes now pointers (local changes now pointers)
+IsTranslation = (changes : List Change) (now : Document) (pointers : View)
+    → LeadsViews changes now pointers (local changes now pointers)

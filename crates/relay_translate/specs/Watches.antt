@@ -33,10 +33,12 @@ is_touched changes s = list_any (λ c. touches c s) changes
 abbrev pub sees : List Change → Watches → ℕ → Bool
 sees changes watches session = list_any (is_touched changes) (slots_of (map.get watches session))
 
--- for every session not in the list, the changes translate to no operation on its view, whatever document they led to
+-- for every session not in the list, the changes translate to no operation on its view, whatever
+-- document they led to
 abbrev pub OthersStay : List Change → Watches → List ℕ → Type 0
 OthersStay changes watches sessions =
-    (session : ℕ) (now : Document) → list_any (nat_eq session) sessions ≡ false → local changes now (slots_of (map.get watches session)) ≡ []
+    (session : ℕ) (now : Document) → list_any (nat_eq session) sessions ≡ false
+    → local changes now (slots_of (map.get watches session)) ≡ []
 
 -- how the logic encodes watches
 abbrev pub watches_code : Coded Slot → Coded Watches

@@ -1,10 +1,13 @@
-//! Translation of document changes into view patches: which slots the changes touch, and the operations that bring a watcher's
-//! view from the document before the changes to the document after them.
+//! Translation of document changes into view patches: which slots the changes touch, and the
+//! operations that bring a watcher's view from the document before the changes to the document
+//! after them.
 //!
-//! The promise: for every document from which the changes lead to the new one, its view, patched with the result of [`translate`],
-//! is the view of the new document. A slot that no change touches costs no operation, and a change inside a slot's value costs one
-//! operation. A slot is sent anew only if a change reset it: its pointer may now lead to another value, or its size may have
-//! changed. A [`WatchIndex`] finds the sessions whose views the changes touch without checking every view.
+//! The promise: for every document from which the changes lead to the new one, its view, patched
+//! with the result of [`translate`], is the view of the new document. A slot that no change touches
+//! costs no operation, and a change inside a slot's value costs one operation. A slot is sent anew
+//! only if a change reset it: its pointer may now lead to another value, or its size may have
+//! changed. A [`WatchIndex`] finds the sessions whose views the changes touch without checking
+//! every view.
 #![tactic(auto)]
 
 mod kind;

@@ -1,5 +1,6 @@
-//! The slots that a change can touch, found from the places at which it adds or removes something: those whose pointers are a prefix of
-//! such a place or begin with it and, if the place is an item, those that begin with the path of its list. No other slot is checked.
+//! The slots that a change can touch, found from the places at which it adds or removes something:
+//! those whose pointers are a prefix of such a place or begin with it and, if the place is an item,
+//! those that begin with the path of its list. No other slot is checked.
 ghost use Rattle.std.specs.Prelude.{◌≡◌, ◌||◌, ℕ, true, take, OnOk};
 ghost use Rattle.std.specs.Ordering.{nat_cmp};
 ghost use Rattle.std.specs.BTreeSet.{contains};
@@ -26,7 +27,8 @@ pub(crate) fn add_touched(
     change: &Change,
 ) -> Result<(), AllocError>
     requires { IsWithin deepest index.now }
-    ensures { OnOk result (Gains (λ q. true) change.now index.now sessions.old.items sessions.new.items) }
+    ensures { OnOk result
+        (Gains (λ q. true) change.now index.now sessions.old.items sessions.new.items) }
 {
     match change {
         Change::Set { path, .. } | Change::AddMember { path, .. } | Change::DropMember { path } => {
@@ -60,7 +62,9 @@ fn add_near(
     change: &Change,
 ) -> Result<(), AllocError>
     requires { IsWithin deepest index.now }
-    ensures { OnOk result (Gains (is_near (path_of path.now)) change.now index.now sessions.old.items sessions.new.items) }
+    ensures { OnOk result
+        (Gains (is_near (path_of path.now)) change.now index.now sessions.old.items
+        sessions.new.items) }
 {
     for depth in 0..path.len() {
         add_at(sessions, index, first_tokens(path, depth), change)?;
@@ -75,7 +79,9 @@ fn add_at(
     path: &[String],
     change: &Change,
 ) -> Result<(), AllocError>
-    ensures { OnOk result (Gains (same_path (path_of path.now)) change.now index.now sessions.old.items sessions.new.items) }
+    ensures { OnOk result
+        (Gains (same_path (path_of path.now)) change.now index.now sessions.old.items
+        sessions.new.items) }
 {
     match watchers_at(index, path) {
         Some(watchers) => add_told(sessions, path, watchers, change),
@@ -83,7 +89,8 @@ fn add_at(
     }
 }
 
-/// Like [`add_touched`], for the slots whose pointers begin with the path. There are none if no pointer is as long.
+/// Like [`add_touched`], for the slots whose pointers begin with the path. There are none if no
+/// pointer is as long.
 fn add_below(
     alloc: Global,
     sessions: &mut Vec<u64>,
@@ -93,7 +100,9 @@ fn add_below(
     change: &Change,
 ) -> Result<(), AllocError>
     requires { IsWithin deepest index.now }
-    ensures { OnOk result (Gains (is_prefix (path_of path.now)) change.now index.now sessions.old.items sessions.new.items) }
+    ensures { OnOk result
+        (Gains (is_prefix (path_of path.now)) change.now index.now sessions.old.items
+        sessions.new.items) }
 {
     if path.len() > deepest {
         return Ok(());
@@ -104,14 +113,17 @@ fn add_below(
     }
 }
 
-/// [`add_below`], with the path as a key of the index. What begins with it stands behind it, side by side.
+/// [`add_below`], with the path as a key of the index. What begins with it stands behind it, side
+/// by side.
 fn add_run(
     sessions: &mut Vec<u64>,
     index: &SlotIndex,
     first: &Vec<String>,
     change: &Change,
 ) -> Result<(), AllocError>
-    ensures { OnOk result (Gains (is_prefix (path_of first.now.items)) change.now index.now sessions.old.items sessions.new.items) }
+    ensures { OnOk result
+        (Gains (is_prefix (path_of first.now.items)) change.now index.now sessions.old.items
+        sessions.new.items) }
 {
     for (pointer, watchers) in index.range(first..) {
         if !pointer.starts_with(first.as_slice()) {
@@ -129,7 +141,9 @@ fn add_told(
     watchers: &Watchers,
     change: &Change,
 ) -> Result<(), AllocError>
-    ensures { OnOk result ((s : ℕ) → named sessions.new.items s ≡ (named sessions.old.items s || tells change.now (path_of pointer.now) s watchers.now)) }
+    ensures { OnOk result
+        ((s : ℕ) → named sessions.new.items s
+        ≡ (named sessions.old.items s || tells change.now (path_of pointer.now) s watchers.now)) }
 {
     if touches(change, pointer, SlotKind::Value) {
         add_all(sessions, &watchers.values)?;
@@ -141,7 +155,9 @@ fn add_told(
 }
 
 fn add_all(sessions: &mut Vec<u64>, others: &BTreeSet<u64>) -> Result<(), AllocError>
-    ensures { OnOk result ((s : ℕ) → named sessions.new.items s ≡ (named sessions.old.items s || contains nat_cmp others.now s)) }
+    ensures { OnOk result
+        ((s : ℕ) → named sessions.new.items s
+        ≡ (named sessions.old.items s || contains nat_cmp others.now s)) }
 {
     for session in others.iter() {
         sessions.push(*session)?;
@@ -165,8 +181,9 @@ fn first_tokens(path: &[String], depth: usize) -> &[String]
     }
 }
 
-/// Returns the path such that a change at the place touches only pointers that are a prefix of it or begin with it. For an item
-/// it is the path of its list, since an insertion or a removal moves the later elements.
+/// Returns the path such that a change at the place touches only pointers that are a prefix of it
+/// or begin with it. For an item it is the path of its list, since an insertion or a removal moves
+/// the later elements.
 fn scope(place: &Place) -> &[String]
     ensures { path_of result.now ≡ scope place.now.item place.now.path }
 {

@@ -17,7 +17,9 @@ use std::alloc::{AllocError, Global};
 impl Site<'_> {
     /// Returns the operation on the view. Copies the value if the operation carries one.
     pub fn operation(&self, alloc: Global, change: &Change) -> Result<Op, AllocError>
-        ensures { IfOk result (λ o. o ≡ in_view self.now.number self.now.pointer.now (op_of self.now.pointer.now change.now)) }
+        ensures { IfOk result
+            (λ o. o ≡ in_view self.now.number self.now.pointer.now
+            (op_of self.now.pointer.now change.now)) }
     {
         match change {
             Change::Set { path, value } => Ok(Op::Replace {
@@ -52,7 +54,8 @@ impl Site<'_> {
     }
 
     fn added(&self, alloc: Global, path: &Pointer, value: &Tree) -> Result<Op, AllocError>
-        ensures { IfOk result (λ o. o ≡ in_view self.now.number self.now.pointer.now (op.Add path.now value.now)) }
+        ensures { IfOk result
+            (λ o. o ≡ in_view self.now.number self.now.pointer.now (op.Add path.now value.now)) }
     {
         Ok(Op::Add {
             path: self.path(alloc, path)?,
@@ -61,16 +64,21 @@ impl Site<'_> {
     }
 
     fn removed(&self, alloc: Global, path: &Pointer) -> Result<Op, AllocError>
-        ensures { IfOk result (λ o. o ≡ in_view self.now.number self.now.pointer.now (op.Remove path.now)) }
+        ensures { IfOk result
+            (λ o. o ≡ in_view self.now.number self.now.pointer.now (op.Remove path.now)) }
     {
         Ok(Op::Remove {
             path: self.path(alloc, path)?,
         })
     }
 
-    /// A move within the value stays a move; one that enters or leaves it becomes an `add` or a `remove`.
+    /// A move within the value stays a move; one that enters or leaves it becomes an `add` or a
+    /// `remove`.
     fn moved(&self, alloc: Global, from: &Place, to: &Place, value: &Tree) -> Result<Op, AllocError>
-        ensures { IfOk result (λ o. o ≡ in_view self.now.number self.now.pointer.now (move_op (touch_place from.now self.now.pointer.now) (touch_place to.now self.now.pointer.now) from.now.path to.now.path value.now)) }
+        ensures { IfOk result
+            (λ o. o ≡ in_view self.now.number self.now.pointer.now
+            (move_op (touch_place from.now self.now.pointer.now)
+            (touch_place to.now self.now.pointer.now) from.now.path to.now.path value.now)) }
     {
         match (
             touch_place(from, self.pointer.tokens()),
@@ -85,7 +93,8 @@ impl Site<'_> {
         }
     }
 
-    /// A copy from within the value, or of the whole value, stays a copy; one from elsewhere becomes an `add`.
+    /// A copy from within the value, or of the whole value, stays a copy; one from elsewhere
+    /// becomes an `add`.
     fn copied(
         &self,
         alloc: Global,
@@ -93,7 +102,10 @@ impl Site<'_> {
         to: &Place,
         value: &Tree,
     ) -> Result<Op, AllocError>
-        ensures { IfOk result (λ o. o ≡ in_view self.now.number self.now.pointer.now (if is_prefix self.now.pointer.now from.now then op.Copy from.now to.now.path else op.Add to.now.path value.now)) }
+        ensures { IfOk result
+            (λ o. o ≡ in_view self.now.number self.now.pointer.now
+            (if is_prefix self.now.pointer.now from.now then op.Copy from.now to.now.path
+            else op.Add to.now.path value.now)) }
     {
         if self.pointer.is_prefix(from) {
             Ok(Op::Copy {

@@ -25,9 +25,11 @@ impl Site<'_> {
         Ok(Pointer::from_tokens(Rc::new(alloc, tokens)?))
     }
 
-    /// Returns `/k/0`, the path of the slot's value in the view, followed by the tokens of the path after the slot's pointer.
+    /// Returns `/k/0`, the path of the slot's value in the view, followed by the tokens of the path
+    /// after the slot's pointer.
     pub fn path(&self, alloc: Global, path: &Pointer) -> Result<Pointer, AllocError>
-        ensures { IfOk result (λ inner. inner ≡ in_slot self.now.number self.now.pointer.now path.now) }
+        ensures { IfOk result
+            (λ inner. inner ≡ in_slot self.now.number self.now.pointer.now path.now) }
     {
         let mut tokens = Vec::new(alloc);
         tokens.push(index_text(alloc, self.number)?)?;

@@ -1,4 +1,5 @@
-//! The watchers of each pointer that some session watches, in the order of the pointers: those that begin with a path stand side by side.
+//! The watchers of each pointer that some session watches, in the order of the pointers: those that
+//! begin with a path stand side by side.
 ghost use Rattle.std.specs.Prelude.{◌≡◌, ℕ, [], ◌∷◌, take, option_copied, OnOk, OnErr};
 ghost use Rattle.std.specs.List.{list_any};
 ghost use Rattle.relay_pointer.specs.Path.{path_of};

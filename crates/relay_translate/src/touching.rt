@@ -9,9 +9,11 @@ use relay_patch::{Change, Place};
 use relay_pointer::{Pointer, index_of};
 use relay_view::SlotKind;
 
-/// Returns how a change touches what a slot with this pointer and kind shows. A move is judged as a removal and an insertion, a copy
-/// at its target. For a size, a change within the value is a `Reset` if the value gains or loses a part, and else `Apart`; none is `Inside`.
-/// Costs a comparison of the paths. Allocates nothing. See `docs/PROTOCOL.md`, "What a change means to a slot".
+/// Returns how a change touches what a slot with this pointer and kind shows. A move is judged as a
+/// removal and an insertion, a copy at its target. For a size, a change within the value is a
+/// `Reset` if the value gains or loses a part, and else `Apart`; none is `Inside`. Costs a
+/// comparison of the paths. Allocates nothing. See `docs/PROTOCOL.md`, "What a change means to a
+/// slot".
 pub fn touch(change: &Change, pointer: &Pointer, kind: SlotKind) -> Touch
     ensures exact { result ≡ touch change.now pointer.now kind }
     ensures table { result ≡ touch_by_table change.now pointer.now kind }
@@ -65,7 +67,9 @@ fn touch_size(change: &Change, pointer: &[String]) -> Touch
 
 /// Returns how an insertion or a removal at a path touches the size of the value at the pointer.
 fn touch_part(is_item: bool, path: &Pointer, pointer: &[String]) -> Touch
-    ensures { result ≡ size_touch path.now (path_of pointer.now) (touch_path is_item path.now (path_of pointer.now)) }
+    ensures { result
+        ≡ size_touch path.now (path_of pointer.now)
+        (touch_path is_item path.now (path_of pointer.now)) }
 {
     match touch_path(is_item, path.tokens(), pointer) {
         Touch::Inside if path.tokens().len() != pointer.len() + 1 => Touch::Apart,

@@ -19,22 +19,36 @@ use relay_tree::{Budget, Tree};
 use relay_view::{Slot, SlotKind, View};
 use std::alloc::{AllocError, Global};
 
-/// Returns the operations, slot by slot, that bring a view of the document before the changes to the view of `now`, the document
-/// after them. A slot that a change resets is replaced whole. In any other slot, each change inside becomes one operation.
+/// Returns the operations, slot by slot, that bring a view of the document before the changes to
+/// the view of `now`, the document after them. A slot that a change resets is replaced whole. In
+/// any other slot, each change inside becomes one operation.
 ///
-/// Costs the number of changes times the number of slots, and a copy of each value that an operation carries. The document is read
-/// only for the slots that are reset. See `docs/PROTOCOL.md`, "What a change means to a slot".
+/// Costs the number of changes times the number of slots, and a copy of each value that an
+/// operation carries. The document is read only for the slots that are reset. See
+/// `docs/PROTOCOL.md`, "What a change means to a slot".
+///
+/// ```
+/// let view = View::read(alloc, &read(alloc, r#"["/title", "/cards"]"#).ok()?).ok()?;
+/// let change = Change::DropItem { path: Pointer::read(alloc, "/cards/3", 64).ok()? };
+/// let now = read(alloc, r#"{"cards": ["a", "b", "c"], "title": "x"}"#).ok()?;
+/// let patch = translate(alloc, &[&change], &now, &view).ok()?;
+/// // Element 3 of the list, which is the value that slot 1 shows.
+/// let ops = patch.to_tree(alloc).ok()?;
+/// assert!(rt; ops.text(alloc).ok()?.as_str() == r#"[{"op":"remove","path":"/1/0/3"}]"#);
+/// ```
 pub fn translate(
     alloc: Global,
     changes: &[&Change],
     now: &Tree,
     view: &View,
 ) -> Result<Patch, AllocError>
-    ensures exact { IfOk result (λ patch. patch ≡ local (map (λ c. c.now) changes.now) now.now view.now) }
+    ensures exact { IfOk result
+        (λ patch. patch ≡ local (map (λ c. c.now) changes.now) now.now view.now) }
     ensures apart { IfOk result (LeavesApart (map (λ c. c.now) changes.now) view.now) }
     ensures inside { IfOk result (FollowsInside (map (λ c. c.now) changes.now) view.now) }
     ensures reset { IfOk result (ReplacesReset (map (λ c. c.now) changes.now) now.now view.now) }
-    ensures leads { IfOk result (λ patch. LeadsViews (map (λ c. c.now) changes.now) now.now view.now patch) }
+    ensures leads { IfOk result
+        (λ patch. LeadsViews (map (λ c. c.now) changes.now) now.now view.now patch) }
     ensures sizes { IfOk result (λ patch. FitsWith (map (λ c. c.now) changes.now) now.now patch) }
 {
     match translate_within(alloc, changes, now, view, Budget::Unbounded)? {
@@ -45,8 +59,8 @@ pub fn translate(
 
 /// Like [`translate`], but returns `None` if the operations together weigh more than the budget.
 ///
-/// No value is copied before it is paid for, so the cost is the number of changes times the number of slots, plus what the budget
-/// pays for.
+/// No value is copied before it is paid for, so the cost is the number of changes times the number
+/// of slots, plus what the budget pays for.
 pub fn translate_within(
     alloc: Global,
     changes: &[&Change],
@@ -54,7 +68,8 @@ pub fn translate_within(
     view: &View,
     budget: Budget,
 ) -> Result<Option<Patch>, AllocError>
-    ensures { IfOk result (λ patch. patch ≡ afforded budget (local (map (λ c. c.now) changes.now) now.now view.now)) }
+    ensures { IfOk result
+        (λ patch. patch ≡ afforded budget (local (map (λ c. c.now) changes.now) now.now view.now)) }
 {
     let mut ops = Vec::new(alloc);
     let mut left = budget;
@@ -67,7 +82,8 @@ pub fn translate_within(
     Ok(Some(Patch::from_ops(ops)))
 }
 
-/// Adds the operations on one slot and returns the rest of the budget, or `None` if the budget does not pay for them.
+/// Adds the operations on one slot and returns the rest of the budget, or `None` if the budget does
+/// not pay for them.
 #[tactic(auto, using(crate::proofs::Lent::reset_slot, crate::proofs::Weights::one_weighs))]
 fn push_slot(
     alloc: Global,
@@ -78,8 +94,14 @@ fn push_slot(
     ops: &mut Vec<Op>,
     budget: Budget,
 ) -> Result<Option<Budget>, AllocError>
-    ensures left { IfOk result (λ left. left ≡ paid (ops_weight (slot_ops number slot.now (map (λ c. c.now) changes.now) now.now)) budget) }
-    ensures pushed { IfOk result (λ left. IsSome left → ops.new.items ≡ ops.old.items ++ slot_ops number slot.now (map (λ c. c.now) changes.now) now.now) }
+    ensures left { IfOk result
+        (λ left. left
+        ≡ paid (ops_weight (slot_ops number slot.now (map (λ c. c.now) changes.now) now.now))
+        budget) }
+    ensures pushed { IfOk result
+        (λ left. IsSome left
+        → ops.new.items ≡ ops.old.items
+        ++ slot_ops number slot.now (map (λ c. c.now) changes.now) now.now) }
 {
     let site = Site {
         number,
@@ -102,8 +124,14 @@ fn push_reset(
     ops: &mut Vec<Op>,
     budget: Budget,
 ) -> Result<Option<Budget>, AllocError>
-    ensures left { IfOk result (λ left. left ≡ paid (op_weight (op.Replace (index_text site.now.number ∷ []) (shown slot.now now.now))) budget) }
-    ensures pushed { IfOk result (λ left. IsSome left → ops.new.items ≡ ops.old.items ++ op.Replace (index_text site.now.number ∷ []) (shown slot.now now.now) ∷ []) }
+    ensures left { IfOk result
+        (λ left. left
+        ≡ paid (op_weight (op.Replace (index_text site.now.number ∷ []) (shown slot.now now.now)))
+        budget) }
+    ensures pushed { IfOk result
+        (λ left. IsSome left
+        → ops.new.items ≡ ops.old.items
+        ++ op.Replace (index_text site.now.number ∷ []) (shown slot.now now.now) ∷ []) }
 {
     let path = site.place(alloc)?;
     let Some(left) = slot.pay(now, budget) else {
@@ -126,8 +154,16 @@ fn push_inside(
     ops: &mut Vec<Op>,
     budget: Budget,
 ) -> Result<Option<Budget>, AllocError>
-    ensures left { IfOk result (λ left. left ≡ paid (ops_weight (flat_map (slot_op site.now.number (record { pointer = site.now.pointer.now; kind = kind })) (map (λ c. c.now) changes.now))) budget) }
-    ensures pushed { IfOk result (λ left. IsSome left → ops.new.items ≡ ops.old.items ++ flat_map (slot_op site.now.number (record { pointer = site.now.pointer.now; kind = kind })) (map (λ c. c.now) changes.now)) }
+    ensures left { IfOk result
+        (λ left. left
+        ≡ paid (ops_weight
+        (flat_map (slot_op site.now.number (record { pointer = site.now.pointer.now; kind = kind }))
+        (map (λ c. c.now) changes.now))) budget) }
+    ensures pushed { IfOk result
+        (λ left. IsSome left
+        → ops.new.items ≡ ops.old.items
+        ++ flat_map (slot_op site.now.number
+        (record { pointer = site.now.pointer.now; kind = kind })) (map (λ c. c.now) changes.now)) }
 {
     let mut left = budget;
     for change in changes {
@@ -148,8 +184,16 @@ fn push_change(
     ops: &mut Vec<Op>,
     budget: Budget,
 ) -> Result<Option<Budget>, AllocError>
-    ensures left { IfOk result (λ left. left ≡ paid (ops_weight (slot_op site.now.number (record { pointer = site.now.pointer.now; kind = kind }) change.now)) budget) }
-    ensures pushed { IfOk result (λ left. IsSome left → ops.new.items ≡ ops.old.items ++ slot_op site.now.number (record { pointer = site.now.pointer.now; kind = kind }) change.now) }
+    ensures left { IfOk result
+        (λ left. left
+        ≡ paid (ops_weight
+        (slot_op site.now.number
+        (record { pointer = site.now.pointer.now; kind = kind }) change.now)) budget) }
+    ensures pushed { IfOk result
+        (λ left. IsSome left
+        → ops.new.items ≡ ops.old.items
+        ++ slot_op site.now.number
+        (record { pointer = site.now.pointer.now; kind = kind }) change.now) }
 {
     match touch(change, site.pointer, kind) {
         Touch::Inside => push_operation(alloc, site, change, ops, budget),
@@ -166,8 +210,16 @@ fn push_operation(
     ops: &mut Vec<Op>,
     budget: Budget,
 ) -> Result<Option<Budget>, AllocError>
-    ensures left { IfOk result (λ left. left ≡ paid (op_weight (in_view site.now.number site.now.pointer.now (op_of site.now.pointer.now change.now))) budget) }
-    ensures pushed { IfOk result (λ left. IsSome left → ops.new.items ≡ ops.old.items ++ in_view site.now.number site.now.pointer.now (op_of site.now.pointer.now change.now) ∷ []) }
+    ensures left { IfOk result
+        (λ left. left
+        ≡ paid (op_weight
+        (in_view site.now.number site.now.pointer.now (op_of site.now.pointer.now change.now)))
+        budget) }
+    ensures pushed { IfOk result
+        (λ left. IsSome left
+        → ops.new.items ≡ ops.old.items
+        ++ in_view site.now.number site.now.pointer.now (op_of site.now.pointer.now change.now)
+        ∷ []) }
 {
     let Some(left) = pay_part(site.carried(change), budget) else {
         return Ok(None);

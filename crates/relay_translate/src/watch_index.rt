@@ -1,7 +1,9 @@
-//! An index of the views of all sessions, which finds the sessions that an edit touches without checking every view.
+//! An index of the views of all sessions, which finds the sessions that an edit touches without
+//! checking every view.
 //!
-//! It has the watchers of each pointer, in the order of the pointers, so those that begin with one path stand side by side. For each place of
-//! a change, one look-up for each of its prefixes and one for all that begins with it find the slots that are compared with the change.
+//! It has the watchers of each pointer, in the order of the pointers, so those that begin with one
+//! path stand side by side. For each place of a change, one look-up for each of its prefixes and
+//! one for all that begins with it find the slots that are compared with the change.
 ghost use Rattle.std.specs.Prelude.{◌≡◌, ℕ, map as each, IfOk, OnOk, OnErr};
 ghost use Rattle.std.specs.List.Sorted.{IsStrictlyIncreasing};
 ghost use Rattle.std.specs.FinMap as map;
@@ -17,8 +19,8 @@ use std::alloc::{AllocError, Global};
 use std::collections::BTreeMap;
 use std::marker::Model;
 
-/// The view of each session that watches. Contracts see it as a map from session numbers to views. It holds each view, and each
-/// pointer of all views once more.
+/// The view of each session that watches. Contracts see it as a map from session numbers to views.
+/// It holds each view, and each pointer of all views once more.
 #[derive(Drop)]
 pub struct WatchIndex {
     views: BTreeMap<u64, View>,
@@ -38,7 +40,8 @@ impl Model for WatchIndex {
 
     ghost view = { λ i. watches_of i.views };
 
-    ghost invariant = { λ i. IsIndex i.slots (watches_of i.views) × IsWithin i.deepest i.slots × EachIsWatched i.slots };
+    ghost invariant = { λ i. IsIndex i.slots (watches_of i.views) × IsWithin i.deepest i.slots
+        × EachIsWatched i.slots };
 }
 
 impl WatchIndex {
@@ -57,8 +60,9 @@ impl WatchIndex {
         }
     }
 
-    /// Sets the view of a session, replacing any earlier one. If memory runs out, nothing changes. Costs a copy of the view, one of each
-    /// pointer that is new, and a look-up for each slot of both views.
+    /// Sets the view of a session, replacing any earlier one. If memory runs out, nothing changes.
+    /// Costs a copy of the view, one of each pointer that is new, and a look-up for each slot of
+    /// both views.
     pub fn put(&mut self, alloc: Global, session: u64, view: &View) -> Result<(), AllocError>
         ensures ok { OnOk result (self.new ≡ map.insert self.old session view.now) }
         ensures err { OnErr result (self.new ≡ self.old) }
@@ -68,7 +72,8 @@ impl WatchIndex {
         Ok(())
     }
 
-    /// Removes the view of a session; changes nothing if it has none. Allocates nothing. Costs a look-up for each of its slots.
+    /// Removes the view of a session; changes nothing if it has none. Allocates nothing. Costs a
+    /// look-up for each of its slots.
     pub fn take_out(&mut self, session: u64)
         ensures { self.new ≡ map.remove self.old session }
     {
@@ -77,23 +82,39 @@ impl WatchIndex {
         }
     }
 
-    /// Returns the sessions with a slot that some change touches, in ascending order, each once. For every other session the
-    /// changes translate to no operation.
+    /// Returns the sessions with a slot that some change touches, in ascending order, each once.
+    /// For every other session the changes translate to no operation.
     ///
-    /// For each place at which a change adds or removes something, it checks only the slots whose pointers are a prefix of the place
-    /// or begin with it and, if the place is an item, those that begin with the path of its list; at the root, all slots. Costs a look-up
-    /// for each token of a place, and a comparison for each pointer checked; a copy of the place too, if nobody watches it, and pointers
-    /// that are as long were watched.
+    /// For each place at which a change adds or removes something, it checks only the slots whose
+    /// pointers are a prefix of the place or begin with it and, if the place is an item, those that
+    /// begin with the path of its list; at the root, all slots. Costs a look-up for each token of a
+    /// place, and a comparison for each pointer checked; a copy of the place too, if nobody watches
+    /// it, and pointers that are as long were watched.
+    ///
+    /// ```
+    /// let mut watches = WatchIndex::new(alloc);
+    /// let cards = View::read(alloc, &read(alloc, r#"["/cards"]"#).ok()?).ok()?;
+    /// let title = View::read(alloc, &read(alloc, r#"["/title"]"#).ok()?).ok()?;
+    /// watches.put(alloc, 7, &cards).ok()?;
+    /// watches.put(alloc, 8, &title).ok()?;
+    /// let change = Change::DropItem { path: Pointer::read(alloc, "/cards/0", 64).ok()? };
+    /// assert!(rt; watches.touched(alloc, &[&change]).ok()?.as_slice() == [7].as_slice());
+    /// ```
     pub fn touched(&self, alloc: Global, changes: &[&Change]) -> Result<Vec<u64>, AllocError>
         ensures rising { IfOk result (λ sessions. IsStrictlyIncreasing sessions.items) }
-        ensures exact { IfOk result (λ sessions. (s : ℕ) → list_any (nat_eq s) sessions.items ≡ sees (each (λ c. c.now) changes.now) self.now s) }
-        ensures others { IfOk result (λ sessions. OthersStay (each (λ c. c.now) changes.now) self.now sessions.items) }
+        ensures exact { IfOk result
+            (λ sessions. (s : ℕ)
+            → list_any (nat_eq s) sessions.items
+            ≡ sees (each (λ c. c.now) changes.now) self.now s) }
+        ensures others { IfOk result
+            (λ sessions. OthersStay (each (λ c. c.now) changes.now) self.now sessions.items) }
     {
         Ok(in_order(sessions_touched(alloc, &self.slots, self.deepest, changes)?))
     }
 }
 
-/// Sets the view of a session. The slots of both views stand in the index until the new view is there.
+/// Sets the view of a session. The slots of both views stand in the index until the new view is
+/// there.
 fn put_view(
     alloc: Global,
     views: &mut BTreeMap<u64, View>,
@@ -103,7 +124,8 @@ fn put_view(
 ) -> Result<(), AllocError>
     requires index { IsIndex slots.old (watches_of views.old) }
     requires watched { EachIsWatched slots.old }
-    ensures views { OnOk result (watches_of views.new ≡ map.insert (watches_of views.old) session view.now) }
+    ensures views { OnOk result
+        (watches_of views.new ≡ map.insert (watches_of views.old) session view.now) }
     ensures err { OnErr result (watches_of views.new ≡ watches_of views.old) }
     ensures index { IsIndex slots.new (watches_of views.new) }
     ensures watched { EachIsWatched slots.new }
@@ -129,7 +151,8 @@ fn put_view(
 /// Removes those slots of a view that are not the session's.
 fn withdraw(views: &BTreeMap<u64, View>, slots: &mut SlotIndex, session: u64, view: &View)
     requires watched { EachIsWatched slots.old }
-    ensures left { Leaves slots.old slots.new session view.now (slots_of (map.get (watches_of views.now) session)) }
+    ensures left { Leaves slots.old slots.new session view.now
+        (slots_of (map.get (watches_of views.now) session)) }
     ensures watched { EachIsWatched slots.new }
 {
     match views.get(&session) {
@@ -157,7 +180,8 @@ fn sessions_touched(
     changes: &[&Change],
 ) -> Result<Vec<u64>, AllocError>
     requires { IsWithin deepest index.now }
-    ensures { IfOk result (λ sessions. Found (is_touched (each (λ c. c.now) changes.now)) index.now sessions.items) }
+    ensures { IfOk result
+        (λ sessions. Found (is_touched (each (λ c. c.now) changes.now)) index.now sessions.items) }
 {
     let mut sessions = Vec::new(alloc);
     for change in changes {

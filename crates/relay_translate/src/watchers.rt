@@ -28,8 +28,12 @@ impl Watchers {
 
     /// Adds a slot of a session. If memory runs out, nothing changes.
     pub fn insert(&mut self, kind: SlotKind, session: u64) -> Result<(), AllocError>
-        ensures ok { OnOk result ((k : SlotKind) (s : ℕ) → watches_by k s self.new ≡ (watches_by k s self.old || (same_kind k kind && (s == session)))) }
-        ensures err { OnErr result ((k : SlotKind) (s : ℕ) → watches_by k s self.new ≡ watches_by k s self.old) }
+        ensures ok { OnOk result
+            ((k : SlotKind) (s : ℕ)
+            → watches_by k s self.new
+            ≡ (watches_by k s self.old || (same_kind k kind && (s == session)))) }
+        ensures err { OnErr result
+            ((k : SlotKind) (s : ℕ) → watches_by k s self.new ≡ watches_by k s self.old) }
     {
         match kind {
             SlotKind::Value => self.values.insert(session)?,
@@ -40,7 +44,9 @@ impl Watchers {
 
     /// Removes a slot of a session. Allocates nothing.
     pub fn remove(&mut self, kind: SlotKind, session: u64)
-        ensures { (k : SlotKind) (s : ℕ) → watches_by k s self.new ≡ (watches_by k s self.old && not (same_kind k kind && (s == session))) }
+        ensures { (k : SlotKind) (s : ℕ)
+            → watches_by k s self.new
+            ≡ (watches_by k s self.old && not (same_kind k kind && (s == session))) }
     {
         match kind {
             SlotKind::Value => self.values.remove(&session),
@@ -50,7 +56,8 @@ impl Watchers {
 
     /// Whether no session watches.
     pub fn is_empty(&self) -> bool
-        ensures { MatchBool result ((k : SlotKind) (s : ℕ) → watches_by k s self.now ≡ false) (IsWatched self.now) }
+        ensures { MatchBool result ((k : SlotKind) (s : ℕ) → watches_by k s self.now ≡ false)
+            (IsWatched self.now) }
     {
         self.values.is_empty() && self.sizes.is_empty()
     }

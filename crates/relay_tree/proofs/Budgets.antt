@@ -15,7 +15,8 @@ paid_on a b (Left n) y h = go (nat_le a n) refl h
     less : (n - a) - b ≡ n - (a + b)
     less = omega arith
 
-    go : (u : Bool) → nat_le a n ≡ u → (if u then Some (Left (n - a)) else None) ≡ Some y → paid b y ≡ paid (a + b) (Left n)
+    go : (u : Bool) → nat_le a n ≡ u → (if u then Some (Left (n - a)) else None) ≡ Some y
+        → paid b y ≡ paid (a + b) (Left n)
     go true e k =
         let is : Left (n - a) ≡ y = cc in
         rw (← is, both (nat_le b (n - a)) e refl, less) refl
@@ -26,7 +27,8 @@ pub paid_out : (a b : ℕ) (x : Budget) → paid a x ≡ None → paid (a + b) x
 paid_out a b Unbounded h = absurd cc
 paid_out a b (Left n) h = go (nat_le a n) refl h
   where
-    go : (u : Bool) → nat_le a n ≡ u → (if u then Some (Left (n - a)) else None) ≡ None → paid (a + b) (Left n) ≡ None
+    go : (u : Bool) → nat_le a n ≡ u → (if u then Some (Left (n - a)) else None) ≡ None
+        → paid (a + b) (Left n) ≡ None
     go true e k = absurd cc
     go false e k =
         let over : nat_le (a + b) n ≡ false = grind (arith, nat_tests, e) in

@@ -32,7 +32,8 @@ mutual
 
   same_items : (ds es : Items) → items_same ds es ≡ true → ds ≡ es
   same_items no_items no_items h = refl
-  same_items (item d ds) (item e es) h = let p = both (same d e) (items_same ds es) h in ap₂ item (same_tree d e p.0) (same_items ds es p.1)
+  same_items (item d ds) (item e es) h = let p = both (same d e) (items_same ds es) h in
+      ap₂ item (same_tree d e p.0) (same_items ds es p.1)
   same_items _ _ h = cc
 
   same_members : (ms ns : Members) → members_same ms ns ≡ true → ms ≡ ns
@@ -65,7 +66,8 @@ mutual
 
   members_itself : (ms : Members) → members_same ms ms ≡ true
   members_itself no_members = refl
-  members_itself (member n d ms) = rw ((bytes_eq-Decides n n).1 refl, same_itself d) (members_itself ms)
+  members_itself (member n d ms) =
+      rw ((bytes_eq-Decides n n).1 refl, same_itself d) (members_itself ms)
 
 pub same-Decides : (d e : Document) → Decides (same d e) (d ≡ e)
 same-Decides d e = (same_tree d e, λ p. ap (same d) (sym p) ∙ same_itself d)

@@ -17,8 +17,12 @@ bytes_eq-slice_cmp n k = go (bytes_eq n k) (bytes_eq k n) refl refl ∙ sym (is_
     go : (a b : Bool) → bytes_eq n k ≡ a → bytes_eq k n ≡ b → a ≡ b
     go true true e f = refl
     go false false e f = refl
-    go true false e f = let t : bytes_eq k n ≡ true = (bytes_eq-Decides k n).1 (sym ((bytes_eq-Decides n k).0 e)) in cc
-    go false true e f = let t : bytes_eq n k ≡ true = (bytes_eq-Decides n k).1 (sym ((bytes_eq-Decides k n).0 f)) in cc
+    go true false e f =
+        let t : bytes_eq k n ≡ true = (bytes_eq-Decides k n).1 (sym ((bytes_eq-Decides n k).0 e)) in
+        cc
+    go false true e f =
+        let t : bytes_eq n k ≡ true = (bytes_eq-Decides n k).1 (sym ((bytes_eq-Decides k n).0 f)) in
+        cc
 
 pub equal_names : (k n : List ℕ) → slice_cmp nat_cmp k n ≡ Equal → k ≡ n
 equal_names k n h = sym ((bytes_eq-Decides n k).0 (bytes_eq-slice_cmp n k ∙ ap is_eq h))

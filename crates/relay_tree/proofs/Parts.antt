@@ -21,7 +21,8 @@ pub is_list : (n : Node) (v : Vec Document Global) → Some v ≡ node_items n �
 is_list node.Null v h = cc
 is_list _ v h = cc
 
-pub is_object : (n : Node) (m : Rows (String Global) Document) → Some m ≡ node_members n → n ≡ node.Members m
+pub is_object : (n : Node) (m : Rows (String Global) Document) → Some m ≡ node_members n
+    → n ≡ node.Members m
 is_object node.Null m h = cc
 is_object _ m h = cc
 
@@ -29,21 +30,32 @@ pub no_item : (n : Node) (i : ℕ) → None ≡ node_items n → None ≡ list_i
 no_item (node.List u) i h = cc
 no_item _ i h = refl
 
-pub no_member : (n : Node) (k : List ℕ) → None ≡ node_members n → None ≡ object_member (document_of n) k
+pub no_member : (n : Node) (k : List ℕ) → None ≡ node_members n
+    → None ≡ object_member (document_of n) k
 no_member (node.Members m) k h = cc
 no_member _ k h = refl
 
 -- a list's `get_mut` and `get` return the element
-pub got_mut : (xs : List Document) (i : ℕ) (r : Option (MutBor Document)) → is_some r ≡ nat_lt i (length xs) → IfSome r (λ x. x.now ≡ get_or xs i x.now) → option_copied_mut r ≡ slice_get xs i
-got_mut xs i None some is = let past : length xs ≤ i = grind (arith, nat_tests) in sym (slice_get_past xs i past)
-got_mut xs i (Some x) some is = let within : i < length xs = grind (arith, nat_tests) in sym (slice_get_read xs (length xs) i x.now refl within is)
+pub got_mut : (xs : List Document) (i : ℕ) (r : Option (MutBor Document))
+    → is_some r ≡ nat_lt i (length xs) → IfSome r (λ x. x.now ≡ get_or xs i x.now)
+    → option_copied_mut r ≡ slice_get xs i
+got_mut xs i None some is = let past : length xs ≤ i = grind (arith, nat_tests) in
+    sym (slice_get_past xs i past)
+got_mut xs i (Some x) some is = let within : i < length xs = grind (arith, nat_tests) in
+    sym (slice_get_read xs (length xs) i x.now refl within is)
 
-pub got : (xs : List Document) (i : ℕ) (r : Option (Bor Document)) → is_some r ≡ nat_lt i (length xs) → IfSome r (λ x. x.now ≡ get_or xs i x.now) → option_copied r ≡ slice_get xs i
-got xs i None some is = let past : length xs ≤ i = grind (arith, nat_tests) in sym (slice_get_past xs i past)
-got xs i (Some x) some is = let within : i < length xs = grind (arith, nat_tests) in sym (slice_get_read xs (length xs) i x.now refl within is)
+pub got : (xs : List Document) (i : ℕ) (r : Option (Bor Document))
+    → is_some r ≡ nat_lt i (length xs) → IfSome r (λ x. x.now ≡ get_or xs i x.now)
+    → option_copied r ≡ slice_get xs i
+got xs i None some is = let past : length xs ≤ i = grind (arith, nat_tests) in
+    sym (slice_get_past xs i past)
+got xs i (Some x) some is = let within : i < length xs = grind (arith, nat_tests) in
+    sym (slice_get_read xs (length xs) i x.now refl within is)
 
 -- another member is not seen to change
-pub with_member-other : (d : Document) (name other : List ℕ) (e : Document) → bytes_eq name other ≡ false → object_member (with_member d name e) other ≡ object_member d other
+pub with_member-other : (d : Document) (name other : List ℕ) (e : Document)
+    → bytes_eq name other ≡ false
+    → object_member (with_member d name e) other ≡ object_member d other
 with_member-other (object ms) name other e apart = member_at-set_other ms name other e apart
 with_member-other null name other e apart = refl
 with_member-other (truth b) name other e apart = refl

@@ -27,8 +27,11 @@ value_at entries name = lookup (is_at (compared name)) entries
 
 -- the members with another value under a name; unchanged if there is none
 abbrev pub with_value : {V : Type 0} → Rows (String Global) V → List ℕ → V → Rows (String Global) V
-with_value members name value = with_rows members (set_value (is_at (compared name)) members.entries value)
+with_value members name value =
+    with_rows members (set_value (is_at (compared name)) members.entries value)
 
 -- the members with a value under a name, if `capacity` has place for one more; otherwise unchanged
-abbrev pub refilled_entries : {V : Type 0} → ℕ → String Global → V → List (String Global × V) → List (String Global × V)
-refilled_entries capacity name value es = if nat_lt (length es) capacity then insert_entry string_cmp es name value else es
+abbrev pub refilled_entries : {V : Type 0} → ℕ → String Global → V → List (String Global × V)
+    → List (String Global × V)
+refilled_entries capacity name value es =
+    if nat_lt (length es) capacity then insert_entry string_cmp es name value else es

@@ -49,22 +49,26 @@ member_at (member n d ms) name = if bytes_eq n name then Some d else member_at m
 -- the members with e as the value of the named one; unchanged if there is none
 abbrev pub set_member : Members → List ℕ → Document → Members
 set_member no_members name e = no_members
-set_member (member n d ms) name e = if bytes_eq n name then member n e ms else member n d (set_member ms name e)
+set_member (member n d ms) name e =
+    if bytes_eq n name then member n e ms else member n d (set_member ms name e)
 
 -- the members with e added under a name that none of them has, in byte order
 abbrev pub add_member : Members → List ℕ → Document → Members
 add_member no_members name e = member name e no_members
 add_member (member n d ms) name e =
-    match_ordering (slice_cmp nat_cmp name n) (member name e (member n d ms)) (member name e ms) (member n d (add_member ms name e))
+    match_ordering (slice_cmp nat_cmp name n) (member name e (member n d ms)) (member name e ms)
+    (member n d (add_member ms name e))
 
 -- the members with e under the name, added or in place of an earlier value
 abbrev pub put_member : Members → List ℕ → Document → Members
-put_member ms name e = if is_some (member_at ms name) then set_member ms name e else add_member ms name e
+put_member ms name e =
+    if is_some (member_at ms name) then set_member ms name e else add_member ms name e
 
 -- the members without the named one; `None` if there is none
 abbrev pub drop_member : Members → List ℕ → Option Members
 drop_member no_members name = None
-drop_member (member n d ms) name = if bytes_eq n name then Some ms else option_map (member n d) (drop_member ms name)
+drop_member (member n d ms) name =
+    if bytes_eq n name then Some ms else option_map (member n d) (drop_member ms name)
 
 abbrev pub members_length : Members → ℕ
 members_length no_members = 0
@@ -97,7 +101,8 @@ abbrev pub list_item : Document → ℕ → Option Document
 list_item (list ds) i = item_at ds i
 list_item _ i = None
 
--- the value of an object's member with a name; `None` if there is none or the document is not an object
+-- the value of an object's member with a name; `None` if there is none or the document is not an
+-- object
 abbrev pub object_member : Document → List ℕ → Option Document
 object_member (object ms) name = member_at ms name
 object_member _ name = None

@@ -1,4 +1,5 @@
--- What has been read of a text beside what `serde_json` reads there. A value in which a number is not whole is read on, and is `None`.
+-- What has been read of a text beside what `serde_json` reads there. A value in which a number is
+-- not whole is read on, and is `None`.
 use Rattle.std.specs.Prelude.{◌≡◌, ℤ, ℕ, List, [], ◌∷◌, ◌++◌, map, Option, Some, option_map, option_and_then, String, string_bytes, ⊤}
 use Rattle.std.specs.declared.alloc.Global.{Global}
 use Rattle.serde_json.specs.Find.{as_i64}
@@ -9,7 +10,8 @@ use Rattle.relay_tree.specs.Text.{tree_of}
 use Rattle.relay_tree.specs.declared.open_object.OpenObject.{OpenObject}
 use Rattle.relay_tree.specs.declared.open_object.OpenObject.TheVariants.{Few, Many}
 
--- the whole number in 64 bits that a number's text spells, if it spells one; `None` if it is too large for a float
+-- the whole number in 64 bits that a number's text spells, if it spells one; `None` if it is too
+-- large for a float
 abbrev pub whole_of : List ℕ → Option (Option ℤ)
 whole_of s = option_map as_i64 (number_of s)
 

@@ -37,11 +37,13 @@ abbrev mutual
 
   pub items_tree : json_data.Items → Option Items
   items_tree json_data.no_items = Some no_items
-  items_tree (json_data.item d ds) = option_and_then (λ e. option_map (item e) (items_tree ds)) (tree_of d)
+  items_tree (json_data.item d ds) =
+      option_and_then (λ e. option_map (item e) (items_tree ds)) (tree_of d)
 
   pub members_tree : json_data.Members → Option Members
   members_tree json_data.no_members = Some no_members
-  members_tree (json_data.member k d ms) = option_and_then (λ e. option_map (member k e) (members_tree ms)) (tree_of d)
+  members_tree (json_data.member k d ms) =
+      option_and_then (λ e. option_map (member k e) (members_tree ms)) (tree_of d)
 
 -- the document that a text reads as; `None` if the text is not JSON or `tree_of` refuses a number
 abbrev pub tree_of_text : List ℕ → Option Document

@@ -1,4 +1,5 @@
-//! Weighing against a budget: a tree is walked only as far as the budget pays for. Allocates nothing.
+//! Weighing against a budget: a tree is walked only as far as the budget pays for. Allocates
+//! nothing.
 ghost use Rattle.std.specs.Prelude.{◌≡◌};
 ghost use Rattle.relay_tree.specs.Budget.{left_of, paid};
 ghost use Rattle.relay_tree.specs.Document.{weight, items_of, items_weight, members_weight};
@@ -31,8 +32,9 @@ impl Budget {
 }
 
 impl Tree {
-    /// Returns what is left of `budget` after the tree's weight is paid, or `None` if the tree weighs more. Visits at most one value for
-    /// each 8 of the budget, plus the one that exceeds it, and none if the budget is unbounded.
+    /// Returns what is left of `budget` after the tree's weight is paid, or `None` if the tree
+    /// weighs more. Visits at most one value for each 8 of the budget, plus the one that exceeds
+    /// it, and none if the budget is unbounded.
     pub fn pay(&self, budget: Budget) -> Option<Budget>
         ensures { result ≡ paid (weight self.now) budget }
     {

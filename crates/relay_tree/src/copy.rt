@@ -8,7 +8,8 @@ use crate::tree::{Node, Tree};
 use std::alloc::{AllocError, Global};
 
 impl Tree {
-    /// Returns an equal tree. Costs the tree's weight in time and memory. If memory runs out, nothing stays allocated.
+    /// Returns an equal tree. Costs the tree's weight in time and memory. If memory runs out,
+    /// nothing stays allocated.
     pub fn copy(&self, alloc: Global) -> Result<Tree, AllocError>
         ensures { IfOk result (λ copy. copy ≡ self.now) }
     {

@@ -19,7 +19,8 @@ impl Tree {
         }
     }
 
-    /// Returns the member `name` as a count, or `None` if there is no such member or it is not a count.
+    /// Returns the member `name` as a count, or `None` if there is no such member or it is not a
+    /// count.
     pub fn count_at(&self, name: &str) -> Option<u64>
         ensures { result ≡ count_in self.now name.now }
     {

@@ -54,7 +54,8 @@ impl Element {
 
     /// Borrows the tree for writing. Only what is written there changes.
     pub fn tree_mut(&mut self) -> &mut Tree
-        ensures* writes_back { sem 𝓛 (Lends element.the_row tree.the_row self.entry result (λ d. d)) }
+        ensures* writes_back { sem 𝓛
+            (Lends element.the_row tree.the_row self.entry result (λ d. d)) }
         ensures value { result.now ≡ self.old }
     {
         &mut self.tree

@@ -1,9 +1,9 @@
 //! JSON documents as trees: read from texts, written, copied, compared and weighed.
 //!
-//! The promise: a text and its tree agree. [`read`] returns the tree of a JSON text (RFC 8259) if all its numbers
-//! are whole and fit in 64 bits with a sign. [`Tree::text`] writes the one compact text of a tree, which reads back
-//! as that tree if it nests at most 127 containers.
-//! Contracts see a tree as a `Document` of `specs/`, so `≡` compares documents and not memory.
+//! The promise: a text and its tree agree. [`read`] returns the tree of a JSON text (RFC 8259) if
+//! all its numbers are whole and fit in 64 bits with a sign. [`Tree::text`] writes the one compact
+//! text of a tree, which reads back as that tree if it nests at most 127 containers. Contracts see
+//! a tree as a `Document` of `specs/`, so `≡` compares documents and not memory.
 #![tactic(auto)]
 
 mod budget;

@@ -18,7 +18,15 @@ impl Tree {
         depth_of(self)
     }
 
-    /// Returns 8 for each value, plus the number of bytes in its texts and member names. Saturates at `u64::MAX`.
+    /// Returns 8 for each value, plus the number of bytes in its texts and member names. Saturates
+    /// at `u64::MAX`.
+    ///
+    /// ```
+    /// let board = read(alloc, r#"{"ab": [7, "xyz"]}"#).ok()?;
+    /// // The object, the list, the number and the text; then "ab" and "xyz".
+    /// assert!(rt; board.weight() == 4 * 8 + 2 + 3);
+    /// assert!(rt; board.depth() == 3);
+    /// ```
     pub fn weight(&self) -> u64
         ensures { result ≡ saturated (weight self.now) }
     {

@@ -15,7 +15,9 @@ pub fn insert_member(
     name: &str,
     value: Tree,
 ) -> Result<(), AllocFailed<Tree>>
-    ensures ok { OnOk result (members_of members.new.entries ≡ put_member (members_of members.old.entries) name.now value) }
+    ensures ok { OnOk result
+        (members_of members.new.entries
+        ≡ put_member (members_of members.old.entries) name.now value) }
     ensures err { OnErr result (members_of members.new.entries ≡ members_of members.old.entries) }
     ensures given_back { IfErr result (λ back. back.value ≡ value) }
 {

@@ -1,5 +1,5 @@
-//! Names and values, in the byte order of the names. They lie side by side in one allocation and are
-//! found by binary search: an empty object takes nothing, and one of a few members little. The
+//! Names and values, in the byte order of the names. They lie side by side in one allocation and
+//! are found by binary search: an empty object takes nothing, and one of a few members little. The
 //! allocation grows by a quarter, and is cut to size once a quarter of it is empty, so an object
 //! takes memory by what it holds and not by what it once held.
 ghost use Rattle.std.specs.Prelude.{◌≡◌};
@@ -115,7 +115,8 @@ impl Members {
 
     /// Borrows the value under a name for writing. Only what is written there changes.
     pub fn get_mut(&mut self, name: &str) -> Option<&mut Tree>
-        ensures* writes_back { sem 𝓛 (LendsSo the_row tree.the_row self.entry result (λ n value. n ≡ with_value self.old name.now value) (λ n. n ≡ self.old)) }
+        ensures* writes_back { sem 𝓛 (LendsSo the_row tree.the_row self.entry result
+            (λ n value. n ≡ with_value self.old name.now value) (λ n. n ≡ self.old)) }
         ensures value { option_copied_mut result ≡ value_at self.old.entries name.now }
     {
         match self.find(name) {
@@ -142,7 +143,8 @@ impl Members {
     /// Puts a value under a name, and returns the one that stood there. If memory runs out, the
     /// members are unchanged.
     pub fn insert(&mut self, name: String, value: Tree) -> Result<Option<Tree>, AllocError>
-        ensures entries { OnOk result (self.new.entries ≡ insert_entry string_cmp self.old.entries name value) }
+        ensures entries { OnOk result
+            (self.new.entries ≡ insert_entry string_cmp self.old.entries name value) }
         ensures old { IfOk result (λ old. old ≡ value_at self.old.entries (string_bytes name)) }
         ensures err { OnErr result (self.new ≡ self.old) }
         ensures room { length self.old.entries < self.old.capacity → IsOk result }
@@ -161,7 +163,8 @@ impl Members {
     /// Removes a member and returns its value. Allocates nothing.
     pub fn remove(&mut self, name: &str) -> Option<Tree>
         ensures value { result ≡ value_at self.old.entries name.now }
-        ensures entries { self.new.entries ≡ remove_entry (is_at (compared name.now)) self.old.entries }
+        ensures entries { self.new.entries
+            ≡ remove_entry (is_at (compared name.now)) self.old.entries }
         ensures unchanged { IfNone result (self.new ≡ self.old) }
     {
         match self.find(name) {
@@ -177,7 +180,8 @@ impl Members {
     /// Puts a member back that was removed, without allocating: where there is place for one more,
     /// or else into `spare`, which takes over all members. Does nothing if `spare` has no place.
     pub fn put_back(&mut self, name: String, value: Tree, spare: Members)
-        ensures entries { self.new.entries ≡ refilled_entries spare.capacity name value self.old.entries }
+        ensures entries { self.new.entries
+            ≡ refilled_entries spare.capacity name value self.old.entries }
     {
         if self.entries.len() >= spare.entries.capacity() {
             return;

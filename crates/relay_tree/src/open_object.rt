@@ -17,9 +17,9 @@ const FEW: usize = 32;
 /// For how many members a list has place at first.
 const FIRST: usize = 4;
 
-/// The members of an object so far, by name. Those of a small object are kept as they stay. Those of
-/// another are kept in a map, so that names in any order cost a look-up each; so are members of which
-/// one could not be read (`None`), since a later one may stand under its name.
+/// The members of an object so far, by name. Those of a small object are kept as they stay. Those
+/// of another are kept in a map, so that names in any order cost a look-up each; so are members of
+/// which one could not be read (`None`), since a later one may stand under its name.
 #[derive(Drop)]
 pub(crate) enum OpenObject {
     Few(Members),
@@ -41,7 +41,9 @@ impl OpenObject {
         name: String,
         value: Option<Tree>,
     ) -> Result<OpenObject, AllocError>
-        ensures { IfOk result (λ object. members_read object ≡ insert_entry string_cmp (members_read self) name value) }
+        ensures { IfOk result
+            (λ object. members_read object
+            ≡ insert_entry string_cmp (members_read self) name value) }
     {
         match self {
             OpenObject::Few(members) => with_next(alloc, members, name, value),
@@ -51,7 +53,9 @@ impl OpenObject {
 
     /// Ends the object: returns its members, if all their values could be read.
     pub(crate) fn close(self, alloc: Global) -> Result<Option<Members>, AllocError>
-        ensures { IfOk result (λ members. (ms : read_as.Members) → AreRead ms (members_read self) → members_tree ms ≡ option_map (λ m. members_of m.entries) members) }
+        ensures { IfOk result
+            (λ members. (ms : read_as.Members) → AreRead ms (members_read self)
+            → members_tree ms ≡ option_map (λ m. members_of m.entries) members) }
     {
         match self {
             OpenObject::Few(mut members) => {
@@ -70,7 +74,9 @@ fn with_next(
     name: String,
     value: Option<Tree>,
 ) -> Result<OpenObject, AllocError>
-    ensures { IfOk result (λ object. members_read object ≡ insert_entry string_cmp (map as_read members.entries) name value) }
+    ensures { IfOk result
+        (λ object. members_read object
+        ≡ insert_entry string_cmp (map as_read members.entries) name value) }
 {
     let Some(value) = value else {
         let map = into_map(alloc, members)?;
@@ -89,7 +95,8 @@ fn with_one(
     name: String,
     value: Tree,
 ) -> Result<Members, AllocError>
-    ensures { IfOk result (λ all. all.entries ≡ insert_entry string_cmp members.entries name value) }
+    ensures { IfOk result
+        (λ all. all.entries ≡ insert_entry string_cmp members.entries name value) }
 {
     let mut members = members;
     if members.len() == 0 {
@@ -130,7 +137,9 @@ fn gather(
     alloc: Global,
     found: BTreeMap<String, Option<Tree>>,
 ) -> Result<Option<Members>, AllocError>
-    ensures { IfOk result (λ members. (ms : read_as.Members) → AreRead ms found.entries → members_tree ms ≡ option_map (λ m. members_of m.entries) members) }
+    ensures { IfOk result
+        (λ members. (ms : read_as.Members) → AreRead ms found.entries
+        → members_tree ms ≡ option_map (λ m. members_of m.entries) members) }
 {
     let mut members = Members::with_capacity(alloc, found.len())?;
     for (name, value) in found {

@@ -16,7 +16,8 @@ use crate::tree::{Node, Tree};
 use std::mem::replace;
 
 impl Tree {
-    /// Returns the element at `index`, counted from 0, or `None` if the index is past the end or the tree is not a list.
+    /// Returns the element at `index`, counted from 0, or `None` if the index is past the end or
+    /// the tree is not a list.
     pub fn item(&self, index: usize) -> Option<&Tree>
         ensures { option_copied result ≡ list_item self.now index }
     {
@@ -32,8 +33,15 @@ impl Tree {
         }
     }
 
-    /// Returns the value of the member `name`, or `None` if there is no such member or the tree is not an object.
-    /// Costs an ordered search among the members.
+    /// Returns the value of the member `name`, or `None` if there is no such member or the tree is
+    /// not an object. Costs an ordered search among the members.
+    ///
+    /// ```
+    /// let board = read(alloc, r#"{"cards": ["a", "b"]}"#).ok()?;
+    /// let card = board.member("cards")?.item(1)?;
+    /// assert!(rt; matches!(&card.node, Node::Text(text) if text.as_str() == "b"));
+    /// assert!(rt; board.member("cards")?.item(2).is_none() && board.item(0).is_none());
+    /// ```
     pub fn member(&self, name: &str) -> Option<&Tree>
         ensures { option_copied result ≡ object_member self.now name.now }
     {
@@ -43,13 +51,14 @@ impl Tree {
         }
     }
 
-    /// Takes the value of the member `name` out of an object, and leaves `null` there. Returns `None`,
-    /// with the tree unchanged, if there is no such member or the tree is not an object. Allocates
-    /// nothing.
+    /// Takes the value of the member `name` out of an object, and leaves `null` there. Returns
+    /// `None`, with the tree unchanged, if there is no such member or the tree is not an object.
+    /// Allocates nothing.
     pub fn take_member(&mut self, name: &str) -> Option<Tree>
         ensures value { result ≡ object_member self.old name.now }
         ensures missing { result ≡ None → self.new ≡ self.old }
-        ensures others { (other : list_of ℕ) → bytes_eq name.now other ≡ false → object_member self.new other ≡ object_member self.old other }
+        ensures others { (other : list_of ℕ) → bytes_eq name.now other ≡ false
+            → object_member self.new other ≡ object_member self.old other }
     {
         match self.node.member_mut(name) {
             Some(member) => Some(replace(member, Tree::from(Node::Null))),
@@ -57,7 +66,8 @@ impl Tree {
         }
     }
 
-    /// Returns the text of the member `name`, or `None` if there is no such member or it is not a text.
+    /// Returns the text of the member `name`, or `None` if there is no such member or it is not a
+    /// text.
     pub fn text_at(&self, name: &str) -> Option<&str>
         ensures { option_map (λ text. text.now) result ≡ text_in self.now name.now }
     {
@@ -91,8 +101,8 @@ impl Node {
         }
     }
 
-    /// Borrows the element at `index` of a list, counted from 0, for writing. Only what is written there changes. Returns `None` if the index
-    /// is past the end or the node is not a list.
+    /// Borrows the element at `index` of a list, counted from 0, for writing. Only what is written
+    /// there changes. Returns `None` if the index is past the end or the node is not a list.
     pub fn item_mut(&mut self, index: usize) -> Option<&mut Tree>
         ensures* writes_back { sem 𝓛 (LendsItem self.entry index result) }
         ensures value { option_copied_mut result ≡ list_item (document_of self.old) index }
@@ -109,8 +119,8 @@ impl Node {
         }
     }
 
-    /// Borrows the value of the member `name` of an object for writing. Only what is written there changes. Returns `None` if there is no such
-    /// member or the node is not an object.
+    /// Borrows the value of the member `name` of an object for writing. Only what is written there
+    /// changes. Returns `None` if there is no such member or the node is not an object.
     pub fn member_mut(&mut self, name: &str) -> Option<&mut Tree>
         ensures* writes_back { sem 𝓛 (LendsMember self.entry name.now result) }
         ensures value { option_copied_mut result ≡ object_member (document_of self.old) name.now }
@@ -122,7 +132,8 @@ impl Node {
     }
 
     fn items_mut(&mut self) -> Option<&mut Vec<Element>>
-        ensures* writes_back { sem 𝓛 (LendsIf node.the_row list_row self.entry result kind.List self.old) }
+        ensures* writes_back { sem 𝓛
+            (LendsIf node.the_row list_row self.entry result kind.List self.old) }
         ensures value { option_copied_mut result ≡ node_items self.old }
     {
         match self {
@@ -132,7 +143,8 @@ impl Node {
     }
 
     fn members_mut(&mut self) -> Option<&mut Members>
-        ensures* writes_back { sem 𝓛 (LendsIf node.the_row map_row self.entry result kind.Members self.old) }
+        ensures* writes_back { sem 𝓛
+            (LendsIf node.the_row map_row self.entry result kind.Members self.old) }
         ensures value { option_copied_mut result ≡ node_members self.old }
     {
         match self {

@@ -58,6 +58,13 @@ const MAX_NESTING: usize = 127;
 
 /// Reads a text as a tree. The whole text is parsed before its numbers are judged. Takes memory for
 /// the tree, for the text's unescaped strings, and for the members of the objects that are open.
+///
+/// ```
+/// let board = read(alloc, r#"{"b": [1, true], "a": "x"}"#).ok()?;
+/// assert!(rt; board.text(alloc).ok()?.as_str() == r#"{"a":"x","b":[1,true]}"#);
+/// assert!(rt; matches!(read(alloc, "[1.5]"), Err(TreeFault::Number)));
+/// assert!(rt; matches!(read(alloc, "[1,]"), Err(TreeFault::NotJson)));
+/// ```
 pub fn read(alloc: Global, text: &str) -> Result<Tree, TreeFault>
     ensures ok { IfOk result (λ tree. tree_of_text text.now ≡ Some tree) }
     ensures not_json { IfErr result (λ fault. fault ≡ NotJson → json.read text.now ≡ None) }
@@ -97,7 +104,9 @@ fn read_tree(
     reader: &mut Reader<'_>,
     depth: usize,
 ) -> Result<Option<Tree>, TreeFault>
-    ensures ok { IfOk result (λ tree. (d : Data) × (converted of_json (value depth reader.old) ≡ Some (d, reader.new)) × (tree_of d ≡ tree)) }
+    ensures ok { IfOk result
+        (λ tree. (d : Data) × (converted of_json (value depth reader.old) ≡ Some (d, reader.new))
+        × (tree_of d ≡ tree)) }
     ensures shorter { OnOk result (length reader.new < length reader.old) }
     ensures not_json { result ≡ Err NotJson → converted of_json (value depth reader.old) ≡ None }
     ensures other { IfErr result (λ fault. fault ≢ Number) }
@@ -164,9 +173,13 @@ fn read_items(
     reader: &mut Reader<'_>,
     depth: usize,
 ) -> Result<Option<Vec<Element>>, TreeFault>
-    ensures ok { IfOk result (λ trees. (ds : Items) × (converted of_items (items (value depth) (length reader.old) reader.old) ≡ Some (ds, reader.new)) × (items_tree ds ≡ option_map (λ v. items_of v.items) trees)) }
+    ensures ok { IfOk result
+        (λ trees. (ds : Items)
+        × (converted of_items (items (value depth) (length reader.old) reader.old)
+        ≡ Some (ds, reader.new)) × (items_tree ds ≡ option_map (λ v. items_of v.items) trees)) }
     ensures shorter { OnOk result (length reader.new < length reader.old) }
-    ensures not_json { result ≡ Err NotJson → converted of_items (items (value depth) (length reader.old) reader.old) ≡ None }
+    ensures not_json { result ≡ Err NotJson
+        → converted of_items (items (value depth) (length reader.old) reader.old) ≡ None }
     ensures other { IfErr result (λ fault. fault ≢ Number) }
 {
     let mut found = Some(Vec::new(alloc));
@@ -189,7 +202,8 @@ fn with_item(
     found: Option<Vec<Element>>,
     item: Option<Tree>,
 ) -> Result<Option<Vec<Element>>, AllocError>
-    ensures { IfOk result (λ all. option_map (λ v. v.items) all ≡ extended (option_map (λ v. v.items) found) item) }
+    ensures { IfOk result
+        (λ all. option_map (λ v. v.items) all ≡ extended (option_map (λ v. v.items) found) item) }
 {
     let Some(mut items) = found else {
         return Ok(None);
@@ -208,9 +222,15 @@ fn read_members(
     reader: &mut Reader<'_>,
     depth: usize,
 ) -> Result<Option<Members>, TreeFault>
-    ensures ok { IfOk result (λ trees. (ms : read_as.Members) × (converted (λ ms. of_members ms no_members) (members (value depth) (length reader.old) reader.old) ≡ Some (ms, reader.new)) × (members_tree ms ≡ option_map (λ m. members_of m.entries) trees)) }
+    ensures ok { IfOk result
+        (λ trees. (ms : read_as.Members)
+        × (converted (λ ms. of_members ms no_members)
+        (members (value depth) (length reader.old) reader.old) ≡ Some (ms, reader.new))
+        × (members_tree ms ≡ option_map (λ m. members_of m.entries) trees)) }
     ensures shorter { OnOk result (length reader.new < length reader.old) }
-    ensures not_json { result ≡ Err NotJson → converted (λ ms. of_members ms no_members) (members (value depth) (length reader.old) reader.old) ≡ None }
+    ensures not_json { result ≡ Err NotJson
+        → converted (λ ms. of_members ms no_members)
+        (members (value depth) (length reader.old) reader.old) ≡ None }
     ensures other { IfErr result (λ fault. fault ≢ Number) }
 {
     let mut object = OpenObject::new(alloc);

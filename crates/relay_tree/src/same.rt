@@ -7,8 +7,9 @@ use crate::members::Members;
 use crate::tree::{Node, Tree};
 
 impl Tree {
-    /// Returns whether both are the same document: the order in which members were written has no meaning, and texts are
-    /// equal only code point by code point. Costs at most a walk of the smaller tree.
+    /// Returns whether both are the same document: the order in which members were written has no
+    /// meaning, and texts are equal only code point by code point. Costs at most a walk of the
+    /// smaller tree.
     pub fn same(&self, other: &Tree) -> bool
         ensures { IsTrue result ↔ (self.now ≡ other.now) }
     {

@@ -14,11 +14,14 @@ use std::alloc::{AllocError, Global};
 const INITIAL_CAPACITY: usize = 128;
 
 impl Tree {
-    /// Returns the compact text: no white space, member names in byte order, whole numbers in decimal.
-    /// The text of a tree that nests at most 127 containers reads back as that tree. Costs that one text and copies no part of the tree.
+    /// Returns the compact text: no white space, member names in byte order, whole numbers in
+    /// decimal. The text of a tree that nests at most 127 containers reads back as that tree. Costs
+    /// that one text and copies no part of the tree.
     pub fn text(&self, alloc: Global) -> Result<String, AllocError>
         ensures text { IfOk result (λ text. string_bytes text ≡ text_of self.now) }
-        ensures reads_back { IfOk result (λ text. json_depth (data_of self.now) ≤ max_depth → tree_of_text (string_bytes text) ≡ Some self.now) }
+        ensures reads_back { IfOk result
+            (λ text. json_depth (data_of self.now) ≤ max_depth
+            → tree_of_text (string_bytes text) ≡ Some self.now) }
     {
         let mut out = begin_text(alloc)?;
         self.write(&mut out)?;

@@ -5,7 +5,8 @@ use crate::element::Element;
 use crate::members::Members;
 use std::marker::Model;
 
-/// A JSON value whose numbers are whole. Contracts see it as a `Document`, and code matches on `&tree.node`.
+/// A JSON value whose numbers are whole. Contracts see it as a `Document`, and code matches on
+/// `&tree.node`.
 ///
 /// Dropping a tree, like any other walk over it, recurses once for each level of nesting.
 #[cycle(tree)]

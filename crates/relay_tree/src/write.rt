@@ -11,8 +11,9 @@ use json::Writer;
 use std::alloc::AllocError;
 
 impl Tree {
-    /// Appends the tree to what `out` has written: member names in byte order, whole numbers in decimal. Costs the length of
-    /// its text and copies nothing. If memory runs out, some of its first tokens may already be written.
+    /// Appends the tree to what `out` has written: member names in byte order, whole numbers in
+    /// decimal. Costs the length of its text and copies nothing. If memory runs out, some of its
+    /// first tokens may already be written.
     pub fn write(&self, out: &mut Writer) -> Result<(), AllocError>
         ensures tokens { OnOk result (out.new.tokens ≡ out.old.tokens ++ tokens_of self.now) }
         ensures before { out.new.before ≡ out.old.before }
@@ -40,7 +41,8 @@ fn write_tree(tree: &Tree, out: &mut Writer) -> Result<(), AllocError>
 
 #[cycle(write)]
 fn write_list(items: &Vec<Element>, out: &mut Writer) -> Result<(), AllocError>
-    ensures tokens { OnOk result (out.new.tokens ≡ out.old.tokens ++ tokens_of (list (items_of items.now.items))) }
+    ensures tokens { OnOk result
+        (out.new.tokens ≡ out.old.tokens ++ tokens_of (list (items_of items.now.items))) }
     ensures before { out.new.before ≡ out.old.before }
     ensures reads_back { OnOk result (ReadsBack (list (items_of items.now.items))) }
 {
@@ -53,7 +55,8 @@ fn write_list(items: &Vec<Element>, out: &mut Writer) -> Result<(), AllocError>
 
 #[cycle(write)]
 fn write_object(members: &Members, out: &mut Writer) -> Result<(), AllocError>
-    ensures tokens { OnOk result (out.new.tokens ≡ out.old.tokens ++ tokens_of (object (members_of members.now.entries))) }
+    ensures tokens { OnOk result
+        (out.new.tokens ≡ out.old.tokens ++ tokens_of (object (members_of members.now.entries))) }
     ensures before { out.new.before ≡ out.old.before }
     ensures reads_back { OnOk result (ReadsBack (object (members_of members.now.entries))) }
 {

@@ -5,6 +5,7 @@ use Rattle.relay_tree.specs.Document.{Document}
 use Rattle.relay_tree.specs.Seen.{members_of}
 use Rattle.relay_view.specs.View.{members_length}
 
-pub members_length-members_of : (ms : List (String Global × Document)) → members_length (members_of ms) ≡ length ms
+pub members_length-members_of : (ms : List (String Global × Document))
+    → members_length (members_of ms) ≡ length ms
 members_length-members_of [] = refl
 members_length-members_of (m ∷ ms) = ap suc (members_length-members_of ms)

@@ -14,7 +14,9 @@ use Rattle.relay_view.specs.declared.view.TheConstants.{MAX_SLOTS}
 -- the slot at place k with this pointer, which has at most MAX_TOKENS tokens
 abbrev pub slot_within : ℕ → SlotKind → Option Path → Result Slot ViewFault
 slot_within k kind None = Err (Pointer k)
-slot_within k kind (Some path) = if nat_le (length path) MAX_TOKENS then Ok (record { pointer = path; kind = kind }) else Err (Pointer k)
+slot_within k kind (Some path) =
+    if nat_le (length path) MAX_TOKENS then Ok (record { pointer = path; kind = kind })
+    else Err (Pointer k)
 
 -- the slot at place k whose pointer has this text
 abbrev pub slot_spelled : ℕ → SlotKind → List ℕ → Result Slot ViewFault
@@ -25,7 +27,8 @@ abbrev pub size_slot : ℕ → Option Document → Result Slot ViewFault
 size_slot k (Some (text s)) = slot_spelled k Size s
 size_slot k _ = Err (Shape (Some k))
 
--- the slot that the element at place k reads as: the text of a pointer, or an object whose member `size` is one
+-- the slot that the element at place k reads as: the text of a pointer, or an object whose member
+-- `size` is one
 abbrev pub slot_at : ℕ → Document → Result Slot ViewFault
 slot_at k (text s) = slot_spelled k Value s
 slot_at k (object ms) = size_slot k (object_member (object ms) (codes "size"))
@@ -33,7 +36,8 @@ slot_at k _ = Err (Shape (Some k))
 
 -- the view that a document reads as: a list of at most MAX_SLOTS slots
 abbrev pub view_of : Document → Result View ViewFault
-view_of (list ds) = if nat_lt MAX_SLOTS (items_length ds) then Err TooMany else each_from slot_at 0 ds
+view_of (list ds) =
+    if nat_lt MAX_SLOTS (items_length ds) then Err TooMany else each_from slot_at 0 ds
 view_of _ = Err (Shape None)
 
 -- a list of at most MAX_SLOTS elements, whatever they are

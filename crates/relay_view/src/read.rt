@@ -13,9 +13,18 @@ use relay_tree::{Element, Node, Tree, iter_items};
 use std::alloc::Global;
 
 impl View {
-    /// Reads a view from a tree: a list of at most [`MAX_SLOTS`] elements, each a pointer text of at most [`MAX_TOKENS`] tokens, or an
-    /// object whose member `size` is such a text; other members are ignored. `NoMemory` comes only if the tree is a list of at most
-    /// [`MAX_SLOTS`] elements. See `docs/PROTOCOL.md`, "Views".
+    /// Reads a view from a tree: a list of at most [`MAX_SLOTS`] elements, each a pointer text of
+    /// at most [`MAX_TOKENS`] tokens, or an object whose member `size` is such a text; other
+    /// members are ignored. `NoMemory` comes only if the tree is a list of at most [`MAX_SLOTS`]
+    /// elements. See `docs/PROTOCOL.md`, "Views".
+    ///
+    /// ```
+    /// let asked = read(alloc, r#"["/title", {"size": "/cards"}]"#).ok()?;
+    /// let view = View::read(alloc, &asked).ok()?;
+    /// assert!(rt; view.kind(0) == Some(SlotKind::Value) && view.kind(1) == Some(SlotKind::Size));
+    /// let wrong = read(alloc, r#"["/title", "cards"]"#).ok()?;
+    /// assert!(rt; matches!(View::read(alloc, &wrong), Err(ViewFault::Pointer { at: 1 })));
+    /// ```
     pub fn read(alloc: Global, tree: &Tree) -> Result<View, ViewFault>
         ensures ok { IfOk result (λ view. view_of tree.now ≡ Ok view) }
         ensures err { IfErr result (λ fault. fault ≢ NoMemory → view_of tree.now ≡ Err fault) }
@@ -35,8 +44,10 @@ impl View {
 }
 
 fn slots_of(alloc: Global, items: &Vec<Element>) -> Result<Vec<Slot>, ViewFault>
-    ensures ok { IfOk result (λ slots. each_from slot_at 0 (items_of items.now.items) ≡ Ok slots.items) }
-    ensures err { IfErr result (λ fault. fault ≢ NoMemory → each_from slot_at 0 (items_of items.now.items) ≡ Err fault) }
+    ensures ok { IfOk result
+        (λ slots. each_from slot_at 0 (items_of items.now.items) ≡ Ok slots.items) }
+    ensures err { IfErr result
+        (λ fault. fault ≢ NoMemory → each_from slot_at 0 (items_of items.now.items) ≡ Err fault) }
 {
     let Ok(mut slots) = Vec::with_capacity(alloc, items.len()) else {
         return Err(ViewFault::NoMemory);
@@ -71,7 +82,8 @@ fn slot_at(alloc: Global, k: u64, item: &Tree) -> Result<Slot, ViewFault>
 /// Reads the slot at place `k` from the text of its pointer.
 fn slot_spelled(alloc: Global, k: u64, kind: SlotKind, text: &str) -> Result<Slot, ViewFault>
     ensures ok { IfOk result (λ slot. slot_spelled k kind text.now ≡ Ok slot) }
-    ensures err { IfErr result (λ fault. fault ≢ NoMemory → slot_spelled k kind text.now ≡ Err fault) }
+    ensures err { IfErr result
+        (λ fault. fault ≢ NoMemory → slot_spelled k kind text.now ≡ Err fault) }
 {
     match Pointer::read(alloc, text, MAX_TOKENS) {
         Ok(pointer) => Ok(Slot { pointer, kind }),

@@ -32,8 +32,8 @@ pub struct Slot {
 }
 
 impl Slot {
-    /// Returns what the slot shows of a document: `[v]` if there is something to show, else `[]`. Copies the value; a size needs no
-    /// copy.
+    /// Returns what the slot shows of a document: `[v]` if there is something to show, else `[]`.
+    /// Copies the value; a size needs no copy.
     pub fn of(&self, alloc: Global, document: &Tree) -> Result<Tree, AllocError>
         ensures { IfOk result (λ seen. seen ≡ slot self.now document.now) }
     {
@@ -44,8 +44,9 @@ impl Slot {
         Ok(Tree::from(Node::List(slot)))
     }
 
-    /// Pays the weight of what the slot shows of a document. Returns what is left of the budget, or `None` if the weight exceeds it.
-    /// Walks no more of the value than the budget pays for. Allocates nothing.
+    /// Pays the weight of what the slot shows of a document. Returns what is left of the budget, or
+    /// `None` if the weight exceeds it. Walks no more of the value than the budget pays for.
+    /// Allocates nothing.
     #[tactic(auto, using(relay_tree::proofs::Budgets::paid_on, relay_tree::proofs::Budgets::paid_out))]
     pub fn pay(&self, document: &Tree, budget: Budget) -> Option<Budget>
         ensures { result ≡ paid (weight (slot self.now document.now)) budget }
@@ -64,7 +65,9 @@ impl Slot {
     }
 
     fn value(&self, alloc: Global, document: &Tree) -> Result<Option<Tree>, AllocError>
-        ensures { IfOk result (λ value. value ≡ option_and_then (shown self.now.kind) (at document.now self.now.pointer)) }
+        ensures { IfOk result
+            (λ value. value
+            ≡ option_and_then (shown self.now.kind) (at document.now self.now.pointer)) }
     {
         let Some(part) = resolve(document, &self.pointer) else {
             return Ok(None);
@@ -77,7 +80,8 @@ impl Slot {
 
     /// Appends what the slot shows of a document to the output, without copying it.
     pub(crate) fn write(&self, document: &Tree, out: &mut Writer) -> Result<(), AllocError>
-        ensures tokens { OnOk result (out.new.tokens ≡ out.old.tokens ++ tokens_of (slot self.now document.now)) }
+        ensures tokens { OnOk result
+            (out.new.tokens ≡ out.old.tokens ++ tokens_of (slot self.now document.now)) }
         ensures before { out.new.before ≡ out.old.before }
         ensures reads_back { OnOk result (ReadsBack (slot self.now document.now)) }
     {
@@ -87,7 +91,10 @@ impl Slot {
     }
 
     fn write_value(&self, document: &Tree, out: &mut Writer) -> Result<(), AllocError>
-        ensures tokens { OnOk result (out.new.tokens ≡ out.old.tokens ++ shown_tokens (option_and_then (shown self.now.kind) (at document.now self.now.pointer))) }
+        ensures tokens { OnOk result
+            (out.new.tokens ≡ out.old.tokens
+            ++ shown_tokens
+            (option_and_then (shown self.now.kind) (at document.now self.now.pointer))) }
         ensures before { out.new.before ≡ out.old.before }
         ensures reads_back { OnOk result (ReadsBack (slot self.now document.now)) }
     {

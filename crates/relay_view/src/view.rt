@@ -8,7 +8,8 @@ use std::marker::Model;
 /// The most slots of a view.
 pub const MAX_SLOTS: u64 = 16;
 
-/// A list of slots, each of which shows a value in a document, or its size. Contracts see it as that list.
+/// A list of slots, each of which shows a value in a document, or its size. Contracts see it as
+/// that list.
 #[derive(Drop)]
 pub struct View {
     slots: Vec<Slot>,
@@ -42,7 +43,8 @@ impl View {
         self.slots.len() as u64
     }
 
-    /// Returns the pointer of slot `k`, counted from 0, or `None` past the last slot. Allocates nothing.
+    /// Returns the pointer of slot `k`, counted from 0, or `None` past the last slot. Allocates
+    /// nothing.
     pub fn pointer(&self, k: u64) -> Option<&Pointer>
         ensures { option_copied result ≡ option_map (λ s. s.pointer) (slice_get self.now k) }
     {
@@ -52,7 +54,8 @@ impl View {
         }
     }
 
-    /// Returns what slot `k` shows, counted from 0, or `None` past the last slot. Allocates nothing.
+    /// Returns what slot `k` shows, counted from 0, or `None` past the last slot. Allocates
+    /// nothing.
     pub fn kind(&self, k: u64) -> Option<SlotKind>
         ensures { result ≡ option_map (λ s. s.kind) (slice_get self.now k) }
     {

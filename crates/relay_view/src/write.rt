@@ -9,10 +9,12 @@ use relay_tree::Tree;
 use std::alloc::AllocError;
 
 impl View {
-    /// Appends the list of slots to the output, each value straight from the document. Costs the length of its text and copies
-    /// nothing. If memory runs out, some of its first tokens may have been written.
+    /// Appends the list of slots to the output, each value straight from the document. Costs the
+    /// length of its text and copies nothing. If memory runs out, some of its first tokens may have
+    /// been written.
     pub fn write(&self, document: &Tree, out: &mut Writer) -> Result<(), AllocError>
-        ensures tokens { OnOk result (out.new.tokens ≡ out.old.tokens ++ tokens_of (view self.now document.now)) }
+        ensures tokens { OnOk result
+            (out.new.tokens ≡ out.old.tokens ++ tokens_of (view self.now document.now)) }
         ensures before { out.new.before ≡ out.old.before }
         ensures reads_back { OnOk result (ReadsBack (view self.now document.now)) }
     {

@@ -17,14 +17,25 @@ use relay_tree::{Element, Node, Tree};
 use std::alloc::Global;
 
 impl Patch {
-    /// Reads a tree as a patch. Members that an operation does not need are ignored. The first fault is returned: of the
-    /// list, then of its elements in order. Each element is checked for `op`, `path`, the `value` or `from` that its
-    /// operation needs, and then for the pointers `path` and `from`. Costs a copy of the tree. Allocates nothing if the
-    /// tree is not a list or is too long.
+    /// Reads a tree as a patch. Members that an operation does not need are ignored. The first
+    /// fault is returned: of the list, then of its elements in order. Each element is checked for
+    /// `op`, `path`, the `value` or `from` that its operation needs, and then for the pointers
+    /// `path` and `from`. Costs a copy of the tree. Allocates nothing if the tree is not a list or
+    /// is too long.
+    ///
+    /// ```
+    /// let ops = read(alloc, r#"[{"op": "remove", "path": "/a"}, {"op": "remove"}]"#).ok()?;
+    /// let patch = Patch::from_tree(alloc, &ops, PatchLimits::REQUEST);
+    /// assert!(rt; matches!(patch, Err(PatchFault::Shape { at: Some(1) })));
+    /// let one = PatchLimits { ops: 1, ..PatchLimits::REQUEST };
+    /// assert!(rt; matches!(Patch::from_tree(alloc, &ops, one), Err(PatchFault::TooManyOps)));
+    /// ```
     pub fn from_tree(alloc: Global, tree: &Tree, limits: PatchLimits) -> Result<Patch, PatchFault>
         ensures ok { IfOk result (λ patch. patch_of limits.ops limits.tokens tree.now ≡ Ok patch) }
-        ensures err { IfErr result (λ fault. fault ≢ NoMemory → patch_of limits.ops limits.tokens tree.now ≡ Err fault) }
-        ensures memory { IfErr result (λ fault. fault ≡ NoMemory → IsSomeAnd (list_len tree.now) (λ n. n ≤ limits.ops)) }
+        ensures err { IfErr result
+            (λ fault. fault ≢ NoMemory → patch_of limits.ops limits.tokens tree.now ≡ Err fault) }
+        ensures memory { IfErr result
+            (λ fault. fault ≡ NoMemory → IsSomeAnd (list_len tree.now) (λ n. n ≤ limits.ops)) }
     {
         match tree.node.list_len() {
             None => Err(PatchFault::Shape { at: None }),
@@ -36,11 +47,14 @@ impl Patch {
         }
     }
 
-    /// Reads a tree as [`Patch::from_tree`] does, but consumes it: its values move into the operations without a copy.
+    /// Reads a tree as [`Patch::from_tree`] does, but consumes it: its values move into the
+    /// operations without a copy.
     pub fn from_owned(alloc: Global, tree: Tree, limits: PatchLimits) -> Result<Patch, PatchFault>
         ensures ok { IfOk result (λ patch. patch_of limits.ops limits.tokens tree ≡ Ok patch) }
-        ensures err { IfErr result (λ fault. fault ≢ NoMemory → patch_of limits.ops limits.tokens tree ≡ Err fault) }
-        ensures memory { IfErr result (λ fault. fault ≡ NoMemory → IsSomeAnd (list_len tree) (λ n. n ≤ limits.ops)) }
+        ensures err { IfErr result
+            (λ fault. fault ≢ NoMemory → patch_of limits.ops limits.tokens tree ≡ Err fault) }
+        ensures memory { IfErr result
+            (λ fault. fault ≡ NoMemory → IsSomeAnd (list_len tree) (λ n. n ≤ limits.ops)) }
     {
         let Node::List(items) = tree.node else {
             return Err(PatchFault::Shape { at: None });
@@ -56,8 +70,11 @@ impl Patch {
 }
 
 fn ops_of(alloc: Global, items: Vec<Element>, tokens: u64) -> Result<Vec<Op>, PatchFault>
-    ensures ok { IfOk result (λ ops. each_from (op_at tokens) 0 (items_of items.items) ≡ Ok ops.items) }
-    ensures err { IfErr result (λ fault. fault ≢ NoMemory → each_from (op_at tokens) 0 (items_of items.items) ≡ Err fault) }
+    ensures ok { IfOk result
+        (λ ops. each_from (op_at tokens) 0 (items_of items.items) ≡ Ok ops.items) }
+    ensures err { IfErr result
+        (λ fault. fault ≢ NoMemory
+        → each_from (op_at tokens) 0 (items_of items.items) ≡ Err fault) }
 {
     let Ok(mut ops) = Vec::with_capacity(alloc, items.len()) else {
         return Err(PatchFault::NoMemory);
@@ -101,8 +118,13 @@ fn op_of_kind(
     path: &str,
     tokens: u64,
 ) -> Result<Op, PatchFault>
-    ensures ok { IfOk result (λ op. op_of_kind kind tokens at value (option_map (λ s. s.now) from.entry) path.now ≡ Ok op) }
-    ensures err { IfErr result (λ fault. fault ≢ NoMemory → op_of_kind kind tokens at value (option_map (λ s. s.now) from.entry) path.now ≡ Err fault) }
+    ensures ok { IfOk result
+        (λ op. op_of_kind kind tokens at value (option_map (λ s. s.now) from.entry) path.now
+        ≡ Ok op) }
+    ensures err { IfErr result
+        (λ fault. fault ≢ NoMemory
+        → op_of_kind kind tokens at value (option_map (λ s. s.now) from.entry) path.now
+        ≡ Err fault) }
 {
     match kind {
         Kind::Add => {
@@ -140,8 +162,10 @@ fn valued(
     path: &str,
     tokens: u64,
 ) -> Result<(Pointer, Tree), PatchFault>
-    ensures ok { IfOk result (λ parts. valued tokens at value path.now op.Add ≡ Ok (op.Add parts.0 parts.1)) }
-    ensures err { IfErr result (λ fault. fault ≢ NoMemory → valued tokens at value path.now op.Add ≡ Err fault) }
+    ensures ok { IfOk result
+        (λ parts. valued tokens at value path.now op.Add ≡ Ok (op.Add parts.0 parts.1)) }
+    ensures err { IfErr result
+        (λ fault. fault ≢ NoMemory → valued tokens at value path.now op.Add ≡ Err fault) }
 {
     let Some(value) = value else {
         return Err(PatchFault::Shape { at: Some(at) });
@@ -158,8 +182,12 @@ fn sourced(
     path: &str,
     tokens: u64,
 ) -> Result<(Pointer, Pointer), PatchFault>
-    ensures ok { IfOk result (λ paths. sourced tokens at (option_map (λ s. s.now) from.entry) path.now op.Move ≡ Ok (op.Move paths.0 paths.1)) }
-    ensures err { IfErr result (λ fault. fault ≢ NoMemory → sourced tokens at (option_map (λ s. s.now) from.entry) path.now op.Move ≡ Err fault) }
+    ensures ok { IfOk result
+        (λ paths. sourced tokens at (option_map (λ s. s.now) from.entry) path.now op.Move
+        ≡ Ok (op.Move paths.0 paths.1)) }
+    ensures err { IfErr result
+        (λ fault. fault ≢ NoMemory
+        → sourced tokens at (option_map (λ s. s.now) from.entry) path.now op.Move ≡ Err fault) }
 {
     let Some(from) = from else {
         return Err(PatchFault::Shape { at: Some(at) });
@@ -171,7 +199,8 @@ fn sourced(
 
 fn pointer_of(alloc: Global, at: u64, text: &str, tokens: u64) -> Result<Pointer, PatchFault>
     ensures ok { IfOk result (λ path. path_in tokens at text.now ≡ Ok path) }
-    ensures err { IfErr result (λ fault. fault ≢ NoMemory → path_in tokens at text.now ≡ Err fault) }
+    ensures err { IfErr result
+        (λ fault. fault ≢ NoMemory → path_in tokens at text.now ≡ Err fault) }
 {
     match Pointer::read(alloc, text, tokens) {
         Ok(pointer) => Ok(pointer),

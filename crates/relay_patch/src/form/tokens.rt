@@ -1,4 +1,5 @@
-//! A writer of patches as JSON, one token at a time (RFC 6902, sections 3 and 4): exactly the members that each operation defines.
+//! A writer of patches as JSON, one token at a time (RFC 6902, sections 3 and 4): exactly the
+//! members that each operation defines.
 ghost use Rattle.std.specs.Prelude.{◌≡◌, [], ◌∷◌, ◌++◌, OnOk, codes};
 ghost use Rattle.json.specs.Token.{key, string};
 ghost use Rattle.relay_tree.specs.Document.{object, no_members};
@@ -14,10 +15,12 @@ use relay_tree::Tree;
 use std::alloc::{AllocError, Global};
 
 impl Patch {
-    /// Appends the patch to what `out` has written. Costs the length of its text: each pointer's text is copied briefly, and no
-    /// value is copied. If memory runs out, some of its first tokens may already be written.
+    /// Appends the patch to what `out` has written. Costs the length of its text: each pointer's
+    /// text is copied briefly, and no value is copied. If memory runs out, some of its first tokens
+    /// may already be written.
     pub fn write(&self, alloc: Global, out: &mut Writer) -> Result<(), AllocError>
-        ensures tokens { OnOk result (out.new.tokens ≡ out.old.tokens ++ tokens_of (patch_document self.now)) }
+        ensures tokens { OnOk result
+            (out.new.tokens ≡ out.old.tokens ++ tokens_of (patch_document self.now)) }
         ensures before { out.new.before ≡ out.old.before }
         ensures reads_back { OnOk result (ReadsBack (patch_document self.now)) }
     {
@@ -30,7 +33,8 @@ impl Patch {
 }
 
 fn write_op(alloc: Global, op: &Op, out: &mut Writer) -> Result<(), AllocError>
-    ensures tokens { OnOk result (out.new.tokens ≡ out.old.tokens ++ tokens_of (object (op_members op.now))) }
+    ensures tokens { OnOk result
+        (out.new.tokens ≡ out.old.tokens ++ tokens_of (object (op_members op.now))) }
     ensures before { out.new.before ≡ out.old.before }
     ensures reads_back { OnOk result (ReadsBack (object (op_members op.now))) }
 {
@@ -52,9 +56,13 @@ fn write_valued(
     value: &Tree,
     out: &mut Writer,
 ) -> Result<(), AllocError>
-    ensures tokens { OnOk result (out.new.tokens ≡ out.old.tokens ++ tokens_of (object (op_member name.now (path_member path.now (value_member value.now))))) }
+    ensures tokens { OnOk result
+        (out.new.tokens ≡ out.old.tokens
+        ++ tokens_of
+        (object (op_member name.now (path_member path.now (value_member value.now))))) }
     ensures before { out.new.before ≡ out.old.before }
-    ensures reads_back { OnOk result (ReadsBack (object (op_member name.now (path_member path.now (value_member value.now))))) }
+    ensures reads_back { OnOk result
+        (ReadsBack (object (op_member name.now (path_member path.now (value_member value.now))))) }
 {
     out.begin_object()?;
     write_named(alloc, name, path, out)?;
@@ -71,7 +79,10 @@ fn write_sourced(
     path: &Pointer,
     out: &mut Writer,
 ) -> Result<(), AllocError>
-    ensures tokens { OnOk result (out.new.tokens ≡ out.old.tokens ++ tokens_of (object (from_member from.now (op_member name.now (path_member path.now no_members))))) }
+    ensures tokens { OnOk result
+        (out.new.tokens ≡ out.old.tokens
+        ++ tokens_of
+        (object (from_member from.now (op_member name.now (path_member path.now no_members))))) }
     ensures before { out.new.before ≡ out.old.before }
 {
     out.begin_object()?;
@@ -81,7 +92,9 @@ fn write_sourced(
 }
 
 fn write_removal(alloc: Global, path: &Pointer, out: &mut Writer) -> Result<(), AllocError>
-    ensures tokens { OnOk result (out.new.tokens ≡ out.old.tokens ++ tokens_of (object (op_member (codes "remove") (path_member path.now no_members)))) }
+    ensures tokens { OnOk result
+        (out.new.tokens ≡ out.old.tokens
+        ++ tokens_of (object (op_member (codes "remove") (path_member path.now no_members)))) }
     ensures before { out.new.before ≡ out.old.before }
 {
     out.begin_object()?;
@@ -96,7 +109,9 @@ fn write_named(
     path: &Pointer,
     out: &mut Writer,
 ) -> Result<(), AllocError>
-    ensures tokens { OnOk result (out.new.tokens ≡ out.old.tokens ++ key (codes "op") ∷ string name.now ∷ key (codes "path") ∷ string (spelling path.now) ∷ []) }
+    ensures tokens { OnOk result
+        (out.new.tokens ≡ out.old.tokens ++ key (codes "op") ∷ string name.now ∷ key (codes "path")
+        ∷ string (spelling path.now) ∷ []) }
     ensures before { out.new.before ≡ out.old.before }
 {
     out.key("op")?;
@@ -111,7 +126,8 @@ fn write_pointer(
     pointer: &Pointer,
     out: &mut Writer,
 ) -> Result<(), AllocError>
-    ensures tokens { OnOk result (out.new.tokens ≡ out.old.tokens ++ key name.now ∷ string (spelling pointer.now) ∷ []) }
+    ensures tokens { OnOk result
+        (out.new.tokens ≡ out.old.tokens ++ key name.now ∷ string (spelling pointer.now) ∷ []) }
     ensures before { out.new.before ≡ out.old.before }
 {
     let text = pointer.text(alloc)?;

@@ -1,4 +1,5 @@
-//! A writer of patches as trees (RFC 6902, sections 3 and 4): exactly the members that each operation defines.
+//! A writer of patches as trees (RFC 6902, sections 3 and 4): exactly the members that each
+//! operation defines.
 ghost use Rattle.std.specs.Prelude.{◌≡◌, ◌≤◌, ℕ, Ok, IfOk, OnOk, codes, length};
 ghost use Rattle.std.specs.List.{AllByRecursion};
 ghost use Rattle.relay_tree.specs.Document.{object, text};
@@ -15,10 +16,14 @@ use relay_tree::{Element, Members, Node, Tree, insert_member};
 use std::alloc::{AllocError, Global};
 
 impl Patch {
-    /// Returns the patch as a tree, which reads back as the patch under any limits that it is within. Costs a copy of its values.
+    /// Returns the patch as a tree, which reads back as the patch under any limits that it is
+    /// within. Costs a copy of its values.
     pub fn to_tree(&self, alloc: Global) -> Result<Tree, AllocError>
         ensures form { IfOk result (λ tree. tree ≡ patch_document self.now) }
-        ensures reads_back { IfOk result (λ tree. (ops tokens deepest : ℕ) → length self.now ≤ ops → AllByRecursion (OpFits tokens deepest) self.now → patch_of ops tokens tree ≡ Ok self.now) }
+        ensures reads_back { IfOk result
+            (λ tree. (ops tokens deepest : ℕ) → length self.now ≤ ops
+            → AllByRecursion (OpFits tokens deepest) self.now
+            → patch_of ops tokens tree ≡ Ok self.now) }
     {
         let mut items = Vec::with_capacity(alloc, self.ops().len())?;
         for op in self.ops() {
@@ -65,7 +70,10 @@ fn put_named(
     name: &str,
     path: &Pointer,
 ) -> Result<(), AllocError>
-    ensures { OnOk result (members_of members.new.entries ≡ put_member (put_member (members_of members.old.entries) (codes "op") (text name.now)) (codes "path") (text (spelling path.now))) }
+    ensures { OnOk result
+        (members_of members.new.entries
+        ≡ put_member (put_member (members_of members.old.entries) (codes "op") (text name.now))
+        (codes "path") (text (spelling path.now))) }
 {
     let name = Tree::from(Node::Text(String::from_str(alloc, name)?));
     insert_member(alloc, members, "op", name)?;

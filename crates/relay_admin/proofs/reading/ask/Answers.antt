@@ -4,4 +4,6 @@ use Rattle.relay_admin.proofs.Admitting.{admits_exactly}
 use Rattle.relay_admin.proofs.reading.ask.Goals as goal
 
 pub returns-clause-admits : goal.returns-clause-admits
-returns-clause-admits c = IfOk-weaker c.answered.result _ _ (λ answer answers. admits_exactly c.args.bytes.now answer answers) c.answered.ensures.head
+returns-clause-admits c =
+    IfOk-weaker c.answered.result _ _ (λ answer answers.
+    admits_exactly c.args.bytes.now answer answers) c.answered.ensures.head

@@ -15,9 +15,13 @@ loop-at-preserved c =
     let is = c.index-ops-at.is in
     let passes = c.in-Ok.ensures.document in
     let m = c.loop-at.invariant in
-    let next = done_next c.args.bounds op d e ops at c.args.tree.now before inside is m.reached m.changes passes in
+    let next =
+    done_next c.args.bounds op d e ops at c.args.tree.now before inside is m.reached
+    m.changes passes in
     record {
-      onward = sym (after_more ops at op c.args.bounds d e before now inside is passes c.in-Ok.ensures.changes) ∙ m.onward;
+      onward =
+          sym (after_more ops at op c.args.bounds d e before now inside is passes
+          c.in-Ok.ensures.changes) ∙ m.onward;
       reached = next.0;
       changes = c.in-Ok.ensures.changes ∙ next.1;
       paid = c.in-Ok.ensures.paid;

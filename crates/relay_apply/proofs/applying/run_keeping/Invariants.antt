@@ -10,11 +10,13 @@ use Rattle.relay_apply.proofs.applying.run_keeping.Given as goal
 abbrev pub invariant-loop-at : goal.invariant-loop-at
 invariant-loop-at l =
     record {
-      onward : after_from l.at (changes_weight l.done.changes.items) l.bounds l.tree (drop l.at l.ops) ≡ after_from 0 0 l.bounds l.initial.tree l.ops;
+      onward : after_from l.at (changes_weight l.done.changes.items) l.bounds l.tree
+          (drop l.at l.ops) ≡ after_from 0 0 l.bounds l.initial.tree l.ops;
       reached : after l.initial.tree (take l.at l.ops) l.bounds ≡ Ok l.tree;
       changes : l.done.changes.items ≡ all_changes l.initial.tree (take l.at l.ops);
       paid : paid (changes_weight l.done.changes.items) l.bounds.changes ≡ Some l.done.left;
       known : Known l.bounds l.tree l.done.weight;
       weighed : IsSome l.initial.done.weight → IsSome l.done.weight;
-      back : l.at < length l.ops → taken_back l.tree l.kept.items ≡ taken_back l.initial.tree l.initial.kept.items;
+      back : l.at < length l.ops
+          → taken_back l.tree l.kept.items ≡ taken_back l.initial.tree l.initial.kept.items;
     }

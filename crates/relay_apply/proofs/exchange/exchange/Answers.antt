@@ -12,8 +12,10 @@ unwrap-requires c =
 
 pub returns-clause-old : goal.returns-clause-old
 returns-clause-old c =
-    was_found (walk c.args.tree.now c.args.path.now) c.unwrap.result (at-walk c.args.path.now c.args.tree.now ∙ sym c.exchange.ensures.old ∙ c.unwrap.ensures)
+    was_found (walk c.args.tree.now c.args.path.now) c.unwrap.result
+    (at-walk c.args.path.now c.args.tree.now ∙ sym c.exchange.ensures.old ∙ c.unwrap.ensures)
 
 pub returns-clause-new : goal.returns-clause-new
 returns-clause-new c =
-    exchanged c.args.path.now c.args.value c.args.tree.now c.exchange.new.whole c.exchange.result c.unwrap.result c.exchange.ensures.old c.unwrap.ensures c.exchange.ensures.found c.requires
+    exchanged c.args.path.now c.args.value c.args.tree.now c.exchange.new.whole c.exchange.result
+    c.unwrap.result c.exchange.ensures.old c.unwrap.ensures c.exchange.ensures.found c.requires

@@ -1,6 +1,18 @@
+use Rattle.std.proofs.Common.{◌++◌, [], ◌∷◌, ap, ◌∙◌}
 use Rattle.relay_apply.proofs.Carries.{lands}
+use Rattle.relay_apply.proofs.Undone.{kept_back}
 use Rattle.relay_apply.proofs.keeping.make_keeping.Goals as goal
 
 pub land-requires : goal.land-requires
 land-requires c =
-    lands c.args.change.now c.args.tree.now c.in-Move-2.from c.in-Move-2.to c.in-Move-2.value c.vacate.new.tree c.in_ok-vacated-in-Move-2.vacated.value c.in-Move-2.is c.requires c.in_ok-vacated-in-Move-2.ensures.value c.in_ok-vacated-in-Move-2.ensures.made
+    let move = c.in-Some.ensures.what in
+    lands c.args.change.now c.args.tree.now c.in-Some.from.now c.in-Some.to.now move.0
+    c.vacate.new.tree c.in_ok-vacated.vacated.value move.1 c.requires c.in_ok-vacated.ensures.value
+    c.in_ok-vacated.ensures.made
+
+pub returns-in_default-clause-back : goal.returns-in_default-clause-back
+returns-in_default-clause-back c =
+    kept_back c.args.tree.now c.make_with_undo.new.tree c.args.kept.now.items
+    c.push_reserved.new.self.items c.in_ok-undo.undo c.in_ok-undo.ensures.back
+    (c.push_reserved.ensures.items
+    ∙ ap (λ xs. xs ++ c.in_ok-undo.undo ∷ []) c.in_ok-reserve.ensures.items)

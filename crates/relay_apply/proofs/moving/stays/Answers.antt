@@ -12,7 +12,9 @@ returns-then-same_path-clause-place c =
     let path = c.args.path.now in
     let is = tokens_back from c.token-item.result c.in-len1-up.len_at_least c.token-item.is in
     let goes = tokens_back path c.last-item.result c.in-len1-up-path.len_at_least c.last-item.is in
-    λ rest dropped. rw (c.deref.ensures, c.deref-then-same_path.ensures) at c.is_same_end.ensures ∙ comes_back (path_of from) (path_of path) _ _ _ _ c.args.tree.now is goes (sym c.same_path.ensures ∙ c.if-same_path.true) rest dropped
+    λ rest dropped. rw (c.deref.ensures, c.deref-then-same_path.ensures) at c.is_same_end.ensures
+    ∙ comes_back (path_of from) (path_of path) _ _ _ _ c.args.tree.now is goes
+    (sym c.same_path.ensures ∙ c.if-same_path.true) rest dropped
 
 pub returns-then-same_path-clause-elsewhere : goal.returns-then-same_path-clause-elsewhere
 returns-then-same_path-clause-elsewhere c =
@@ -20,7 +22,11 @@ returns-then-same_path-clause-elsewhere c =
     let path = c.args.path.now in
     let is = tokens_back from c.token-item.result c.in-len1-up.len_at_least c.token-item.is in
     let goes = tokens_back path c.last-item.result c.in-len1-up-path.len_at_least c.last-item.is in
-    λ other. other_end (path_of from) (path_of path) _ _ _ _ (walk c.args.tree.now (path_of (take (length from - 1) from))) is goes (sym (rw (c.deref.ensures, c.deref-then-same_path.ensures) at c.is_same_end.ensures) ∙ other)
+    λ other.
+    other_end (path_of from) (path_of path) _ _ _ _
+    (walk c.args.tree.now (path_of (take (length from - 1) from))) is goes
+    (sym (rw (c.deref.ensures, c.deref-then-same_path.ensures) at c.is_same_end.ensures)
+    ∙ other)
 
 pub returns-else-same_path-clause-place : goal.returns-else-same_path-clause-place
 returns-else-same_path-clause-place c =
@@ -28,7 +34,9 @@ returns-else-same_path-clause-place c =
     let path = c.args.path.now in
     let is = tokens_back from c.token-item.result c.in-len1-up.len_at_least c.token-item.is in
     let goes = tokens_back path c.last-item.result c.in-len1-up-path.len_at_least c.last-item.is in
-    λ rest dropped. c.if-same_path.false ∙ goes_elsewhere (path_of from) (path_of path) _ _ _ _ c.args.tree.now is goes (sym c.same_path.ensures ∙ c.if-same_path.false) rest
+    λ rest dropped. c.if-same_path.false
+    ∙ goes_elsewhere (path_of from) (path_of path) _ _ _ _ c.args.tree.now is goes
+    (sym c.same_path.ensures ∙ c.if-same_path.false) rest
 
 pub returns-else-same_path-clause-elsewhere : goal.returns-else-same_path-clause-elsewhere
 returns-else-same_path-clause-elsewhere c =
@@ -36,4 +44,5 @@ returns-else-same_path-clause-elsewhere c =
     let path = c.args.path.now in
     let is = tokens_back from c.token-item.result c.in-len1-up.len_at_least c.token-item.is in
     let goes = tokens_back path c.last-item.result c.in-len1-up-path.len_at_least c.last-item.is in
-    λ _. other_parent (path_of from) (path_of path) _ _ _ _ is goes (sym c.same_path.ensures ∙ c.if-same_path.false)
+    λ _. other_parent (path_of from) (path_of path) _ _ _ _ is goes (sym c.same_path.ensures
+    ∙ c.if-same_path.false)

@@ -6,5 +6,7 @@ use Rattle.relay_tree.proofs.Outcomes.{if_ok}
 
 pub returns-then-is_dash : goal.returns-then-is_dash
 returns-then-is_dash c =
-    let dash : is_dash (string_bytes c.args.token.now) ≡ true = ap is_dash (sym c.deref.ensures) ∙ sym c.is_dash.ensures ∙ c.if-is_dash.true in
-    rw dash (if_ok c.to_string.result c.to_string.ensures.ok (λ s h. h ∙ sym (index_text-decimal c.args.index (omega arith))))
+    let dash : is_dash (string_bytes c.args.token.now) ≡ true =
+    ap is_dash (sym c.deref.ensures) ∙ sym c.is_dash.ensures ∙ c.if-is_dash.true in
+    rw dash (if_ok c.to_string.result c.to_string.ensures.ok (λ s h.
+    h ∙ sym (index_text-decimal c.args.index (omega arith))))

@@ -10,7 +10,14 @@ returns c =
     let tokens = c.tokens.result.now in
     let before = path_of (take (length tokens - 1) tokens) in
     let last = string_bytes c.last-item.result in
-    let is : c.args.path.now ≡ before ++ last ∷ [] = sym c.tokens.ensures ∙ tokens_back tokens c.last-item.result c.in-len1-up.len_at_least c.last-item.is in
+    let is : c.args.path.now ≡ before ++ last ∷ [] =
+    sym c.tokens.ensures ∙ tokens_back tokens c.last-item.result c.in-len1-up.len_at_least
+    c.last-item.is in
     let made : c.from_tokens-path.result ≡ before ++ final c.args.insert_target last ∷ [] =
-    c.from_tokens-path.ensures ∙ ap path_of (ap (λ ts. ts.items) c.in_ok-new.ensures.ok ∙ c.in_ok-push.ensures.items) ∙ path_of-push c.in_ok-tokens.tokens.items c.in_ok-final_token.field-0 ∙ rw (c.in_ok-tokens.ensures, c.in_ok-final_token.ensures) refl in
-    rw c.is_item-item.ensures (placed_at c.args.insert_target c.args.path.now before c.from_tokens-path.result last is made)
+    c.from_tokens-path.ensures
+    ∙ ap path_of (ap (λ ts. ts.items) c.in_ok-new.ensures.ok ∙ c.in_ok-push.ensures.items)
+    ∙ path_of-push c.in_ok-tokens.tokens.items c.in_ok-final_token.field-0
+    ∙ rw (c.in_ok-tokens.ensures, c.in_ok-final_token.ensures) refl in
+    rw c.is_item-item.ensures
+    (placed_at c.args.insert_target c.args.path.now before c.from_tokens-path.result last is
+    made)

@@ -7,15 +7,25 @@ use Rattle.relay_tree.proofs.Outcomes.{err_and}
 pub returns-in_err-item-clause-err : goal.returns-in_err-item-clause-err
 returns-in_err-item-clause-err c =
     let item = rw c.tokens.ensures at c.in_err-item.ensures.item in
-    err_and c.from_residual.result c.from_residual.ensures.1 (λ e is. rw is (refused_by _ c.in_err-item.field-0.0 (standing_refuses c.args.path.now c.args.tree.now c.in_err-item.field-0.0 (sym item)) c.in_err-item.ensures.other))
+    err_and c.from_residual.result c.from_residual.ensures.1 (λ e is.
+    rw is (refused_by _ c.in_err-item.field-0.0
+    (standing_refuses c.args.path.now c.args.tree.now c.in_err-item.field-0.0 (sym item))
+    c.in_err-item.ensures.other))
 
 pub returns-in_err-removal-clause-err : goal.returns-in_err-removal-clause-err
 returns-in_err-removal-clause-err c =
     let item = rw c.tokens.ensures at c.in_ok-item.ensures.item in
-    err_and c.from_residual-in_err-removal.result c.from_residual-in_err-removal.ensures.1 (λ e is. starved_by _ e (standing_passes c.args.path.now c.args.tree.now c.in_ok-item.item (sym item)) is)
+    err_and c.from_residual-in_err-removal.result c.from_residual-in_err-removal.ensures.1 (λ e is.
+    starved_by _ e (standing_passes c.args.path.now c.args.tree.now c.in_ok-item.item
+    (sym item)) is)
 
 pub returns-clause-ok : goal.returns-clause-ok
-returns-clause-ok c = standing_passes c.args.path.now c.args.tree.now c.in_ok-item.item (sym (rw c.tokens.ensures at c.in_ok-item.ensures.item))
+returns-clause-ok c =
+    standing_passes c.args.path.now c.args.tree.now c.in_ok-item.item
+    (sym (rw c.tokens.ensures at c.in_ok-item.ensures.item))
 
 pub returns-clause-changes : goal.returns-clause-changes
-returns-clause-changes c = ap (λ x. x ∷ []) (c.in_ok-removal.ensures ∙ removal-change c.args.path.now c.args.tree.now c.in_ok-item.item (sym (rw c.tokens.ensures at c.in_ok-item.ensures.item)))
+returns-clause-changes c =
+    ap (λ x. x ∷ []) (c.in_ok-removal.ensures
+    ∙ removal-change c.args.path.now c.args.tree.now c.in_ok-item.item
+    (sym (rw c.tokens.ensures at c.in_ok-item.ensures.item)))

@@ -6,4 +6,6 @@ use Rattle.relay_apply.proofs.seat.rejoin.Goals as goal
 
 pub returns-in-Members : goal.returns-in-Members
 returns-in-Members c =
-    rw c.in-Members.is (ap (λ es. object (members_of es)) c.put_back.ensures.entries ∙ rejoined_entries c.in-Members.members.entries c.args.name c.args.value c.args.spare.capacity)
+    rw c.in-Members.is (ap (λ es. object (members_of es)) c.put_back.ensures.entries
+    ∙ rejoined_entries c.in-Members.members.entries c.args.name c.args.value
+    c.args.spare.capacity)

@@ -9,7 +9,9 @@ pub remove_at-value-requires : goal.remove_at-value-requires
 remove_at-value-requires c = drops_plainly true (path_of c.args.path.now) c.args.tree.now c.requires
 
 pub returns-clause-made : goal.returns-clause-made
-returns-clause-made c = drops_so true (path_of c.args.path.now) c.args.tree.now c.remove_at-value.new.tree c.requires c.remove_at-value.ensures.rest
+returns-clause-made c =
+    drops_so true (path_of c.args.path.now) c.args.tree.now c.remove_at-value.new.tree c.requires
+    c.remove_at-value.ensures.rest
 
 pub returns-clause-back : goal.returns-clause-back
 returns-clause-back c =
@@ -19,4 +21,7 @@ returns-clause-back c =
     let here = c.in_ok-list.ensures in
     let left = c.remove_at-value.new.tree in
     let at_it = rw c.as_str.ensures.value at c.position-index.ensures in
-    rw here (item_again (path_of path) _ _ d left c.remove_at-value.result c.length_at.result c.position-index.result (vec_capacity c.in_ok-spare.spare) is (returns-clause-made c) c.remove_at-value.ensures.value c.length_at.type_inv c.length_at.ensures c.in_ok-spare.ensures.exact at_it)
+    rw here (item_again (path_of path) _ _ d left c.remove_at-value.result c.length_at.result
+    c.position-index.result (vec_capacity c.in_ok-spare.spare) is (returns-clause-made c)
+    c.remove_at-value.ensures.value c.length_at.type_inv c.length_at.ensures
+    c.in_ok-spare.ensures.exact at_it)

@@ -10,4 +10,8 @@ returns c =
     let other = c.args.other.now in
     let a = tokens_last path c.in-len1-up.len_at_least in
     let b = tokens_last other c.in-len1-up-other.len_at_least in
-    c.same_path.ensures ∙ rw (a.1, b.1) (sym (beside-append (path_of (take (length path - 1) path)) (path_of (take (length other - 1) other)) a.0 b.0))
+    c.same_path.ensures ∙ rw (
+      a.1,
+      b.1,
+    ) (sym (beside-append (path_of (take (length path - 1) path))
+    (path_of (take (length other - 1) other)) a.0 b.0))

@@ -7,11 +7,23 @@ use Rattle.relay_apply.proofs.steps.amend.Goals as goal
 pub returns-in-Err-clause-refused : goal.returns-in-Err-clause-refused
 returns-in-Err-clause-refused c = λ other.
     let r = c.in-Err.ensures.refused other in
-    let seam = get_or-append_seam c.args.done.changes.items c.args.change [] c.index-change.result.now in
-    let last : c.index-change.result.now ≡ c.args.change = c.index-change.ensures ∙ rw (c.in_ok-next.ensures.changes, c.len-place.ensures, c.args.done.changes.ok.0) seam in
-    let judged = paid_afforded c.args.bounds c.args.done.changes.items c.args.change c.args.done.left c.in_ok-next.next.left r.0 c.requires.paid c.in_ok-next.ensures.paid in
+    let seam =
+    get_or-append_seam c.args.done.changes.items c.args.change [] c.index-change.result.now
+    in
+    let last : c.index-change.result.now ≡ c.args.change =
+    c.index-change.ensures
+    ∙ rw (
+      c.in_ok-next.ensures.changes,
+      c.len-place.ensures,
+      c.args.done.changes.ok.0,
+    ) seam in
+    let judged =
+    paid_afforded c.args.bounds c.args.done.changes.items c.args.change c.args.done.left
+    c.in_ok-next.next.left r.0 c.requires.paid c.in_ok-next.ensures.paid in
     (r.0, subst (λ change. Makes c.args.tree.now change r.0) last r.1, judged ∙ r.2)
 
 pub returns-clause-paid : goal.returns-clause-paid
 returns-clause-paid c =
-    rw c.in_ok-next.ensures.changes (paid_more c.args.done.changes.items c.args.change c.args.bounds.changes c.args.done.left c.in_ok-next.next.left c.requires.paid c.in_ok-next.ensures.paid)
+    rw c.in_ok-next.ensures.changes
+    (paid_more c.args.done.changes.items c.args.change c.args.bounds.changes c.args.done.left
+    c.in_ok-next.next.left c.requires.paid c.in_ok-next.ensures.paid)

@@ -6,17 +6,24 @@ use Rattle.relay_delivery.proofs.receiving.receive_all.Goals as goal
 pub returns-then-start-frames : goal.returns-then-start-frames
 returns-then-start-frames c = record {
   hears = λ texts is.
-      record { heard = heard_all c.args.follower.now c.loop.follower texts c.loop.frames c.loop.start (omega arith) (c.loop.invariant.hears texts is).1; stopped = tt };
+      record {
+        heard = heard_all c.args.follower.now c.loop.follower texts c.loop.frames
+            c.loop.start (omega arith) (c.loop.invariant.hears texts is).1;
+        stopped = tt;
+      };
 }
 
 pub returns-in-Err : goal.returns-in-Err
 returns-in-Err c = record {
   hears = λ texts is.
       let h = c.loop.invariant.hears texts is in
-      let some : 0 < length (drop c.loop.start c.loop.frames) = omega (arith, length-drop c.loop.start c.loop.frames, c.if-start-frames.false) in
+      let some : 0 < length (drop c.loop.start c.loop.frames) =
+      omega (arith, length-drop c.loop.start c.loop.frames, c.if-start-frames.false) in
       let stops =
-      stops_next c.args.follower.now c.loop.follower c.receive_frame.new.follower texts (drop c.loop.start c.loop.frames) _ some h.1 (part_is c.loop.frames c.loop.start)
-      c.in-Err.fault (λ text rest part. c.in-Err.ensures.refused text rest h.0 part) c.in-Err.ensures.unchanged in
+      stops_next c.args.follower.now c.loop.follower c.receive_frame.new.follower texts
+      (drop c.loop.start c.loop.frames) _ some h.1 (part_is c.loop.frames c.loop.start)
+      c.in-Err.fault (λ text rest part.
+      c.in-Err.ensures.refused text rest h.0 part) c.in-Err.ensures.unchanged in
       record { heard = tt; stopped = stops };
 }
 
@@ -26,8 +33,11 @@ loop-preserved c =
     let n = c.in-Ok.consumed in
     let within = c.loop.invariant.inside in
     let same = c.in-Ok.ensures.same_length in
-    let some : 0 < length (drop c.loop.start f) = omega (arith, length-drop c.loop.start f, c.if-start-frames.false) in
-    let fits : length (take (length f - c.loop.start) (drop c.loop.start f)) ≡ length f - c.loop.start = ap length (part_is f c.loop.start) ∙ length-drop c.loop.start f in
+    let some : 0 < length (drop c.loop.start f) =
+    omega (arith, length-drop c.loop.start f, c.if-start-frames.false) in
+    let fits : length (take (length f - c.loop.start) (drop c.loop.start f))
+    ≡ length f - c.loop.start =
+    ap length (part_is f c.loop.start) ∙ length-drop c.loop.start f in
     let long = put_length f c.receive_frame.new.frames c.loop.start within same in
     record {
       inside = omega (arith, long, fits, within, c.in-Ok.ensures.progress.1);
@@ -35,7 +45,8 @@ loop-preserved c =
       advances = omega (arith, c.loop.invariant.advances, c.in-Ok.ensures.progress.0);
       hears = λ texts is.
           let h = c.loop.invariant.hears texts is in
-          heard_next c.args.follower.now c.loop.follower c.receive_frame.new.follower texts (drop c.loop.start f) _ some h.1 (part_is f c.loop.start)
+          heard_next c.args.follower.now c.loop.follower c.receive_frame.new.follower texts
+          (drop c.loop.start f) _ some h.1 (part_is f c.loop.start)
           n _ (λ text rest part. c.in-Ok.ensures.heard text rest h.0 part)
           (put_from f c.receive_frame.new.frames c.loop.start within same n ∙ c.in-Ok.ensures.rest);
     }
@@ -44,5 +55,10 @@ pub returns : goal.returns
 returns c = record {
   hears = λ texts is.
       let h = c.loop.invariant in
-      record { heard = heard_all c.args.follower.now c.loop.follower texts c.loop.frames c.loop.start (omega (arith, h.advances, h.same_length, c.loop-test.false)) (h.hears texts is).1; stopped = tt };
+      record {
+        heard = heard_all c.args.follower.now c.loop.follower texts c.loop.frames
+            c.loop.start (omega (arith, h.advances, h.same_length, c.loop-test.false))
+            (h.hears texts is).1;
+        stopped = tt;
+      };
 }

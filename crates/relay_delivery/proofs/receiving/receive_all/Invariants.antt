@@ -10,5 +10,7 @@ invariant-loop l = record {
   inside : l.start ≤ length l.frames;
   same_length : length l.frames ≡ length l.initial.frames;
   advances : l.counter ≤ l.start;
-  hears : (texts : List (List ℕ)) → l.initial.frames ≡ text_frames texts → (l.context ≡ listening) × HasHeard l.initial.follower l.follower texts (drop l.start l.frames);
+  hears : (texts : List (List ℕ)) → l.initial.frames ≡ text_frames texts
+      → (l.context ≡ listening)
+      × HasHeard l.initial.follower l.follower texts (drop l.start l.frames);
 }

@@ -6,5 +6,7 @@ use Rattle.relay_delivery.proofs.Ahead.{Ahead}
 use Rattle.relay_delivery.proofs.socket.hear_all.Given as goal
 
 abbrev pub invariant-loop : goal.invariant-loop
-invariant-loop g l = (texts : List (List ℕ)) (rest : List ℕ) → length texts ≡ l.count → FitFrames texts → Listens g.S.Read.remaining l.initial.socket (text_frames texts ++ rest)
+invariant-loop g l =
+    (texts : List (List ℕ)) (rest : List ℕ) → length texts ≡ l.count → FitFrames texts
+    → Listens g.S.Read.remaining l.initial.socket (text_frames texts ++ rest)
     → Ahead g.S.Read.remaining l.initial.follower l.follower texts rest l.counter l.socket

@@ -7,6 +7,9 @@ returns-clause-told c = rw c.as_slice.ensures.value at c.notify_those-short.ensu
 
 pub returns-clause-notified : goal.returns-clause-notified
 returns-clause-notified c = λ d changes since leads.
-    among_all c.args.room.now d changes c.requires.edited c.requires.reaches since leads c.args.watches.now c.in-Ok.numbers.items c.in-Ok.ensures.others
-    (allowance_of c.args.cache.now) (allowance_of c.notify_those-short.new.cache) c.args.sessions.now c.notify_those-short.new.sessions c.notify_those-short.result c.requires.indexed
+    among_all c.args.room.now d changes c.requires.edited c.requires.reaches since leads
+    c.args.watches.now c.in-Ok.numbers.items c.in-Ok.ensures.others
+    (allowance_of c.args.cache.now) (allowance_of c.notify_those-short.new.cache)
+    c.args.sessions.now c.notify_those-short.new.sessions c.notify_those-short.result
+    c.requires.indexed
     (rw c.as_slice.ensures.value at (c.notify_those-short.ensures.notified d changes since leads))

@@ -10,14 +10,17 @@ pub returns-in-Some-clause-ordered : goal.returns-in-Some-clause-ordered
 returns-in-Some-clause-ordered c =
     let xs = c.args.sessions.now in
     let z = c.index-sessions-place.result in
-    same_rises xs (slice_set xs c.in-Some.place c.notify.new.session) (numbers_set xs c.in-Some.place c.notify.new.session z c.notify.ensures.number) c.requires.ordered
+    same_rises xs (slice_set xs c.in-Some.place c.notify.new.session)
+    (numbers_set xs c.in-Some.place c.notify.new.session z c.notify.ensures.number)
+    c.requires.ordered
 
 pub returns-in-Some-clause-others : goal.returns-in-Some-clause-others
 returns-in-Some-clause-others c =
     let xs = c.args.sessions.now in
     let z = c.index-sessions-place.result in
     let at = sym c.position_of.ensures ∙ c.in-Some.is in
-    one_among xs c.args.number c.in-Some.place (get_or xs c.in-Some.place z) c.notify.new.session at (found_at xs c.args.number c.in-Some.place at z) c.notify.ensures.number
+    one_among xs c.args.number c.in-Some.place (get_or xs c.in-Some.place z) c.notify.new.session
+    at (found_at xs c.args.number c.in-Some.place at z) c.notify.ensures.number
 
 pub returns-in-Some-clause-notified : goal.returns-in-Some-clause-notified
 returns-in-Some-clause-notified c = λ d changes since leads.
@@ -25,10 +28,12 @@ returns-in-Some-clause-notified c = λ d changes since leads.
     let z = c.index-sessions-place.result in
     let a = allowance_of c.args.cache.now in
     rw (c.notify.ensures.left d changes since leads)
-    (place_among d changes c.args.room.now c.args.number a xs c.in-Some.place z c.notify.new.session (is_err c.notify.result) (sym c.position_of.ensures ∙ c.in-Some.is)
+    (place_among d changes c.args.room.now c.args.number a xs c.in-Some.place z
+    c.notify.new.session (is_err c.notify.result) (sym c.position_of.ensures ∙ c.in-Some.is)
     (once_rising xs c.requires.ordered) (c.notify.ensures.notified d changes since leads))
 
 pub returns-in-None-clause-notified : goal.returns-in-None-clause-notified
 returns-in-None-clause-notified c = λ d changes since leads.
-    absent_among d changes c.args.room.now c.args.number (allowance_of c.args.cache.now) c.args.sessions.now
+    absent_among d changes c.args.room.now c.args.number (allowance_of c.args.cache.now)
+    c.args.sessions.now
     (not_found c.args.sessions.now c.args.number (sym c.position_of.ensures ∙ c.in-None.is))

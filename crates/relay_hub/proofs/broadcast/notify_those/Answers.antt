@@ -7,7 +7,8 @@ use Rattle.relay_hub.proofs.broadcast.notify_those.Goals.{then-is_err, else-is_e
 
 pub loop-number-init : goal.loop-number-init
 loop-number-init c = record {
-  notified = λ d changes since leads. none_among d changes c.args.room.now (allowance_of c.args.cache.now) c.args.sessions.now;
+  notified = λ d changes since leads.
+      none_among d changes c.args.room.now (allowance_of c.args.cache.now) c.args.sessions.now;
   others = λ t absent. refl;
   ordered = c.requires.ordered;
   kept = c.requires.kept;
@@ -17,19 +18,37 @@ loop-number-init c = record {
 pub loop-number-preserved : goal.loop-number-preserved
 loop-number-preserved c =
     let l = c.loop-number in
-    let within : l.number-index < length c.args.numbers.now = omega (arith, c.loop-number-test.true) in
+    let within : l.number-index < length c.args.numbers.now =
+    omega (arith, c.loop-number-test.true) in
     let more : ℕ = if is_err c.notify_one.result then 1 else 0 in
     let short : c.if-is_err.short ≡ l.short + more =
     elim c.if-is_err.branch [
-      | then-is_err w ↦ let short : is_err c.notify_one.result ≡ true = search rules in rw short (omega (arith, w.short-is))
-      | else-is_err w ↦ let notified : is_err c.notify_one.result ≡ false = search rules in rw notified (omega (arith, w.short-is))
+      | then-is_err w ↦ let short : is_err c.notify_one.result ≡ true = search rules in
+          rw short (omega (arith, w.short-is))
+      | else-is_err w ↦ let notified : is_err c.notify_one.result ≡ false = search rules in
+          rw notified (omega (arith, w.short-is))
     ] in
     record {
-      notified = λ d changes since leads. rw short (next_among d changes c.args.room.now c.args.numbers.now l.number-index 0 (allowance_of c.args.cache.now) (allowance_of l.cache)
-          (allowance_of c.notify_one.new.cache) c.args.sessions.now l.sessions c.notify_one.new.sessions l.short more c.requires.ordered
-          c.requires.rising within (l.invariant.notified d changes since leads) (c.notify_one.ensures.notified d changes since leads));
-      others = next_changed c.args.numbers.now l.number-index 0 within c.args.sessions.now l.sessions c.notify_one.new.sessions l.invariant.others c.notify_one.ensures.others;
+      notified =
+          λ d changes since leads.
+          rw short (next_among d changes c.args.room.now c.args.numbers.now l.number-index 0
+          (allowance_of c.args.cache.now) (allowance_of l.cache)
+          (allowance_of c.notify_one.new.cache) c.args.sessions.now l.sessions
+          c.notify_one.new.sessions l.short more c.requires.ordered
+          c.requires.rising within (l.invariant.notified d changes since leads)
+          (c.notify_one.ensures.notified d changes since leads));
+      others =
+          next_changed c.args.numbers.now l.number-index 0 within c.args.sessions.now l.sessions
+          c.notify_one.new.sessions l.invariant.others c.notify_one.ensures.others;
       ordered = c.notify_one.ensures.ordered;
       kept = c.notify_one.ensures.kept;
-      count = elim c.if-is_err.branch [ then-is_err w ↦ omega (arith, w.short-is, l.invariant.count) | else-is_err w ↦ omega (arith, w.short-is, l.invariant.count) ];
+      count =
+          elim c.if-is_err.branch [
+            | then-is_err w ↦ omega (
+              arith,
+              w.short-is,
+              l.invariant.count,
+            )
+            | else-is_err w ↦ omega (arith, w.short-is, l.invariant.count)
+          ];
     }

@@ -12,8 +12,11 @@ use Rattle.relay_hub.proofs.broadcast.notify_those.Given as goal
 
 abbrev pub invariant-loop-number : goal.invariant-loop-number
 invariant-loop-number l = record {
-  notified : (d : Document) (changes : List Change) → changes ≡ changes_since (revision l.room - 1) l.room.history → Leads d changes l.room.document →
-      NotifiedAmong (take l.number-index l.numbers) d changes l.room (allowance_of l.fn.cache) (allowance_of l.cache) l.fn.sessions l.sessions l.short;
+  notified : (d : Document) (changes : List Change)
+      → changes ≡ changes_since (revision l.room - 1) l.room.history
+      → Leads d changes l.room.document →
+      NotifiedAmong (take l.number-index l.numbers) d changes l.room (allowance_of l.fn.cache)
+      (allowance_of l.cache) l.fn.sessions l.sessions l.short;
   others : ChangesAmong (take l.number-index l.numbers) l.fn.sessions l.sessions;
   ordered : IsRising l.sessions;
   kept : IsKept l.room l.cache;

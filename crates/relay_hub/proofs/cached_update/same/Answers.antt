@@ -7,4 +7,5 @@ pub returns-clause-same : goal.returns-clause-same
 returns-clause-same c =
     let one = c.args.one.now in
     let other = c.args.other.now in
-    same_from_decides c.same.result (same_view one other) c.same.ensures (same_view-Decides one other)
+    same_from_decides c.same.result (same_view one other) c.same.ensures
+    (same_view-Decides one other)

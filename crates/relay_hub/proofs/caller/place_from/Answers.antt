@@ -8,4 +8,6 @@ returns c =
     let xs = c.args.sessions.now in
     let n = c.args.number in
     let i = c.partition_point.result in
-    below_from xs n i (IsPartitionPoint-from_clause (is_below n) xs i c.partition_point.ensures.partitioned (below_parted n xs c.requires) (λ a r q k. search (rules, of_calls)))
+    below_from xs n i (IsPartitionPoint-from_clause (is_below n) xs i
+    c.partition_point.ensures.partitioned (below_parted n xs c.requires) (λ a r q k.
+    search (rules, of_calls)))

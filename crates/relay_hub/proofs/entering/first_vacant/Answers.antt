@@ -1,5 +1,5 @@
-use Rattle.std.proofs.Common.{◌≡◌, ◌∙◌, ap, sym, arith, inl, inr, true, ℕ, List, Some, length, nat_le, slice_get}
-use Rattle.std.proofs.lemmas.Bool.Decides.{eqb_tells, nat_tests}
+use Rattle.std.proofs.Common.{◌≡◌, ◌∙◌, ap, sym, arith, inl, inr, true, ℕ, List, Some, length, slice_get}
+use Rattle.std.proofs.lemmas.Bool.Decides.{eqb_tells}
 use Rattle.std.proofs.lemmas.List.{length-map}
 use Rattle.std.proofs.lemmas.Option.{slice_get_within}
 use Rattle.relay_hub.specs.Representation.{named, rooms_of}
@@ -15,18 +15,25 @@ pub returns-then-makes_place : goal.returns-then-makes_place
 returns-then-makes_place c =
     let es = c.args.rooms.now.entries in
     let g = c.in-Some.room_sessions.now in
-    let at = room_at es c.loop-place.place c.in-Some.field-0-0.now g (sym c.in-Some.ensures.entry) in
+    let at =
+    room_at es c.loop-place.place c.in-Some.field-0-0.now g (sym c.in-Some.ensures.entry) in
     let passes : makes_place g ≡ true = sym c.if-makes_place.ensures in
-    sym (position_first (λ (room : List ℕ × RoomSessions). makes_place room.1) (rooms_of es) c.loop-place.place (named (c.in-Some.field-0-0.now, g)) c.loop-place.invariant at passes)
+    sym (position_first (λ (room : List ℕ × RoomSessions).
+    makes_place room.1) (rooms_of es) c.loop-place.place (named (
+      c.in-Some.field-0-0.now,
+      g,
+    )) c.loop-place.invariant at passes)
 
 pub loop-place-preserved : goal.loop-place-preserved
 loop-place-preserved c = λ p room less is.
     let es = c.args.rooms.now.entries in
     let g = c.in-Some.room_sessions.now in
-    let at = room_at es c.loop-place.place c.in-Some.field-0-0.now g (sym c.in-Some.ensures.entry) in
+    let at =
+    room_at es c.loop-place.place c.in-Some.field-0-0.now g (sym c.in-Some.ensures.entry) in
     elim (eqb_tells p c.loop-place.place) [
       | inl same ↦
-          let both : Some room ≡ Some (named (c.in-Some.field-0-0.now, g)) = sym is ∙ (ap (λ i. slice_get (rooms_of es) i) same.1 ∙ at) in
+          let both : Some room ≡ Some (named (c.in-Some.field-0-0.now, g)) =
+          sym is ∙ (ap (λ i. slice_get (rooms_of es) i) same.1 ∙ at) in
           let one : room ≡ named (c.in-Some.field-0-0.now, g) = cc in
           rw one (sym c.if-makes_place.ensures)
       | inr other ↦ c.loop-place.invariant p room (omega (arith, less, other.1)) is
@@ -37,4 +44,11 @@ returns c =
     let es = c.args.rooms.now.entries in
     let end : c.len-place-end.result ≡ length es = c.len-place-end.ensures.len in
     sym (position_none (λ (room : List ℕ × RoomSessions). makes_place room.1) (rooms_of es)
-    (λ p room is. c.loop-place.invariant p room (omega (arith, slice_get_within (rooms_of es) p room is, c.loop-place-test.false, end, length-map es named)) is))
+    (λ p room is.
+    c.loop-place.invariant p room (omega (
+      arith,
+      slice_get_within (rooms_of es) p room is,
+      c.loop-place-test.false,
+      end,
+      length-map es named,
+    )) is))

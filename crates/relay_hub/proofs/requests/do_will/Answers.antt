@@ -1,4 +1,4 @@
-use Rattle.std.proofs.Common.{refl, ap, ◌∙◌}
+use Rattle.std.proofs.Common.{refl}
 use Rattle.relay_patch.specs.Change.{all_changes}
 use Rattle.relay_room.specs.Room.{State as Room}
 use Rattle.relay_hub.specs.Step.{GoesOn}
@@ -11,9 +11,14 @@ returns-in-Ok-clause-indexed c =
     let old = c.args.room.now in
     let notified : Room = c.edit.new.self in
     let changes = all_changes old.document c.args.patch.now in
-    let since = newest_changes old.history notified.history changes c.in-Ok.ensures.kept.history c.in-Ok.ensures.history in
-    let all_notified = c.broadcast_and_trim.ensures.notified old.document changes since c.in-Ok.ensures.led in
-    notified_indexed old.document changes notified c.args.made.telling_weight c.args.sessions.now c.broadcast_and_trim.new.sessions c.broadcast_and_trim.result all_notified c.args.watches.now c.requires.indexed
+    let since =
+    newest_changes old.history notified.history changes c.in-Ok.ensures.kept.history
+    c.in-Ok.ensures.history in
+    let all_notified =
+    c.broadcast_and_trim.ensures.notified old.document changes since c.in-Ok.ensures.led in
+    notified_indexed old.document changes notified c.args.config.telling_weight c.args.sessions.now
+    c.broadcast_and_trim.new.sessions c.broadcast_and_trim.result all_notified
+    c.args.watches.now c.requires.indexed
 
 pub returns-in-Ok-clause-done : goal.returns-in-Ok-clause-done
 returns-in-Ok-clause-done c =
@@ -21,8 +26,11 @@ returns-in-Ok-clause-done c =
     let notified : Room = c.edit.new.self in
     let patch = c.args.patch.now in
     let changes = all_changes old.document patch in
-    let since = newest_changes old.history notified.history changes c.in-Ok.ensures.kept.history c.in-Ok.ensures.history in
-    let all_notified = c.broadcast_and_trim.ensures.notified old.document changes since c.in-Ok.ensures.led in
+    let since =
+    newest_changes old.history notified.history changes c.in-Ok.ensures.kept.history
+    c.in-Ok.ensures.history in
+    let all_notified =
+    c.broadcast_and_trim.ensures.notified old.document changes since c.in-Ok.ensures.led in
     let goes_on : GoesOn old patch notified.document notified = record {
       document = refl;
       history = c.in-Ok.ensures.history;

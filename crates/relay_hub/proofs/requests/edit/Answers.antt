@@ -13,7 +13,8 @@ pub reply-requires : goal.reply-requires
 reply-requires c = c.requires.space c.session_mut.result.now c.session_mut.ensures.found
 
 pub reply-requires-in-Err : goal.reply-requires-in-Err
-reply-requires-in-Err c = c.requires.space c.session_mut-in-Err.result.now c.session_mut-in-Err.ensures.found
+reply-requires-in-Err c =
+    c.requires.space c.session_mut-in-Err.result.now c.session_mut-in-Err.ensures.found
 
 pub broadcast_and_trim-requires-clause-indexed : goal.broadcast_and_trim-requires-clause-indexed
 broadcast_and_trim-requires-clause-indexed c =
@@ -21,31 +22,40 @@ broadcast_and_trim-requires-clause-indexed c =
     let there = c.session_mut.ensures.found in
     let number = ap (λ (y : Session). y.number) c.reply.ensures in
     let view = ap (λ (y : Session). y.view) c.reply.ensures in
-    written_same c.args.sessions.now c.args.caller c.requires.caller x there c.reply.new.self number c.args.watches.now c.requires.indexed view
+    written_same c.args.sessions.now c.args.asked.caller c.requires.caller x there c.reply.new.self
+    number c.args.watches.now c.requires.indexed view
 
 pub returns-in-Ok-clause-indexed : goal.returns-in-Ok-clause-indexed
 returns-in-Ok-clause-indexed c =
     let old = c.args.room.now in
     let notified : Room = c.edit.new.self in
-    let changes = all_changes old.document c.args.request.now.patch in
-    let since = newest_changes old.history notified.history changes c.in-Ok.ensures.kept.history c.in-Ok.ensures.history in
-    let all_notified = c.broadcast_and_trim.ensures.notified old.document changes since c.in-Ok.ensures.led in
+    let changes = all_changes old.document c.args.asked.patch in
+    let since =
+    newest_changes old.history notified.history changes c.in-Ok.ensures.kept.history
+    c.in-Ok.ensures.history in
+    let all_notified =
+    c.broadcast_and_trim.ensures.notified old.document changes since c.in-Ok.ensures.led in
     let xs = c.args.sessions.now in
-    let ys = slice_set xs c.args.caller.place c.reply.new.self in
+    let ys = slice_set xs c.args.asked.caller.place c.reply.new.self in
     let x = c.session_mut.result.now in
     let there = c.session_mut.ensures.found in
     let number = ap (λ (y : Session). y.number) c.reply.ensures in
     let view = ap (λ (y : Session). y.view) c.reply.ensures in
-    let replied = written_same xs c.args.caller c.requires.caller x there c.reply.new.self number c.args.watches.now c.requires.indexed view in
-    notified_indexed old.document changes notified c.args.made.telling_weight ys c.broadcast_and_trim.new.sessions c.broadcast_and_trim.result all_notified c.args.watches.now replied
+    let replied =
+    written_same xs c.args.asked.caller c.requires.caller x there c.reply.new.self number
+    c.args.watches.now c.requires.indexed view in
+    notified_indexed old.document changes notified c.args.config.telling_weight ys
+    c.broadcast_and_trim.new.sessions c.broadcast_and_trim.result all_notified
+    c.args.watches.now replied
 
-pub returns-in-Some-clause-indexed : goal.returns-in-Some-clause-indexed
-returns-in-Some-clause-indexed c =
+pub returns-clause-indexed : goal.returns-clause-indexed
+returns-clause-indexed c =
     let x = c.session_mut-in-Err.result.now in
     let there = c.session_mut-in-Err.ensures.found in
     let number = ap (λ (y : Session). y.number) c.reply-in-Err.ensures in
     let view = ap (λ (y : Session). y.view) c.reply-in-Err.ensures in
-    written_same c.args.sessions.now c.args.caller c.requires.caller x there c.reply-in-Err.new.self number c.args.watches.now c.requires.indexed view
+    written_same c.args.sessions.now c.args.asked.caller c.requires.caller x there
+    c.reply-in-Err.new.self number c.args.watches.now c.requires.indexed view
 
 pub returns-in-Ok-clause-told : goal.returns-in-Ok-clause-told
 returns-in-Ok-clause-told c = λ t other absent.
@@ -53,23 +63,29 @@ returns-in-Ok-clause-told c = λ t other absent.
     let was = c.session_mut.result.now in
     let there = c.session_mut.ensures.found in
     let number = ap (λ (y : Session). y.number) c.reply.ensures in
-    c.broadcast_and_trim.ensures.told t absent ∙ written_told xs c.args.caller c.requires.caller was there c.reply.new.self number c.broadcast_and_trim.new.told t other absent
+    c.broadcast_and_trim.ensures.told t absent
+    ∙ written_told xs c.args.asked.caller c.requires.caller was there c.reply.new.self number
+    c.broadcast_and_trim.new.told t other absent
 
-pub returns-in-Some-clause-told : goal.returns-in-Some-clause-told
-returns-in-Some-clause-told c =
+pub returns-clause-told : goal.returns-clause-told
+returns-clause-told c =
     let was = c.session_mut-in-Err.result.now in
     let there = c.session_mut-in-Err.ensures.found in
     let number = ap (λ (y : Session). y.number) c.reply-in-Err.ensures in
-    written_told c.args.sessions.now c.args.caller c.requires.caller was there c.reply-in-Err.new.self number c.args.told.now
+    written_told c.args.sessions.now c.args.asked.caller c.requires.caller was there
+    c.reply-in-Err.new.self number c.args.told.now
 
 pub returns-in-Ok-clause-ok : goal.returns-in-Ok-clause-ok
 returns-in-Ok-clause-ok c = λ x e.
     let old = c.args.room.now in
     let notified : Room = c.edit.new.self in
-    let patch = c.args.request.now.patch in
+    let patch = c.args.asked.patch in
     let changes = all_changes old.document patch in
-    let since = newest_changes old.history notified.history changes c.in-Ok.ensures.kept.history c.in-Ok.ensures.history in
-    let all_notified = c.broadcast_and_trim.ensures.notified old.document changes since c.in-Ok.ensures.led in
+    let since =
+    newest_changes old.history notified.history changes c.in-Ok.ensures.kept.history
+    c.in-Ok.ensures.history in
+    let all_notified =
+    c.broadcast_and_trim.ensures.notified old.document changes since c.in-Ok.ensures.led in
     let goes_on : GoesOn old patch notified.document notified = record {
       document = refl;
       history = c.in-Ok.ensures.history;
@@ -80,18 +96,28 @@ returns-in-Ok-clause-ok c = λ x e.
     let was = c.session_mut.result.now in
     let there = c.session_mut.ensures.found in
     let number = ap (λ (y : Session). y.number) c.reply.ensures in
-    let done = replied (Done c.args.request.now.id c.in-Ok.rev) in
-    let only = written_by xs c.args.caller c.requires.caller was there c.reply.new.self number done c.reply.ensures x e in
-    let ys = slice_set xs c.args.caller.place c.reply.new.self in
-    rw c.in-Ok.ensures.document
-    (notified, goes_on, ys, rw c.in-Ok.ensures.revision.1 at only, all_notified, c.broadcast_and_trim.ensures.trimmed)
+    let done = replied (Done c.args.asked.id c.in-Ok.rev) in
+    let only =
+    written_by xs c.args.asked.caller c.requires.caller was there c.reply.new.self number done
+    c.reply.ensures x e in
+    let ys = slice_set xs c.args.asked.caller.place c.reply.new.self in
+    rw c.in-Ok.ensures.document (
+      notified,
+      goes_on,
+      ys,
+      rw c.in-Ok.ensures.revision.1 at only,
+      all_notified,
+      c.broadcast_and_trim.ensures.trimmed,
+    )
 
-pub returns-in-Some-clause-ok : goal.returns-in-Some-clause-ok
-returns-in-Some-clause-ok c = λ x e.
+pub returns-clause-ok : goal.returns-clause-ok
+returns-clause-ok c = λ x e.
     let xs = c.args.sessions.now in
     let was = c.session_mut-in-Err.result.now in
     let there = c.session_mut-in-Err.ensures.found in
     let number = ap (λ (y : Session). y.number) c.reply-in-Err.ensures in
     let refused = replied c.in-Some.reply in
-    let only = written_by xs c.args.caller c.requires.caller was there c.reply-in-Err.new.self number refused c.reply-in-Err.ensures x e in
+    let only =
+    written_by xs c.args.asked.caller c.requires.caller was there c.reply-in-Err.new.self number
+    refused c.reply-in-Err.ensures x e in
     search (rules, only)

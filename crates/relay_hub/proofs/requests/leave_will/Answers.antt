@@ -11,7 +11,9 @@ returns-clause-leaves c =
     let x = c.session_mut.result.now in
     let there = c.session_mut.ensures.found in
     let now = leaves_will c.args.id c.args.patch in
-    rw c.leave_will.ensures (written_by c.args.sessions.now c.args.caller c.requires.caller x there (now x) refl now refl)
+    rw c.leave_will.ensures
+    (written_by c.args.sessions.now c.args.caller c.requires.caller x there (now x) refl now
+    refl)
 
 pub returns-clause-indexed : goal.returns-clause-indexed
 returns-clause-indexed c =
@@ -19,4 +21,5 @@ returns-clause-indexed c =
     let there = c.session_mut.ensures.found in
     let now = leaves_will c.args.id c.args.patch in
     rw c.leave_will.ensures
-    (written_same c.args.sessions.now c.args.caller c.requires.caller x there (now x) refl c.args.watches.now c.requires.indexed refl)
+    (written_same c.args.sessions.now c.args.caller c.requires.caller x there (now x) refl
+    c.args.watches.now c.requires.indexed refl)

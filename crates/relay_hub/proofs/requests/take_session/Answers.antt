@@ -4,16 +4,19 @@ use Rattle.relay_hub.proofs.Rising.{once_rising}
 use Rattle.relay_hub.proofs.Sessions.{removed_at, found_at}
 use Rattle.relay_hub.proofs.requests.take_session.Goals as goal
 
-place : (c : goal.After-remove) → position (is_number c.args.number) c.args.sessions.now.items ≡ Some c.find-caller.result.place
+place : (c : goal.After-remove)
+    → position (is_number c.args.number) c.args.sessions.now.items ≡ Some c.find-caller.result.place
 place c = rw (c.as_slice.ensures.value, c.find-caller.ensures.number) at c.find-caller.ensures.place
 
 pub returns-clause-session : goal.returns-clause-session
 returns-clause-session c =
-    found_at c.args.sessions.now.items c.args.number c.find-caller.result.place (place c) c.remove.result
+    found_at c.args.sessions.now.items c.args.number c.find-caller.result.place (place c)
+    c.remove.result
     ∙ ap Some (sym c.remove.ensures.value)
 
 pub returns-clause-others : goal.returns-clause-others
 returns-clause-others c =
     let xs = c.args.sessions.now.items in
     c.remove.ensures.items
-    ∙ removed_at xs c.args.number c.find-caller.result.place (once_rising xs c.requires.rising) (place c)
+    ∙ removed_at xs c.args.number c.find-caller.result.place (once_rising xs c.requires.rising)
+    (place c)

@@ -11,7 +11,8 @@ returns-clause-unwatches c =
     let x = c.session_mut.result.now in
     let there = c.session_mut.ensures.found in
     let now = unwatches c.args.id in
-    rw c.unwatch.ensures (written_by c.args.sessions.now c.args.caller c.requires.caller x there (now x) refl now refl)
+    rw c.unwatch.ensures (written_by c.args.sessions.now c.args.caller c.requires.caller x there
+    (now x) refl now refl)
 
 pub returns-clause-indexed : goal.returns-clause-indexed
 returns-clause-indexed c =
@@ -19,4 +20,5 @@ returns-clause-indexed c =
     let there = c.session_mut.ensures.found in
     let now = unwatches c.args.id in
     rw (c.take_out.ensures, c.unwatch.ensures)
-    (written_out c.args.sessions.now c.args.caller c.requires.caller x there (now x) refl c.args.watches.now c.requires.indexed refl)
+    (written_out c.args.sessions.now c.args.caller c.requires.caller x there (now x) refl
+    c.args.watches.now c.requires.indexed refl)

@@ -21,4 +21,5 @@ returns-clause-indexed c =
     let view = c.args.view in
     let now = watches c.args.id view in
     rw (c.in_ok-view.ensures.ok, c.watch.ensures, c.in_ok-view.ensures.view)
-    (written_put c.args.sessions.now c.args.caller c.requires.caller x there (now x) refl c.args.watches.now c.requires.indexed view refl)
+    (written_put c.args.sessions.now c.args.caller c.requires.caller x there (now x) refl
+    c.args.watches.now c.requires.indexed view refl)

@@ -16,8 +16,10 @@ loop-place-preserved c =
     let f = shed_named c.args.budget in
     let g = c.in-Some.room_sessions.now in
     let w = written es l.place g c.shed.new.self (sym c.in-Some.ensures.value) in
-    let is = w.is ∙ ap (λ (n : RoomSessions). slice_set (rooms_of es) l.place (w.name, n)) c.shed.ensures in (
-      subst (λ rooms. MappedTo f (l.place + 1) old rooms) (sym is) (one_mapped f l.place old (rooms_of es) (w.name, g) l.invariant.0 w.was),
+    let is = w.is ∙ ap (λ (n : RoomSessions).
+    slice_set (rooms_of es) l.place (w.name, n)) c.shed.ensures in (
+      subst (λ rooms. MappedTo f (l.place + 1) old rooms) (sym is)
+          (one_mapped f l.place old (rooms_of es) (w.name, g) l.invariant.0 w.was),
       index_map_len-with_value_at l.rooms l.place c.shed.new.self ∙ l.invariant.1,
     )
 
@@ -27,4 +29,5 @@ returns c =
     let es = c.args.rooms.now.entries in
     let len : c.len-place-end.result ≡ length es = c.len-place-end.ensures.len in
     all_mapped (shed_named c.args.budget) l.place (rooms_of es) (rooms_of l.rooms.entries)
-    (omega (arith, c.loop-place-test.false, l.auto.place-end, len, length-map es named)) l.invariant.0
+    (omega (arith, c.loop-place-test.false, l.auto.place-end, len, length-map es named))
+    l.invariant.0

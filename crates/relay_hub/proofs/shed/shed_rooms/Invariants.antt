@@ -6,4 +6,5 @@ use Rattle.relay_hub.proofs.shed.shed_rooms.Given as goal
 
 abbrev pub invariant-loop-place : goal.invariant-loop-place
 invariant-loop-place l =
-    MappedTo (shed_named l.budget) l.place (rooms_of l.initial.rooms.entries) (rooms_of l.rooms.entries) × (length l.rooms.entries ≡ length l.initial.rooms.entries)
+    MappedTo (shed_named l.budget) l.place (rooms_of l.initial.rooms.entries)
+    (rooms_of l.rooms.entries) × (length l.rooms.entries ≡ length l.initial.rooms.entries)

@@ -6,4 +6,8 @@ use Rattle.relay_hub.proofs.shed.shed_sessions.Goals as goal
 pub returns : goal.returns
 returns c =
     let l = c.loop-place in
-    all_mapped shed_session l.place c.args.sessions.now.items l.sessions.items (omega (arith, c.loop-place-test.false, l.auto.place-end)) l.invariant
+    all_mapped shed_session l.place c.args.sessions.now.items l.sessions.items (omega (
+      arith,
+      c.loop-place-test.false,
+      l.auto.place-end,
+    )) l.invariant

@@ -19,7 +19,8 @@ returns-in-Err-NoMemory-clause-drew_none c =
 
 pub returns-clause-follows : goal.returns-clause-follows
 returns-clause-follows c = elim c.match-draw.branch [
-  | in-Ok w ↦ follows_one _ _ _ _ _ _ (Drawn (option_map string_bytes w.in-Ok.text)) c.note_draw.ensures refl w.in-Ok.ensures.step
+  | in-Ok w ↦ follows_one _ _ _ _ _ _ (Drawn (option_map string_bytes w.in-Ok.text))
+      c.note_draw.ensures refl w.in-Ok.ensures.step
   | in-Err-NoSession w ↦
       let step = rw w.in-Err-NoSession.field-0-is at w.in-Err-NoSession.ensures.step in
       follows_one _ _ _ _ _ _ NoSession c.note_draw.ensures refl step
@@ -27,7 +28,9 @@ returns-clause-follows c = elim c.match-draw.branch [
 
 pub returns-clause-drew : goal.returns-clause-drew
 returns-clause-drew c = elim c.match-draw.branch [
-  | in-Ok w ↦ rw w.text-is (drew_one _ _ _ _ _ _ (Drawn (option_map string_bytes w.in-Ok.text)) c.note_draw.ensures refl w.in-Ok.ensures.step (given_utf8 w.in-Ok.text))
+  | in-Ok w ↦ rw w.text-is
+      (drew_one _ _ _ _ _ _ (Drawn (option_map string_bytes w.in-Ok.text)) c.note_draw.ensures refl
+      w.in-Ok.ensures.step (given_utf8 w.in-Ok.text))
   | in-Err-NoSession w ↦
       let step = rw w.in-Err-NoSession.field-0-is at w.in-Err-NoSession.ensures.step in
       rw w.text-is (drew_one _ _ _ _ _ _ NoSession c.note_draw.ensures refl step tt)

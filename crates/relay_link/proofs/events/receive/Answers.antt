@@ -19,16 +19,20 @@ returns-in-Err-NoMemory-clause-drew c =
 
 pub returns-clause-follows : goal.returns-clause-follows
 returns-clause-follows c = elim c.match-receive.branch [
-  | in-Ok w ↦ follows_one _ _ _ _ _ (Receive c.args.session c.as_str.result.now) (Heard w.in-Ok.field-0) (rw c.as_str.ensures c.note.ensures) refl w.in-Ok.ensures.step
+  | in-Ok w ↦ follows_one _ _ _ _ _ (Receive c.args.session c.as_str.result.now)
+      (Heard w.in-Ok.field-0) (rw c.as_str.ensures c.note.ensures) refl w.in-Ok.ensures.step
   | in-Err-NoSession w ↦
       let step = rw w.in-Err-NoSession.field-0-is at w.in-Err-NoSession.ensures.step in
-      follows_one _ _ _ _ _ (Receive c.args.session c.as_str.result.now) NoSession (rw c.as_str.ensures c.note.ensures) refl step
+      follows_one _ _ _ _ _ (Receive c.args.session c.as_str.result.now) NoSession
+      (rw c.as_str.ensures c.note.ensures) refl step
 ]
 
 pub returns-clause-drew : goal.returns-clause-drew
 returns-clause-drew c = elim c.match-receive.branch [
-  | in-Ok w ↦ drew_one _ _ _ _ _ (Receive c.args.session c.as_str.result.now) (Heard w.in-Ok.field-0) (rw c.as_str.ensures c.note.ensures) refl w.in-Ok.ensures.step tt
+  | in-Ok w ↦ drew_one _ _ _ _ _ (Receive c.args.session c.as_str.result.now)
+      (Heard w.in-Ok.field-0) (rw c.as_str.ensures c.note.ensures) refl w.in-Ok.ensures.step tt
   | in-Err-NoSession w ↦
       let step = rw w.in-Err-NoSession.field-0-is at w.in-Err-NoSession.ensures.step in
-      drew_one _ _ _ _ _ (Receive c.args.session c.as_str.result.now) NoSession (rw c.as_str.ensures c.note.ensures) refl step tt
+      drew_one _ _ _ _ _ (Receive c.args.session c.as_str.result.now) NoSession
+      (rw c.as_str.ensures c.note.ensures) refl step tt
 ]

@@ -6,26 +6,37 @@ use Rattle.relay_proto.specs.declared.access.Access.{Access}
 use Rattle.relay_link.specs.Asks.{Asks, Receives}
 use Rattle.relay_link.specs.Follows.{is_room}
 use Rattle.relay_link.specs.Stream.{stream_of}
+use Rattle.relay_link.specs.declared.entrance.Entrance.TheVariants as entry
 use Rattle.relay_link.specs.declared.head.TheConstants.{MAX_READ}
 use Rattle.relay_link.specs.declared.state.State.TheVariants.{Head}
 use Rattle.relay_link.proofs.Following.{follows_wider}
 use Rattle.relay_link.proofs.Heads.{extended, asks_with}
-use Rattle.relay_link.proofs.Replying.{replies_head, replies_refuse}
+use Rattle.relay_link.proofs.Replying.{replies_closed, replies_head, replies_refuse}
 use Rattle.relay_link.proofs.head.listen.Goals as goal
 
-pub returns-in-Ok-Accept-clause-follows : goal.returns-in-Ok-Accept-clause-follows
-returns-in-Ok-Accept-clause-follows g c = follows_wider asks c.admit.ensures.follows
+pub returns-in-Open-clause-follows : goal.returns-in-Open-clause-follows
+returns-in-Open-clause-follows g c = follows_wider asks c.admit.ensures.follows
   where
-    asks : (room : List ℕ) (access : Access) → is_room (string_bytes c.in-Ok-Accept.room) c.in-Ok-Accept.access room access → Asks c.args.bytes.items (g.S.Read.remaining (stream_of c.args.stream)) room access
+    asks : (room : List ℕ) (access : Access)
+        → is_room (string_bytes c.in-Ok-Accept.room) c.in-Ok-Accept.access room access
+        → Asks c.args.bytes.items (g.S.Read.remaining (stream_of c.args.stream)) room access
     asks room access (name, given) =
         let fits : is_err c.extend_from_slice.result ≡ false = search rules in
-        let whole = c.as_slice.ensures.value ∙ extended c.extend_from_slice.result c.args.bytes.items c.extend_from_slice.new.self.items _ fits c.extend_from_slice.ensures.items in
+        let whole = c.as_slice.ensures.value
+        ∙ extended c.extend_from_slice.result c.args.bytes.items
+        c.extend_from_slice.new.self.items _ fits c.extend_from_slice.ensures.items in
         let left = g.S.Read.remaining (stream_of c.read.new.self) in
         let taken = take c.in-Ok.len c.read.new.buf in
-        let first : Consumes (g.S.Read.remaining (stream_of c.args.stream)) left taken = c.in-Ok.ensures.bytes.0 in
+        let first : Consumes (g.S.Read.remaining (stream_of c.args.stream)) left taken =
+        c.in-Ok.ensures.bytes.0 in
         let within : c.in-Ok.len ≤ MAX_READ = search rules in
-        let one_read : length taken ≤ MAX_READ = subst (λ n. n ≤ MAX_READ) c.in-Ok.ensures.bound.1 within in
-        asks_with _ taken _ room access _ left c.in-Ok-Accept.field-0 whole first one_read c.in-Ok-Accept.ensures.head c.in-Ok-Accept.ensures.no_head (rw c.in-Ok-Accept.field-0-is (ap Some (ap (λ r. (r, c.in-Ok-Accept.access)) (sym name) ∙ ap (λ a. (room, a)) (sym given))))
+        let one_read : length taken ≤ MAX_READ =
+        subst (λ n. n ≤ MAX_READ) c.in-Ok.ensures.bound.1 within in
+        asks_with _ taken _ room access _ left c.in-Ok-Accept.field-0 whole first one_read
+        c.in-Ok-Accept.ensures.head c.in-Ok-Accept.ensures.no_head
+        (rw c.in-Ok-Accept.field-0-is
+        (ap Some (ap (λ r. (r, c.in-Ok-Accept.access)) (sym name)
+        ∙ ap (λ a. (room, a)) (sym given))))
 
 -- The head is not whole: the bytes that the read took are held.
 pub returns-in-Ok-More-clause-received : goal.returns-in-Ok-More-clause-received
@@ -33,25 +44,57 @@ returns-in-Ok-More-clause-received g c =
     let fits : is_err c.extend_from_slice.result ≡ false = search rules in
     let taken = take c.in-Ok.len c.read.new.buf in
     let left = g.S.Read.remaining (stream_of c.read.new.self) in
-    let first : Consumes (g.S.Read.remaining (stream_of c.args.stream)) left taken = c.in-Ok.ensures.bytes.0 in
-    let grown = extended c.extend_from_slice.result c.args.bytes.items c.extend_from_slice.new.self.items taken fits c.extend_from_slice.ensures.items in
-    subst (λ t. Receives g.S.Read.remaining (Head c.args.stream c.args.bytes) t.state) (sym c.on-in-Ok-More.ensures) (taken, first, grown)
+    let first : Consumes (g.S.Read.remaining (stream_of c.args.stream)) left taken =
+    c.in-Ok.ensures.bytes.0 in
+    let grown =
+    extended c.extend_from_slice.result c.args.bytes.items
+    c.extend_from_slice.new.self.items taken fits c.extend_from_slice.ensures.items in
+    subst (λ t. Receives g.S.Read.remaining (Head c.args.stream c.args.bytes) t.state)
+    (sym c.on-in-Ok-More.ensures) (taken, first, grown)
 
 -- The head is whole: the reply is the answer to those bytes.
+pub returns-in-Open-clause-replies : goal.returns-in-Open-clause-replies
+returns-in-Open-clause-replies g c =
+    let fits : is_err c.extend_from_slice.result ≡ false = search rules in
+    let whole = c.as_slice.ensures.value
+    ∙ extended c.extend_from_slice.result c.args.bytes.items
+    c.extend_from_slice.new.self.items _ fits c.extend_from_slice.ensures.items in
+    let taken = take c.in-Ok.len c.read.new.buf in
+    let first : Consumes (g.S.Read.remaining (stream_of c.args.stream))
+    (g.S.Read.remaining (stream_of c.read.new.self)) taken = c.in-Ok.ensures.bytes.0 in
+    replies_head g.S.Read.remaining g.S.Write.contents c.args.entrance c.args.stream c.read.new.self
+    c.args.bytes _ taken c.in-Ok-Accept.field-0 _ whole first c.in-Ok-Accept.ensures.head
+    c.in-Ok-Accept.ensures.no_head
+    (rw (c.in-Ok-Accept.field-0-is, c.in-Open.is) c.admit.ensures.replies)
+
+-- The same while clients may not enter.
 pub returns-in-Ok-Accept-clause-replies : goal.returns-in-Ok-Accept-clause-replies
 returns-in-Ok-Accept-clause-replies g c =
     let fits : is_err c.extend_from_slice.result ≡ false = search rules in
-    let whole = c.as_slice.ensures.value ∙ extended c.extend_from_slice.result c.args.bytes.items c.extend_from_slice.new.self.items _ fits c.extend_from_slice.ensures.items in
+    let whole = c.as_slice.ensures.value
+    ∙ extended c.extend_from_slice.result c.args.bytes.items
+    c.extend_from_slice.new.self.items _ fits c.extend_from_slice.ensures.items in
     let taken = take c.in-Ok.len c.read.new.buf in
-    let first : Consumes (g.S.Read.remaining (stream_of c.args.stream)) (g.S.Read.remaining (stream_of c.read.new.self)) taken = c.in-Ok.ensures.bytes.0 in
-    replies_head g.S.Read.remaining g.S.Write.contents c.args.stream c.read.new.self c.args.bytes _ taken c.in-Ok-Accept.field-0 _ whole first c.in-Ok-Accept.ensures.head c.in-Ok-Accept.ensures.no_head
-    (rw c.in-Ok-Accept.field-0-is c.admit.ensures.replies)
+    let first : Consumes (g.S.Read.remaining (stream_of c.args.stream))
+    (g.S.Read.remaining (stream_of c.read.new.self)) taken = c.in-Ok.ensures.bytes.0 in
+    let closed : c.args.entrance ≡ entry.Closed = search rules in
+    replies_head g.S.Read.remaining g.S.Write.contents c.args.entrance c.args.stream c.read.new.self
+    c.args.bytes _ taken c.in-Ok-Accept.field-0 _ whole first c.in-Ok-Accept.ensures.head
+    c.in-Ok-Accept.ensures.no_head
+    (rw c.in-Ok-Accept.field-0-is
+    (replies_closed g.S.Write.contents _ _ _ _ _ _ closed c.turn_away.ensures.writes))
 
 pub returns-in-Ok-Refuse-clause-replies : goal.returns-in-Ok-Refuse-clause-replies
 returns-in-Ok-Refuse-clause-replies g c =
     let fits : is_err c.extend_from_slice.result ≡ false = search rules in
-    let whole = c.as_slice.ensures.value ∙ extended c.extend_from_slice.result c.args.bytes.items c.extend_from_slice.new.self.items _ fits c.extend_from_slice.ensures.items in
+    let whole = c.as_slice.ensures.value
+    ∙ extended c.extend_from_slice.result c.args.bytes.items
+    c.extend_from_slice.new.self.items _ fits c.extend_from_slice.ensures.items in
     let taken = take c.in-Ok.len c.read.new.buf in
-    let first : Consumes (g.S.Read.remaining (stream_of c.args.stream)) (g.S.Read.remaining (stream_of c.read.new.self)) taken = c.in-Ok.ensures.bytes.0 in
-    replies_head g.S.Read.remaining g.S.Write.contents c.args.stream c.read.new.self c.args.bytes _ taken c.in-Ok-Refuse.field-0 _ whole first c.in-Ok-Refuse.ensures.head c.in-Ok-Refuse.ensures.no_head
-    (rw c.in-Ok-Refuse.field-0-is (replies_refuse g.S.Write.contents _ _ _ _ c.answer.ensures.writes))
+    let first : Consumes (g.S.Read.remaining (stream_of c.args.stream))
+    (g.S.Read.remaining (stream_of c.read.new.self)) taken = c.in-Ok.ensures.bytes.0 in
+    replies_head g.S.Read.remaining g.S.Write.contents c.args.entrance c.args.stream c.read.new.self
+    c.args.bytes _ taken c.in-Ok-Refuse.field-0 _ whole first c.in-Ok-Refuse.ensures.head
+    c.in-Ok-Refuse.ensures.no_head
+    (rw c.in-Ok-Refuse.field-0-is
+    (replies_refuse g.S.Write.contents _ _ _ _ _ c.answer.ensures.writes))

@@ -8,8 +8,10 @@ use Rattle.relay_link.proofs.opened.gather.Given as goal
 
 abbrev pub invariant-loop : goal.invariant-loop
 invariant-loop g l = record {
-  follows : Follows no_room (at l.initial.hub (Some l.session) l.initial.made) (at l.hub (Some l.session) l.made);
-  tells : Tells g.S.Write.contents (at l.initial.hub (Some l.session) l.initial.made) (at l.hub (Some l.session) l.made) l.initial.socket l.socket;
-  passes : Passes l.initial.made l.made [];
-  adds : Adds l.counter 0 l.counter l.initial.made l.made;
+  follows : Follows no_room (at l.initial.hub (Some l.session) l.initial.events)
+      (at l.hub (Some l.session) l.events);
+  tells : Tells g.S.Write.contents (at l.initial.hub (Some l.session) l.initial.events)
+      (at l.hub (Some l.session) l.events) l.initial.socket l.socket;
+  passes : Passes l.initial.events l.events [];
+  adds : Adds l.counter 0 l.counter l.initial.events l.events;
 }

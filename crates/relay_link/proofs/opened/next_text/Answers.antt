@@ -1,13 +1,9 @@
--- A ping or a pong has no text.
-use Rattle.std.proofs.Common.{refl, inl, inr}
-use Rattle.relay_link.proofs.Hearing.{finds_no_text}
+-- A binary message is answered by a close.
+use Rattle.relay_link.proofs.BinaryAnswered.{closed_now}
 use Rattle.relay_link.proofs.opened.next_text.Goals as goal
 
-pub returns-clause-finds : goal.returns-clause-finds
-returns-clause-finds g c =
-    finds_no_text g.S.Read.remaining c.args.socket.now c.read.new.socket c.in_ok-message.field-0
-    c.in_ok-message.ensures.finds
-    (elim c.in-Ping.is [
-      | inl ping ↦ rw (c.in-Some.is, ping.1) refl
-      | inr pong ↦ rw (c.in-Some.is, pong.1) refl
-    ])
+pub returns-in-Binary-clause-binary : goal.returns-in-Binary-clause-binary
+returns-in-Binary-clause-binary g c =
+    λ is.
+    closed_now g.S.Write.contents _ c.read.new.socket c.close.new.socket
+    c.in_ok-close-in-Binary.ensures.wrote

@@ -1,4 +1,5 @@
--- While output is pending, a link only sends. Otherwise it sends what waits, exchanges, and sends what came of it.
+-- While output is pending, a link only sends. Otherwise it sends what waits, exchanges, and sends
+-- what came of it.
 use Rattle.std.proofs.Common.{refl}
 use Rattle.relay_link.proofs.Hearing.{sends_none}
 use Rattle.relay_link.proofs.Telling.{talked_none, talked}

@@ -24,9 +24,11 @@ returns c =
     let three = option_added _ _ _ _ _ two waiting refl c.in_ok-arg-3.ensures in
     let four = option_added _ _ _ _ _ three telling refl c.in_ok-arg-4.ensures in
     let five = option_added _ _ _ _ _ four view refl c.in_ok-arg-5.ensures in
-    let six = option_added _ _ _ _ _ five c.port.ensures refl c.in_ok-arg-6.ensures in
-    let seven = option_added _ _ _ _ _ six c.admin.ensures refl c.in_ok-arg-7.ensures in
-    let eight = option_added _ _ _ _ _ seven c.turns.ensures refl c.in_ok-arg-8.ensures in
-    let nine = option_added _ _ _ _ _ eight c.log.ensures refl c.in_ok-arg-9.ensures in
-    let ten = option_added _ _ _ _ _ nine c.forget_rooms.ensures refl c.in_ok-arg-10.ensures in
-    option_added _ _ _ _ _ ten c.output.ensures refl c.in_ok-command.ensures
+    let six = option_added _ _ _ _ _ five c.listen.ensures refl c.in_ok-arg-6.ensures in
+    let seven = option_added _ _ _ _ _ six c.port.ensures refl c.in_ok-arg-7.ensures in
+    let eight = option_added _ _ _ _ _ seven c.admin.ensures refl c.in_ok-arg-8.ensures in
+    let nine = option_added _ _ _ _ _ eight c.turns.ensures refl c.in_ok-arg-9.ensures in
+    let ten = option_added _ _ _ _ _ nine c.log.ensures refl c.in_ok-arg-10.ensures in
+    let eleven = option_added _ _ _ _ _ ten c.forget_rooms.ensures refl c.in_ok-arg-11.ensures in
+    let twelve = option_added _ _ _ _ _ eleven c.closed.ensures refl c.in_ok-arg-12.ensures in
+    option_added _ _ _ _ _ twelve c.output.ensures refl c.in_ok-command.ensures

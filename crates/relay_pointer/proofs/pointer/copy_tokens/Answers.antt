@@ -6,6 +6,9 @@ use Rattle.relay_pointer.proofs.pointer.copy_tokens.Goals as goal
 
 pub loop-token-preserved : goal.loop-token-preserved
 loop-token-preserved c =
-    let more = path_more c.args.tokens.now c.loop-token.token-index c.token-item.result c.loop-token-test.true c.token-item.is in
-    let pushed = ap path_of c.in_ok-push.ensures.items ∙ map-append string_bytes c.loop-token.copies.items (c.in_ok-clone.field-0 ∷ []) in
+    let more = path_more c.args.tokens.now c.loop-token.token-index c.token-item.result
+    c.loop-token-test.true c.token-item.is in
+    let pushed =
+    ap path_of c.in_ok-push.ensures.items
+    ∙ map-append string_bytes c.loop-token.copies.items (c.in_ok-clone.field-0 ∷ []) in
     pushed ∙ rw (c.loop-token.invariant, c.in_ok-clone.ensures.cases) (sym more)

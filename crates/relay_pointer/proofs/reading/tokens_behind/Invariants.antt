@@ -9,5 +9,7 @@ abbrev pub invariant-loop-part : goal.invariant-loop-part
 invariant-loop-part l = record {
   next : (goal.iterator-loop-part).can_next l.part-iterator;
   finite : (goal.iterator-loop-part).is_finite l.part-iterator;
-  rest : tokens_of (slice_split (λ b. b == 47) l.fn.written) ≡ option_map (λ ts. path_of l.tokens.items ++ ts) (tokens_of (drop (length l.yielded) (slice_split (λ b. b == 47) l.fn.written)));
+  rest : tokens_of (slice_split (λ b. b == 47) l.fn.written)
+      ≡ option_map (λ ts. path_of l.tokens.items ++ ts)
+      (tokens_of (drop (length l.yielded) (slice_split (λ b. b == 47) l.fn.written)));
 }

@@ -9,8 +9,17 @@ use Rattle.relay_proto.proofs.text.refused_text.Goals as goal
 
 pub returns-in-Some : goal.returns-in-Some
 unfolding escape_byte
-returns-in-Some c = if_ok c.format.result c.format.ensures.ok (λ s h. h ∙ refused_naming c.args.id c.args.at c.args.fault c.in-Some.rev c.text-fault.ensures c.in_ok-at.ensures c.in_ok-id.ensures ∙ ap (λ rev. text_of (reply_document (Refused c.args.id c.args.fault c.args.at rev))) (sym c.in-Some.is))
+returns-in-Some c =
+    if_ok c.format.result c.format.ensures.ok
+    (λ s h. h ∙ refused_naming c.args.id c.args.at c.args.fault c.in-Some.rev c.text-fault.ensures
+    c.in_ok-at.ensures c.in_ok-id.ensures
+    ∙ ap (λ rev. text_of (reply_document (Refused c.args.id c.args.fault c.args.at rev)))
+    (sym c.in-Some.is))
 
 pub returns : goal.returns
 unfolding escape_byte
-returns c = if_ok c.format-in-None.result c.format-in-None.ensures.ok (λ s h. h ∙ refused c.args.id c.args.at c.args.fault c.text-fault.ensures c.in_ok-at.ensures c.in_ok-id.ensures ∙ ap (λ rev. text_of (reply_document (Refused c.args.id c.args.fault c.args.at rev))) (sym c.in-None.is))
+returns c = if_ok c.format-in-None.result c.format-in-None.ensures.ok
+    (λ s h. h ∙ refused c.args.id c.args.at c.args.fault c.text-fault.ensures c.in_ok-at.ensures
+    c.in_ok-id.ensures
+    ∙ ap (λ rev. text_of (reply_document (Refused c.args.id c.args.fault c.args.at rev)))
+    (sym c.in-None.is))

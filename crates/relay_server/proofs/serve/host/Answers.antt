@@ -10,7 +10,11 @@ returns-in_err-tell-clause-stopped g c =
     rw p.1 (part_front _ _ (listening_text _) (turns_text c.args.turns) c.in_err-tell.ensures.err)
 
 pub returns-clause-done : goal.returns-clause-done
-returns-clause-done g c = then_all c.tell-2.result _ _ _ (listening_text _) (turns_text c.args.turns) c.in_ok-tell.ensures.ok c.tell-2.ensures.ok
+returns-clause-done g c =
+    then_all c.tell-2.result _ _ _ (listening_text _) (turns_text c.args.turns)
+    c.in_ok-tell.ensures.ok c.tell-2.ensures.ok
 
 pub returns-clause-stopped : goal.returns-clause-stopped
-returns-clause-stopped g c = then_part c.tell-2.result _ _ _ (listening_text _) (turns_text c.args.turns) c.in_ok-tell.ensures.ok c.tell-2.ensures.err
+returns-clause-stopped g c =
+    then_part c.tell-2.result _ _ _ (listening_text _) (turns_text c.args.turns)
+    c.in_ok-tell.ensures.ok c.tell-2.ensures.err

@@ -9,7 +9,11 @@ returns-in_err-tell-clause-stopped g c =
     rw p.1 (front_made _ _ _ c.args.turns c.in_err-tell.ensures.err)
 
 pub returns-clause-done : goal.returns-clause-done
-returns-clause-done g c = then_all_made c.tell-2.result _ _ _ _ _ c.args.turns c.run_administered-made.ensures.made c.in_ok-tell.ensures.ok c.tell-2.ensures.ok
+returns-clause-done g c =
+    then_all_made c.tell-2.result _ _ _ _ _ c.args.turns c.run_administered-rounds.ensures.at_most
+    c.in_ok-tell.ensures.ok c.tell-2.ensures.ok
 
 pub returns-clause-stopped : goal.returns-clause-stopped
-returns-clause-stopped g c = then_part_made c.tell-2.result _ _ _ _ _ c.args.turns c.run_administered-made.ensures.made c.in_ok-tell.ensures.ok c.tell-2.ensures.err
+returns-clause-stopped g c =
+    then_part_made c.tell-2.result _ _ _ _ _ c.args.turns c.run_administered-rounds.ensures.at_most
+    c.in_ok-tell.ensures.ok c.tell-2.ensures.err

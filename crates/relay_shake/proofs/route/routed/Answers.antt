@@ -17,18 +17,28 @@ unfolding matchit_on_literals
 returns-in-Ok-at c =
     let rows = rw c.new-router.ensures at c.in-Ok.ensures in
     let target = c.args.target.now in
-    let bytes : All (λ b. b < 256) target = All-from_get_or (λ b. b < 256) target 0 (λ i _. let fits = c.type_inv.target i in omega (arith, fits)) in
-    let row : first c.insert.new.self target ≡ found room_route (has_segment_after (codes "/rooms/") target) =
+    let bytes : All (λ b. b < 256) target =
+    All-from_get_or (λ b. b < 256) target 0 (λ i _. let fits = c.type_inv.target i in
+    omega (arith, fits)) in
+    let row : first c.insert.new.self target
+    ≡ found room_route (has_segment_after (codes "/rooms/") target) =
     rw rows.1 (seek-row room_route (codes "/rooms/") target plain bytes) in
-    let there = found-true room_route _ (has_segment_after (codes "/rooms/") target) (sym row ∙ c.in-Ok-at.ensures.found) in
-    taken target _ _ c.get.result there.1 c.in-Ok-at.ensures.path c.utf8.target there.0 c.get.ensures
+    let there =
+    found-true room_route _ (has_segment_after (codes "/rooms/") target) (sym row
+    ∙ c.in-Ok-at.ensures.found) in
+    taken target _ _ c.get.result there.1 c.in-Ok-at.ensures.path c.utf8.target there.0
+    c.get.ensures
 
 pub returns : goal.returns
 unfolding matchit_on_literals
 returns c =
     let rows = rw c.new-router.ensures at c.in-Ok.ensures in
     let target = c.args.target.now in
-    let bytes : All (λ b. b < 256) target = All-from_get_or (λ b. b < 256) target 0 (λ i _. let fits = c.type_inv.target i in omega (arith, fits)) in
-    let row : first c.insert.new.self target ≡ found room_route (has_segment_after (codes "/rooms/") target) =
+    let bytes : All (λ b. b < 256) target =
+    All-from_get_or (λ b. b < 256) target 0 (λ i _. let fits = c.type_inv.target i in
+    omega (arith, fits)) in
+    let row : first c.insert.new.self target
+    ≡ found room_route (has_segment_after (codes "/rooms/") target) =
     rw rows.1 (seek-row room_route (codes "/rooms/") target plain bytes) in
-    missed target (found-false room_route (has_segment_after (codes "/rooms/") target) (sym row ∙ c.in-Err-at.ensures.missing))
+    missed target (found-false room_route (has_segment_after (codes "/rooms/") target) (sym row
+    ∙ c.in-Err-at.ensures.missing))

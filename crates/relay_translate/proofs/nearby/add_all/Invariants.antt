@@ -6,4 +6,6 @@ use Rattle.relay_translate.specs.SlotIndex.{named}
 use Rattle.relay_translate.proofs.nearby.add_all.Given as goal
 
 abbrev pub invariant-loop-session : goal.invariant-loop-session
-invariant-loop-session l = (s : ℕ) → (named l.sessions.items s || list_any (is_at (nat_cmp s)) l.session-iterator) ≡ (named l.fn.sessions.items s || contains nat_cmp l.others s)
+invariant-loop-session l = (s : ℕ)
+    → (named l.sessions.items s || list_any (is_at (nat_cmp s)) l.session-iterator)
+    ≡ (named l.fn.sessions.items s || contains nat_cmp l.others s)

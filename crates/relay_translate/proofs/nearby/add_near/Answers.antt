@@ -16,7 +16,9 @@ returns c =
     let between = c.loop-depth.sessions.items in
     let new = c.add_below.new.sessions.items in
     let end = c.loop-depth-test.false in
-    let all : c.loop-depth.depth ≡ length path = omega (arith, end, c.loop-depth.auto.depth-end, path_of-length tokens) in
+    let all : c.loop-depth.depth ≡ length path =
+    omega (arith, end, c.loop-depth.auto.depth-end, path_of-length tokens) in
     on_ok_weaker c.add_below.result
-    (gains_either (is_above (length path) path) (is_prefix path) change index old between new (subst (λ n. Gains (is_above n path) change index old between) all c.loop-depth.invariant))
+    (gains_either (is_above (length path) path) (is_prefix path) change index old between new
+    (subst (λ n. Gains (is_above n path) change index old between) all c.loop-depth.invariant))
     c.add_below.ensures

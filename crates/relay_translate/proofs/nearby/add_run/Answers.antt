@@ -12,14 +12,19 @@ loop-pointer-init c =
     let index = c.args.index.now in
     let old = c.args.sessions.now.items in
     let range = c.range-pointer-items.ensures in
-    subst (λ run. Walked change path index run old old) (sym c.into_iter-pointer-iterator.ensures.into_iter_gives)
-    (walk_begins change path index c.args.first.now c.range-pointer-items.result old refl (range.between tt) range.ordered (range.in_range tt).0)
+    subst (λ run. Walked change path index run old old)
+    (sym c.into_iter-pointer-iterator.ensures.into_iter_gives)
+    (walk_begins change path index c.args.first.now c.range-pointer-items.result old refl
+    (range.between tt) range.ordered (range.in_range tt).0)
 
 pub loop-pointer-preserved : goal.loop-pointer-preserved
 loop-pointer-preserved c =
     let new = c.add_told.new.sessions.items in
-    walked_more c.loop-pointer.invariant (c.in-Some.pointer.now, c.in-Some.watchers.now) c.next.new.self c.in-Some.ensures.steps new
-    (subst (λ ts. Told c.args.change.now (path_of ts) c.in-Some.watchers.now c.loop-pointer.sessions.items new) c.as_slice-in-loop-pointer.ensures.value c.in_ok-add_told.ensures)
+    walked_more c.loop-pointer.invariant
+    (c.in-Some.pointer.now, c.in-Some.watchers.now) c.next.new.self c.in-Some.ensures.steps new
+    (subst (λ ts. Told c.args.change.now
+    (path_of ts) c.in-Some.watchers.now c.loop-pointer.sessions.items new)
+    c.as_slice-in-loop-pointer.ensures.value c.in_ok-add_told.ensures)
 
 pub returns-in-None : goal.returns-in-None
 returns-in-None c = walked_end c.loop-pointer.invariant c.in-None.ensures.steps.0
@@ -29,5 +34,9 @@ returns-then-not-starts_with c =
     let first = c.args.first.now.items in
     let pointer = c.in-Some.pointer.now in
     let begins : is_prefix (path_of first) (path_of pointer.items) ≡ false =
-    sym (starts_with-is_prefix pointer.items first) ∙ ap (λ ts. starts_with string_eq ts first) (sym c.deref.ensures.value) ∙ ap (starts_with string_eq c.deref.result.now) (sym c.as_slice.ensures.value) ∙ sym c.starts_with.ensures.value ∙ c.if-not-starts_with.true in
-    walked_all c.loop-pointer.invariant (pointer, c.in-Some.watchers.now) c.next.new.self c.in-Some.ensures.steps begins
+    sym (starts_with-is_prefix pointer.items first)
+    ∙ ap (λ ts. starts_with string_eq ts first) (sym c.deref.ensures.value)
+    ∙ ap (starts_with string_eq c.deref.result.now) (sym c.as_slice.ensures.value)
+    ∙ sym c.starts_with.ensures.value ∙ c.if-not-starts_with.true in
+    walked_all c.loop-pointer.invariant
+    (pointer, c.in-Some.watchers.now) c.next.new.self c.in-Some.ensures.steps begins

@@ -9,4 +9,5 @@ pub returns-in-len1-up : goal.returns-in-len1-up
 returns-in-len1-up c =
     let tokens = c.args.path.now in
     let split = tokens_last tokens c.in-len1-up.len_at_least in
-    sym (container_end (path_of (take (length tokens - 1) tokens)) split.0) ∙ ap container (sym split.1)
+    sym (container_end (path_of (take (length tokens - 1) tokens)) split.0)
+    ∙ ap container (sym split.1)

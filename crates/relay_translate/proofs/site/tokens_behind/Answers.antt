@@ -7,7 +7,8 @@ pub returns-in-Some : goal.returns-in-Some
 returns-in-Some c =
     let tokens = c.tokens.result.now in
     let range = c.in-Some.ensures.lookup.0 in
-    ap path_of range.2 ∙ path_of-range c.args.count tokens range.0 ∙ ap (drop c.args.count) c.tokens.ensures
+    ap path_of range.2 ∙ path_of-range c.args.count tokens range.0
+    ∙ ap (drop c.args.count) c.tokens.ensures
 
 pub returns-in-None : goal.returns-in-None
 returns-in-None c =

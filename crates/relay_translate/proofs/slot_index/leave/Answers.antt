@@ -15,21 +15,28 @@ loop-slot-preserved c =
     let kept = c.args.kept.now in
     let i = c.loop-slot.slot-index in
     let slot = c.slot-item.result in
-    let next : (p : Slot → Bool) → list_any p (take (i + 1) slots) ≡ (list_any p (take i slots) || p slot) =
-    λ p. list_any_more p slots i slot c.loop-slot-test.true ∙ ap (λ x. list_any p (take i slots) || p x) (sym c.slot-item.is) in
+    let next : (p : Slot → Bool)
+    → list_any p (take (i + 1) slots) ≡ (list_any p (take i slots) || p slot) =
+    λ p. list_any_more p slots i slot c.loop-slot-test.true
+    ∙ ap (λ x. list_any p (take i slots) || p x) (sym c.slot-item.is) in
     elim c.if-not-is_among.branch [
       | then-not-is_among w ↦
           record {
             left =
                 subst (λ new. Leaves old new session (take (i + 1) slots) kept) (sym w.index-is)
-                (leaves_more old c.loop-slot.index session (take i slots) (take (i + 1) slots) kept slot next c.loop-slot.invariant.left w.leave_slot.new.index (sym c.is_among.ensures ∙ w.if-not-is_among.true) w.leave_slot.ensures.left);
+                (leaves_more old c.loop-slot.index session (take i slots)
+                (take (i + 1) slots) kept slot next c.loop-slot.invariant.left
+                w.leave_slot.new.index
+                (sym c.is_among.ensures ∙ w.if-not-is_among.true) w.leave_slot.ensures.left);
             watched = subst EachIsWatched (sym w.index-is) w.leave_slot.ensures.watched;
           }
       | else-not-is_among w ↦
           record {
             left =
                 subst (λ new. Leaves old new session (take (i + 1) slots) kept) (sym w.index-is)
-                (leaves_kept old c.loop-slot.index session (take i slots) (take (i + 1) slots) kept slot next c.loop-slot.invariant.left (sym c.is_among.ensures ∙ w.if-not-is_among.false));
+                (leaves_kept old c.loop-slot.index session (take i slots)
+                (take (i + 1) slots) kept slot next c.loop-slot.invariant.left
+                (sym c.is_among.ensures ∙ w.if-not-is_among.false));
             watched = subst EachIsWatched (sym w.index-is) c.loop-slot.invariant.watched;
           }
     ]

@@ -9,4 +9,5 @@ invariant-loop-change l =
     let op = slot_op l.site.number (record { pointer = l.site.pointer.now; kind = l.kind }) in
     let further = flat_map op (map (λ c. c.now) (drop l.change-index l.changes)) in
     let all = flat_map op (map (λ c. c.now) l.changes) in
-    (l.ops.items ++ further ≡ l.fn.ops.items ++ all) × (paid (ops_weight further) l.left ≡ paid (ops_weight all) l.fn.budget)
+    (l.ops.items ++ further ≡ l.fn.ops.items ++ all)
+    × (paid (ops_weight further) l.left ≡ paid (ops_weight all) l.fn.budget)

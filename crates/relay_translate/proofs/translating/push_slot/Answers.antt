@@ -7,10 +7,15 @@ use Rattle.relay_translate.proofs.translating.push_slot.Goals as goal
 
 pub returns-else-is_reset-clause-left : goal.returns-else-is_reset-clause-left
 returns-else-is_reset-clause-left c =
-    let is = kept_slot c.args.number c.args.slot.now c.args.changes.now c.args.now.now (sym c.is_reset.ensures ∙ c.if-is_reset.false) in
-    subst (λ (ops : List Op). IfOk c.push_inside.result (λ left. left ≡ paid (ops_weight ops) c.args.budget)) (sym is) c.push_inside.ensures.left
+    let is = kept_slot c.args.number c.args.slot.now c.args.changes.now c.args.now.now
+    (sym c.is_reset.ensures ∙ c.if-is_reset.false) in
+    subst (λ (ops : List Op). IfOk c.push_inside.result
+    (λ left. left ≡ paid (ops_weight ops) c.args.budget)) (sym is) c.push_inside.ensures.left
 
 pub returns-else-is_reset-clause-pushed : goal.returns-else-is_reset-clause-pushed
 returns-else-is_reset-clause-pushed c =
-    let is = kept_slot c.args.number c.args.slot.now c.args.changes.now c.args.now.now (sym c.is_reset.ensures ∙ c.if-is_reset.false) in
-    subst (λ (ops : List Op). IfOk c.push_inside.result (λ left. IsSome left → c.push_inside.new.ops.items ≡ c.args.ops.now.items ++ ops)) (sym is) c.push_inside.ensures.pushed
+    let is = kept_slot c.args.number c.args.slot.now c.args.changes.now c.args.now.now
+    (sym c.is_reset.ensures ∙ c.if-is_reset.false) in
+    subst (λ (ops : List Op). IfOk c.push_inside.result
+    (λ left. IsSome left → c.push_inside.new.ops.items ≡ c.args.ops.now.items ++ ops))
+    (sym is) c.push_inside.ensures.pushed

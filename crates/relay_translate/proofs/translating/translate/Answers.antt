@@ -9,30 +9,37 @@ use Rattle.relay_translate.proofs.Sizes.{fits_with_changes}
 use Rattle.relay_translate.proofs.Slots.{translation}
 use Rattle.relay_translate.proofs.translating.translate.Goals as goal
 
-made : (c : goal.In-Some) → c.in-Some.patch ≡ local (map (λ (x : Bor Change). x.now) c.args.changes.now) c.args.now.now c.args.view.now
+made : (c : goal.In-Some)
+    → c.in-Some.patch
+    ≡ local (map (λ (x : Bor Change). x.now) c.args.changes.now) c.args.now.now c.args.view.now
 made c = grind (arith, common_steps)
 
 pub returns-clause-apart : goal.returns-clause-apart
 returns-clause-apart c =
     let changes = map (λ (x : Bor Change). x.now) c.args.changes.now in
-    subst (LeavesApart changes c.args.view.now) (sym (made c)) (leaves_apart changes c.args.now.now c.args.view.now)
+    subst (LeavesApart changes c.args.view.now) (sym (made c))
+    (leaves_apart changes c.args.now.now c.args.view.now)
 
 pub returns-clause-inside : goal.returns-clause-inside
 returns-clause-inside c =
     let changes = map (λ (x : Bor Change). x.now) c.args.changes.now in
-    subst (FollowsInside changes c.args.view.now) (sym (made c)) (follows_inside changes c.args.now.now c.args.view.now)
+    subst (FollowsInside changes c.args.view.now) (sym (made c))
+    (follows_inside changes c.args.now.now c.args.view.now)
 
 pub returns-clause-reset : goal.returns-clause-reset
 returns-clause-reset c =
     let changes = map (λ (x : Bor Change). x.now) c.args.changes.now in
-    subst (ReplacesReset changes c.args.now.now c.args.view.now) (sym (made c)) (replaces_reset changes c.args.now.now c.args.view.now)
+    subst (ReplacesReset changes c.args.now.now c.args.view.now) (sym (made c))
+    (replaces_reset changes c.args.now.now c.args.view.now)
 
 pub returns-clause-leads : goal.returns-clause-leads
 returns-clause-leads c =
     let changes = map (λ (x : Bor Change). x.now) c.args.changes.now in
-    subst (LeadsViews changes c.args.now.now c.args.view.now) (sym (made c)) (translation changes c.args.now.now c.args.view.now)
+    subst (LeadsViews changes c.args.now.now c.args.view.now) (sym (made c))
+    (translation changes c.args.now.now c.args.view.now)
 
 pub returns-clause-sizes : goal.returns-clause-sizes
 returns-clause-sizes c =
     let changes = map (λ (x : Bor Change). x.now) c.args.changes.now in
-    subst (FitsWith changes c.args.now.now) (sym (made c)) (fits_with_changes changes c.args.now.now c.args.view.now)
+    subst (FitsWith changes c.args.now.now) (sym (made c))
+    (fits_with_changes changes c.args.now.now c.args.view.now)

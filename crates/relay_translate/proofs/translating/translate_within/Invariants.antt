@@ -9,4 +9,5 @@ invariant-loop-number l =
     let changes = map (λ c. c.now) l.changes in
     let further = local_from l.number changes l.now (drop l.number l.slot-items) in
     (l.ops.items ++ further ≡ local changes l.now l.view)
-    × (paid (ops_weight further) l.left ≡ paid (ops_weight (local changes l.now l.view)) l.fn.budget)
+    × (paid (ops_weight further) l.left
+    ≡ paid (ops_weight (local changes l.now l.view)) l.fn.budget)

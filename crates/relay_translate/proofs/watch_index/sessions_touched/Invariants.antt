@@ -5,4 +5,6 @@ use Rattle.relay_translate.specs.SlotIndex.{Found}
 use Rattle.relay_translate.proofs.watch_index.sessions_touched.Given as goal
 
 abbrev pub invariant-loop-change : goal.invariant-loop-change
-invariant-loop-change l = Found (λ v. list_any (λ c. touches c.now v) (take l.change-index l.changes)) l.index l.sessions.items
+invariant-loop-change l =
+    Found (λ v. list_any (λ c. touches c.now v) (take l.change-index l.changes)) l.index
+    l.sessions.items

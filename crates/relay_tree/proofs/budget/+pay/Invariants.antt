@@ -15,10 +15,13 @@ decreases-pay_members l = 1 + members_weight (members_of l.members.now.entries)
 
 abbrev pub invariant-pay_items-loop-item : goal.invariant-pay_items-loop-item
 invariant-pay_items-loop-item l =
-    (left_of (items_weight (items_of (l.item-iterator.rest.now))) l.left ≡ left_of (items_weight (items_of l.items.items)) l.budget)
+    (left_of (items_weight (items_of (l.item-iterator.rest.now))) l.left
+    ≡ left_of (items_weight (items_of l.items.items)) l.budget)
     × (items_weight (items_of (l.item-iterator.rest.now)) ≤ items_weight (items_of l.items.items))
 
 abbrev pub invariant-pay_members-loop-name : goal.invariant-pay_members-loop-name
 invariant-pay_members-loop-name l =
-    (left_of (members_weight (members_of l.name-iterator.rest.now)) l.left ≡ left_of (members_weight (members_of l.members.entries)) l.budget)
-    × (members_weight (members_of l.name-iterator.rest.now) ≤ members_weight (members_of l.members.entries))
+    (left_of (members_weight (members_of l.name-iterator.rest.now)) l.left
+    ≡ left_of (members_weight (members_of l.members.entries)) l.budget)
+    × (members_weight (members_of l.name-iterator.rest.now)
+    ≤ members_weight (members_of l.members.entries))

@@ -11,7 +11,8 @@ returns-in_default c = λ ms are_read.
     let done = l.invariant.done in
     let left = c.next.new.self in
     let none = none_left c.in-Some.value c.in_default.not-Some in
-    let all = l.invariant.all ∙ ap (λ es. done ++ es) c.in-Some.ensures.steps ∙ ap (λ t. done ++ (c.in-Some.name, t) ∷ left) none in
+    let all = l.invariant.all ∙ ap (λ es. done ++ es) c.in-Some.ensures.steps
+    ∙ ap (λ t. done ++ (c.in-Some.name, t) ∷ left) none in
     no_members_read ms done c.in-Some.name left (subst (AreRead ms) all are_read)
 
 pub loop-name-preserved : goal.loop-name-preserved
@@ -22,7 +23,9 @@ loop-name-preserved c =
     let d = c.in-Some-value.value in
     let v : Read = (name, Some d) in
     let left = c.next.new.self in
-    let all : c.args.found.entries ≡ done ++ v ∷ left = l.invariant.all ∙ ap (λ es. done ++ es) c.in-Some.ensures.steps ∙ ap (λ t. done ++ (name, t) ∷ left) c.in-Some-value.is in
+    let all : c.args.found.entries ≡ done ++ v ∷ left =
+    l.invariant.all ∙ ap (λ es. done ++ es) c.in-Some.ensures.steps
+    ∙ ap (λ t. done ++ (name, t) ∷ left) c.in-Some-value.is in
     let ordered = c.into_iter-name-iterator.ensures.into_iter_gives.5 in
     let sorted = subst (λ es. IsStrictlySortedBy string_cmp (keys_of es)) all ordered in
     let last = insert_last done l.members.entries name (Some d) left d l.invariant.each sorted in
@@ -37,5 +40,6 @@ pub returns : goal.returns
 returns c = λ ms are_read.
     let l = c.loop-name in
     let done = l.invariant.done in
-    let whole = l.invariant.all ∙ ap (λ es. done ++ es) c.in-None.ensures.steps.0 ∙ append-nil done in
+    let whole = l.invariant.all ∙ ap (λ es. done ++ es) c.in-None.ensures.steps.0
+    ∙ append-nil done in
     members_read ms done l.members.entries (subst (AreRead ms) whole are_read) l.invariant.each

@@ -25,20 +25,25 @@ loop-name-preserved c =
     let value = c.in-Some.value in
     let left = into_iter_items c.next.new.self in
     let steps = c.in-Some.ensures.steps in
-    let all : c.args.members.entries ≡ done ++ (name, value) ∷ left = l.invariant.all ∙ ap (λ es. done ++ es) steps.0 in
+    let all : c.args.members.entries ≡ done ++ (name, value) ∷ left =
+    l.invariant.all ∙ ap (λ es. done ++ es) steps.0 in
     let ascending = subst IsAscending all c.into_entries-name-items.ensures.ascending in
-    let over : into_iter_len c.next.new.self + 1 ≡ suc (length left) = steps.1 ∙ l.invariant.len ∙ ap length steps.0 in
+    let over : into_iter_len c.next.new.self + 1 ≡ suc (length left) =
+    steps.1 ∙ l.invariant.len ∙ ap length steps.0 in
     record {
       done = done ++ (name, value) ∷ [];
       all = all ∙ sym (append_assoc done ((name, value) ∷ []) left);
       len = omega (arith, over);
-      found = c.in_ok-found.ensures ∙ ap (λ es. insert_entry string_cmp es name (Some value)) l.invariant.found ∙ read_behind done name value left ascending;
+      found = c.in_ok-found.ensures
+          ∙ ap (λ es. insert_entry string_cmp es name (Some value)) l.invariant.found
+          ∙ read_behind done name value left ascending;
     }
 
 pub returns : goal.returns
 returns c =
     let l = c.loop-name in
     let done = l.invariant.done in
-    let none = nil_from_length (into_iter_items l.name-iterator) (sym l.invariant.len ∙ c.in-None.ensures.steps.0) in
+    let none = nil_from_length (into_iter_items l.name-iterator)
+    (sym l.invariant.len ∙ c.in-None.ensures.steps.0) in
     let whole = l.invariant.all ∙ ap (λ es. done ++ es) none ∙ append-nil done in
     l.invariant.found ∙ ap (map as_read) (sym whole)

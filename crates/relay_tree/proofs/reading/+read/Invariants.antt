@@ -20,7 +20,8 @@ invariant-read_items-items l = record {
   turns : ℕ;
   enough : length l.reader ≤ turns;
   done : List Data;
-  rest : converted of_items (items (value l.depth) (length l.initial.reader) l.initial.reader) ≡ parse_map (before done) (converted of_items (items (value l.depth) turns l.reader));
+  rest : converted of_items (items (value l.depth) (length l.initial.reader) l.initial.reader)
+      ≡ parse_map (before done) (converted of_items (items (value l.depth) turns l.reader));
   shorter : length l.reader ≤ length l.initial.reader;
   trees : trees_of done ≡ option_map (λ v. v.items) l.found;
 }
@@ -33,7 +34,9 @@ invariant-read_members-members l = record {
   turns : ℕ;
   enough : length l.reader ≤ turns;
   done : Members;
-  rest : converted (λ ms. of_members ms no_members) (members (value l.depth) (length l.initial.reader) l.initial.reader) ≡ converted (λ ms. of_members ms done) (members (value l.depth) turns l.reader);
+  rest : converted (λ ms. of_members ms no_members)
+      (members (value l.depth) (length l.initial.reader) l.initial.reader)
+      ≡ converted (λ ms. of_members ms done) (members (value l.depth) turns l.reader);
   shorter : length l.reader ≤ length l.initial.reader;
   read : AreRead done (members_read l.object);
 }

@@ -7,6 +7,8 @@ use Rattle.relay_view.proofs.read.slots_of.Given as goal
 
 abbrev pub invariant-loop-item : goal.invariant-loop-item
 invariant-loop-item l = record {
-  paths : behind l.slots.items (each_from slot_at (vec_len l.slots) (items_of l.item-iterator.rest.now)) ≡ each_from slot_at 0 (items_of l.items.items);
+  paths : behind l.slots.items
+      (each_from slot_at (vec_len l.slots) (items_of l.item-iterator.rest.now))
+      ≡ each_from slot_at 0 (items_of l.items.items);
   room : vec_len l.slots + length l.item-iterator.rest.now ≤ vec_capacity l.slots;
 }

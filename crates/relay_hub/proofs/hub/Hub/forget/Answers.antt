@@ -1,43 +1,62 @@
-use Rattle.std.proofs.Common.{◌≡◌, ◌∙◌, ℕ, Some, string_bytes, refl, sym}
+use Rattle.std.proofs.Common.{◌≡◌, ◌∙◌, Some, refl, sym}
 use Rattle.relay_hub.specs.Call.{StepIf, forgetting}
-use Rattle.relay_hub.specs.Representation.{named, hub_of}
+use Rattle.relay_hub.specs.Representation.{hub_of}
 use Rattle.relay_hub.specs.State.{State, place_named}
-use Rattle.relay_hub.specs.Step.{forget_fault, anew_fault}
 use Rattle.relay_hub.specs.declared.event.Event.TheVariants.{Forget}
 use Rattle.relay_hub.proofs.Forgetting.{fault_is}
 use Rattle.relay_hub.proofs.OpenFaults.{place_is}
-use Rattle.relay_hub.proofs.Representation.{written, hub_with, forgets, stays_hub, never_unnamed}
+use Rattle.relay_hub.proofs.Representation.{written, hub_with, forgets, stays_hub}
 use Rattle.relay_hub.proofs.Stands.{call_stands}
 use Rattle.relay_hub.proofs.hub.Hub.forget.Goals as goal
 
 pub returns-in_default-clause-step : goal.returns-in_default-clause-step
 returns-in_default-clause-step c =
-    let none = sym (c.get_index_of.ensures.index ∙ place_is c.args.room.now c.self.inside.rooms.entries) ∙ c.in_default.is in
+    let none =
+    sym (c.get_index_of.ensures.index
+    ∙ place_is c.args.room.now c.self.inside.rooms.entries) ∙ c.in_default.is in
     rw (← c.self.view_is, none) (refl, refl)
 
-at : (c : goal.After-self-2-1) → place_named c.args.room.now (hub_of c.self.inside).rooms ≡ Some c.in-Some.place
-at c = sym (c.get_index_of.ensures.index ∙ place_is c.args.room.now c.self.inside.rooms.entries) ∙ c.in-Some.is
+at : (c : goal.After-self-2-1)
+    → place_named c.args.room.now (hub_of c.self.inside).rooms ≡ Some c.in-Some.place
+at c =
+    sym (c.get_index_of.ensures.index ∙ place_is c.args.room.now c.self.inside.rooms.entries)
+    ∙ c.in-Some.is
 
 abbrev after : goal.After-self-2-1 → State
 after c = hub_with c.self.inside c.in-Some.place c.begin_anew.new.self
 
-step : (c : goal.After-self-2-1) → StepIf (hub_of c.self.inside) (Forget c.args.room.now) (forgetting c.begin_anew.result) (after c)
+step : (c : goal.After-self-2-1)
+    → StepIf (hub_of c.self.inside) (Forget c.args.room.now) (forgetting c.begin_anew.result)
+    (after c)
 step c =
-    forgets c.self.inside c.args.room.now c.in-Some.place c.in-Some-get_index_mut.room_sessions.now c.begin_anew.new.self c.begin_anew.result (at c)
-    (sym c.in-Some-get_index_mut.ensures.value) c.begin_anew.ensures.ok c.begin_anew.ensures.may c.begin_anew.ensures.fault c.begin_anew.ensures.err
+    forgets c.self.inside c.args.room.now c.in-Some.place c.in-Some-get_index_mut.room_sessions.now
+    c.begin_anew.new.self c.begin_anew.result (at c)
+    (sym c.in-Some-get_index_mut.ensures.value) c.begin_anew.ensures.ok c.begin_anew.ensures.may
+    c.begin_anew.ensures.fault c.begin_anew.ensures.err
 
 pub invariant_of-self : goal.invariant_of-self
-invariant_of-self c = (stays_hub (hub_of c.self.inside) (after c) (Forget c.args.room.now) (forgetting c.begin_anew.result) c.self.invariant.0 (step c), c.self.invariant.1)
+invariant_of-self c = (
+  stays_hub (hub_of c.self.inside) (after c) (Forget c.args.room.now)
+      (forgetting c.begin_anew.result) c.self.invariant.0 (step c),
+  c.self.invariant.1,
+)
 
 pub returns-clause-step : goal.returns-clause-step
 returns-clause-step c = rw (← c.self.view_is) (step c)
 
 pub returns-clause-stands : goal.returns-clause-stands
 returns-clause-stands c =
-    rw (← c.self.view_is) (λ b E h. call_stands b E (hub_of c.self.inside) (after c) (Forget c.args.room.now) (forgetting c.begin_anew.result) h (step c))
+    rw (← c.self.view_is) (λ b E h.
+    call_stands b E (hub_of c.self.inside) (after c) (Forget c.args.room.now)
+    (forgetting c.begin_anew.result) h (step c))
 
 pub returns-clause-no_memory : goal.returns-clause-no_memory
 returns-clause-no_memory c = λ e.
     let g = c.in-Some-get_index_mut.room_sessions.now in
-    let w = written c.self.inside.rooms.entries c.in-Some.place g g (sym c.in-Some-get_index_mut.ensures.value) in
-    rw (← c.self.view_is) (fault_is (hub_of c.self.inside) c.args.room.now c.in-Some.place (w.name, g) (at c) w.was ∙ c.begin_anew.ensures.no_memory e)
+    let w =
+    written c.self.inside.rooms.entries c.in-Some.place g g
+    (sym c.in-Some-get_index_mut.ensures.value) in
+    rw (← c.self.view_is) (fault_is (hub_of c.self.inside) c.args.room.now c.in-Some.place (
+      w.name,
+      g,
+    ) (at c) w.was ∙ c.begin_anew.ensures.no_memory e)

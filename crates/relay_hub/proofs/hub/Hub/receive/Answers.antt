@@ -11,20 +11,33 @@ use Rattle.relay_hub.proofs.hub.Hub.receive.Goals as goal
 abbrev left : goal.After-self-3-1 → RoomSessions
 left c = c.receive.new.self
 
-step : (c : goal.After-self-3-1) → StepIf (hub_of c.self.inside) (Receive c.args.session c.args.text.now) (receiving c.receive.result) (hub_with c.self.inside c.in-Some.place.now (left c))
+step : (c : goal.After-self-3-1)
+    → StepIf (hub_of c.self.inside) (Receive c.args.session c.args.text.now)
+    (receiving c.receive.result) (hub_with c.self.inside c.in-Some.place.now (left c))
 step c =
     let g = c.in-Some-get_index_mut.room_sessions.now in
-    receives c.self.inside c.args.session c.in-Some.place.now g (left c) (sym c.in-Some.ensures.value) (sym c.in-Some-get_index_mut.ensures.value) c.args.text.now (receiving c.receive.result) c.receive.ensures.step
+    receives c.self.inside c.args.session c.in-Some.place.now g (left c)
+    (sym c.in-Some.ensures.value) (sym c.in-Some-get_index_mut.ensures.value) c.args.text.now
+    (receiving c.receive.result) c.receive.ensures.step
 
 pub unreachable-requires : goal.unreachable-requires
-unreachable-requires c = never_missing c.self.inside c.args.session c.in-Some.place.now c.self.invariant.0 (sym c.in-Some.ensures.value) (sym c.in_default-get_index_mut.ensures.value)
+unreachable-requires c =
+    never_missing c.self.inside c.args.session c.in-Some.place.now c.self.invariant.0
+    (sym c.in-Some.ensures.value) (sym c.in_default-get_index_mut.ensures.value)
 
 pub receive-requires : goal.receive-requires
 receive-requires c =
-    is_there c.self.inside c.args.session c.in-Some.place.now c.self.invariant.0 (sym c.in-Some.ensures.value) c.in-Some-get_index_mut.room_sessions.now (sym c.in-Some-get_index_mut.ensures.value)
+    is_there c.self.inside c.args.session c.in-Some.place.now c.self.invariant.0
+    (sym c.in-Some.ensures.value) c.in-Some-get_index_mut.room_sessions.now
+    (sym c.in-Some-get_index_mut.ensures.value)
 
 pub invariant_of-self : goal.invariant_of-self
-invariant_of-self c = (stays_hub (hub_of c.self.inside) (hub_with c.self.inside c.in-Some.place.now (left c)) (Receive c.args.session c.args.text.now) (receiving c.receive.result) c.self.invariant.0 (step c), c.self.invariant.1)
+invariant_of-self c = (
+  stays_hub (hub_of c.self.inside) (hub_with c.self.inside c.in-Some.place.now (left c))
+      (Receive c.args.session c.args.text.now) (receiving c.receive.result) c.self.invariant.0
+      (step c),
+  c.self.invariant.1,
+)
 
 pub returns : goal.returns
 returns c =
@@ -35,6 +48,10 @@ returns c =
       step = step c;
       stands = λ b E h. call_stands b E old new event (receiving c.receive.result) h (step c);
       refused = refuses_edits old new c.args.session c.args.text.now c.receive.result (step c);
-      no_memory = λ e. hears c.self.inside c.args.session c.in-Some.place.now c.self.invariant.0 (sym c.in-Some.ensures.value) c.in-Some-get_index_mut.room_sessions.now (sym c.in-Some-get_index_mut.ensures.value)
+      no_memory =
+          λ e.
+          hears c.self.inside c.args.session c.in-Some.place.now c.self.invariant.0
+          (sym c.in-Some.ensures.value) c.in-Some-get_index_mut.room_sessions.now
+          (sym c.in-Some-get_index_mut.ensures.value)
           (c.receive.ensures.no_memory e);
     })

@@ -8,11 +8,21 @@ use Rattle.relay_hub.proofs.hub.Hub.run.Goals as goal
 pub loop-event-preserved : goal.loop-event-preserved
 loop-event-preserved c =
     let l = c.loop-event in
-    let at = slice_get_read c.args.events.now (length c.args.events.now) (length l.answers.items) c.event-item.result refl (omega (arith, l.invariant.count, c.loop-event-test.true)) (rw l.invariant.count c.event-item.is) in
+    let at =
+    slice_get_read c.args.events.now (length c.args.events.now) (length l.answers.items)
+    c.event-item.result refl (omega (arith, l.invariant.count, c.loop-event-test.true))
+    (rw l.invariant.count c.event-item.is) in
     record {
       runs = rw c.push_reserved.ensures.items
-          (run_more c.args.self.now l.self c.carry_out.new.self c.args.events.now l.answers.items c.event-item.result c.in-Ok-carry_out.answer l.invariant.runs at c.in-Ok-carry_out.ensures.ok);
-      count = rw c.push_reserved.ensures.items (omega (arith, length-append l.answers.items (c.in-Ok-carry_out.answer ∷ []), l.invariant.count));
+          (run_more c.args.self.now l.self c.carry_out.new.self c.args.events.now l.answers.items
+          c.event-item.result c.in-Ok-carry_out.answer l.invariant.runs at
+          c.in-Ok-carry_out.ensures.ok);
+      count =
+          rw c.push_reserved.ensures.items (omega (
+            arith,
+            length-append l.answers.items (c.in-Ok-carry_out.answer ∷ []),
+            l.invariant.count,
+          ));
       room = rw c.push_reserved.ensures.capacity l.invariant.room;
     }
 
@@ -23,7 +33,8 @@ loop-event-init c = record {
   room = c.in-Ok.ensures.capacity;
 }
 
-none : (c : goal.After-new) → Runs c.args.self.now c.args.events.now c.new.result.items c.args.self.now
+none : (c : goal.After-new)
+    → Runs c.args.self.now c.args.events.now c.new.result.items c.args.self.now
 none c = rw c.new.ensures.items (stops c.args.self.now c.args.events.now)
 
 pub returns-in_default-clause-stopped : goal.returns-in_default-clause-stopped
@@ -38,7 +49,8 @@ returns-in_default-clause-exact c = exact_after (none c)
 pub returns-in_default-clause-each : goal.returns-in_default-clause-each
 returns-in_default-clause-each c = each_after (none c)
 
-done : (c : goal.In-Err) → Runs c.args.self.now c.args.events.now c.loop-event.answers.items c.carry_out.new.self
+done : (c : goal.In-Err)
+    → Runs c.args.self.now c.args.events.now c.loop-event.answers.items c.carry_out.new.self
 done c = rw c.in-Err.ensures.err c.loop-event.invariant.runs
 
 pub returns-in-Err-clause-stands : goal.returns-in-Err-clause-stands

@@ -6,5 +6,7 @@ use Rattle.relay_hub.proofs.room_sessions.RoomSessions.begin.Goals as goal
 pub invariant_of-result : goal.invariant_of-result
 invariant_of-result c =
     let first = c.args.first in
-    let one : c.push.new.self.items ≡ first ∷ [] = c.in_ok-push.ensures.items ∙ ap (λ (xs : List Session). xs ++ first ∷ []) c.in_ok-sessions.ensures.items in
+    let one : c.push.new.self.items ≡ first ∷ [] =
+    c.in_ok-push.ensures.items
+    ∙ ap (λ (xs : List Session). xs ++ first ∷ []) c.in_ok-sessions.ensures.items in
     rw (c.new-watches.ensures, one) (first_indexed first c.requires)

@@ -6,9 +6,15 @@ use Rattle.relay_hub.proofs.room_sessions.RoomSessions.join.Goals as goal
 pub invariant_of-self-2 : goal.invariant_of-self-2
 invariant_of-self-2 c =
     let g = c.self.inside in
-    rw c.in_ok-push.ensures.items (joined_indexed g.watches g.sessions.items c.args.session (rw (← c.self.view_is) at c.requires.fresh) c.requires.idle c.self.invariant)
+    rw c.in_ok-push.ensures.items
+    (joined_indexed g.watches g.sessions.items c.args.session
+    (rw (← c.self.view_is) at c.requires.fresh) c.requires.idle c.self.invariant)
 
 pub returns-clause-ok : goal.returns-clause-ok
 returns-clause-ok c =
     let g = c.self.inside in
-    rw (← c.self.view_is, c.in_ok-push.ensures.items) (refl, push_last g.sessions.items c.args.session (rw (← c.self.view_is) at (c.requires.fresh c.args.session.number (omega arith))))
+    rw (← c.self.view_is, c.in_ok-push.ensures.items) (
+      refl,
+      push_last g.sessions.items c.args.session
+          (rw (← c.self.view_is) at (c.requires.fresh c.args.session.number (omega arith))),
+    )

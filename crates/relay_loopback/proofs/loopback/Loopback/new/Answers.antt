@@ -1,5 +1,5 @@
 -- `BadLimit` comes only if a limit is out of range.
-use Rattle.relay_lines.proofs.Limits.{limits_kept}
+use Rattle.relay_script.proofs.Limits.{limits_kept}
 use Rattle.relay_loopback.proofs.loopback.Loopback.new.Goals as goal
 
 pub returns-clause-bad_limit : goal.returns-clause-bad_limit

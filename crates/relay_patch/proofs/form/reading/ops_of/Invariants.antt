@@ -8,7 +8,9 @@ use Rattle.relay_patch.proofs.form.reading.ops_of.Given as goal
 
 abbrev pub invariant-loop-item : goal.invariant-loop-item
 invariant-loop-item l = record {
-  read : behind l.ops.items (each_from (op_at l.tokens) (vec_len l.ops) (items_of (into_iter_items l.item-iterator))) ≡ each_from (op_at l.tokens) 0 (items_of l.fn.items.items);
+  read : behind l.ops.items
+      (each_from (op_at l.tokens) (vec_len l.ops) (items_of (into_iter_items l.item-iterator)))
+      ≡ each_from (op_at l.tokens) 0 (items_of l.fn.items.items);
   len : into_iter_len l.item-iterator ≡ length (into_iter_items l.item-iterator);
   room : vec_len l.ops + length (into_iter_items l.item-iterator) ≤ vec_capacity l.ops;
 }

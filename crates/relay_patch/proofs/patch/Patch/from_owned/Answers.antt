@@ -20,8 +20,11 @@ returns-in-Ok-clause-ok c =
     let ok = items.ok in
     let limits = c.args.limits in
     let short : length items.items ≤ limits.ops = grind (arith, ok.0) in
-    let here = ap (λ xs. each_from (op_at limits.tokens) 0 (items_of xs)) (ap (λ v. v.items) (sym c.in-List.items-is)) in
-    rw (← c.tree.view_is, c.in-List.is) (few limits.ops limits.tokens items.items short ∙ here ∙ c.in-Ok.ensures.ok ∙ ap Ok (sym c.from_ops.ensures))
+    let here = ap (λ xs. each_from (op_at limits.tokens) 0 (items_of xs))
+    (ap (λ v. v.items) (sym c.in-List.items-is)) in
+    rw (← c.tree.view_is, c.in-List.is)
+    (few limits.ops limits.tokens items.items short ∙ here ∙ c.in-Ok.ensures.ok
+    ∙ ap Ok (sym c.from_ops.ensures))
 
 pub returns-in-Err-clause-err : goal.returns-in-Err-clause-err
 returns-in-Err-clause-err c is_refused =
@@ -29,8 +32,10 @@ returns-in-Err-clause-err c is_refused =
     let ok = items.ok in
     let limits = c.args.limits in
     let short : length items.items ≤ limits.ops = grind (arith, ok.0) in
-    let here = ap (λ xs. each_from (op_at limits.tokens) 0 (items_of xs)) (ap (λ v. v.items) (sym c.in-List.items-is)) in
-    rw (← c.tree.view_is, c.in-List.is) (few limits.ops limits.tokens items.items short ∙ here ∙ c.in-Err.ensures.err is_refused)
+    let here = ap (λ xs. each_from (op_at limits.tokens) 0 (items_of xs))
+    (ap (λ v. v.items) (sym c.in-List.items-is)) in
+    rw (← c.tree.view_is, c.in-List.is)
+    (few limits.ops limits.tokens items.items short ∙ here ∙ c.in-Err.ensures.err is_refused)
 
 pub returns-in-Err-clause-memory : goal.returns-in-Err-clause-memory
 returns-in-Err-clause-memory c is_memory =

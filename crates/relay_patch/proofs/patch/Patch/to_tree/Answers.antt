@@ -11,10 +11,15 @@ written c =
     let ops = c.ops-op-items.result.now in
     let past : length ops ≤ c.loop-op.op-index = grind arith in
     let whole : take c.loop-op.op-index ops ≡ ops = take_all _ ops past in
-    c.from.ensures ∙ ap (λ ds. list (items_of ds)) (c.loop-op.invariant ∙ ap (map op_document) (whole ∙ c.ops-op-items.ensures)) ∙ ap list (ops_items-map c.args.self.now)
+    c.from.ensures
+    ∙ ap (λ ds. list (items_of ds))
+    (c.loop-op.invariant ∙ ap (map op_document) (whole ∙ c.ops-op-items.ensures))
+    ∙ ap list (ops_items-map c.args.self.now)
 
 pub returns-clause-form : goal.returns-clause-form
 returns-clause-form c = written c
 
 pub returns-clause-reads_back : goal.returns-clause-reads_back
-returns-clause-reads_back c = λ ops tokens deepest few fit. rw (written c) (reads_back ops tokens deepest c.args.self.now few fit)
+returns-clause-reads_back c =
+    λ ops tokens deepest few fit. rw (written c)
+    (reads_back ops tokens deepest c.args.self.now few fit)

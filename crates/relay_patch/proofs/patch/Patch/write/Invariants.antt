@@ -6,5 +6,6 @@ use Rattle.relay_patch.proofs.patch.Patch.write.Given as goal
 abbrev pub invariant-loop-op : goal.invariant-loop-op
 invariant-loop-op l = record {
   before : l.out.before ≡ l.initial.out.before;
-  each : WritesEach (map op_document (take l.op-index l.op-items)) l.initial.out.tokens l.out.tokens;
+  each : WritesEach
+      (map op_document (take l.op-index l.op-items)) l.initial.out.tokens l.out.tokens;
 }

@@ -14,21 +14,29 @@ if_err (Err e) f = f e
 
 pub returns-then-not-is_pointer-clause-unspelled : goal.returns-then-not-is_pointer-clause-unspelled
 returns-then-not-is_pointer-clause-unspelled c =
-    λ _. spells_none c.args.text.now (none_from (path_of_text c.args.text.now) (sym c.is_pointer.ensures ∙ c.if-not-is_pointer.true))
+    λ _. spells_none c.args.text.now
+    (none_from (path_of_text c.args.text.now)
+    (sym c.is_pointer.ensures ∙ c.if-not-is_pointer.true))
 
 pub returns-then-count_tokens-most-clause-many : goal.returns-then-count_tokens-most-clause-many
 returns-then-count_tokens-most-clause-many c =
-    λ _. path_counts c.args.text.now (λ n. c.args.most < n) (sym c.is_pointer.ensures ∙ c.if-not-is_pointer.false) (omega (arith, c.count_tokens.ensures, c.if-count_tokens-most.true))
+    λ _. path_counts c.args.text.now (λ n. c.args.most < n)
+    (sym c.is_pointer.ensures ∙ c.if-not-is_pointer.false)
+    (omega (arith, c.count_tokens.ensures, c.if-count_tokens-most.true))
 
 pub returns-in_err-pointer_of-clause-no_memory : goal.returns-in_err-pointer_of-clause-no_memory
 returns-in_err-pointer_of-clause-no_memory c =
-    let few = path_counts c.args.text.now (λ n. n ≤ c.args.most) (sym c.is_pointer.ensures ∙ c.if-not-is_pointer.false) (omega (arith, c.count_tokens.ensures, c.if-count_tokens-most.false)) in
+    let few = path_counts c.args.text.now (λ n. n ≤ c.args.most)
+    (sym c.is_pointer.ensures ∙ c.if-not-is_pointer.false)
+    (omega (arith, c.count_tokens.ensures, c.if-count_tokens-most.false)) in
     if_err c.from_residual.result (λ _ _. few)
 
 pub returns-clause-spelled : goal.returns-clause-spelled
-returns-clause-spelled c = reads-spelled c.args.text.now c.in_ok-pointer_of.field-0 c.in_ok-pointer_of.ensures
+returns-clause-spelled c =
+    reads-spelled c.args.text.now c.in_ok-pointer_of.field-0 c.in_ok-pointer_of.ensures
 
 pub returns-clause-few : goal.returns-clause-few
 returns-clause-few c =
-    let long = length-path_of_text c.args.text.now c.in_ok-pointer_of.field-0 c.in_ok-pointer_of.ensures in
+    let long = length-path_of_text c.args.text.now c.in_ok-pointer_of.field-0
+    c.in_ok-pointer_of.ensures in
     omega (arith, long, c.count_tokens.ensures, c.if-count_tokens-most.false)

@@ -9,4 +9,5 @@ invariant_of-result c =
     let room = begun_is_room c.args.document c.args.rev c.args.limit
     (grind (arith, nat_tests, common_steps)) (grind (arith, nat_tests, common_steps))
     (grind (arith, common_steps)) (grind (arith, common_steps)) c.if-rev-gt-LAST_REVISION.false in
-    rw c.in_ok-history.ensures.ok (record { is = room; weight = omega (arith, c.weight-weight.ensures, c.if-weight.false) })
+    rw c.in_ok-history.ensures.ok
+    (record { is = room; weight = omega (arith, c.weight-weight.ensures, c.if-weight.false) })

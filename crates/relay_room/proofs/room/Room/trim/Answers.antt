@@ -8,5 +8,10 @@ pub invariant_of-self : goal.invariant_of-self
 invariant_of-self c =
     let room = c.self.inside in
     let before : State = record { document = room.document; history = room.history } in
-    subst (λ (past : Past). IsWeighed (record { document = room.document; history = past }) room.weight) (sym c.trim.ensures)
-    (record { is = trimmed_is_room c.args.budget before c.self.invariant.is; weight = c.self.invariant.weight })
+    subst (λ (past : Past).
+    IsWeighed (record { document = room.document; history = past }) room.weight)
+    (sym c.trim.ensures)
+    (record {
+      is = trimmed_is_room c.args.budget before c.self.invariant.is;
+      weight = c.self.invariant.weight;
+    })

@@ -13,6 +13,9 @@ invariant_of-self-2 c =
     let le : c.self.inside.deepest ≤ c.max-self-inside.result = grind arith in
     let less : c.depth_of.result ≤ c.max-self-inside.result = grind arith in (
       is,
-      within_put old new watches session c.args.view.now c.self.inside.deepest c.depth_of.result c.max-self-inside.result c.self.invariant.0 (subst (IsIndex new) c.in_ok-put_view.ensures.views is) c.self.invariant.1 c.depth_of.ensures le less,
+      within_put old new watches session c.args.view.now c.self.inside.deepest c.depth_of.result
+          c.max-self-inside.result c.self.invariant.0
+          (subst (IsIndex new) c.in_ok-put_view.ensures.views is) c.self.invariant.1
+          c.depth_of.ensures le less,
       c.put_view.ensures.watched,
     )

@@ -16,7 +16,9 @@ returns-clause-exact c = λ s.
     let test = is_touched (map (λ (x : Bor Change). x.now) c.args.changes.now) in
     let found = c.in_ok-sessions_touched.ensures in
     c.in_order.ensures.same s
-    ∙ found_exactly test c.self.inside.slots (watches_of c.self.inside.views) c.in_ok-sessions_touched.field-0.items c.self.invariant.0 found s
+    ∙ found_exactly test c.self.inside.slots
+    (watches_of c.self.inside.views) c.in_ok-sessions_touched.field-0.items c.self.invariant.0
+    found s
     ∙ ap (λ m. list_any test (slots_of (fin.get m s))) c.self.view_is
 
 pub returns-clause-others : goal.returns-clause-others
@@ -26,6 +28,8 @@ returns-clause-others c = λ s now absent.
     let found = c.in_ok-sessions_touched.ensures in
     let exact =
     c.in_order.ensures.same s
-    ∙ found_exactly test c.self.inside.slots (watches_of c.self.inside.views) c.in_ok-sessions_touched.field-0.items c.self.invariant.0 found s
+    ∙ found_exactly test c.self.inside.slots
+    (watches_of c.self.inside.views) c.in_ok-sessions_touched.field-0.items c.self.invariant.0
+    found s
     ∙ ap (λ m. list_any test (slots_of (fin.get m s))) c.self.view_is in
     untold 0 changes now (slots_of (fin.get c.args.self.now s)) (sym exact ∙ absent)

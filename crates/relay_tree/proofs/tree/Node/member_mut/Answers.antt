@@ -11,9 +11,16 @@ returns-in-Some c =
     let whole = is_object c.args.self.now m c.in-Some.ensures.value in
     let lent = c.get_mut.follows in
     rw whole (
-      (refl, λ w. on_some c.get_mut.result (ap (λ n. object (members_of n.entries)) (lent.holds w) ∙ ap object (members_of-set_value c.args.name.now m.entries w)), ap (λ n. object (members_of n.entries)) lent.holds-at-none),
+      (
+        refl,
+        λ w. on_some c.get_mut.result
+            (ap (λ n. object (members_of n.entries)) (lent.holds w)
+            ∙ ap object (members_of-set_value c.args.name.now m.entries w)),
+        ap (λ n. object (members_of n.entries)) lent.holds-at-none,
+      ),
       c.get_mut.ensures.value ∙ members_of-lookup c.args.name.now m.entries,
     )
 
 pub returns-in-None : goal.returns-in-None
-returns-in-None c = ((refl, λ w. tt, refl), no_member c.args.self.now c.args.name.now c.in-None.ensures.value)
+returns-in-None c =
+    ((refl, λ w. tt, refl), no_member c.args.self.now c.args.name.now c.in-None.ensures.value)

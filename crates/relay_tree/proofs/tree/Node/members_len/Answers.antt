@@ -5,7 +5,9 @@ use Rattle.relay_tree.proofs.Named.{members_length-members_of, ordered_entries}
 use Rattle.relay_tree.proofs.tree.Node.members_len.Goals as goal
 
 pub returns-in-Members-clause-len : goal.returns-in-Members-clause-len
-returns-in-Members-clause-len c = rw c.in-Members.is (ap Some (c.len.ensures.len ∙ sym (members_length-members_of c.in-Members.members.entries)))
+returns-in-Members-clause-len c =
+    rw c.in-Members.is
+    (ap Some (c.len.ensures.len ∙ sym (members_length-members_of c.in-Members.members.entries)))
 
 pub returns-in-Members-clause-ordered : goal.returns-in-Members-clause-ordered
 returns-in-Members-clause-ordered c = λ ms is.

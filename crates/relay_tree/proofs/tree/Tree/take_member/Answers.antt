@@ -9,6 +9,7 @@ returns-clause-others c other apart =
     elim c.match-member_mut.branch [
       | in-Some w ↦
           let wrote = rw w.in-Some.is at (c.member_mut.follows.holds w.replace.new.dest) in
-          rw (← c.self.view_is, w.self-inside-is) (ap (λ d. object_member d other) wrote ∙ with_member-other _ _ other _ apart)
+          rw (← c.self.view_is, w.self-inside-is)
+          (ap (λ d. object_member d other) wrote ∙ with_member-other _ _ other _ apart)
       | in-None w ↦ search rules
     ]

@@ -11,4 +11,7 @@ returns c =
     let past : length pointers ≤ c.loop-slot.slot-index = grind arith in
     let whole : take c.loop-slot.slot-index pointers ≡ pointers = take_all _ pointers past in
     let d = c.args.document.now in
-    c.from.ensures ∙ ap (λ ds. list (items_of ds)) (c.loop-slot.invariant ∙ ap (map (λ s. slot s d)) (whole ∙ c.slots-slot-items.ensures)) ∙ ap list (slots-map c.args.self.now d)
+    c.from.ensures
+    ∙ ap (λ ds. list (items_of ds))
+    (c.loop-slot.invariant ∙ ap (map (λ s. slot s d)) (whole ∙ c.slots-slot-items.ensures))
+    ∙ ap list (slots-map c.args.self.now d)

@@ -1,0 +1,27 @@
+//! Why a room cannot be entered now.
+ghost use Rattle.std.specs.Prelude.{◌≡◌};
+ghost use Rattle.relay_admin.specs.AdminFaults.{unavailable_why};
+
+/// Why a room cannot be entered now. Nothing was changed.
+#[derive(Clone, Copy, Debug, PartialEq, Eq)]
+pub enum Unavailable {
+    /// There are as many rooms as there may be, and none makes place.
+    Rooms,
+    /// As many sessions are open as may be.
+    Sessions,
+    /// Memory was refused.
+    Memory,
+}
+
+impl Unavailable {
+    /// The body of the response.
+    pub(crate) fn why(self) -> &'static str
+        ensures { result.now ≡ unavailable_why self }
+    {
+        match self {
+            Unavailable::Rooms => "all rooms are taken\n",
+            Unavailable::Sessions => "all sessions are taken\n",
+            Unavailable::Memory => "memory was refused\n",
+        }
+    }
+}

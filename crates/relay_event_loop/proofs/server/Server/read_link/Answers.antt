@@ -1,0 +1,31 @@
+-- The link makes a turn, or nothing changes.
+use Rattle.std.proofs.Common.{sym}
+use Rattle.relay_event_loop.proofs.Advancing.{advances_then}
+use Rattle.relay_event_loop.proofs.Held.{turned, unmoved, no_more, no_more_then}
+use Rattle.relay_event_loop.proofs.server.Server.read_link.Goals as goal
+
+pub returns : goal.returns
+returns g c = (
+  (
+    c.settle.ensures.0.0,
+    advances_then (turned c.args.self.now.connections c.args.key c.in-Some.connection.now _
+        (sym c.in-Some.ensures.value) _ _ _ c.in-Ok.ensures.turns.follows
+        c.in-Ok.ensures.turns.received c.in-Ok.ensures.turns.passes) c.settle.ensures.0.1,
+  ),
+  no_more_then _ _ _ c.settle.ensures.1
+      (no_more c.args.self.now.connections c.args.key c.in-Some.connection.now _
+      (sym c.in-Some.ensures.value)),
+)
+
+pub returns-in_default-read_turn : goal.returns-in_default-read_turn
+returns-in_default-read_turn g c = (
+  (
+    c.shed.ensures.0.0,
+    advances_then (unmoved c.args.self.now.connections c.args.key c.in-Some.connection.now
+        _ (sym c.in-Some.ensures.value) _ _ c.in_default-read_turn.ensures.hub_unchanged
+        c.in_default-read_turn.ensures.unchanged) c.shed.ensures.0.1,
+  ),
+  no_more_then _ _ _ c.shed.ensures.1
+      (no_more c.args.self.now.connections c.args.key c.in-Some.connection.now _
+      (sym c.in-Some.ensures.value)),
+)

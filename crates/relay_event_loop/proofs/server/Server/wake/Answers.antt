@@ -1,0 +1,15 @@
+-- The link stays.
+use Rattle.std.proofs.Common.{refl, sym}
+use Rattle.relay_event_loop.proofs.Held.{woken, no_more}
+use Rattle.relay_event_loop.proofs.server.Server.wake.Goals as goal
+
+pub returns : goal.returns
+returns g c = (
+  (
+    refl,
+    woken c.args.self.now.connections c.args.key c.in-Some.connection.now _
+        (sym c.in-Some.ensures.value) _ c.wake.ensures,
+  ),
+  no_more c.args.self.now.connections c.args.key c.in-Some.connection.now _
+      (sym c.in-Some.ensures.value),
+)

@@ -1,0 +1,34 @@
+-- The link makes a turn, or nothing changes.
+use Rattle.std.proofs.Common.{sym}
+use Rattle.relay_link.proofs.Hearing.{passes_wider}
+use Rattle.relay_event_loop.proofs.Advancing.{advances_then}
+use Rattle.relay_event_loop.proofs.Held.{turned, unmoved, no_more, no_more_then}
+use Rattle.relay_event_loop.proofs.server.Server.write_link.Goals as goal
+
+pub returns : goal.returns
+returns g c = (
+  (
+    c.settle.ensures.0.0,
+    advances_then (turned c.args.self.now.connections c.args.key c.in-Some.connection.now _
+        (sym c.in-Some.ensures.value) _ _ _ c.in-Ok.ensures.turns.follows
+        c.in-Ok.ensures.turns.received
+        (passes_wider _ c.args.self.now.hub _ _ _ _ c.in-Ok.ensures.turns.passes))
+        c.settle.ensures.0.1,
+  ),
+  no_more_then _ _ _ c.settle.ensures.1
+      (no_more c.args.self.now.connections c.args.key c.in-Some.connection.now _
+      (sym c.in-Some.ensures.value)),
+)
+
+pub returns-in_default-write_turn : goal.returns-in_default-write_turn
+returns-in_default-write_turn g c = (
+  (
+    c.shed.ensures.0.0,
+    advances_then (unmoved c.args.self.now.connections c.args.key c.in-Some.connection.now
+        _ (sym c.in-Some.ensures.value) _ _ c.in_default-write_turn.ensures.hub_unchanged
+        c.in_default-write_turn.ensures.unchanged) c.shed.ensures.0.1,
+  ),
+  no_more_then _ _ _ c.shed.ensures.1
+      (no_more c.args.self.now.connections c.args.key c.in-Some.connection.now _
+      (sym c.in-Some.ensures.value)),
+)

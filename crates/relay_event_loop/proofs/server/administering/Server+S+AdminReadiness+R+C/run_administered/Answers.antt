@@ -1,0 +1,7 @@
+-- One after the other.
+use Rattle.relay_event_loop.proofs.Advancing.{advances_then, rounds_of}
+use Rattle.relay_event_loop.proofs.server.administering.Server+S+AdminReadiness+R+C.run_administered.Goals as goal
+
+pub returns-clause-rounds : goal.returns-clause-rounds
+returns-clause-rounds g c =
+    rounds_of (advances_then c.run_until_stop-done.ensures.kept.0.1 c.end.ensures.rounds.advances)

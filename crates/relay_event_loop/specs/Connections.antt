@@ -1,0 +1,31 @@
+-- The connections of a server: how many it holds, and whether the hub accepts a request of one.
+use Rattle.std.specs.Prelude.{ℕ, ◌+◌, ◌-◌, ◌/◌, ◌^◌, min, max, Bool, true, Option, Some, None}
+use Rattle.relay_hub.specs.State.{State, session_of}
+use Rattle.relay_hub.specs.Queries.{may_hear}
+use Rattle.slab.specs.Slab.{slab_len}
+use Rattle.relay_link.specs.declared.entrance.Entrance.{Entrance}
+use Rattle.relay_event_loop.specs.declared.server.Server.{Server}
+
+abbrev pub connections_of : {S R : Type 0} → Server S R → ℕ
+connections_of s = slab_len s.connections
+
+-- how many connections a server may hold
+abbrev pub limit_of : {S R : Type 0} → Server S R → ℕ
+limit_of s = s.most
+
+-- whether clients may enter
+abbrev pub entrance_of : {S R : Type 0} → Server S R → Entrance
+entrance_of s = s.entrance
+
+abbrev pub hub_of : {S R : Type 0} → Server S R → State
+hub_of s = s.hub
+
+-- so many for a number of sessions: a quarter more, and at least 64 more
+abbrev pub connection_limit : ℕ → ℕ
+connection_limit sessions = min (2 ^ 64 - 1) (sessions + max (sessions / 4) 64)
+
+-- whether the hub has space for a reply to a link with this session; a link without a session needs
+-- none
+abbrev pub has_room : State → Option ℕ → Bool
+has_room hub (Some s) = may_hear (session_of hub s)
+has_room hub None = true

@@ -1,0 +1,5 @@
+pub mod Connections
+pub mod Ready
+pub mod Advances
+pub mod Rounds
+pub mod Visited

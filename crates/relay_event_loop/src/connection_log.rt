@@ -1,0 +1,181 @@
+//! The log of a server's connections.
+use relay_hub::OpenFault;
+use relay_link::EndCause;
+use std::fmt;
+use std::fmt::{Display, Formatter};
+use std::net::SocketAddr;
+
+/// An event of a connection, or of the server.
+#[derive(Clone, Copy, Debug)]
+pub enum LogEntry<'a> {
+    /// Its handshake opened a session in a room.
+    Opened {
+        connection: ConnectionId,
+        session: RoomSession<'a>,
+    },
+    /// Its handshake was refused.
+    Refused {
+        connection: ConnectionId,
+        refusal: HandshakeRefusal,
+    },
+    /// It ended, `rounds` rounds after it was accepted. It had this session, if it ever had one.
+    Ended {
+        connection: ConnectionId,
+        session: Option<RoomSession<'a>>,
+        cause: EndCause,
+        rounds: u64,
+    },
+    /// It was the oldest connection without a session when a place was needed, `rounds` rounds
+    /// after it was accepted.
+    Evicted {
+        connection: ConnectionId,
+        rounds: u64,
+    },
+    /// An allocation failed, so the hub gave memory back ([`relay_hub::Hub::shed`]).
+    OutOfMemory,
+}
+
+/// A connection: its key in the server's slab, which a later connection may have again, and the
+/// address of its other side.
+#[derive(Clone, Copy, Debug)]
+pub struct ConnectionId {
+    pub key: usize,
+    pub peer: SocketAddr,
+}
+
+/// A session and the room in which it is.
+#[derive(Clone, Copy, Debug)]
+pub struct RoomSession<'a> {
+    pub number: u64,
+    pub room: &'a str,
+}
+
+/// Why a handshake was refused.
+#[derive(Clone, Copy, Debug, PartialEq, Eq)]
+pub enum HandshakeRefusal {
+    /// Its head asks for no room in the way of the protocol. The reply has this status.
+    Status(u16),
+    /// 503: as many sessions are open as the hub allows.
+    SessionsFull,
+    /// 503: the room is new, and there are as many rooms as the hub allows.
+    RoomsFull,
+    /// 503: out of memory.
+    NoMemory,
+    /// 503: clients may not enter yet.
+    Closed,
+}
+
+impl HandshakeRefusal {
+    /// The refusal of a handshake for which the hub opened no session.
+    pub(crate) fn of(fault: OpenFault) -> HandshakeRefusal {
+        match fault {
+            OpenFault::RoomName => HandshakeRefusal::Status(503),
+            OpenFault::RoomsFull => HandshakeRefusal::RoomsFull,
+            OpenFault::SessionsFull | OpenFault::Exhausted => HandshakeRefusal::SessionsFull,
+            OpenFault::NoMemory => HandshakeRefusal::NoMemory,
+        }
+    }
+
+    /// The status of the reply.
+    pub fn status(self) -> u16 {
+        match self {
+            HandshakeRefusal::Status(status) => status,
+            HandshakeRefusal::SessionsFull
+            | HandshakeRefusal::RoomsFull
+            | HandshakeRefusal::NoMemory
+            | HandshakeRefusal::Closed => 503,
+        }
+    }
+}
+
+/// The fields of a log line, as `key=value` with a space between. No value has a space: a room's
+/// name has none.
+impl Display for LogEntry<'_> {
+    fn fmt<W: fmt::Write>(&self, f: &mut Formatter<W>) -> fmt::Result {
+        match self {
+            LogEntry::Opened {
+                connection,
+                session,
+            } => write!(f, "event=opened {connection}{session}"),
+            LogEntry::Refused {
+                connection,
+                refusal,
+            } => write!(f, "event=refused {connection} {refusal}"),
+            LogEntry::Ended {
+                connection,
+                session,
+                cause,
+                rounds,
+            } => {
+                write!(f, "event=ended {connection}")?;
+                if let Some(session) = session {
+                    write!(f, "{session}")?;
+                }
+                let cause = cause_word(*cause);
+                write!(f, " cause={cause} rounds={rounds}")
+            }
+            LogEntry::Evicted { connection, rounds } => {
+                write!(f, "event=evicted {connection} rounds={rounds}")
+            }
+            LogEntry::OutOfMemory => f.write_str("event=out-of-memory"),
+        }
+    }
+}
+
+impl Display for ConnectionId {
+    fn fmt<W: fmt::Write>(&self, f: &mut Formatter<W>) -> fmt::Result {
+        let (peer, key) = (self.peer, self.key);
+        write!(f, "peer={peer} link={key}")
+    }
+}
+
+impl Display for RoomSession<'_> {
+    fn fmt<W: fmt::Write>(&self, f: &mut Formatter<W>) -> fmt::Result {
+        let (number, room) = (self.number, self.room);
+        write!(f, " session={number} room={room}")
+    }
+}
+
+impl Display for HandshakeRefusal {
+    fn fmt<W: fmt::Write>(&self, f: &mut Formatter<W>) -> fmt::Result {
+        let status = self.status();
+        write!(f, "status={status}")?;
+        match self {
+            HandshakeRefusal::Status(_) => Ok(()),
+            HandshakeRefusal::SessionsFull => f.write_str(" cause=sessions"),
+            HandshakeRefusal::RoomsFull => f.write_str(" cause=rooms"),
+            HandshakeRefusal::NoMemory => f.write_str(" cause=memory"),
+            HandshakeRefusal::Closed => f.write_str(" cause=closed"),
+        }
+    }
+}
+
+/// The word for a cause, as in the metric `relay_connections_ended_total`; a refused handshake is
+/// none of its causes.
+fn cause_word(cause: EndCause) -> &'static str {
+    match cause {
+        EndCause::Peer => "peer",
+        EndCause::Binary => "binary",
+        EndCause::Broken => "broken",
+        EndCause::Stream => "stream",
+        EndCause::Memory => "memory",
+        EndCause::Full => "full",
+        EndCause::Silent => "silent",
+        EndCause::Ended => "relay",
+        EndCause::Refused(_) => "refused",
+    }
+}
+
+/// Receives an entry for each connection that opens, is refused, ends or makes place, and if memory
+/// was refused.
+pub trait ConnectionLog {
+    fn record(&mut self, entry: LogEntry<'_>);
+}
+
+/// A log that drops every entry.
+#[derive(Clone, Copy, Debug)]
+pub struct NoLog;
+
+impl ConnectionLog for NoLog {
+    fn record(&mut self, _entry: LogEntry<'_>) {}
+}

@@ -1,0 +1,213 @@
+//! The relay as a server: one thread that serves non-blocking sockets in rounds.
+ghost use Rattle.std.specs.Prelude.{◌≡◌, ◌≤◌, []};
+ghost use Rattle.relay_hub.specs.State.{IsHub};
+ghost use Rattle.relay_event_loop.specs.Advances.{KeepsFewer};
+ghost use Rattle.relay_event_loop.specs.Connections.{connections_of, limit_of, hub_of, connection_limit};
+ghost use Rattle.relay_event_loop.specs.Rounds.{RoundsOf, ConnectedOf};
+
+mod accepting;
+mod administering;
+mod ending;
+mod forgetting;
+mod polling;
+mod queueing;
+mod reading;
+mod visiting;
+mod wills;
+mod writing;
+
+use crate::connection::Connection;
+use crate::connection_log::ConnectionLog;
+use forgetting::RoomPlaces;
+use indexmap::IndexMap;
+use relay_hub::{Hub, HubConfig};
+use relay_link::Entrance;
+use relay_operator::{Readiness, ReadyEvent};
+use relay_schedule::{OutputTotal, Queues, RoomShares, ShareLimits};
+use relay_tree::Budget;
+use slab::Slab;
+use std::alloc::Global;
+use std::io::{Read, Write};
+use std::net::{OpenListener, OpenStream};
+
+/// The maximum number of connections that a server holds whose hub allows that number of sessions:
+/// a quarter more, and at least 64 more. The others have no session yet, or none any more.
+pub fn connection_limit(sessions: u64) -> usize
+    ensures { result ≡ connection_limit sessions }
+{
+    let spare = (sessions / 4).max(64);
+    sessions.saturating_add(spare) as usize
+}
+
+/// A hub, the connections to it in a slab, and the source of their readiness.
+#[derive(Drop)]
+pub struct Server<S: Write + Drop, R> {
+    hub: Hub,
+    connections: Slab<Connection<S>>,
+    /// Whether clients may enter.
+    entrance: Entrance,
+    /// The maximum number of connections.
+    most: usize,
+    readiness: R,
+    events: Vec<ReadyEvent>,
+    /// Whether a connection may wait to be accepted; `failed`: whether the last accept failed.
+    accept_ready: bool,
+    failed: bool,
+    /// The connections that may have a turn.
+    queues: Queues,
+    /// How far each room is read ahead.
+    rooms: RoomShares,
+    /// Which rooms make place for others.
+    places: RoomPlaces,
+    /// What all links hold of output.
+    output: OutputTotal,
+    /// How many texts were passed to the hub, and how many wills were done.
+    texts: u64,
+    wills: u64,
+    /// The key of the connection that has a session, by the session's number.
+    sessions: IndexMap<u64, usize>,
+    rounds: u64,
+    /// How many seconds the source of readiness has told.
+    seconds: u64,
+    /// The first round in which the log may say again that memory was refused.
+    next_shed_entry: u64,
+    /// The `place` of the next connection.
+    accepted: u64,
+}
+
+impl<S: Read + Write + OpenStream + Drop, R: Readiness<S>> Server<S, R> {
+    /// A server of a hub, with no connection. A room is read ahead by half as many texts as patches
+    /// may wait for a session of the hub, and by half as many bytes as these may weigh. Its links
+    /// hold as many bytes of output as given, and what one turn draws beyond.
+    #[tactic(auto, using(crate::proofs::Owners::none_connected))]
+    pub fn new(alloc: Global, hub: Hub, readiness: R, most_output: u64) -> Server<S, R>
+        ensures empty { connections_of result ≡ 0 }
+        ensures limit { limit_of result ≡ connection_limit hub.config.sessions }
+        ensures hub { hub_of result ≡ hub }
+        ensures connected { IsHub hub → hub.homes ≡ [] → ConnectedOf result }
+    {
+        let config = hub.config();
+        Server {
+            hub,
+            connections: Slab::new(alloc),
+            entrance: Entrance::Open,
+            most: connection_limit(config.sessions),
+            readiness,
+            events: Vec::new(alloc),
+            accept_ready: true,
+            failed: false,
+            queues: Queues::new(alloc),
+            rooms: RoomShares::new(alloc, share_limits(config)),
+            places: RoomPlaces::new(alloc),
+            output: OutputTotal::within(most_output),
+            texts: 0,
+            wills: 0,
+            sessions: IndexMap::new(alloc),
+            rounds: 0,
+            seconds: 0,
+            next_shed_entry: 0,
+            accepted: 0,
+        }
+    }
+
+    /// The number of connections held. It is at most [`connection_limit`], since a round holds no
+    /// more.
+    pub fn connections(&self) -> usize
+        ensures { result ≡ connections_of self.now }
+    {
+        self.connections.len()
+    }
+
+    /// Runs one round. If there is no work it waits until something is ready, for at most 100 ms.
+    /// Then it
+    ///
+    /// - accepts up to 8 waiting connections. If [`connection_limit`] are held already, the oldest
+    ///   one without a session is ended. A connection that cannot be accepted or held is dropped;
+    /// - reads: each connection that has credit, may have input, and whose room has place gets a
+    ///   read turn; the one that had its turn last comes last. The turn passes at most one text to
+    ///   the hub, and draws its reply, which is corked. This repeats until nobody reads, or the
+    ///   turns have cost 5 ms;
+    /// - writes: each link with corked output, and then each for which something waits, whose
+    ///   stream is writable, gets a write turn, which draws and sends up to 32 messages, each time
+    ///   starting with the one that has waited longest. Once the first pass has drawn 256 KiB, or
+    ///   the second as much, the others wait for the next one;
+    /// - reads likewise from connections that owe, from one at least, until the turns of the round
+    ///   have cost 5 ms;
+    /// - does the wills of the sessions that were closed: one at least, and others until the turns
+    ///   of the round have cost 5 ms, or the last one's room has no place. What is left is done in
+    ///   the next round, which does not wait. Out of memory leaves a will likewise;
+    /// - writes again, if anything was read or done since;
+    /// - forgets a room, if no place is left for another one ([`Server::forget_rooms`]).
+    ///
+    /// A turn takes what it cost from the credit of its connection, and each round of credit gives
+    /// the same to all ([`relay_schedule::ReadyQueue`]). A room has place if none of its
+    /// connections waits to be written to, or less was said there since they last were than half of
+    /// what may wait for a session. So a client that has credit waits for one turn of each that has
+    /// credit too, and for the last turn of those who owe. A turn that is out of memory is left for
+    /// the next round, and the hub gives memory back ([`relay_hub::Hub::shed`]), so that resumes
+    /// and waiting patches become snapshots. Links that are gone are dropped. If it is unknown what
+    /// is ready, everything counts as ready.
+    ///
+    /// Once the links hold as much output as they may, no long snapshot is drawn, and each second
+    /// those that hold the most and take no more are ended: nothing waits, or for 30 seconds.
+    #[tactic(auto, using(crate::proofs::Rules::rounds))]
+    pub fn round<L: OpenListener<Stream = S>, J: ConnectionLog>(
+        &mut self,
+        alloc: Global,
+        listener: &L,
+        log: &mut J,
+    )
+        ensures rounds { RoundsOf S.remaining self.old self.new }
+        ensures limit { limit_of self.new ≡ limit_of self.old }
+        ensures within { connections_of self.old ≤ limit_of self.old
+            → connections_of self.new ≤ limit_of self.old }
+    {
+        self.rounds = self.rounds.saturating_add(1);
+        let before = self.seconds;
+        self.poll();
+        self.relieve(alloc, before, log);
+        self.accept(alloc, listener, log);
+        let spending = self.read(alloc, log);
+        self.write(alloc, log);
+        self.exchange_owing(alloc, spending, log);
+        self.make_place(alloc, log);
+    }
+
+    /// Runs that many rounds, and ends every connection as [`Server::end`] does.
+    #[tactic(auto, using(crate::proofs::Rules::rounds))]
+    pub fn run<L: OpenListener<Stream = S>, J: ConnectionLog>(
+        &mut self,
+        alloc: Global,
+        listener: &L,
+        rounds: u64,
+        log: &mut J,
+    )
+        ensures rounds { RoundsOf S.remaining self.old self.new }
+        ensures limit { limit_of self.new ≡ limit_of self.old }
+        ensures within { connections_of self.old ≤ limit_of self.old
+            → connections_of self.new ≤ limit_of self.old }
+    {
+        for _ in 0..rounds {
+            self.round(alloc, listener, log);
+        }
+        self.end(alloc, log);
+    }
+
+    /// An upper bound of the keys, exclusive.
+    fn keys(&self) -> usize {
+        self.connections.capacity()
+    }
+}
+
+/// How far a room may be read ahead: by half of what may wait for a session, at least one text. So
+/// no watcher that keeps up is folded by the number of its patches. The weight of changes may,
+/// since a short text can make a heavy one.
+fn share_limits(config: HubConfig) -> ShareLimits {
+    ShareLimits {
+        texts: (config.max_waiting_patches / 2).max(1),
+        bytes: match config.waiting_weight {
+            Budget::Unbounded => u64::MAX,
+            Budget::Left(weight) => (weight / 2).max(1),
+        },
+    }
+}

@@ -1,0 +1,136 @@
+//! How connections come: who is accepted, who makes room, and whether clients may enter.
+ghost use Rattle.std.specs.Prelude.{◌≡◌};
+ghost use Rattle.relay_event_loop.specs.Advances.{KeepsFewer, KeepsWithin};
+ghost use Rattle.relay_event_loop.specs.Connections.{connections_of, entrance_of, hub_of, limit_of};
+ghost use Rattle.relay_event_loop.specs.Rounds.{RoundsOf};
+
+use super::Server;
+use crate::connection::Connection;
+use crate::connection_log::ConnectionLog;
+use crate::eviction_log::EvictionLog;
+use indexmap::IndexMap;
+use relay_link::{EndCause, Entrance};
+use relay_operator::Readiness;
+use relay_schedule::Credit;
+use std::alloc::{AllocError, Global};
+use std::io::{ErrorKind, Read, Write};
+use std::net::{OpenListener, OpenStream, SocketAddr};
+
+/// The maximum number of connections that a round accepts.
+const MAX_ACCEPTS: u32 = 8;
+
+impl<S: Read + Write + OpenStream + Drop, R: Readiness<S>> Server<S, R> {
+    /// From now on clients may enter, or may not: then each valid handshake is answered 503, with
+    /// `Retry-After: 1`, and opens no session. Sessions that are open stay, and are served as ever.
+    /// A new server lets clients in.
+    #[tactic(auto, using(crate::proofs::Rules::rounds))]
+    pub fn set_entrance(&mut self, entrance: Entrance)
+        ensures entrance { entrance_of self.new ≡ entrance }
+        ensures hub { hub_of self.new ≡ hub_of self.old }
+        ensures limit { limit_of self.new ≡ limit_of self.old }
+        ensures connections { connections_of self.new ≡ connections_of self.old }
+        ensures rounds { RoundsOf S.remaining self.old self.new }
+    {
+        self.entrance = entrance;
+    }
+
+    /// Accepts waiting connections.
+    #[tactic(auto, using(crate::proofs::Rules::advances))]
+    pub(super) fn accept<L: OpenListener<Stream = S>, J: ConnectionLog>(
+        &mut self,
+        alloc: Global,
+        listener: &L,
+        log: &mut J,
+    )
+        ensures { KeepsWithin S.remaining self.old self.new }
+    {
+        for _ in 0..MAX_ACCEPTS {
+            if !self.accept_ready {
+                return;
+            }
+            match listener.accept() {
+                Ok((stream, peer)) => {
+                    self.evict(alloc, log);
+                    self.enter(alloc, stream, peer, log);
+                }
+                Err(error) => {
+                    self.accept_ready = false;
+                    self.failed = error.kind() != ErrorKind::WouldBlock;
+                }
+            }
+        }
+    }
+
+    /// If the maximum number of connections is held, ends the oldest one without a session.
+    #[tactic(auto, using(crate::proofs::Rules::advances))]
+    fn evict<J: ConnectionLog>(&mut self, alloc: Global, log: &mut J)
+        ensures { KeepsFewer S.remaining self.old self.new }
+    {
+        if self.connections.len() < self.most {
+            return;
+        }
+        if let Some(key) = self.first_unserved() {
+            self.end_link(alloc, key, EndCause::Ended, &mut EvictionLog::to(log));
+        }
+    }
+
+    /// The key of the oldest connection without a session.
+    fn first_unserved(&self) -> Option<usize> {
+        let mut first = None;
+        let mut least = u64::MAX;
+        for key in 0..self.keys() {
+            if let Some(connection) = self.connections.get(key) {
+                if connection.is_unserved() && connection.place < least {
+                    first = Some(key);
+                    least = connection.place;
+                }
+            }
+        }
+        first
+    }
+
+    /// Holds a new connection, if it can be held, and queues it.
+    #[tactic(auto, using(crate::proofs::Rules::advances))]
+    fn enter<J: ConnectionLog>(&mut self, alloc: Global, stream: S, peer: SocketAddr, log: &mut J)
+        ensures { KeepsWithin S.remaining self.old self.new }
+    {
+        let key = self.connections.vacant_key();
+        if self.add(alloc, stream, peer).is_err() {
+            self.shed(log);
+        }
+        self.queue(key);
+    }
+
+    /// Holds a new connection. It is dropped if there is no capacity, or if its stream cannot be
+    /// made non-blocking or watched.
+    #[tactic(auto, using(crate::proofs::Rules::advances))]
+    fn add(&mut self, alloc: Global, stream: S, peer: SocketAddr) -> Result<(), AllocError>
+        ensures { KeepsWithin S.remaining self.old self.new }
+    {
+        if self.connections.len() >= self.most || stream.set_nonblocking(true).is_err() {
+            return Ok(());
+        }
+        let _ = stream.set_nodelay(true);
+        let key = self.connections.vacant_key();
+        if self.readiness.watch(key, &stream).is_err() {
+            return Ok(());
+        }
+        self.queues.admit(key)?;
+        reserve(&mut self.sessions, self.connections.len())?;
+        let place = self.accepted;
+        self.accepted = self.accepted.saturating_add(1);
+        let credit = Credit::of_new(self.queues.ready.round());
+        let connection = Connection::new(alloc, stream, peer, credit, place, self.rounds)?;
+        self.connections.insert(connection)?;
+        Ok(())
+    }
+}
+
+/// Takes the memory for the sessions of so many connections, and of one more.
+fn reserve(sessions: &mut IndexMap<u64, usize>, connections: usize) -> Result<(), AllocError> {
+    let most = connections.saturating_add(1);
+    match sessions.reserve(most.saturating_sub(sessions.len())) {
+        Ok(()) => Ok(()),
+        Err(_) => Err(AllocError),
+    }
+}

@@ -1,0 +1,185 @@
+//! A server that an operator may ask, have forget a room, open to clients, and stop.
+ghost use Rattle.std.specs.Prelude.{◌≡◌, ◌≤◌};
+ghost use Rattle.relay_event_loop.specs.Advances.{KeepsFewer, KeepsWithin};
+ghost use Rattle.relay_event_loop.specs.Connections.{connections_of, limit_of};
+ghost use Rattle.relay_event_loop.specs.Rounds.{RoundsOf};
+
+use super::Server;
+use super::reading::ROUND_COST;
+use crate::connection_log::ConnectionLog;
+use crate::counted::Counted;
+use relay_link::Entrance;
+use relay_operator::{AdminPort, AdminReadiness, AdminView, MAX_CONNECTIONS, Readiness};
+use relay_schedule::Spending;
+use std::alloc::Global;
+use std::io::{Read, Write};
+use std::net::{OpenListener, OpenStream};
+use std::time::{Clock, Duration};
+
+/// For how many seconds a server that stops tells its clients what waits for them.
+const FAREWELL: u64 = 5;
+
+/// How many passes are enough for that, however short they are.
+const FAREWELLS: u64 = 1_000_000;
+
+impl<S, R, C> Server<S, AdminReadiness<'_, R, C>>
+where
+    S: Read + Write + OpenStream + Drop,
+    R: Readiness<S> + Drop,
+    C: Clock,
+{
+    /// Runs rounds as [`Server::run`], and after each round answers the requests at the admin port,
+    /// forgets the rooms that it asks to be forgotten ([`relay_hub::Hub::forget`]), and lets
+    /// clients in from then on, if it asks for that ([`Server::set_entrance`]). Ends after that
+    /// many rounds, or once a stop was asked: then nobody is accepted and nothing is read any
+    /// more, and what waits for the sessions is written for at most five seconds. At last it ends
+    /// every connection, an open one with a close frame 1001. Returns how many rounds were run.
+    #[tactic(auto, using(crate::proofs::Rules::rounds))]
+    pub fn run_administered<L: OpenListener<Stream = S>, J: ConnectionLog>(
+        &mut self,
+        alloc: Global,
+        listener: &L,
+        admin: &mut AdminPort<L>,
+        rounds: u64,
+        log: &mut J,
+    ) -> u64
+        ensures at_most { result ≤ rounds }
+        ensures rounds { RoundsOf S.remaining self.old self.new }
+        ensures limit { limit_of self.new ≡ limit_of self.old }
+        ensures within { connections_of self.old ≤ limit_of self.old
+            → connections_of self.new ≤ limit_of self.old }
+    {
+        let done = self.run_until_stop(alloc, listener, admin, rounds, log);
+        self.end(alloc, &mut Counted::to(&mut admin.counters, log));
+        done
+    }
+
+    /// Runs rounds, until that many were run or a stop was asked and what waits was told. Returns
+    /// how many were run.
+    #[tactic(auto, using(crate::proofs::Rules::rounds))]
+    fn run_until_stop<L: OpenListener<Stream = S>, J: ConnectionLog>(
+        &mut self,
+        alloc: Global,
+        listener: &L,
+        admin: &mut AdminPort<L>,
+        rounds: u64,
+        log: &mut J,
+    ) -> u64
+        ensures at_most { result ≤ rounds }
+        ensures kept { KeepsWithin S.remaining self.old self.new }
+    {
+        for before in 0..rounds {
+            admin.counters.begin(self.readiness.now());
+            let mut counted = Counted::to(&mut admin.counters, log);
+            self.round(alloc, listener, &mut counted);
+            if self.administer(alloc, admin, log) {
+                self.take_leave(alloc, log);
+                return before + 1;
+            }
+        }
+        rounds
+    }
+
+    /// Answers the requests at the admin port, if it may have work. Returns whether a stop was
+    /// asked.
+    #[tactic(auto, using(crate::proofs::Rules::advances))]
+    fn administer<L: OpenListener<Stream = S>, J: ConnectionLog>(
+        &mut self,
+        alloc: Global,
+        admin: &mut AdminPort<L>,
+        log: &mut J,
+    ) -> bool
+        ensures { KeepsFewer S.remaining self.old self.new }
+    {
+        if !self.readiness.take_ready() {
+            return false;
+        }
+        let has_more = admin.accept(alloc, &mut self.readiness);
+        let view = AdminView {
+            hub: &self.hub,
+            is_closed: self.entrance == Entrance::Closed,
+            left: self.places.empty.as_slice(),
+            second: self.seconds,
+            connections: self.connections.len() as u64,
+            max_connections: self.most as u64,
+            wills: self.wills,
+            rounds: self.rounds,
+            longest_round: self.readiness.longest_round(),
+        };
+        let turn = admin.turn(alloc, &view);
+        if turn.is_opening {
+            self.entrance = Entrance::Open;
+        }
+        self.forget_asked(alloc, admin);
+        self.visit_asked(alloc, admin, log);
+        if has_more || turn.has_more || admin.is_behind() {
+            self.readiness.ready_again();
+        }
+        turn.is_stopping
+    }
+
+    /// Forgets each room that the admin port asks to be forgotten, in which nobody is.
+    #[tactic(auto, using(crate::proofs::Rules::house))]
+    fn forget_asked<L: OpenListener<Stream = S>>(&mut self, alloc: Global, admin: &mut AdminPort<L>)
+        ensures { KeepsFewer S.remaining self.old self.new }
+    {
+        for _ in 0..MAX_CONNECTIONS {
+            let Some(room) = admin.room_to_forget() else {
+                return;
+            };
+            let forgotten = self.hub.forget(alloc, room);
+            admin.answer_forget(alloc, forgotten);
+        }
+    }
+
+    /// Makes each visit that the admin port asks for.
+    #[tactic(auto, using(crate::proofs::Rules::advances))]
+    fn visit_asked<L: OpenListener<Stream = S>, J: ConnectionLog>(
+        &mut self,
+        alloc: Global,
+        admin: &mut AdminPort<L>,
+        log: &mut J,
+    )
+        ensures { KeepsFewer S.remaining self.old self.new }
+    {
+        for _ in 0..MAX_CONNECTIONS {
+            let Some(visit) = admin.next_visit(alloc, &self.hub) else {
+                return;
+            };
+            let came = self.visit(alloc, visit.room, visit.access, visit.text, log);
+            admin.answer_visit(alloc, &self.hub, came);
+        }
+    }
+
+    /// Writes what waits for the sessions, for at most five seconds. Accepts and reads nothing.
+    #[tactic(auto, using(crate::proofs::Rules::advances))]
+    fn take_leave<J: ConnectionLog>(&mut self, alloc: Global, log: &mut J)
+        ensures { KeepsFewer S.remaining self.old self.new }
+    {
+        let until = self
+            .readiness
+            .now()
+            .saturating_add(Duration::from_secs(FAREWELL));
+        for _ in 0..FAREWELLS {
+            if !self.has_waiting() || self.readiness.now() >= until {
+                return;
+            }
+            self.do_wills(alloc, Spending::within(ROUND_COST), log);
+            self.write(alloc, log);
+            self.accept_ready = false;
+            self.poll();
+        }
+    }
+
+    /// Whether anything waits to be written to a session that is open.
+    fn has_waiting(&self) -> bool {
+        for key in 0..self.keys() {
+            if let Some(connection) = self.connections.get(key) {
+                if connection.has_unsent(&self.hub) {
+                    return true;
+                }
+            }
+        }
+        false
+    }
+}

@@ -1,0 +1,297 @@
+//! How connections end: what is said of them in the log, and what gives memory back.
+ghost use Rattle.std.specs.Prelude.{◌≡◌, ◌≤◌};
+ghost use Rattle.relay_event_loop.specs.Advances.{KeepsFewer};
+ghost use Rattle.relay_event_loop.specs.Connections.{connections_of, limit_of};
+ghost use Rattle.relay_event_loop.specs.Rounds.{RoundsOf};
+
+use super::Server;
+use super::queueing::uncount_writer;
+use crate::connection_log::{ConnectionLog, LogEntry};
+use relay_hub::{Event, OpenFault};
+use relay_link::{EndCause, Stage, Turn};
+use relay_operator::Readiness;
+use relay_schedule::LinkOutput;
+use std::alloc::Global;
+use std::io::{Read, Write};
+use std::net::OpenStream;
+
+/// How many links are ended in a second at most, so that the others have room for their output.
+const MAX_ENDS: u32 = 64;
+
+/// The log says that memory was refused at most once in so many rounds.
+const SHED_ROUNDS: u64 = 1_024;
+
+impl<S: Read + Write + OpenStream + Drop, R: Readiness<S>> Server<S, R> {
+    /// Ends every connection, by rising key, and does the wills that are left. If memory is refused
+    /// for the end of one, it stays, with its session; if it is refused for a will, that is left.
+    #[tactic(auto, using(crate::proofs::Rules::rounds))]
+    pub fn end<J: ConnectionLog>(&mut self, alloc: Global, log: &mut J)
+        ensures rounds { RoundsOf S.remaining self.old self.new }
+        ensures limit { limit_of self.new ≡ limit_of self.old }
+        ensures fewer { connections_of self.new ≤ connections_of self.old }
+    {
+        for key in 0..self.keys() {
+            self.end_link(alloc, key, EndCause::Ended, log);
+        }
+        let _ = self.finish_wills(alloc, log);
+    }
+
+    /// Ends a link for a cause. Out of memory leaves it as it is, with its session.
+    #[tactic(auto, using(crate::proofs::Rules::advances))]
+    pub(super) fn end_link<J: ConnectionLog>(
+        &mut self,
+        alloc: Global,
+        key: usize,
+        cause: EndCause,
+        log: &mut J,
+    )
+        ensures { KeepsFewer S.remaining self.old self.new }
+    {
+        let Some(connection) = self.connections.get_mut(key) else {
+            return;
+        };
+        let before = connection.link.stage();
+        let Ok(mut turn) = connection.link.end(alloc, &mut self.hub) else {
+            self.shed(log);
+            return;
+        };
+        turn.cause = turn.cause.and(Some(cause));
+        self.settle(key, before, &turn, log);
+    }
+
+    /// Logs what a turn did to a connection, queues those whom its text told something, and drops
+    /// the connection if its link is gone.
+    #[tactic(auto, using(crate::proofs::Rules::advances))]
+    pub(super) fn settle<J: ConnectionLog>(
+        &mut self,
+        key: usize,
+        before: Stage,
+        turn: &Turn,
+        log: &mut J,
+    )
+        ensures { KeepsFewer S.remaining self.old self.new }
+    {
+        self.count_output(key, turn);
+        self.note_events(key, turn, log);
+        if turn.has_received() {
+            self.queue_told(key, turn);
+        }
+        self.log_end(key, before, turn, log);
+        if lacked_memory(turn) {
+            self.shed(log);
+        }
+        self.remove_gone(key);
+    }
+
+    /// Counts what a connection holds of output after a turn.
+    #[tactic(auto, using(crate::proofs::Rules::advances))]
+    fn count_output(&mut self, key: usize, turn: &Turn)
+        ensures { KeepsFewer S.remaining self.old self.new }
+    {
+        let Some(connection) = self.connections.get(key) else {
+            return;
+        };
+        let before = connection.note_turn(turn, self.seconds);
+        self.output.change(before, connection.standing().output);
+    }
+
+    /// Once a second, if links hold as much output as they may, ends those that hold the most of it
+    /// and take no more, until the others hold half.
+    #[tactic(auto, using(crate::proofs::Rules::advances))]
+    pub(super) fn relieve<J: ConnectionLog>(&mut self, alloc: Global, before: u64, log: &mut J)
+        ensures { KeepsFewer S.remaining self.old self.new }
+    {
+        if self.seconds == before || !self.output.is_full() {
+            return;
+        }
+        for _ in 0..MAX_ENDS {
+            match self.first_to_end() {
+                Some(key) if !self.output.is_relieved() => {
+                    self.end_link(alloc, key, EndCause::Full, log)
+                }
+                _ => return,
+            }
+        }
+    }
+
+    /// The key of the connection that holds the most output, at least an equal share, of those of
+    /// which nothing waits or nothing was taken for long.
+    fn first_to_end(&self) -> Option<usize> {
+        let mut first = None;
+        let mut most = self.output.share(self.connections.len()).saturating_sub(1);
+        for key in 0..self.keys() {
+            if let Some(connection) = self.connections.get(key) {
+                let output = connection.standing().output;
+                if output.held > most && output.is_over_due(self.seconds) {
+                    first = Some(key);
+                    most = output.held;
+                }
+            }
+        }
+        first
+    }
+
+    /// Notes the session that a turn opened or closed, or why the hub opened none.
+    #[tactic(auto, using(crate::proofs::Rules::advances))]
+    fn note_events<J: ConnectionLog>(&mut self, key: usize, turn: &Turn, log: &mut J)
+        ensures { KeepsFewer S.remaining self.old self.new }
+    {
+        match (session_event(turn), turn.fault) {
+            (_, Some(fault)) => self.note_fault(key, fault),
+            (Some(Event::Open { room, .. }), None) => {
+                let place = self.place_of(key);
+                self.note_opened(key, room.as_str(), place);
+                if !self.index_opened(key) {
+                    self.shed(log);
+                }
+                self.log_opened(key, log);
+            }
+            (Some(Event::Close { session }), None) => {
+                let _ = self.sessions.swap_remove(session);
+                self.note_left(key);
+            }
+            (_, None) => {}
+        }
+    }
+
+    #[tactic(auto, using(crate::proofs::Rules::advances))]
+    fn note_fault(&mut self, key: usize, fault: OpenFault)
+        ensures { KeepsFewer S.remaining self.old self.new }
+    {
+        let Some(connection) = self.connections.get_mut(key) else {
+            return;
+        };
+        connection.note_fault(fault);
+    }
+
+    #[tactic(auto, using(crate::proofs::Rules::advances))]
+    fn note_opened(&mut self, key: usize, room: &str, place: Option<usize>)
+        ensures { KeepsFewer S.remaining self.old self.new }
+    {
+        let Some(connection) = self.connections.get_mut(key) else {
+            return;
+        };
+        connection.note_opened(room, place);
+    }
+
+    /// Notes that the session of a connection left its room.
+    #[tactic(auto, using(crate::proofs::Rules::advances))]
+    fn note_left(&mut self, key: usize)
+        ensures { KeepsFewer S.remaining self.old self.new }
+    {
+        let Some(connection) = self.connections.get(key) else {
+            return;
+        };
+        if let Some(place) = connection.room_place() {
+            self.places.empty.note_left(place, self.seconds);
+        }
+        self.places.have_changed = true;
+    }
+
+    /// Puts the session of a connection into the map, if it has one, for which there is memory.
+    /// Takes the memory for what is kept of its room; returns whether there was some.
+    #[tactic(auto, using(crate::proofs::Rules::advances))]
+    fn index_opened(&mut self, key: usize) -> bool
+        ensures { KeepsFewer S.remaining self.old self.new }
+    {
+        let Some(connection) = self.connections.get(key) else {
+            return true;
+        };
+        if let Some(session) = connection.link.session() {
+            let _ = self.sessions.insert(session, key);
+        }
+        self.places.have_changed = true;
+        match connection.room_place() {
+            Some(place) => {
+                self.rooms.admit(place).is_ok() && self.places.empty.admit(place).is_ok()
+            }
+            None => true,
+        }
+    }
+
+    /// The place in the hub of the room of a connection's session.
+    fn place_of(&self, key: usize) -> Option<usize> {
+        self.hub.room_of(self.connections.get(key)?.link.session()?)
+    }
+
+    /// Logs the session that was opened for a connection, if there is one.
+    fn log_opened<J: ConnectionLog>(&self, key: usize, log: &mut J) {
+        let Some(connection) = self.connections.get(key) else {
+            return;
+        };
+        if let Some(session) = connection.opened() {
+            log.record(LogEntry::Opened {
+                connection: connection.id(key),
+                session,
+            });
+        }
+    }
+
+    /// Logs the end of a connection, or of its handshake, if a turn made it.
+    fn log_end<J: ConnectionLog>(&self, key: usize, before: Stage, turn: &Turn, log: &mut J) {
+        let Some(connection) = self.connections.get(key) else {
+            return;
+        };
+        match turn.cause {
+            Some(EndCause::Refused(status)) => log.record(LogEntry::Refused {
+                connection: connection.id(key),
+                refusal: connection.refusal(status),
+            }),
+            // The end was logged when the closing began.
+            Some(cause) if before != Stage::Closing => log.record(LogEntry::Ended {
+                connection: connection.id(key),
+                session: connection.opened(),
+                cause,
+                rounds: self.rounds.saturating_sub(connection.since),
+            }),
+            _ => {}
+        }
+    }
+
+    /// Makes the hub give memory back, because an allocation failed. Logs it once in 1,024 rounds
+    /// at most.
+    #[tactic(auto, using(crate::proofs::Rules::advances))]
+    pub(super) fn shed<J: ConnectionLog>(&mut self, log: &mut J)
+        ensures { KeepsFewer S.remaining self.old self.new }
+    {
+        self.hub.shed();
+        if self.rounds >= self.next_shed_entry {
+            log.record(LogEntry::OutOfMemory);
+            self.next_shed_entry = self.rounds.saturating_add(SHED_ROUNDS);
+        }
+    }
+
+    /// Drops a connection whose link is gone, and so has no session.
+    #[tactic(auto, using(crate::proofs::Rules::advances))]
+    fn remove_gone(&mut self, key: usize)
+        ensures { KeepsFewer S.remaining self.old self.new }
+    {
+        let Some(connection) = self.connections.get(key) else {
+            return;
+        };
+        if connection.link.stage() == Stage::Gone {
+            uncount_writer(&mut self.rooms, connection);
+            self.output
+                .change(connection.standing().output, LinkOutput::NONE);
+            let _ = self.connections.try_remove(key);
+        }
+    }
+}
+
+/// Whether memory was refused to a turn.
+fn lacked_memory(turn: &Turn) -> bool {
+    turn.lacks_memory
+        || turn.cause == Some(EndCause::Memory)
+        || turn.fault == Some(OpenFault::NoMemory)
+}
+
+/// The event of a turn that opened or closed its link's session: the last one, if there are two.
+fn session_event(turn: &Turn) -> Option<&Event> {
+    let mut found = None;
+    for event in turn.events.iter() {
+        if matches!(event, Event::Open { .. } | Event::Close { .. }) {
+            found = Some(event);
+        }
+    }
+    found
+}

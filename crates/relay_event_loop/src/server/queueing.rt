@@ -1,0 +1,169 @@
+//! Which connections are queued for a turn.
+//!
+//! After each round every connection that wants a turn is queued for it ([`Server::unqueued`]).
+//! What it wants changes by its own turns and events, after which it is queued again; and by the
+//! texts and wills of other sessions, which bring it messages. Of these the hub says whom they told
+//! something ([`relay_hub::Hub::told`]), so no other connection is looked at.
+//!
+//! A room counts its connections that are queued to be written to. It may be said more than its
+//! share only once there are none.
+ghost use Rattle.relay_event_loop.specs.Advances.{KeepsFewer};
+
+use super::Server;
+use crate::connection::Connection;
+use relay_link::Turn;
+use relay_operator::Readiness;
+use relay_schedule::RoomShares;
+use std::io::{Read, Write};
+use std::net::OpenStream;
+
+impl<S: Read + Write + OpenStream + Drop, R: Readiness<S>> Server<S, R> {
+    /// The first connection that wants a turn for which it is not queued. A round leaves none, so
+    /// that the next one need not walk over all connections as this does: it is for tests.
+    pub fn unqueued(&self) -> Option<usize> {
+        for key in 0..self.keys() {
+            if let Some(connection) = self.connections.get(key) {
+                if !self.queues.has(key, connection.wants(&self.hub)) {
+                    return Some(key);
+                }
+            }
+        }
+        None
+    }
+
+    /// Queues a connection for each turn that it wants, if it is held. Allocates nothing.
+    #[tactic(auto, using(crate::proofs::Rules::advances))]
+    pub(super) fn queue(&mut self, key: usize)
+        ensures { KeepsFewer S.remaining self.old self.new }
+    {
+        let Some(connection) = self.connections.get(key) else {
+            return;
+        };
+        let wants = connection.wants(&self.hub);
+        let credit = connection.credit(self.queues.ready.round());
+        self.queues.push(key, wants, credit);
+        if wants.corked || wants.waiting {
+            count_writer(&mut self.rooms, connection);
+        }
+    }
+
+    /// Notes the text that a turn passed to the hub: its room was said more, and the connections
+    /// that it told something are queued for a write turn.
+    #[tactic(auto, using(crate::proofs::Rules::advances))]
+    pub(super) fn queue_told(&mut self, key: usize, turn: &Turn)
+        ensures { KeepsFewer S.remaining self.old self.new }
+    {
+        self.texts = self.texts.saturating_add(1);
+        if let Some(room) = self.room_place(key) {
+            self.rooms.add_text(room, turn.received());
+        }
+        self.queue_each_told();
+    }
+
+    /// Notes a text that no connection sent, which has so many bytes: that of a visit, or a will,
+    /// which counts as one without bytes, since the hub does not say how long it is. If it told
+    /// somebody something, its room was said more, and those are queued for a write turn.
+    #[tactic(auto, using(crate::proofs::Rules::advances))]
+    pub(super) fn queue_told_unsent(&mut self, bytes: u64)
+        ensures { KeepsFewer S.remaining self.old self.new }
+    {
+        if let Some(room) = self.told_room() {
+            self.rooms.add_text(room, bytes);
+        }
+        self.queue_each_told();
+    }
+
+    /// Queues each connection that the last text or will told something for a write turn.
+    #[tactic(auto, using(crate::proofs::Rules::advances))]
+    fn queue_each_told(&mut self)
+        ensures { KeepsFewer S.remaining self.old self.new }
+    {
+        for place in 0..self.told() {
+            if let Some(key) = self.told_at(place) {
+                self.queue_writer(key);
+            }
+        }
+    }
+
+    /// The place of the room of those whom the last text or will told something, if it told
+    /// somebody, and memory sufficed to find out whom.
+    fn told_room(&self) -> Option<usize> {
+        let told = self.hub.told();
+        self.hub.room_of(*told.sessions.first()?)
+    }
+
+    /// Whether that room may be said more.
+    pub(super) fn told_has_place(&self) -> bool {
+        match self.told_room() {
+            Some(room) => self.rooms.has_place(room),
+            None => true,
+        }
+    }
+
+    /// The place of a connection's room.
+    fn room_place(&self, key: usize) -> Option<usize> {
+        self.connections.get(key)?.room_place()
+    }
+
+    /// How many connections the last text or will may have told something, besides the one that
+    /// sent it.
+    fn told(&self) -> usize {
+        let told = self.hub.told();
+        if told.all {
+            self.keys()
+        } else {
+            told.sessions.len()
+        }
+    }
+
+    /// The key of one of these.
+    fn told_at(&self, place: usize) -> Option<usize> {
+        let told = self.hub.told();
+        if told.all {
+            return Some(place);
+        }
+        self.sessions.get(told.sessions.get(place)?).copied()
+    }
+
+    /// Queues a connection for a write turn, if it is held and can be written. Allocates nothing.
+    #[tactic(auto, using(crate::proofs::Rules::advances))]
+    fn queue_writer(&mut self, key: usize)
+        ensures { KeepsFewer S.remaining self.old self.new }
+    {
+        let Some(connection) = self.connections.get(key) else {
+            return;
+        };
+        if connection.readiness.is_writable() {
+            self.queues.push_writer(key);
+            count_writer(&mut self.rooms, connection);
+        }
+    }
+
+    /// Notes that a connection waits no longer to be written to.
+    #[tactic(auto, using(crate::proofs::Rules::advances))]
+    pub(super) fn uncount(&mut self, key: usize)
+        ensures { KeepsFewer S.remaining self.old self.new }
+    {
+        let Some(connection) = self.connections.get(key) else {
+            return;
+        };
+        uncount_writer(&mut self.rooms, connection);
+    }
+}
+
+/// Notes that a connection waits no longer to be written to.
+pub(super) fn uncount_writer<S: Read + Write + Drop>(
+    rooms: &mut RoomShares,
+    connection: &Connection<S>,
+) {
+    if let (true, Some(place)) = (connection.count(false), connection.room_place()) {
+        rooms.take_writer(place);
+    }
+}
+
+/// Notes that a connection waits to be written to, once.
+fn count_writer<S: Read + Write + Drop>(rooms: &mut RoomShares, connection: &Connection<S>) {
+    if let (false, Some(place)) = (connection.count(true), connection.room_place()) {
+        rooms.add_writer(place);
+    }
+}

@@ -1,0 +1,207 @@
+//! Who is read in a round, and in which order.
+ghost use Rattle.relay_event_loop.specs.Advances.{KeepsFewer};
+
+use super::Server;
+use crate::connection_log::ConnectionLog;
+use relay_link::Turn;
+use relay_operator::Readiness;
+use relay_schedule::{Output, Spending};
+use std::alloc::Global;
+use std::io::{Read, Write};
+use std::net::OpenStream;
+
+/// What the read turns and the wills of a round may cost together, but for the last one, in
+/// microseconds.
+pub(super) const ROUND_COST: u64 = 5_000;
+
+/// How many passes a round may make: each but the last costs a microsecond at least.
+pub(super) const MAX_PASSES: u64 = ROUND_COST;
+
+/// What a turn costs at least, in microseconds.
+pub(super) const TURN_COST: u64 = 2;
+
+/// How many bytes are read in a microsecond.
+const BYTES_READ: u64 = 100;
+
+/// How many messages a read turn draws: the reply to its text. Whatever else it comes to is drawn
+/// by a write turn, since it may be long.
+const READ_DRAWS: u64 = 1;
+
+impl<S: Read + Write + OpenStream + Drop, R: Readiness<S>> Server<S, R> {
+    /// Reads from the connections with credit, in passes, until a pass reads no text or the round
+    /// has cost what it may. Returns what it cost.
+    #[tactic(auto, using(crate::proofs::Rules::advances))]
+    pub(super) fn read<J: ConnectionLog>(&mut self, alloc: Global, log: &mut J) -> Spending
+        ensures { KeepsFewer S.remaining self.old self.new }
+    {
+        let mut spending = Spending::within(ROUND_COST);
+        for _ in 0..MAX_PASSES {
+            let before = self.texts;
+            spending = self.read_each(alloc, spending, log);
+            if self.texts == before {
+                return spending;
+            }
+        }
+        spending
+    }
+
+    /// Reads once from each connection with credit whose room has place, until the round has cost
+    /// what it may. Returns what it cost.
+    #[tactic(auto, using(crate::proofs::Rules::advances))]
+    fn read_each<J: ConnectionLog>(
+        &mut self,
+        alloc: Global,
+        before: Spending,
+        log: &mut J,
+    ) -> Spending
+        ensures { KeepsFewer S.remaining self.old self.new }
+    {
+        let mut spending = before;
+        for _ in 0..self.queues.ready.credited() {
+            if !spending.allows_more() {
+                return spending;
+            }
+            let Some(key) = self.queues.ready.pop_credited() else {
+                return spending;
+            };
+            spending.spend(self.read_at(alloc, key, log));
+        }
+        spending
+    }
+
+    /// Reads from the connections that owe, in order, does wills, and sends what came of it.
+    #[tactic(auto, using(crate::proofs::Rules::advances))]
+    pub(super) fn exchange_owing<J: ConnectionLog>(
+        &mut self,
+        alloc: Global,
+        before: Spending,
+        log: &mut J,
+    )
+        ensures { KeepsFewer S.remaining self.old self.new }
+    {
+        let read = self.read_those_owing(alloc, before, log);
+        if self.do_wills(alloc, read, log) != before {
+            self.write(alloc, log);
+        }
+    }
+
+    /// Reads from the connections that owe, in passes, and from those that have credit by then,
+    /// until a pass reads no text or the round has cost what it may. Returns what it cost.
+    #[tactic(auto, using(crate::proofs::Rules::advances))]
+    fn read_those_owing<J: ConnectionLog>(
+        &mut self,
+        alloc: Global,
+        before: Spending,
+        log: &mut J,
+    ) -> Spending
+        ensures { KeepsFewer S.remaining self.old self.new }
+    {
+        let mut spending = before;
+        for _ in 0..MAX_PASSES {
+            let texts = self.texts;
+            spending = self.read_each_owing(alloc, spending, log);
+            if spending == before || !spending.allows_more() {
+                return spending;
+            }
+            spending = self.read_each(alloc, spending, log);
+            if self.texts == texts {
+                return spending;
+            }
+        }
+        spending
+    }
+
+    /// Reads once from each connection that owes, and whose room has place: from one at least, and
+    /// from others until the round has cost what it may. Returns what it cost.
+    #[tactic(auto, using(crate::proofs::Rules::advances))]
+    fn read_each_owing<J: ConnectionLog>(
+        &mut self,
+        alloc: Global,
+        before: Spending,
+        log: &mut J,
+    ) -> Spending
+        ensures { KeepsFewer S.remaining self.old self.new }
+    {
+        let mut spending = before;
+        for _ in 0..self.queues.ready.owing().max(1) {
+            if spending != before && !spending.allows_more() {
+                return spending;
+            }
+            let Some(key) = self.queues.ready.pop_owing() else {
+                return spending;
+            };
+            spending.spend(self.read_at(alloc, key, log));
+        }
+        spending
+    }
+
+    /// Gives a connection a read turn, if it may be read, and queues it again. Returns what the
+    /// turn cost; 0 if there was none.
+    #[tactic(auto, using(crate::proofs::Rules::advances))]
+    fn read_at<J: ConnectionLog>(&mut self, alloc: Global, key: usize, log: &mut J) -> u64
+        ensures { KeepsFewer S.remaining self.old self.new }
+    {
+        let cost = match self.read_turn_draws(key) {
+            Some(draws) => self.read_link(alloc, key, draws, log),
+            None => 0,
+        };
+        self.queue(key);
+        cost
+    }
+
+    /// How many messages a read turn of a connection may draw now: one, or none if a long snapshot
+    /// may be due. `None` if it is not to be read: a reply can be sent before, its room has no
+    /// place, or there is nothing to read.
+    fn read_turn_draws(&self, key: usize) -> Option<u64> {
+        let connection = self.connections.get(key)?;
+        let has_place = match connection.room_place() {
+            Some(place) => self.rooms.has_place(place),
+            None => true,
+        };
+        let has_sendable_reply = connection.standing().replies > 0
+            && connection.has_output(&self.hub, Output::Waiting);
+        if has_sendable_reply || !has_place || !connection.may_read(&self.hub) {
+            return None;
+        }
+        if self.has_no_long_snapshot(connection) {
+            return Some(READ_DRAWS);
+        }
+        Some(0)
+    }
+
+    /// Gives a link a read turn. Returns what it cost.
+    #[tactic(auto, using(crate::proofs::Rules::advances))]
+    fn read_link<J: ConnectionLog>(
+        &mut self,
+        alloc: Global,
+        key: usize,
+        draws: u64,
+        log: &mut J,
+    ) -> u64
+        ensures { KeepsFewer S.remaining self.old self.new }
+    {
+        let Some(connection) = self.connections.get_mut(key) else {
+            return 0;
+        };
+        let before = connection.link.stage();
+        let Ok(turn) = connection
+            .link
+            .read_turn(alloc, self.entrance, &mut self.hub, draws)
+        else {
+            self.shed(log);
+            return TURN_COST;
+        };
+        let cost = cost_of(&turn, connection.readiness.take_read());
+        connection.charge(cost);
+        connection.read_pending = connection.readiness.may_go_on();
+        self.settle(key, before, &turn, log);
+        cost
+    }
+}
+
+/// What a turn cost that read so many bytes.
+fn cost_of(turn: &Turn, read: u64) -> u64 {
+    turn.cost
+        .saturating_add(read / BYTES_READ)
+        .saturating_add(TURN_COST)
+}

@@ -1,0 +1,143 @@
+//! Who is written to in a round, and in which order.
+ghost use Rattle.relay_event_loop.specs.Advances.{KeepsFewer};
+
+use super::Server;
+use super::reading::TURN_COST;
+use crate::connection::Connection;
+use crate::connection_log::ConnectionLog;
+use relay_link::MAX_DRAWS;
+use relay_operator::Readiness;
+use relay_schedule::{Output, Spending};
+use std::alloc::Global;
+use std::io::{Read, Write};
+use std::net::OpenStream;
+
+/// The most bytes that a pass of writes draws, but for the last link's turn. A round has four
+/// passes at most, which draw 1 MiB together.
+const PASS_DRAWN: u64 = 262_144;
+
+/// The weight up to which a room's document is small. A snapshot shows it at most 16 times, and
+/// each byte of it by at most six.
+const SMALL: u64 = 4_096;
+
+impl<S: Read + Write + OpenStream + Drop, R: Readiness<S>> Server<S, R> {
+    /// Writes to the links that have corked output, so that a reply does not wait for the patches
+    /// of others, and then to all for which something waits.
+    #[tactic(auto, using(crate::proofs::Rules::advances))]
+    pub(super) fn write<J: ConnectionLog>(&mut self, alloc: Global, log: &mut J)
+        ensures { KeepsFewer S.remaining self.old self.new }
+    {
+        self.write_each(alloc, Output::Corked, log);
+        if !self.output.is_full() {
+            self.release();
+        }
+        self.write_each(alloc, Output::Waiting, log);
+    }
+
+    /// Queues the connections that were held back.
+    #[tactic(auto, using(crate::proofs::Rules::advances))]
+    fn release(&mut self)
+        ensures { KeepsFewer S.remaining self.old self.new }
+    {
+        for _ in 0..self.queues.held_back() {
+            if let Some(key) = self.queues.pop_held_back() {
+                self.queue(key);
+            }
+        }
+    }
+
+    /// Writes once to each link that is queued for such output, until as much was drawn as a pass
+    /// draws. The links that were not reached come first in the next pass.
+    #[tactic(auto, using(crate::proofs::Rules::advances))]
+    fn write_each<J: ConnectionLog>(&mut self, alloc: Global, output: Output, log: &mut J)
+        ensures { KeepsFewer S.remaining self.old self.new }
+    {
+        let mut drawn = Spending::within(PASS_DRAWN);
+        for _ in 0..self.queues.writers(output) {
+            if !drawn.allows_more() {
+                return;
+            }
+            drawn.spend(self.write_next(alloc, output, log));
+        }
+    }
+
+    /// Gives the first link that is queued for such output a write turn. Returns how many bytes the
+    /// texts have that it drew.
+    #[tactic(auto, using(crate::proofs::Rules::advances))]
+    fn write_next<J: ConnectionLog>(&mut self, alloc: Global, output: Output, log: &mut J) -> u64
+        ensures { KeepsFewer S.remaining self.old self.new }
+    {
+        let Some(key) = self.queues.pop_writer(output) else {
+            return 0;
+        };
+        self.uncount(key);
+        let Some(draws) = self.draws(key, output) else {
+            self.queues.hold_back(key);
+            return 0;
+        };
+        let drawn = if self.has_output(key, output) {
+            self.write_link(alloc, key, draws, log)
+        } else {
+            0
+        };
+        self.queue(key);
+        drawn
+    }
+
+    /// How many messages a write turn for such output may draw, if there may be something to write.
+    /// A long snapshot does not go with what is corked, nor to whom is gone, nor once links hold as
+    /// much output as they may.
+    fn draws(&self, key: usize, output: Output) -> Option<u64> {
+        let connection = self.connections.get(key)?;
+        let ready = connection.readiness.ready();
+        let is_ending = ready.is_over && ready.readable;
+        let may_draw_all = output == Output::Waiting && !is_ending && !self.output.is_full();
+        if may_draw_all || self.has_no_long_snapshot(connection) {
+            return Some(MAX_DRAWS);
+        }
+        let now = connection.standing();
+        let is_framed = now.output.unsent > 0 || connection.link.has_corked_output();
+        (now.replies > 0 || is_framed).then_some(now.replies)
+    }
+
+    /// Whether no snapshot of a large document waits for a connection.
+    pub(super) fn has_no_long_snapshot(&self, connection: &Connection<S>) -> bool {
+        let place = connection.room_place().unwrap_or(usize::MAX);
+        match self.hub.room_at(place) {
+            Some(room) => room.weight <= SMALL || !connection.may_be_due(&self.hub),
+            None => true,
+        }
+    }
+
+    /// Whether a connection is held that has such output.
+    fn has_output(&self, key: usize, output: Output) -> bool {
+        match self.connections.get(key) {
+            Some(connection) => connection.has_output(&self.hub, output),
+            None => false,
+        }
+    }
+
+    /// Gives a link a write turn. Returns how many bytes the texts have that it drew.
+    #[tactic(auto, using(crate::proofs::Rules::advances))]
+    fn write_link<J: ConnectionLog>(
+        &mut self,
+        alloc: Global,
+        key: usize,
+        draws: u64,
+        log: &mut J,
+    ) -> u64
+        ensures { KeepsFewer S.remaining self.old self.new }
+    {
+        let Some(connection) = self.connections.get_mut(key) else {
+            return 0;
+        };
+        let before = connection.link.stage();
+        let Ok(turn) = connection.link.write_turn(alloc, &mut self.hub, draws) else {
+            self.shed(log);
+            return 0;
+        };
+        connection.charge(turn.cost.saturating_add(TURN_COST));
+        self.settle(key, before, &turn, log);
+        turn.drawn
+    }
+}

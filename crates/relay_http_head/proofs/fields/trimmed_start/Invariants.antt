@@ -1,0 +1,10 @@
+-- The skipped bytes are spaces and tabs.
+use Rattle.std.proofs.Common.{◌≡◌, length}
+use Rattle.httparse.specs.Grammar.{skip_ows}
+use Rattle.relay_http_head.proofs.fields.trimmed_start.Given as goal
+
+abbrev pub invariant-loop-rest : goal.invariant-loop-rest
+invariant-loop-rest l = skip_ows l.fn.bytes ≡ skip_ows l.rest
+
+abbrev pub decreases-loop-rest : goal.decreases-loop-rest
+decreases-loop-rest l = length l.rest

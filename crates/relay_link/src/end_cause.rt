@@ -1,0 +1,57 @@
+//! Why a link leaves a stage.
+use tungstenite::Error;
+use websocket::error::ProtocolError;
+
+/// Why a link failed to open, is no longer open, or is gone.
+#[derive(Clone, Copy, Debug, PartialEq, Eq)]
+pub enum EndCause {
+    /// The other side closed the connection, or its bytes ended.
+    Peer,
+    /// A binary message was received; the relay accepts only texts.
+    Binary,
+    /// Frames violate RFC 6455, a text is not UTF-8, or a message is too large.
+    Broken,
+    /// A call on the stream failed, or a write to it accepted no byte.
+    Stream,
+    /// Out of memory in the link or its socket, or for an incoming text.
+    Memory,
+    /// The socket's output buffer was full.
+    Full,
+    /// The other side did not answer a close frame.
+    Silent,
+    /// The link was ended from this side.
+    Ended,
+    /// The handshake was refused with this status.
+    Refused(u16),
+}
+
+impl EndCause {
+    ghost use Rattle.std.specs.Prelude.{◌≡◌};
+    ghost use Rattle.relay_link.specs.SocketError.{IsOfSocket};
+    ghost use Rattle.relay_link.specs.Ends.{socket_cause, IsPrompt};
+
+    /// The cause for an error of a socket whose handshake is done.
+    pub(crate) fn of(error: &Error) -> EndCause
+        requires { IsOfSocket error.now }
+        ensures cause { result ≡ socket_cause error.now }
+        ensures prompt { IsPrompt result }
+    {
+        match error {
+            Error::ConnectionClosed
+            | Error::AlreadyClosed
+            | Error::Protocol(ProtocolError::ResetWithoutClosingHandshake) => EndCause::Peer,
+            Error::Protocol(_) | Error::Capacity(_) | Error::Utf8 => EndCause::Broken,
+            Error::Io(_) => EndCause::Stream,
+            Error::OutOfMemory => EndCause::Memory,
+            Error::WriteBufferFull => EndCause::Full,
+            Error::AttackAttempt
+            | Error::Handshake(_)
+            | Error::HandshakeIncomplete
+            | Error::JunkAfterRequest
+            | Error::CustomResponseSuccessful
+            | Error::Url
+            | Error::Http(_)
+            | Error::Refused(_) => unreachable!(),
+        }
+    }
+}

@@ -1,0 +1,40 @@
+//! How a visit went.
+ghost use Rattle.std.specs.Prelude.{◌≡◌, ℕ, List, [], ◌∷◌, cond};
+ghost use Rattle.relay_link.specs.Visits.{heard_in};
+
+use relay_hub::{OpenFault, Opening};
+
+/// How a visit went: whether a session was opened, its text passed to the hub, and what waited for
+/// it drawn.
+#[derive(Clone, Copy, Debug, PartialEq, Eq)]
+pub enum VisitOutcome {
+    /// The hub opened no session. After [`OpenFault::NoMemory`] nothing has happened.
+    Refused(OpenFault),
+    /// Memory was refused for the text, so that the hub did not hear it.
+    Unheard(Opening),
+    /// The hub heard the text. Memory was refused for a text that was to be drawn.
+    Undrawn(Opening),
+    /// The hub heard the text, and what waited was drawn: all of it, or as much as a visit draws.
+    Answered(Opening),
+}
+
+impl VisitOutcome {
+    /// Whether the hub heard the text.
+    pub fn is_heard(self) -> bool
+        ensures { (text : List ℕ) → heard_in self text ≡ cond result (text ∷ []) [] }
+    {
+        match self {
+            VisitOutcome::Undrawn(_) | VisitOutcome::Answered(_) => true,
+            VisitOutcome::Refused(_) | VisitOutcome::Unheard(_) => false,
+        }
+    }
+
+    /// Whether memory was refused.
+    pub fn lacked_memory(self) -> bool {
+        match self {
+            VisitOutcome::Refused(fault) => fault == OpenFault::NoMemory,
+            VisitOutcome::Unheard(_) | VisitOutcome::Undrawn(_) => true,
+            VisitOutcome::Answered(_) => false,
+        }
+    }
+}

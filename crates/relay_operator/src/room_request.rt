@@ -1,0 +1,165 @@
+//! What is asked of a room, and the response by what came of it.
+use relay_admin::{
+    EditRequest, NOT_JSON, NotForgotten, Outcome, PartRequest, Response, RevisionTag, Unavailable,
+    edit_text, outcome_of, response_text, shown_value, watch_text,
+};
+use relay_hub::{ForgetFault, Hub, OpenFault, Text};
+use relay_link::{Visit, VisitOutcome};
+use relay_proto::Access;
+use std::alloc::{AllocError, Global};
+
+/// What a connection asks of a room.
+#[derive(Drop)]
+pub(crate) enum RoomRequest {
+    /// `DELETE`: that the room of this name is forgotten.
+    Forget(String),
+    /// `GET`: a part of its document.
+    Read(PartRequest),
+    /// `PATCH`: an edit, by the patch in the request's body.
+    Edit(EditRequest),
+}
+
+/// A visit that answers a request ([`Visit::make`]).
+#[derive(Drop)]
+pub struct RoomVisit {
+    pub room: String,
+    pub access: Access,
+    pub text: Text,
+}
+
+/// What a request comes to, before the hub is asked.
+#[derive(Drop)]
+pub(crate) enum Prepared {
+    Visit(RoomVisit),
+    /// The whole response: the hub need not be asked.
+    Response(String),
+}
+
+/// Prepares the visit that reads a part of a room.
+pub(crate) fn prepare_read(
+    alloc: Global,
+    hub: &Hub,
+    request: &PartRequest,
+) -> Result<Prepared, AllocError> {
+    let Some(room) = hub.room_named(request.room.as_str()) else {
+        return respond(alloc, &Response::NoRoom);
+    };
+    let tag = tag_of(hub, room.revision);
+    if request.if_none_match.names(alloc, tag)? {
+        return respond(alloc, &Response::NotModified(tag));
+    }
+    Ok(Prepared::Visit(RoomVisit {
+        room: String::from_str(alloc, request.room.as_str())?,
+        access: Access::ReadOnly,
+        text: Text::of(watch_text(alloc, request.at.as_str())?),
+    }))
+}
+
+/// Prepares the visit that makes an edit. A room that is not there counts as at revision 0.
+pub(crate) fn prepare_edit(
+    alloc: Global,
+    hub: &Hub,
+    request: &EditRequest,
+    body: &[u8],
+) -> Result<Prepared, AllocError> {
+    let revision = hub
+        .room_named(request.room.as_str())
+        .map_or(0, |room| room.revision);
+    let tag = tag_of(hub, revision);
+    if !request.if_match.matches(alloc, tag)? {
+        return respond(alloc, &Response::OtherRevision(tag));
+    }
+    match edit_text(alloc, None, body)? {
+        Some(text) => Ok(Prepared::Visit(RoomVisit {
+            room: String::from_str(alloc, request.room.as_str())?,
+            access: Access::ReadWrite,
+            text: Text::of(text),
+        })),
+        None => respond(alloc, &Response::Malformed(NOT_JSON)),
+    }
+}
+
+fn respond(alloc: Global, response: &Response<'_>) -> Result<Prepared, AllocError> {
+    Ok(Prepared::Response(response_text(alloc, response)?))
+}
+
+fn tag_of(hub: &Hub, rev: u64) -> RevisionTag {
+    RevisionTag {
+        epoch: hub.config().epoch,
+        rev,
+    }
+}
+
+/// The response to a request, by the visit that it came to. `AllocError` if there is no memory for
+/// it, or was none for what the hub said of an edit: then nobody knows whether it was made, so
+/// there is no response.
+pub(crate) fn visited(
+    alloc: Global,
+    hub: &Hub,
+    request: &RoomRequest,
+    visit: &Visit,
+) -> Result<String, AllocError> {
+    let response = match visit.outcome {
+        VisitOutcome::Refused(fault) => refused(fault),
+        VisitOutcome::Unheard(_) => Response::Unavailable(Unavailable::Memory),
+        VisitOutcome::Undrawn(_) => return Err(AllocError),
+        VisitOutcome::Answered(opening) => {
+            answered(hub, request, opening.rev, visit.texts.as_slice())?
+        }
+    };
+    response_text(alloc, &response)
+}
+
+/// The response to a request whose session could not be opened.
+fn refused(fault: OpenFault) -> Response<'static> {
+    match fault {
+        OpenFault::RoomName => Response::NoRoom,
+        OpenFault::RoomsFull => Response::Unavailable(Unavailable::Rooms),
+        OpenFault::SessionsFull | OpenFault::Exhausted => {
+            Response::Unavailable(Unavailable::Sessions)
+        }
+        OpenFault::NoMemory => Response::Unavailable(Unavailable::Memory),
+    }
+}
+
+/// The response by what the hub said to a session that was opened at a revision: the welcome, the
+/// reply, and the snapshot that a watch makes due.
+fn answered<'t>(
+    hub: &Hub,
+    request: &RoomRequest,
+    rev: u64,
+    texts: &'t [String],
+) -> Result<Response<'t>, AllocError> {
+    let (Some(reply), tag) = (texts.get(1), tag_of(hub, rev)) else {
+        return Err(AllocError);
+    };
+    let reply = reply.as_str();
+    match (outcome_of(reply), request) {
+        (Outcome::Malformed, _) => Ok(Response::Malformed(reply)),
+        (Outcome::Unprocessable, _) => Ok(Response::Unprocessable(reply)),
+        (Outcome::Stale, _) => Ok(Response::OtherRevision(tag)),
+        (Outcome::Accepted, RoomRequest::Edit(_)) => Ok(Response::Edited {
+            tag: tag_of(hub, rev.saturating_add(1)),
+            reply,
+        }),
+        (Outcome::Accepted, _) => {
+            let snapshot = texts.get(2).ok_or(AllocError)?;
+            match shown_value(snapshot.as_str(), rev) {
+                Some("") => Ok(Response::NoValue),
+                Some(value) => Ok(Response::Part { tag, value }),
+                None => Err(AllocError),
+            }
+        }
+    }
+}
+
+/// The response to a request to forget a room, by what came of it.
+pub(crate) fn forgotten(came: Result<u64, ForgetFault>) -> Response<'static> {
+    match came {
+        Ok(_) => Response::Forgotten,
+        Err(ForgetFault::NoRoom) => Response::NotForgotten(NotForgotten::NoRoom),
+        Err(ForgetFault::Occupied) => Response::NotForgotten(NotForgotten::Occupied),
+        Err(ForgetFault::Exhausted) => Response::NotForgotten(NotForgotten::Exhausted),
+        Err(ForgetFault::NoMemory) => Response::NotForgotten(NotForgotten::NoMemory),
+    }
+}

@@ -1,0 +1,17 @@
+//! The trait of a state that answers lines.
+ghost use Rattle.std.specs.Prelude.{IfOk, List, ℕ, string_bytes};
+
+use std::alloc::{AllocError, Global};
+
+/// Answers lines in order. An answer may depend on the lines before it.
+pub trait Respond {
+    // The state before the line, the line's number and bytes, the state after it, and the bytes of
+    // the answer.
+    ghost answers: { Self → ℕ → List ℕ → Self → List ℕ → Type 0 };
+
+    /// Answers the next line: with whole lines, or with nothing. `number` counts from 1, and `line`
+    /// has the bytes before the line feed.
+    fn respond(&mut self, alloc: Global, number: u32, line: &[u8]) -> Result<String, AllocError>
+        ensures { IfOk result
+            (λ answer. answers self.old number line.now self.new (string_bytes answer)) };
+}

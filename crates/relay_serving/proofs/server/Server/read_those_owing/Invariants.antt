@@ -1,6 +1,0 @@
--- The hub advances, and no connection is added.
-use Rattle.relay_serving.specs.Advances.{KeepsFewer}
-use Rattle.relay_serving.proofs.server.Server.read_those_owing.Given as goal
-
-abbrev pub invariant-loop : goal.invariant-loop
-invariant-loop g l = KeepsFewer g.S.Read.remaining l.initial.self l.self

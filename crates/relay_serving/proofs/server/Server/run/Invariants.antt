@@ -1,6 +1,0 @@
--- The hub advances, and no connection is added beyond the limit.
-use Rattle.relay_serving.specs.Advances.{KeepsWithin}
-use Rattle.relay_serving.proofs.server.Server.run.Given as goal
-
-abbrev pub invariant-loop : goal.invariant-loop
-invariant-loop g l = KeepsWithin g.S.Read.remaining l.initial.self l.self

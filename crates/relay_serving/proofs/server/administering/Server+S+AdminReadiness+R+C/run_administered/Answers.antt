@@ -1,6 +1,0 @@
--- One after the other.
-use Rattle.relay_serving.proofs.Advancing.{advances_then, rounds_of}
-use Rattle.relay_serving.proofs.server.administering.Server+S+AdminReadiness+R+C.run_administered.Goals as goal
-
-pub returns-clause-rounds : goal.returns-clause-rounds
-returns-clause-rounds g c = rounds_of (advances_then c.run_until_stop-made.ensures.kept.0.1 c.end.ensures.rounds.advances)

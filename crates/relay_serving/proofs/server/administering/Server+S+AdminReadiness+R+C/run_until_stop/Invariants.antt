@@ -1,6 +1,0 @@
--- The hub advances, and no connection is added beyond the limit.
-use Rattle.relay_serving.specs.Advances.{KeepsWithin}
-use Rattle.relay_serving.proofs.server.administering.Server+S+AdminReadiness+R+C.run_until_stop.Given as goal
-
-abbrev pub invariant-loop-before : goal.invariant-loop-before
-invariant-loop-before g l = KeepsWithin g.S.Read.remaining l.initial.self l.self

@@ -1,4 +1,0 @@
-pub mod Connections
-pub mod Ready
-pub mod Advances
-pub mod Rounds

@@ -1,7 +1,0 @@
--- The stream of a connection.
-use Rattle.std.specs.Prelude.{ℕ, List, Option}
-use Rattle.relay_serving.specs.declared.ready.Watched.{Watched}
-
--- the bytes that it has left, if they are known
-abbrev pub left_of : {S : Type 0} → (S → Option (List ℕ)) → Watched S → Option (List ℕ)
-left_of remaining watched = remaining watched.stream
