@@ -56,18 +56,20 @@ class Manager:
 
 
 class Place:
-    """A folder of kept rooms, a relay that begins on the same port again, and a keeper."""
+    """A folder of kept rooms, a relay that begins on the same port again, and a keeper. Without
+    other words the keeper has that folder."""
 
     def __init__(self, folder):
         self.folder, self.epochs = pathlib.Path(folder, "kept"), itertools.count(1)
-        self.manager, self.port = Manager(folder), free_port()
+        self.manager, self.port = Manager(folder), free_port(above=1000)
         self.relay = self.keeper = None
 
     def start_relay(self):
         self.relay = Relay("--history", 64, port=self.port, epoch=next(self.epochs))
 
     def start_keeper(self, *options, rooms=("one", "two"), **how):
-        words = words_of("keep", f"ws://127.0.0.1:{self.port}", self.folder, *rooms, *options)
+        options = options if "--store" in options else ("--store", self.folder, *options)
+        words = words_of("keep", f"ws://127.0.0.1:{self.port}", *rooms, *options)
         environment = {**os.environ, "NOTIFY_SOCKET": self.manager.path}
         self.keeper = subprocess.Popen(words, env=environment, **QUIET, **how)
 
@@ -102,11 +104,14 @@ class Place:
         await becomes(lambda: read(self.file(room)), lambda found: found == document)
 
     async def put_back(self, room, document):
-        """Soon the room has that document, and the keeper knows that its file is of this run of the
-        relay."""
+        """Soon the room has that document, and the keeper knows that."""
         await becomes(self.room(room).document, lambda found: found == document)
+        await becomes(lambda: self.is_of_this_run(room), bool)
+
+    async def is_of_this_run(self, room):
+        """The keeper knows that the room's file is of this run of the relay."""
         mark = self.folder / f"{room}.epoch"
-        await becomes(lambda: read(mark), lambda found: found == self.relay.epoch)
+        return mark.exists() and mark.read_text().split()[0] == str(self.relay.epoch)
 
     def end(self):
         if self.keeper:

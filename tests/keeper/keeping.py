@@ -8,7 +8,7 @@ from support.patience import PATIENCE
 from support.play import main, shows
 
 FIRST, SECOND, THIRD = {"cards": ["milk"]}, {"cards": ["milk", "bread"]}, {"cards": ["faster"]}
-STATES = ("--snapshots", "2", "--apart", "0")
+STATES = ("--history", "3", "--apart", "0")
 
 
 async def begun(here, document=FIRST):
@@ -60,13 +60,6 @@ async def if_another_client_was_first_the_old_document_is_set_aside(here):
     await here.has("one", FIRST)
     assert await read(here.file("two")) == THIRD
     assert await documents(here.aside("two")) == [FIRST] and here.aside("one") == []
-
-
-@shows
-async def a_second_keeper_on_the_folder_is_refused(here):
-    await begun(here)
-    told, status = says("keep", f"ws://127.0.0.1:{here.port}", here.folder, "one")
-    assert status == 1 and "a keeper runs on" in told, told
 
 
 @shows

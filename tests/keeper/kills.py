@@ -146,7 +146,7 @@ class Play(Place):
         if what != "relay":
             self.keeper.wait()
         if what == "keeper":
-            unsure = [room for room in SIZES if not self.is_sure(room)]
+            unsure = [room for room in SIZES if not await self.is_of_this_run(room)]
             await self.start_again()
             self.check_aside(unsure)
         else:
@@ -180,10 +180,6 @@ class Play(Place):
         assert document["n"] >= wanted, f"{room}: {age * 1000:.0f} ms old"
         assert document["n"] <= editor.sent
         return document
-
-    def is_sure(self, room):
-        """The keeper knows that the room's file is of this run of the relay."""
-        return (self.folder / f"{room}.epoch").read_text() == f"{self.relay.epoch}\n"
 
     def check_aside(self, unsure):
         """Nothing was set aside but in rooms whose document a keeper had put back and was killed
@@ -268,9 +264,15 @@ async def main(kills, slow):
     print(f"the oldest file was {play.oldest * 1000:.0f} ms behind; {rooms}")
 
 
-words = argparse.ArgumentParser(description=__doc__)
-words.add_argument("kills", nargs="?", type=int, default=10, metavar="KILLS")
-slow = "a file may be so many times older, on a slow machine"
-words.add_argument("--slow", type=float, default=1, metavar="FACTOR", help=slow)
-asked = words.parse_args()
-asyncio.run(main(asked.kills, asked.slow))
+def asked(what, kills):
+    """The words of the command."""
+    words = argparse.ArgumentParser(description=what)
+    words.add_argument("kills", nargs="?", type=int, default=kills, metavar="KILLS")
+    slow = "a state may be so many times older, on a slow machine"
+    words.add_argument("--slow", type=float, default=1, metavar="FACTOR", help=slow)
+    return words.parse_args()
+
+
+if __name__ == "__main__":
+    given = asked(__doc__, 10)
+    asyncio.run(main(given.kills, given.slow))

@@ -1,0 +1,47 @@
+"""The store that the words of a command name."""
+from __future__ import annotations
+
+import pathlib
+from typing import Optional
+
+from .folder import Folder
+from .names import is_name
+from .store import Store, Taken
+
+NAME = "relay"
+"""Of the relay whose rooms are kept, where none is given."""
+POSTGRESQL = ("postgresql://", "postgres://")
+
+
+class BadStore(Exception):
+    """The words name no store."""
+
+
+def opened(
+    where: str, relay: Optional[str] = None, history: int = 1, apart: float = 600.0
+) -> Store:
+    """`where` is files:FOLDER, sqlite:PATH, postgresql://.., or a folder. A database may have the
+    rooms of several relays, each under a name of its own; a folder has those of one."""
+    if relay is not None and not is_name(relay):
+        raise BadStore(f"{relay!r}: a relay's name is as that of a room")
+    scheme, colon, rest = where.partition(":")
+    if where.startswith(POSTGRESQL):
+        from .postgresql import PostgreSQL
+
+        return PostgreSQL(where, relay or NAME, history, apart)
+    if scheme == "sqlite" and rest:
+        from .sqlite import SQLite
+
+        return SQLite(pathlib.Path(rest), relay or NAME, history, apart)
+    if "://" in where or not where:
+        raise BadStore(f"{where!r}: a store is files:FOLDER, sqlite:PATH or postgresql://..")
+    if relay is not None:
+        raise BadStore("--relay is for databases; a folder has the rooms of one relay")
+    path = rest if scheme == "files" and colon else where
+    return Folder(pathlib.Path(path), history, apart)
+
+
+def take(store: Store) -> None:
+    """`Taken` if another keeper holds the lease."""
+    if not store.take():
+        raise Taken(f"a keeper runs on {store.where}")

@@ -1,0 +1,166 @@
+"""The words `list`, `export`, `import` and `restore`: what they print, and their status, for each
+store."""
+
+import contextlib
+import json
+import subprocess
+import tempfile
+
+from keeper import says, words_of
+from relay_keeper.lines import BadLine, imported
+from relay_keeper.state import State, now
+from relay_keeper.stores import opened
+from support.play import main, shows
+from support.postgres import cluster
+
+FIRST, SECOND = {"cards": ["milk", "\x00 é \t\n"]}, [1, None, {"a/b": {}}]
+
+
+def stores(database):
+    """A new one of each kind, by its address."""
+    with tempfile.TemporaryDirectory() as folder:
+        yield f"files:{folder}/kept"
+        yield f"sqlite:{folder}/kept.db"
+        yield database.database()
+
+
+def filled(where):
+    """With three rooms, one of which was put aside."""
+    with contextlib.closing(opened(where)) as store:
+        assert store.take()
+        at = now() - 90_000
+        store.put(State("board", 7, 3, FIRST, at))
+        store.put(State("other", 9_007_199_254_740_991, 12, SECOND, at))
+        store.put(State("third", None, 0, None, at))
+        return store.list()
+
+
+def run(*words, given=""):
+    """Standard output, standard error and status."""
+    ran = subprocess.run(words_of(*words), input=given, capture_output=True, text=True)
+    return ran.stdout, ran.stderr, ran.returncode
+
+
+@shows
+def it_lists_name_revision_epoch_bytes_and_age(database):
+    for where in stores(database):
+        entries = {it.room: it for it in filled(where)}
+        told, _, status = run("list", "--store", where)
+        rows = [line.split("\t") for line in told.splitlines()]
+        assert status == 0 and [row[0] for row in rows] == ["board", "other", "third"], told
+        assert [row[1:3] for row in rows] == [
+            ["3", "7"],
+            ["12", "9007199254740991"],
+            ["0", "none"],
+        ], rows
+        assert all(int(row[3]) == entries[row[0]].bytes for row in rows), rows
+        assert all(90 <= int(row[4]) < 190 for row in rows), rows
+        told, _, _ = run("list", "other", "--store", where, "--match", "th*")
+        assert [line.split("\t")[0] for line in told.splitlines()] == ["other", "third"], told
+
+
+@shows
+def what_it_exports_it_imports(database):
+    """From each store into each other one, and what is there already is newer nowhere."""
+    texts = []
+    for where in stores(database):
+        filled(where)
+        told, _, status = run("export", "--store", where)
+        assert status == 0 and len(told.splitlines()) == 3, told
+        texts.append([{**json.loads(line), "at": 0} for line in told.splitlines()])
+        for other in stores(database):
+            written, _, status = run("import", "--store", other, given=told)
+            assert status == 0 and written.startswith("3 rooms written, 0 left out"), written
+            assert run("export", "--store", other) == (told, "", 0), other
+    assert texts[0] == texts[1] == texts[2]
+
+
+@shows
+def an_older_revision_is_left_out(database):
+    for where in stores(database):
+        filled(where)
+        told, _, _ = run("export", "board", "--store", where)
+        state = json.loads(told)
+        for revision, wrote in ((2, "0 rooms written, 1 left"), (4, "1 rooms written, 0 left")):
+            line = json.dumps({**state, "revision": revision, "document": revision})
+            written, _, status = run("import", "--store", where, given=line)
+            assert status == 0 and written.startswith(wrote), written
+        assert json.loads(run("export", "board", "--store", where)[0])["document"] == 4
+
+
+@shows
+def a_line_that_is_no_state_is_named(database):
+    whole = {"room": "board", "epoch": 7, "revision": 1, "at": 1, "document": 1}
+    bad = ["", "[]", "{", '{"room":"board"}', json.dumps({**whole, "room": "a/b"})]
+    bad += [json.dumps({**whole, "revision": it}) for it in (-1, "1", None, True, 2**53)]
+    for line in bad:
+        try:
+            imported(line, 2)
+        except BadLine as told:
+            assert str(told).startswith("line 2: no state"), told
+        else:
+            raise AssertionError(line)
+    for where in stores(database):
+        told, fault, status = run("import", "--store", where, given=f"{json.dumps(whole)}\n[]\n")
+        assert status == 1 and fault.startswith("relay-keeper: line 2: no state"), fault
+        assert run("list", "--store", where)[0].startswith("board\t1\t7\t")
+
+
+@shows
+def an_older_state_is_listed_and_put_back(database):
+    for where in stores(database):
+        with contextlib.closing(opened(where, history=3, apart=0)) as store:
+            assert store.take()
+            for revision in range(1, 4):
+                store.put(State("board", 7, revision, revision, revision * 1000))
+            told, fault, status = run("restore", "board", "19700101T000001", "--store", where)
+            assert status == 1 and "a keeper runs on" in fault, fault
+        told, _, status = run("restore", "--store", where, "board")
+        assert status == 0 and [line.split()[0] for line in told.splitlines()] == [
+            "19700101T000002.000Z",
+            "19700101T000001.000Z",
+        ], told
+        told, fault, status = run("restore", "--store", where, "board", "19700101T000001")
+        assert status == 0 and "set aside as 19700101T000003.000Z" in told, (told, fault)
+        kept = json.loads(run("export", "--store", where)[0])
+        assert (kept["document"], kept["epoch"]) == (1, None), kept
+        assert "set aside" in run("restore", "--store", where, "board")[0]
+        _, fault, status = run("restore", "--store", where, "board", "2000")
+        assert status == 1 and "0 states begin with 2000" in fault, fault
+
+
+@shows
+def wrong_words_have_a_status_of_their_own(_):
+    for words, status in (
+        ([], 2),
+        (["keeps"], 2),
+        (["list"], 2),
+        (["list", "--store", "x", "--all"], 2),
+        (["import", "--store", "x", "room"], 2),
+        (["keep", "ws://127.0.0.1:1", "--pace", "0", "--store", "x", "room"], 2),
+        (["keep", "ws://127.0.0.1:1", "--history", "0", "--store", "x", "room"], 2),
+        (["keep", "ws://127.0.0.1:1"], 1),
+        (["restore"], 1),
+        (["restore", "--store", "x", "board", "2", "3"], 1),
+        (["list", "--store", "nothing://x"], 1),
+        (["list", "--store", "/nowhere/at/all"], 1),
+        (["list", "--store", "sqlite:/nowhere/at/all"], 1),
+    ):
+        told, fault, found = run(*words)
+        assert (found, told) == (status, ""), (words, found, told, fault)
+        assert fault.startswith("usage:" if status == 2 else "relay-keeper: "), (words, fault)
+        assert "Traceback" not in fault, fault
+
+
+@shows
+def each_word_has_help_with_an_example(_):
+    for word in ("keep", "restore", "list", "export", "import"):
+        told, status = says(word, "--help")
+        flat = " ".join(told.split())
+        assert status == 0 and f"Example: relay-keeper {word} " in flat, told
+        assert "Exit status: 0" in flat, told
+
+
+if __name__ == "__main__":
+    with cluster() as started:
+        main(started)
