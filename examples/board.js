@@ -1,5 +1,6 @@
-// The first list of a board in a terminal: shows its cards as they change, and adds each line that is typed. The line `drop` drops the
-// connection on purpose: the client comes back, and is told what it missed.
+// The first list of a board in a terminal: shows its cards as they change, and adds each line that
+// is typed. The line `drop` drops the connection on purpose: the client comes back, and is told
+// what it missed.
 //
 //     node --experimental-websocket examples/board.js PORT [ROOM]        (without the option from node 22 on)
 const { createInterface } = require("node:readline");

@@ -1,6 +1,6 @@
 #!/usr/bin/env python3
-"""The first list of a board in a terminal: shows its cards as they change, and adds each line that is typed. A line `undo` takes the last
-one back.
+"""The first list of a board in a terminal: shows its cards as they change, and adds each line that
+is typed. A line `undo` takes the last one back.
 
     python3 examples/board.py PORT [ROOM]
 

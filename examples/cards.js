@@ -1,5 +1,6 @@
-// The cards of board.html on the page. A card keeps its element while it is shown, wherever it goes, so that it flies from where it was to
-// where it is, and keeps the focus. It is known by its value, mostly a text, and among equal ones by which of them it is.
+// The cards of board.html on the page. A card keeps its element while it is shown, wherever it
+// goes, so that it flies from where it was to where it is, and keeps the focus. It is known by its
+// value, mostly a text, and among equal ones by which of them it is.
 "use strict";
 
 const FLIGHT = { duration: 160, easing: "cubic-bezier(.2, .7, .3, 1)" };

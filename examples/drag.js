@@ -1,4 +1,5 @@
-// A card follows the pointer, with a gap where it would go: a mouse takes it anywhere, a finger by its grip.
+// A card follows the pointer, with a gap where it would go: a mouse takes it anywhere, a finger by
+// its grip.
 "use strict";
 
 const FAR = 5; // pixels, from where on a press is a drag

@@ -1,6 +1,7 @@
-// The board of board.html: three lists of cards in one document, each shown as a slot. What is done to a card shows at once; it tests first
-// that the card is still the one that was seen, and flies back, with a word, where it is not. A card is put away into a fourth list, of which
-// only the size is watched.
+// The board of board.html: three lists of cards in one document, each shown as a slot. What is done
+// to a card shows at once; it tests first that the card is still the one that was seen, and flies
+// back, with a word, where it is not. A card is put away into a fourth list, of which only the size
+// is watched.
 "use strict";
 
 const LISTS = [
@@ -65,8 +66,8 @@ function takeBack([test], cause) {
   setTimeout(() => element?.classList.remove("refused"), 1200);
 }
 
-// What is done. `seen` is a card as it was when it was looked at: its list, its place and its value, mostly a text. What is refused
-// `takeBack` hears of.
+// What is done. `seen` is a card as it was when it was looked at: its list, its place and its
+// value, mostly a text. What is refused `takeBack` hears of.
 
 function change({ list, place, value }, act) {
   const path = `${LISTS[list].path}/${place}`;
@@ -76,7 +77,8 @@ function change({ list, place, value }, act) {
 function add(path, value) {
   const there = board.at(path);
   if (Array.isArray(there.value)) board.edit([{ op: "add", path: `${path}/-`, value }], { optimistic: true });
-  // Nothing is there yet, or something that is no list: a list takes its place, if nobody is faster.
+  // Nothing is there yet, or something that is no list: a list takes its place, if nobody is
+  // faster.
   else there.update((seen) => [...list(seen), value]).catch((cause) => say(failure(cause)));
 }
 

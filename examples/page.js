@@ -1,4 +1,5 @@
-// What the pages have in common: the room and the name that an address asks for, values of any shape, and what is said of a refused edit.
+// What the pages have in common: the room and the name that an address asks for, values of any
+// shape, and what is said of a refused edit.
 "use strict";
 
 const NAMES = ["Ash", "Birch", "Cedar", "Elm", "Fir", "Hazel", "Juniper", "Linden", "Maple", "Oak", "Pine", "Rowan", "Willow", "Yew"];
@@ -15,8 +16,9 @@ const FAULTS = {
 };
 
 /**
- * Where to, and who. `?url=wss://example.org/rooms/NAME` is a room anywhere; `?port=8080&room=NAME` one of a relay on this machine.
- * `?name=` is who visits; without it a window has a name of its own.
+ * Where to, and who. `?url=wss://example.org/rooms/NAME` is a room anywhere; `?port=8080&room=NAME`
+ * one of a relay on this machine. `?name=` is who visits; without it a window has a name of its
+ * own.
  */
 function visit(room) {
   const asked = new URLSearchParams(location.search);
@@ -25,7 +27,8 @@ function visit(room) {
   return { url, name };
 }
 
-// Anyone in a room may write anything there: what is no text, no list or no object shows as an empty one.
+// Anyone in a room may write anything there: what is no text, no list or no object shows as an
+// empty one.
 
 function text(value) {
   return typeof value === "string" ? value : "";

@@ -62,7 +62,8 @@ func TestContainersThatStandAtTwoPlaces(t *testing.T) {
 	}
 }
 
-// Done as one patch, operations come to what they come to one by one, and what was there is as it was.
+// Done as one patch, operations come to what they come to one by one, and what was there is as it
+// was.
 func TestRandomPatches(t *testing.T) {
 	const document = `[{"a":[1,[2]],"b":{}},[[],{"a":3}]]`
 	for seed := int64(0); seed < 3000; seed++ {

@@ -2,8 +2,9 @@ package relay
 
 import "context"
 
-// A will is what the relay is to do when this session ends (docs/PROTOCOL.md, "Wills"). It goes with
-// its session, so each connection leaves it again. It waits for its answer over as many as it takes.
+// A will is what the relay is to do when this session ends (docs/PROTOCOL.md, "Wills"). It goes
+// with its session, so each connection leaves it again. It waits for its answer over as many as it
+// takes.
 type will struct {
 	patch Patch
 	err   error

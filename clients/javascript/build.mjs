@@ -1,6 +1,6 @@
-// Makes relay.js, for script tags and `require`, and relay.mjs, for `import`, from src/: one file each, in which each module is a function
-// that is called once and gives what it exports. `node build.mjs` writes them; `node build.mjs --check` fails where they are not what it
-// would write.
+// Makes relay.js, for script tags and `require`, and relay.mjs, for `import`, from src/: one file
+// each, in which each module is a function that is called once and gives what it exports. `node
+// build.mjs` writes them; `node build.mjs --check` fails where they are not what it would write.
 import { readFileSync, writeFileSync } from "node:fs";
 
 const HERE = new URL(".", import.meta.url);

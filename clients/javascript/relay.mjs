@@ -42,7 +42,7 @@ const errorsModule = (() => {
   /** @type {Record<number, string>} */
   const ADVICE = {
     404: ": an address ends with /rooms/NAME",
-    503: ": it is full (--sessions, --rooms), or about to stop",
+    503: ": it is full (--sessions, --rooms), not open yet (--closed), or about to stop",
   };
 
   /** No connection could be made. The client goes on trying. */
@@ -309,12 +309,13 @@ const jsonModule = (() => {
 
   /** @typedef {import("../relay.js").Json} Json */
 
-  // The relay's documents have at most 64 levels. A value past this is deeper than any, or in a cycle.
+  // The relay's documents have at most 64 levels. A value past this is deeper than any, or in a
+  // cycle.
   const DEEPEST = 128;
 
   /**
-   * A copy of a value, so that what is sent is what it was when it was asked for. A `TypeError` names the path of what no JSON can say, or the
-   * relay would refuse.
+   * A copy of a value, so that what is sent is what it was when it was asked for. A `TypeError` names
+   * the path of what no JSON can say, or the relay would refuse.
    * @param {unknown} value
    * @param {readonly (string | number)[]} [path]
    * @returns {any}
@@ -399,8 +400,9 @@ const jsonModule = (() => {
 })();
 
 const patchModule = (() => {
-  // JSON Patch (RFC 6902) on values that are never written to: what a patch leads to has new parts where it differs, so a value that was
-  // handed out stays what it was. A patch copies each container once, however many of its operations change it.
+  // JSON Patch (RFC 6902) on values that are never written to: what a patch leads to has new parts
+  // where it differs, so a value that was handed out stays what it was. A patch copies each container
+  // once, however many of its operations change it.
   const { index, startsWith } = pointerModule;
 
   /** An operation does not fit the value. */
@@ -408,7 +410,10 @@ const patchModule = (() => {
     message = "the patch does not fit";
   }
 
-  /** The containers that one patch made. Nobody else has them, and each stands in one place, so the patch may write to them. */
+  /**
+   * The containers that one patch made. Nobody else has them, and each stands in one place, so the
+   * patch may write to them.
+   */
   class Owned {
     /** @type {Set<object>} */
     #made = new Set();
@@ -426,8 +431,9 @@ const patchModule = (() => {
     }
 
     /**
-     * Before a value stands in a second place, or is kept: no later operation writes to it. What the patch did not make holds nothing that it
-     * made, since a container is made with all those around it.
+     * Before a value stands in a second place, or is kept: no later operation writes to it. What the
+     * patch did not make holds nothing that it made, since a container is made with all those around
+     * it.
      * @param {any} part
      */
     share(part) {
@@ -511,15 +517,17 @@ const patchModule = (() => {
 })();
 
 const knownModule = (() => {
-  // What a client knows of the document by its slots, and of the documents to which its own patches lead: some values are known, some
-  // places are known to be empty, and of the rest nothing is known. What an operation means to a slot (docs/PROTOCOL.md, "What a change
-  // means to a slot") follows: the operation is done on what is known, and the slots are read again.
+  // What a client knows of the document by its slots, and of the documents to which its own patches
+  // lead: some values are known, some places are known to be empty, and of the rest nothing is known.
+  // What an operation means to a slot (docs/PROTOCOL.md, "What a change means to a slot") follows:
+  // the operation is done on what is known, and the slots are read again.
   const { index, tokens } = pointerModule;
   const { same } = jsonModule;
   const { Misfit, Owned, added, checkMove, has, removed, replaced } = patchModule;
 
   /**
-   * A part of the document: a value; nothing (`absent`); unknown; or a container of which only some children, or the size, are known.
+   * A part of the document: a value; nothing (`absent`); unknown; or a container of which only some
+   * children, or the size, are known.
    *
    * @typedef {{ is: "value", value: any } | { is: "absent" } | { is: "unknown" } | Container} Part
    * @typedef {{ is: "container", children: Map<string, Part>, size: number | null }} Container
@@ -548,7 +556,8 @@ const knownModule = (() => {
    */
   function knownBy(view, slots) {
     const told = view.map((shown, k) => ({ path: pathOf(shown), value: typeof shown === "string", slot: slots[k] }));
-    // What an outer slot shows stands first, and values before sizes: what lies within a known value tells nothing new.
+    // What an outer slot shows stands first, and values before sizes: what lies within a known value
+    // tells nothing new.
     told.sort((one, other) => one.path.length - other.path.length || Number(other.value) - Number(one.value));
     return told.reduce(tell, UNKNOWN);
   }
@@ -605,7 +614,8 @@ const knownModule = (() => {
   }
 
   /**
-   * Whether a part is known to be there. A container of which only absent children are known may be absent itself.
+   * Whether a part is known to be there. A container of which only absent children are known may be
+   * absent itself.
    * @param {Part} part
    * @returns {boolean}
    */
@@ -625,7 +635,8 @@ const knownModule = (() => {
   }
 
   /**
-   * The place that a path names: the part that holds it, whether that is a list, and the index there; null where that is not known.
+   * The place that a path names: the part that holds it, whether that is a list, and the index there;
+   * null where that is not known.
    * @param {Part} whole
    * @param {readonly string[]} path
    */
@@ -666,7 +677,10 @@ const knownModule = (() => {
     return /** @type {any} */ (afterAll(known(value), patch)).value;
   }
 
-  /** What is known while a patch is done, operation by operation, on values that the draft alone has: so it copies each container once. */
+  /**
+   * What is known while a patch is done, operation by operation, on values that the draft alone has:
+   * so it copies each container once.
+   */
   class Draft {
     #owned = new Owned();
 
@@ -770,7 +784,12 @@ const knownModule = (() => {
     return changed(whole, path, atRoot, { inValue: (value, rest) => known(removed(value, rest, owned)), inContainer: dropped });
   }
 
-  /** @param {Part} whole @param {readonly string[]} path @param {{ is: "value", value: any }} part @param {Owned} owned */
+  /**
+   * @param {Part} whole
+   * @param {readonly string[]} path
+   * @param {{ is: "value", value: any }} part
+   * @param {Owned} owned
+   */
   function exchanged(whole, path, part, owned) {
     return changed(whole, path, () => part, {
       inValue: (value, rest) => known(replaced(value, rest, part.value, owned)),
@@ -782,7 +801,8 @@ const knownModule = (() => {
   }
 
   /**
-   * Goes along a path to where a value is known, or to the container that holds the last token, and changes that.
+   * Goes along a path to where a value is known, or to the container that holds the last token, and
+   * changes that.
    * @param {Part} whole
    * @param {readonly string[]} path
    * @param {() => Part} atRoot
@@ -800,7 +820,8 @@ const knownModule = (() => {
     return { ...holder, children: new Map(holder.children).set(token, part) };
   }
 
-  // In a container that may be a list, what stands behind an insertion or a removal may have moved, and is not known any more.
+  // In a container that may be a list, what stands behind an insertion or a removal may have moved,
+  // and is not known any more.
 
   /** @param {Container} holder @param {string} token @returns {Map<string, Part>} */
   function unmoved({ children }, token) {
@@ -879,7 +900,8 @@ const knownModule = (() => {
 })();
 
 const followerModule = (() => {
-  // The slots of a view as the relay shows them, kept right over lost connections and restarts (docs/PROTOCOL.md, "What a client does").
+  // The slots of a view as the relay shows them, kept right over lost connections and restarts
+  // (docs/PROTOCOL.md, "What a client does").
   const { Closed, Refused } = errorsModule;
   const { applied } = knownModule;
   const { checked } = jsonModule;
@@ -945,7 +967,10 @@ const followerModule = (() => {
       });
     }
 
-    /** The first request of a connection goes on where the slots are, if they are those of the view that is wanted. */
+    /**
+     * The first request of a connection goes on where the slots are, if they are those of the view
+     * that is wanted.
+     */
     entered() {
       this.#taken = null;
       this.#link.askFirst(this.#held.number === this.#wanted.number ? this.#resuming() : this.#watching());
@@ -958,7 +983,10 @@ const followerModule = (() => {
       else this.astray();
     }
 
-    /** What is held may be wrong: the slots are asked for anew, by a connection that has nothing to resume. */
+    /**
+     * What is held may be wrong: the slots are asked for anew, by a connection that has nothing to
+     * resume.
+     */
     astray() {
       this.#held = { ...this.#held, number: -1 };
       this.#link.renew();
@@ -990,7 +1018,8 @@ const followerModule = (() => {
       return { request: { do: "resume", epoch, rev, view }, answered };
     }
 
-    // A view that the relay does not take: the one before it stays. Without any there is nothing to be had.
+    // A view that the relay does not take: the one before it stays. Without any there is nothing to
+    // be had.
     /** @param {Wanted} wanted @param {any} reply */
     #refuse({ number }, reply) {
       const refused = new Refused(reply);
@@ -1087,7 +1116,8 @@ const historyModule = (() => {
 })();
 
 const inverseModule = (() => {
-  // What takes a patch back, as far as the slots tell: each operation backwards, behind tests that nobody changed since what it did.
+  // What takes a patch back, as far as the slots tell: each operation backwards, behind tests that
+  // nobody changed since what it did.
   const { spelled, startsWith, tokens } = pointerModule;
   const { Draft, placeOf, read } = knownModule;
   const { Misfit } = patchModule;
@@ -1135,7 +1165,8 @@ const inverseModule = (() => {
   }
 
   /**
-   * Of each operation that puts something elsewhere than in a list, whether nothing is known to stand there. Fails where one does not fit.
+   * Of each operation that puts something elsewhere than in a list, whether nothing is known to stand
+   * there. Fails where one does not fit.
    * @param {Part} whole
    * @param {readonly Operation[]} patch
    */
@@ -1189,13 +1220,23 @@ const inverseModule = (() => {
     return value;
   }
 
-  /** @param {readonly string[]} path @param {any} value What stands there. @param {any} old What is to stand there. @returns {Operation[]} */
+  /**
+   * @param {readonly string[]} path
+   * @param {any} value What stands there.
+   * @param {any} old What is to stand there.
+   * @returns {Operation[]}
+   */
   function exchange(path, value, old) {
     const there = spelled(path);
     return [{ op: "test", path: there, value }, { op: "replace", path: there, value: old }];
   }
 
-  /** @param {Draft} draft @param {readonly string[]} path @param {any} value @returns {Operation[]} */
+  /**
+   * @param {Draft} draft
+   * @param {readonly string[]} path
+   * @param {any} value
+   * @returns {Operation[]}
+   */
   function addedBack(draft, path, value) {
     const place = placeOf(draft.whole, path);
     if (place.list === null || (place.list && place.at === null)) throw new Misfit();
@@ -1214,7 +1255,11 @@ const inverseModule = (() => {
   }
 
   // Where an element was removed from a list: between the same two, or in a list that is empty.
-  /** @param {Draft} draft @param {{ path: readonly string[], holder: Part | null, at: number | null }} place @returns {Operation[]} */
+  /**
+   * @param {Draft} draft
+   * @param {{ path: readonly string[], holder: Part | null, at: number | null }} place
+   * @returns {Operation[]}
+   */
   function neighbours(draft, { path, holder, at }) {
     if (holder?.is !== "value" || at === null) throw new Misfit();
     const list = path.slice(0, -1);
@@ -1228,7 +1273,11 @@ const inverseModule = (() => {
     return [...(at > 0 ? [test(at - 1, at - 1)] : []), ...(at + 1 < length ? [test(at, at + 1)] : [])];
   }
 
-  /** @param {Draft} draft @param {{ op: "move" | "copy", from: string, path: string }} operation @returns {Operation[]} */
+  /**
+   * @param {Draft} draft
+   * @param {{ op: "move" | "copy", from: string, path: string }} operation
+   * @returns {Operation[]}
+   */
   function movedBack(draft, operation) {
     if (operation.path === operation.from) return [];
     const [from, path] = [tokens(operation.from), tokens(operation.path)];
@@ -1246,7 +1295,8 @@ const inverseModule = (() => {
     draft.do(operation, () => (back = addedBack(draft, path, moved)));
     const [test, last] = back;
     const place = spelled(origin.path);
-    // A move back would be one into itself where it came in front of what it was taken from, and may shift a place that is put back.
+    // A move back would be one into itself where it came in front of what it was taken from, and may
+    // shift a place that is put back.
     const isMove = !startsWith(from, path) && last.op === "remove";
     return isMove ? [test, { op: "move", from: last.path, path: place }] : [test, last, { op: "add", path: place, value: moved }];
   }
@@ -1282,7 +1332,8 @@ const handshakeModule = (() => {
   const LONGEST = 2000;
 
   /**
-   * `refused` with a status where the platform tells one; a page of another origin is only told that something answers.
+   * `refused` with a status where the platform tells one; a page of another origin is only told that
+   * something answers.
    * @param {string} url of the room, as `ws://HOST/rooms/NAME`
    * @param {{ message?: string } | null} event of the socket
    */
@@ -1305,7 +1356,8 @@ const handshakeModule = (() => {
   }
 
   /**
-   * Fails with a `RangeError` where the last part of a path is no room's name (docs/PROTOCOL.md, "Scripts").
+   * Fails with a `RangeError` where the last part of a path is no room's name (docs/PROTOCOL.md,
+   * "Scripts").
    * @param {string} url
    */
   function checkRoom(url) {
@@ -1431,7 +1483,8 @@ const onceModule = (() => {
 })();
 
 const linkModule = (() => {
-  // A connection to a room that comes back when it is lost, and the requests that go over it, in order.
+  // A connection to a room that comes back when it is lost, and the requests that go over it, in
+  // order.
   const { HandshakeFailed } = errorsModule;
   const { endsConnection } = lengthModule;
   const { failure } = handshakeModule;
@@ -1439,10 +1492,12 @@ const linkModule = (() => {
   const { overlap } = pointerModule;
   const { WAITS } = onceModule;
 
-  // With one more on the way 32 replies could wait, and the relay would read nothing from this client until it drew one.
+  // With one more on the way 32 replies could wait, and the relay would read nothing from this client
+  // until it drew one.
   const ON_THE_WAY = 31;
 
-  // A snapshot may take as many times as long as an answer: it has up to 25 MB, and whatever is answered meanwhile comes behind it.
+  // A snapshot may take as many times as long as an answer: it has up to 25 MB, and whatever is
+  // answered meanwhile comes behind it.
   const SNAPSHOT = 6;
 
   // How often patience is doubled at most, since connections were given up.
@@ -1593,7 +1648,8 @@ const linkModule = (() => {
       for (const asked of unsent) asked.dropped?.();
     }
 
-    // Leaves the connection: what was sent has no answer any more, and only edits wait for the next one.
+    // Leaves the connection: what was sent has no answer any more, and only edits wait for the next
+    // one.
     #detach() {
       clearTimeout(this.#timer);
       clearTimeout(this.#patience);
@@ -1611,7 +1667,8 @@ const linkModule = (() => {
       this.#detach();
       if (handshaken) return this.#wait(null);
       if (event instanceof HandshakeFailed) return this.#wait(event);
-      // Not within the promise, so that what an application's function throws is reported as it is elsewhere.
+      // Not within the promise, so that what an application's function throws is reported as it is
+      // elsewhere.
       failure(this.#url, event).then((cause) => queueMicrotask(() => this.#wait(cause)));
     }
 
@@ -1635,10 +1692,12 @@ const linkModule = (() => {
       }
     }
 
-    // Whether the other end is there. What has waited longest for an answer, or for the welcome, says it; each answer shows that it is. Where
-    // nothing waits and nothing comes, a request that does nothing asks for an answer: it has no `do`, and is refused. While a snapshot is on
-    // its way nothing is asked, since the answer would come behind it, and the snapshot is what is waited for. A line that is slower than
-    // that gets it all the same: each connection that is given up doubles the patience of the next one.
+    // Whether the other end is there. What has waited longest for an answer, or for the welcome, says
+    // it; each answer shows that it is. Where nothing waits and nothing comes, a request that does
+    // nothing asks for an answer: it has no `do`, and is refused. While a snapshot is on its way
+    // nothing is asked, since the answer would come behind it, and the snapshot is what is waited
+    // for. A line that is slower than that gets it all the same: each connection that is given up
+    // doubles the patience of the next one.
 
     #beginPatience() {
       clearTimeout(this.#patience);
@@ -1761,7 +1820,8 @@ const linkModule = (() => {
 })();
 
 const listenersModule = (() => {
-  // Functions that are told of something. Whoever changes something while others are told is heard after them, so all hear it in one order.
+  // Functions that are told of something. Whoever changes something while others are told is heard
+  // after them, so all hear it in one order.
 
   /** @template T */
   class Listeners {
@@ -1810,7 +1870,8 @@ const listenersModule = (() => {
 })();
 
 const touchModule = (() => {
-  // Which changes surely touch a slot (docs/PROTOCOL.md, "What a change means to a slot"): of those the relay tells a watcher.
+  // Which changes surely touch a slot (docs/PROTOCOL.md, "What a change means to a slot"): of those
+  // the relay tells a watcher.
   const { index, startsWith, tokens } = pointerModule;
   const { Draft, goesOn, pathOf, placeOf, read } = knownModule;
 
@@ -1823,7 +1884,8 @@ const touchModule = (() => {
    */
 
   /**
-   * Whether a patch surely touches a slot of a view. Fails with `Misfit` where it is known to be refused.
+   * Whether a patch surely touches a slot of a view. Fails with `Misfit` where it is known to be
+   * refused.
    * @param {Part} whole
    * @param {readonly Operation[]} patch
    * @param {readonly Shown[]} view
@@ -1856,14 +1918,16 @@ const touchModule = (() => {
     return operation.op === "move" ? [{ ...placeOf(whole, tokens(operation.from)), set: false }] : [];
   }
 
-  // Where something is added. Of a member that may be there already it is not known whether it is merely set: then no size surely changes.
+  // Where something is added. Of a member that may be there already it is not known whether it is
+  // merely set: then no size surely changes.
   /** @param {Part} whole @param {readonly string[]} path @returns {Place} */
   function target(whole, path) {
     const place = placeOf(whole, path);
     return { ...place, set: place.list !== true && read(whole, path).is !== "absent" };
   }
 
-  // Whether a move may lead to its own place, and so change nothing: the last element of a list to the end of it, which may not be known.
+  // Whether a move may lead to its own place, and so change nothing: the last element of a list to
+  // the end of it, which may not be known.
   /** @param {Origin} from @param {Place} to */
   function mayStay({ path, holder, at }, to) {
     if (to.path.length !== path.length) return false;
@@ -1890,7 +1954,8 @@ const touchModule = (() => {
 })();
 
 const overlayModule = (() => {
-  // This client's edits that the slots do not show yet, and the slots with those of them laid over that are to show at once.
+  // This client's edits that the slots do not show yet, and the slots with those of them laid over
+  // that are to show at once.
   const { afterAll, knownBy, slotsOf } = knownModule;
   const { touches } = touchModule;
   const { inverse } = inverseModule;
@@ -1911,8 +1976,9 @@ const overlayModule = (() => {
    *   left: (inverse: Inverse | null) => void,
    *   laid?: { below: Part, slots: readonly Slot[], whole: Part, shown: readonly Slot[] },
    * }} Unconfirmed
-   * An edit, in the order in which they were made; `rev` and `epoch` are of its `done`, and `left` is told when the slots show it. Of a
-   * silent one that is taken back the application is told nothing: the client made it by itself.
+   * An edit, in the order in which they were made; `rev` and `epoch` are of its `done`, and `left` is
+   * told when the slots show it. Of a silent one that is taken back the application is told nothing:
+   * the client made it by itself.
    */
 
   class Overlay {
@@ -1951,7 +2017,8 @@ const overlayModule = (() => {
     }
 
     /**
-     * Other slots came: drops what they show, what was done in an earlier run than theirs, and what left no trace.
+     * Other slots came: drops what they show, what was done in an earlier run than theirs, and what
+     * left no trace.
      * @param {Held} before
      * @param {Held} held
      */
@@ -1961,7 +2028,8 @@ const overlayModule = (() => {
     }
 
     /**
-     * Drops what was done and will not show. The slots may still be of an earlier run: then other ones come.
+     * Drops what was done and will not show. The slots may still be of an earlier run: then other
+     * ones come.
      * @param {Held} held
      */
     settleTraceless(held) {
@@ -1981,7 +2049,8 @@ const overlayModule = (() => {
       return /** @type {{ whole: Part }} */ (this.#base).whole;
     }
 
-    // Whether a patch will come for an edit that was done: of one that only might touch a slot none may ever come.
+    // Whether a patch will come for an edit that was done: of one that only might touch a slot none
+    // may ever come.
     /** @param {Unconfirmed} edit @param {Held} held */
     #willShow(edit, held) {
       if (held.slots === null || edit.rev === null || edit.rev <= (held.rev ?? -1)) return false;
@@ -1989,13 +2058,17 @@ const overlayModule = (() => {
       try {
         return touches(folded(this.#known(held), earlier), edit.patch, held.view);
       } catch {
-        // It was done, and does not fit the slots: so they are behind, and what brings them on is on its way.
+        // It was done, and does not fit the slots: so they are behind, and what brings them on is on
+        // its way.
         return true;
       }
     }
 
     // Of those that were done.
-    /** @param {Held} before The slots that do not show them yet. @param {(edit: Unconfirmed) => boolean} leaves */
+    /**
+     * @param {Held} before The slots that do not show them yet.
+     * @param {(edit: Unconfirmed) => boolean} leaves
+     */
     #leave(before, leaves) {
       const edits = this.#edits.filter((edit) => edit.rev !== null && leaves(edit));
       if (edits.length === 0) return;
@@ -2009,7 +2082,8 @@ const overlayModule = (() => {
     }
   }
 
-  // A patch is done whole or not at all, so an edit of which an operation is known not to fit shows nothing.
+  // A patch is done whole or not at all, so an edit of which an operation is known not to fit shows
+  // nothing.
   /** @param {Part} whole @param {readonly Unconfirmed[]} edits */
   function folded(whole, edits) {
     return edits.reduce((below, { patch }) => {
@@ -2021,8 +2095,13 @@ const overlayModule = (() => {
     }, whole);
   }
 
-  // What was laid over the same once is not made again, so slots stay the same values where nothing changed.
-  /** @param {{ whole: Part, shown: readonly Slot[] }} below @param {Unconfirmed} edit @param {Held} held */
+  // What was laid over the same once is not made again, so slots stay the same values where nothing
+  // changed.
+  /**
+   * @param {{ whole: Part, shown: readonly Slot[] }} below
+   * @param {Unconfirmed} edit
+   * @param {Held} held
+   */
   function over(below, edit, held) {
     if (edit.laid?.below !== below.whole || edit.laid.slots !== below.shown) {
       const whole = folded(below.whole, [edit]);
@@ -2151,7 +2230,8 @@ const elementsModule = (() => {
 })();
 
 const placeModule = (() => {
-  // A value that a view shows, by itself or as a part of another one: who hears of it, and changes of it.
+  // A value that a view shows, by itself or as a part of another one: who hears of it, and changes of
+  // it.
   const { Closed, Refused } = errorsModule;
   const { Keyed, followed, shown } = elementsModule;
   const { spelled, startsWith, tokens } = pointerModule;
@@ -2162,12 +2242,16 @@ const placeModule = (() => {
   /** @typedef {import("../relay.js").Operation} Operation */
   /** @typedef {readonly (readonly any[])[] | null} Slots */
   /** @typedef {(listener: () => void) => () => void} Subscribe */
-  /** @typedef {{ view: readonly Shown[], slots: Slots, confirmed: Slots, ready: Promise<any>, subscribe: Subscribe }} Source */
+  /**
+   * @typedef {{ view: readonly Shown[], slots: Slots, confirmed: Slots, ready: Promise<any>,
+   * subscribe: Subscribe }} Source
+   */
 
   // How often `update` tries, if nothing is said.
   const TRIES = 20;
 
-  // How long the second try waits at most, in milliseconds; each further one up to twice as long, so that many who count take turns.
+  // How long the second try waits at most, in milliseconds; each further one up to twice as long, so
+  // that many who count take turns.
   const PAUSE = 10;
   const LONGEST_PAUSE = 500;
 
@@ -2412,8 +2496,9 @@ const placeModule = (() => {
 })();
 
 const placesModule = (() => {
-  // The places of a board or a view. Each is made once, so that a component which asks for one each time it is drawn is given the same one.
-  // They are held weakly: one that nobody holds or listens to is forgotten, and made anew when it is asked for again.
+  // The places of a board or a view. Each is made once, so that a component which asks for one each
+  // time it is drawn is given the same one. They are held weakly: one that nobody holds or listens to
+  // is forgotten, and made anew when it is asked for again.
   const { Place } = placeModule;
 
   /** @typedef {import("../relay.js").Shown} Shown */
@@ -2449,7 +2534,8 @@ const placesModule = (() => {
 })();
 
 const queueModule = (() => {
-  // Edits that wait for a connection: which are taken while there is none, and where they are kept beyond this page.
+  // Edits that wait for a connection: which are taken while there is none, and where they are kept
+  // beyond this page.
   const { parsed } = jsonModule;
 
   /**
@@ -2491,7 +2577,8 @@ const queueModule = (() => {
     }
 
     /**
-     * What an earlier page left, in its order. What no page leaves, as another program may, is nothing.
+     * What an earlier page left, in its order. What no page leaves, as another program may, is
+     * nothing.
      * @returns {Kept[]}
      */
     left() {
@@ -2550,7 +2637,8 @@ const willModule = (() => {
 })();
 
 const beginModule = (() => {
-  // The document that a room begins with: each connection writes it before anything else, and the relay refuses that if the room has one.
+  // The document that a room begins with: each connection writes it before anything else, and the
+  // relay refuses that if the room has one.
   const { Refused } = errorsModule;
   const { checked } = jsonModule;
 
@@ -4199,7 +4287,11 @@ const boardModule = (() => {
       });
     }
 
-    /** @param {import("./inverse.mjs").Inverse} inverse @param {Role} role @returns {Promise<number>} */
+    /**
+     * @param {import("./inverse.mjs").Inverse} inverse
+     * @param {Role} role
+     * @returns {Promise<number>}
+     */
     async #takeBack({ patch, putsBack }, role) {
       try {
         return await (putsBack ? this.#putBack(patch, role) : this.#edit(patch, { optimistic: true }, role));
@@ -4209,7 +4301,8 @@ const boardModule = (() => {
       }
     }
 
-    // That nothing stands in a place no operation tests: it is seen here, and the base has it so until the edit is done.
+    // That nothing stands in a place no operation tests: it is seen here, and the base has it so
+    // until the edit is done.
     /** @param {Operation[]} patch @param {Role} role */
     #putBack(patch, role) {
       const make = () => {
@@ -4312,7 +4405,8 @@ const boardModule = (() => {
 })();
 
 const roomModule = (() => {
-  // Several views of one room over as few connections as they need: each part of a page watches what it shows, and knows of no other part.
+  // Several views of one room over as few connections as they need: each part of a page watches what
+  // it shows, and knows of no other part.
   const { Board } = boardModule;
   const { Place } = placeModule;
   const { Places } = placesModule;
@@ -4402,7 +4496,8 @@ const roomModule = (() => {
       this.#views.delete(view);
     }
 
-    // What nobody shows any more is watched as long as there is room for it, so that no slots are asked for anew.
+    // What nobody shows any more is watched as long as there is room for it, so that no slots are
+    // asked for anew.
     /** @param {readonly Shown[]} pointers */
     #with(pointers) {
       const shown = distinct([...this.#views.values(), pointers].flat());
@@ -4586,8 +4681,8 @@ const inspectedModule = (() => {
 
 const renewalModule = (() => {
   // Who is here, told to a relay that knows no wills: each entry is renewed while its client is here,
-  // and whoever sees that one was not renewed takes it away. Each renewal is an edit: a revision, told
-  // to every watcher of the object.
+  // and whoever sees that one was not renewed takes it away. Each renewal is an edit: a revision,
+  // told to every watcher of the object.
 
   // A page in the background has its timers run once a minute: an entry outlives two such renewals.
   const DEFAULTS = { every: 20_000, gone: 150_000 };
@@ -4648,9 +4743,9 @@ const presenceModule = (() => {
   // session ends, however it ends. A relay that knows no wills is told by renewals in its place
   // (renewal.mjs).
   //
-  // The will is left before the entry is written, so that no entry is ever there without one. It tests
-  // which session wrote the entry: where a later session of this client is here already, the late will
-  // of an earlier one is refused, and leaves the entry.
+  // The will is left before the entry is written, so that no entry is ever there without one. It
+  // tests which session wrote the entry: where a later session of this client is here already, the
+  // late will of an earlier one is refused, and leaves the entry.
   const { Closed, Refused, Unknown } = errorsModule;
   const { Renewal } = renewalModule;
   const { newId } = idModule;
@@ -4660,7 +4755,8 @@ const presenceModule = (() => {
   /** @typedef {{ session: string, beat?: number } & Record<string, unknown>} Entry */
   /** @typedef {{ resolve: () => void, reject: (cause: unknown) => void }} Waiter */
 
-  // What the client does by itself: nothing to be undone, and nothing to tell the application of where it is refused.
+  // What the client does by itself: nothing to be undone, and nothing to tell the application of
+  // where it is refused.
   const BY_ITSELF = { optimistic: true, undo: false, silent: true };
 
   class Presence {
@@ -4782,13 +4878,14 @@ const presenceModule = (() => {
       else this.#enter();
     }
 
-    // Where the entry could not be written, as in a room that has not begun, another document is another try.
+    // Where the entry could not be written, as in a room that has not begun, another document is
+    // another try.
     #changed() {
       if (!this.#isHere && this.#board.confirmed !== this.#failedOn) this.#enter();
     }
 
-    // Somebody took the entry away: by another document, or by the will of another window that has the
-    // same id.
+    // Somebody took the entry away: by another document, or by the will of another window that has
+    // the same id.
     #returned() {
       if (this.#isHere && !Object.hasOwn(this.people, this.#id)) this.#enter();
     }
@@ -4829,7 +4926,8 @@ const presenceModule = (() => {
       this.#failedOn = confirmed;
     }
 
-    // Whoever comes first makes the object, which no patch can do without wiping one that is there: so it is made on what was seen.
+    // Whoever comes first makes the object, which no patch can do without wiping one that is there:
+    // so it is made on what was seen.
     #makeObject() {
       return this.#place.update((/** @type {unknown} */ people) => (isObject(people) ? undefined : {}), { undo: false });
     }
@@ -4897,7 +4995,8 @@ const presenceModule = (() => {
 })();
 
 const relayModule = (() => {
-  // A client of the relay (docs/PROTOCOL.md): the slots of a view, which stay right when connections are lost and the relay is restarted.
+  // A client of the relay (docs/PROTOCOL.md): the slots of a view, which stay right when connections
+  // are lost and the relay is restarted.
   const { Board } = boardModule;
   const { Room } = roomModule;
   const { checkRoom } = handshakeModule;
@@ -4926,8 +5025,8 @@ const relayModule = (() => {
   }
 
   /**
-   * What the slots of a view show when a patch is laid over them, as far as they tell it: of the others each is as it was, and `known` is
-   * false. Fails where an operation is known not to fit.
+   * What the slots of a view show when a patch is laid over them, as far as they tell it: of the
+   * others each is as it was, and `known` is false. Fails where an operation is known not to fit.
    * @param {readonly Shown[]} view @param {readonly any[]} slots @param {readonly Operation[]} patch
    */
   function overlaid(view, slots, patch) {

@@ -1,6 +1,10 @@
-// What a board, a view or a place shows, as a Svelte store: a component reads it as `$cards`, and writes a place by `$title = "..."`.
+// What a board, a view or a place shows, as a Svelte store: a component reads it as `$cards`, and
+// writes a place by `$title = "..."`.
 
-/** @param {any} source A board or a view, of which it holds the slots; or a place, of which it holds the value. */
+/**
+ * @param {any} source A board or a view, of which it holds the slots; or a place, of which it holds
+ * the value.
+ */
 export function relayStore(source) {
   const shown = () => ("value" in source ? source.value : source.slots);
   return {

@@ -1,4 +1,5 @@
-// The document that a room begins with: each connection writes it before anything else, and the relay refuses that if the room has one.
+// The document that a room begins with: each connection writes it before anything else, and the
+// relay refuses that if the room has one.
 import { Refused } from "./errors.mjs";
 import { checked } from "./json.mjs";
 

@@ -371,7 +371,11 @@ export class Board {
     });
   }
 
-  /** @param {import("./inverse.mjs").Inverse} inverse @param {Role} role @returns {Promise<number>} */
+  /**
+   * @param {import("./inverse.mjs").Inverse} inverse
+   * @param {Role} role
+   * @returns {Promise<number>}
+   */
   async #takeBack({ patch, putsBack }, role) {
     try {
       return await (putsBack ? this.#putBack(patch, role) : this.#edit(patch, { optimistic: true }, role));
@@ -381,7 +385,8 @@ export class Board {
     }
   }
 
-  // That nothing stands in a place no operation tests: it is seen here, and the base has it so until the edit is done.
+  // That nothing stands in a place no operation tests: it is seen here, and the base has it so
+  // until the edit is done.
   /** @param {Operation[]} patch @param {Role} role */
   #putBack(patch, role) {
     const make = () => {

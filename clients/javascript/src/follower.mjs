@@ -1,4 +1,5 @@
-// The slots of a view as the relay shows them, kept right over lost connections and restarts (docs/PROTOCOL.md, "What a client does").
+// The slots of a view as the relay shows them, kept right over lost connections and restarts
+// (docs/PROTOCOL.md, "What a client does").
 import { Closed, Refused } from "./errors.mjs";
 import { applied } from "./known.mjs";
 import { checked } from "./json.mjs";
@@ -64,7 +65,10 @@ export class Follower {
     });
   }
 
-  /** The first request of a connection goes on where the slots are, if they are those of the view that is wanted. */
+  /**
+   * The first request of a connection goes on where the slots are, if they are those of the view
+   * that is wanted.
+   */
   entered() {
     this.#taken = null;
     this.#link.askFirst(this.#held.number === this.#wanted.number ? this.#resuming() : this.#watching());
@@ -77,7 +81,10 @@ export class Follower {
     else this.astray();
   }
 
-  /** What is held may be wrong: the slots are asked for anew, by a connection that has nothing to resume. */
+  /**
+   * What is held may be wrong: the slots are asked for anew, by a connection that has nothing to
+   * resume.
+   */
   astray() {
     this.#held = { ...this.#held, number: -1 };
     this.#link.renew();
@@ -109,7 +116,8 @@ export class Follower {
     return { request: { do: "resume", epoch, rev, view }, answered };
   }
 
-  // A view that the relay does not take: the one before it stays. Without any there is nothing to be had.
+  // A view that the relay does not take: the one before it stays. Without any there is nothing to
+  // be had.
   /** @param {Wanted} wanted @param {any} reply */
   #refuse({ number }, reply) {
     const refused = new Refused(reply);

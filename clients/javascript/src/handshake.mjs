@@ -7,7 +7,8 @@ const NO_PLACE = 503;
 const LONGEST = 2000;
 
 /**
- * `refused` with a status where the platform tells one; a page of another origin is only told that something answers.
+ * `refused` with a status where the platform tells one; a page of another origin is only told that
+ * something answers.
  * @param {string} url of the room, as `ws://HOST/rooms/NAME`
  * @param {{ message?: string } | null} event of the socket
  */
@@ -30,7 +31,8 @@ export async function failure(url, event) {
 }
 
 /**
- * Fails with a `RangeError` where the last part of a path is no room's name (docs/PROTOCOL.md, "Scripts").
+ * Fails with a `RangeError` where the last part of a path is no room's name (docs/PROTOCOL.md,
+ * "Scripts").
  * @param {string} url
  */
 export function checkRoom(url) {

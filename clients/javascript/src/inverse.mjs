@@ -1,4 +1,5 @@
-// What takes a patch back, as far as the slots tell: each operation backwards, behind tests that nobody changed since what it did.
+// What takes a patch back, as far as the slots tell: each operation backwards, behind tests that
+// nobody changed since what it did.
 import { spelled, startsWith, tokens } from "./pointer.mjs";
 import { Draft, placeOf, read } from "./known.mjs";
 import { Misfit } from "./patch.mjs";
@@ -46,7 +47,8 @@ export function fits(whole, patch) {
 }
 
 /**
- * Of each operation that puts something elsewhere than in a list, whether nothing is known to stand there. Fails where one does not fit.
+ * Of each operation that puts something elsewhere than in a list, whether nothing is known to stand
+ * there. Fails where one does not fit.
  * @param {Part} whole
  * @param {readonly Operation[]} patch
  */
@@ -100,13 +102,23 @@ function valueAt(draft, path) {
   return value;
 }
 
-/** @param {readonly string[]} path @param {any} value What stands there. @param {any} old What is to stand there. @returns {Operation[]} */
+/**
+ * @param {readonly string[]} path
+ * @param {any} value What stands there.
+ * @param {any} old What is to stand there.
+ * @returns {Operation[]}
+ */
 function exchange(path, value, old) {
   const there = spelled(path);
   return [{ op: "test", path: there, value }, { op: "replace", path: there, value: old }];
 }
 
-/** @param {Draft} draft @param {readonly string[]} path @param {any} value @returns {Operation[]} */
+/**
+ * @param {Draft} draft
+ * @param {readonly string[]} path
+ * @param {any} value
+ * @returns {Operation[]}
+ */
 function addedBack(draft, path, value) {
   const place = placeOf(draft.whole, path);
   if (place.list === null || (place.list && place.at === null)) throw new Misfit();
@@ -125,7 +137,11 @@ function removedBack(draft, path) {
 }
 
 // Where an element was removed from a list: between the same two, or in a list that is empty.
-/** @param {Draft} draft @param {{ path: readonly string[], holder: Part | null, at: number | null }} place @returns {Operation[]} */
+/**
+ * @param {Draft} draft
+ * @param {{ path: readonly string[], holder: Part | null, at: number | null }} place
+ * @returns {Operation[]}
+ */
 function neighbours(draft, { path, holder, at }) {
   if (holder?.is !== "value" || at === null) throw new Misfit();
   const list = path.slice(0, -1);
@@ -139,7 +155,11 @@ function neighbours(draft, { path, holder, at }) {
   return [...(at > 0 ? [test(at - 1, at - 1)] : []), ...(at + 1 < length ? [test(at, at + 1)] : [])];
 }
 
-/** @param {Draft} draft @param {{ op: "move" | "copy", from: string, path: string }} operation @returns {Operation[]} */
+/**
+ * @param {Draft} draft
+ * @param {{ op: "move" | "copy", from: string, path: string }} operation
+ * @returns {Operation[]}
+ */
 function movedBack(draft, operation) {
   if (operation.path === operation.from) return [];
   const [from, path] = [tokens(operation.from), tokens(operation.path)];
@@ -157,7 +177,8 @@ function movedBack(draft, operation) {
   draft.do(operation, () => (back = addedBack(draft, path, moved)));
   const [test, last] = back;
   const place = spelled(origin.path);
-  // A move back would be one into itself where it came in front of what it was taken from, and may shift a place that is put back.
+  // A move back would be one into itself where it came in front of what it was taken from, and may
+  // shift a place that is put back.
   const isMove = !startsWith(from, path) && last.op === "remove";
   return isMove ? [test, { op: "move", from: last.path, path: place }] : [test, last, { op: "add", path: place, value: moved }];
 }

@@ -3,12 +3,13 @@ import { spelled } from "./pointer.mjs";
 
 /** @typedef {import("../relay.js").Json} Json */
 
-// The relay's documents have at most 64 levels. A value past this is deeper than any, or in a cycle.
+// The relay's documents have at most 64 levels. A value past this is deeper than any, or in a
+// cycle.
 export const DEEPEST = 128;
 
 /**
- * A copy of a value, so that what is sent is what it was when it was asked for. A `TypeError` names the path of what no JSON can say, or the
- * relay would refuse.
+ * A copy of a value, so that what is sent is what it was when it was asked for. A `TypeError` names
+ * the path of what no JSON can say, or the relay would refuse.
  * @param {unknown} value
  * @param {readonly (string | number)[]} [path]
  * @returns {any}

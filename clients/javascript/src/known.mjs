@@ -1,12 +1,14 @@
-// What a client knows of the document by its slots, and of the documents to which its own patches lead: some values are known, some
-// places are known to be empty, and of the rest nothing is known. What an operation means to a slot (docs/PROTOCOL.md, "What a change
-// means to a slot") follows: the operation is done on what is known, and the slots are read again.
+// What a client knows of the document by its slots, and of the documents to which its own patches
+// lead: some values are known, some places are known to be empty, and of the rest nothing is known.
+// What an operation means to a slot (docs/PROTOCOL.md, "What a change means to a slot") follows:
+// the operation is done on what is known, and the slots are read again.
 import { index, tokens } from "./pointer.mjs";
 import { same } from "./json.mjs";
 import { Misfit, Owned, added, checkMove, has, removed, replaced } from "./patch.mjs";
 
 /**
- * A part of the document: a value; nothing (`absent`); unknown; or a container of which only some children, or the size, are known.
+ * A part of the document: a value; nothing (`absent`); unknown; or a container of which only some
+ * children, or the size, are known.
  *
  * @typedef {{ is: "value", value: any } | { is: "absent" } | { is: "unknown" } | Container} Part
  * @typedef {{ is: "container", children: Map<string, Part>, size: number | null }} Container
@@ -35,7 +37,8 @@ export function pathOf(shown) {
  */
 export function knownBy(view, slots) {
   const told = view.map((shown, k) => ({ path: pathOf(shown), value: typeof shown === "string", slot: slots[k] }));
-  // What an outer slot shows stands first, and values before sizes: what lies within a known value tells nothing new.
+  // What an outer slot shows stands first, and values before sizes: what lies within a known value
+  // tells nothing new.
   told.sort((one, other) => one.path.length - other.path.length || Number(other.value) - Number(one.value));
   return told.reduce(tell, UNKNOWN);
 }
@@ -92,7 +95,8 @@ function isList(part) {
 }
 
 /**
- * Whether a part is known to be there. A container of which only absent children are known may be absent itself.
+ * Whether a part is known to be there. A container of which only absent children are known may be
+ * absent itself.
  * @param {Part} part
  * @returns {boolean}
  */
@@ -112,7 +116,8 @@ export function goesOn(part, at) {
 }
 
 /**
- * The place that a path names: the part that holds it, whether that is a list, and the index there; null where that is not known.
+ * The place that a path names: the part that holds it, whether that is a list, and the index there;
+ * null where that is not known.
  * @param {Part} whole
  * @param {readonly string[]} path
  */
@@ -153,7 +158,10 @@ export function applied(value, patch) {
   return /** @type {any} */ (afterAll(known(value), patch)).value;
 }
 
-/** What is known while a patch is done, operation by operation, on values that the draft alone has: so it copies each container once. */
+/**
+ * What is known while a patch is done, operation by operation, on values that the draft alone has:
+ * so it copies each container once.
+ */
 export class Draft {
   #owned = new Owned();
 
@@ -257,7 +265,12 @@ function taken(whole, path, owned) {
   return changed(whole, path, atRoot, { inValue: (value, rest) => known(removed(value, rest, owned)), inContainer: dropped });
 }
 
-/** @param {Part} whole @param {readonly string[]} path @param {{ is: "value", value: any }} part @param {Owned} owned */
+/**
+ * @param {Part} whole
+ * @param {readonly string[]} path
+ * @param {{ is: "value", value: any }} part
+ * @param {Owned} owned
+ */
 function exchanged(whole, path, part, owned) {
   return changed(whole, path, () => part, {
     inValue: (value, rest) => known(replaced(value, rest, part.value, owned)),
@@ -269,7 +282,8 @@ function exchanged(whole, path, part, owned) {
 }
 
 /**
- * Goes along a path to where a value is known, or to the container that holds the last token, and changes that.
+ * Goes along a path to where a value is known, or to the container that holds the last token, and
+ * changes that.
  * @param {Part} whole
  * @param {readonly string[]} path
  * @param {() => Part} atRoot
@@ -287,7 +301,8 @@ function changed(whole, path, atRoot, change) {
   return { ...holder, children: new Map(holder.children).set(token, part) };
 }
 
-// In a container that may be a list, what stands behind an insertion or a removal may have moved, and is not known any more.
+// In a container that may be a list, what stands behind an insertion or a removal may have moved,
+// and is not known any more.
 
 /** @param {Container} holder @param {string} token @returns {Map<string, Part>} */
 function unmoved({ children }, token) {

@@ -1,4 +1,5 @@
-// A connection to a room that comes back when it is lost, and the requests that go over it, in order.
+// A connection to a room that comes back when it is lost, and the requests that go over it, in
+// order.
 import { HandshakeFailed } from "./errors.mjs";
 import { endsConnection } from "./length.mjs";
 import { failure } from "./handshake.mjs";
@@ -6,10 +7,12 @@ import { parsed } from "./json.mjs";
 import { overlap } from "./pointer.mjs";
 import { WAITS } from "./once.mjs";
 
-// With one more on the way 32 replies could wait, and the relay would read nothing from this client until it drew one.
+// With one more on the way 32 replies could wait, and the relay would read nothing from this client
+// until it drew one.
 const ON_THE_WAY = 31;
 
-// A snapshot may take as many times as long as an answer: it has up to 25 MB, and whatever is answered meanwhile comes behind it.
+// A snapshot may take as many times as long as an answer: it has up to 25 MB, and whatever is
+// answered meanwhile comes behind it.
 const SNAPSHOT = 6;
 
 // How often patience is doubled at most, since connections were given up.
@@ -160,7 +163,8 @@ export class Link {
     for (const asked of unsent) asked.dropped?.();
   }
 
-  // Leaves the connection: what was sent has no answer any more, and only edits wait for the next one.
+  // Leaves the connection: what was sent has no answer any more, and only edits wait for the next
+  // one.
   #detach() {
     clearTimeout(this.#timer);
     clearTimeout(this.#patience);
@@ -178,7 +182,8 @@ export class Link {
     this.#detach();
     if (handshaken) return this.#wait(null);
     if (event instanceof HandshakeFailed) return this.#wait(event);
-    // Not within the promise, so that what an application's function throws is reported as it is elsewhere.
+    // Not within the promise, so that what an application's function throws is reported as it is
+    // elsewhere.
     failure(this.#url, event).then((cause) => queueMicrotask(() => this.#wait(cause)));
   }
 
@@ -202,10 +207,12 @@ export class Link {
     }
   }
 
-  // Whether the other end is there. What has waited longest for an answer, or for the welcome, says it; each answer shows that it is. Where
-  // nothing waits and nothing comes, a request that does nothing asks for an answer: it has no `do`, and is refused. While a snapshot is on
-  // its way nothing is asked, since the answer would come behind it, and the snapshot is what is waited for. A line that is slower than
-  // that gets it all the same: each connection that is given up doubles the patience of the next one.
+  // Whether the other end is there. What has waited longest for an answer, or for the welcome, says
+  // it; each answer shows that it is. Where nothing waits and nothing comes, a request that does
+  // nothing asks for an answer: it has no `do`, and is refused. While a snapshot is on its way
+  // nothing is asked, since the answer would come behind it, and the snapshot is what is waited
+  // for. A line that is slower than that gets it all the same: each connection that is given up
+  // doubles the patience of the next one.
 
   #beginPatience() {
     clearTimeout(this.#patience);

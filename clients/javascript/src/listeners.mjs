@@ -1,4 +1,5 @@
-// Functions that are told of something. Whoever changes something while others are told is heard after them, so all hear it in one order.
+// Functions that are told of something. Whoever changes something while others are told is heard
+// after them, so all hear it in one order.
 
 /** @template T */
 export class Listeners {

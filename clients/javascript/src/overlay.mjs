@@ -1,4 +1,5 @@
-// This client's edits that the slots do not show yet, and the slots with those of them laid over that are to show at once.
+// This client's edits that the slots do not show yet, and the slots with those of them laid over
+// that are to show at once.
 import { afterAll, knownBy, slotsOf } from "./known.mjs";
 import { touches } from "./touch.mjs";
 import { inverse } from "./inverse.mjs";
@@ -19,8 +20,9 @@ import { inverse } from "./inverse.mjs";
  *   left: (inverse: Inverse | null) => void,
  *   laid?: { below: Part, slots: readonly Slot[], whole: Part, shown: readonly Slot[] },
  * }} Unconfirmed
- * An edit, in the order in which they were made; `rev` and `epoch` are of its `done`, and `left` is told when the slots show it. Of a
- * silent one that is taken back the application is told nothing: the client made it by itself.
+ * An edit, in the order in which they were made; `rev` and `epoch` are of its `done`, and `left` is
+ * told when the slots show it. Of a silent one that is taken back the application is told nothing:
+ * the client made it by itself.
  */
 
 export class Overlay {
@@ -59,7 +61,8 @@ export class Overlay {
   }
 
   /**
-   * Other slots came: drops what they show, what was done in an earlier run than theirs, and what left no trace.
+   * Other slots came: drops what they show, what was done in an earlier run than theirs, and what
+   * left no trace.
    * @param {Held} before
    * @param {Held} held
    */
@@ -69,7 +72,8 @@ export class Overlay {
   }
 
   /**
-   * Drops what was done and will not show. The slots may still be of an earlier run: then other ones come.
+   * Drops what was done and will not show. The slots may still be of an earlier run: then other
+   * ones come.
    * @param {Held} held
    */
   settleTraceless(held) {
@@ -89,7 +93,8 @@ export class Overlay {
     return /** @type {{ whole: Part }} */ (this.#base).whole;
   }
 
-  // Whether a patch will come for an edit that was done: of one that only might touch a slot none may ever come.
+  // Whether a patch will come for an edit that was done: of one that only might touch a slot none
+  // may ever come.
   /** @param {Unconfirmed} edit @param {Held} held */
   #willShow(edit, held) {
     if (held.slots === null || edit.rev === null || edit.rev <= (held.rev ?? -1)) return false;
@@ -97,13 +102,17 @@ export class Overlay {
     try {
       return touches(folded(this.#known(held), earlier), edit.patch, held.view);
     } catch {
-      // It was done, and does not fit the slots: so they are behind, and what brings them on is on its way.
+      // It was done, and does not fit the slots: so they are behind, and what brings them on is on
+      // its way.
       return true;
     }
   }
 
   // Of those that were done.
-  /** @param {Held} before The slots that do not show them yet. @param {(edit: Unconfirmed) => boolean} leaves */
+  /**
+   * @param {Held} before The slots that do not show them yet.
+   * @param {(edit: Unconfirmed) => boolean} leaves
+   */
   #leave(before, leaves) {
     const edits = this.#edits.filter((edit) => edit.rev !== null && leaves(edit));
     if (edits.length === 0) return;
@@ -117,7 +126,8 @@ export class Overlay {
   }
 }
 
-// A patch is done whole or not at all, so an edit of which an operation is known not to fit shows nothing.
+// A patch is done whole or not at all, so an edit of which an operation is known not to fit shows
+// nothing.
 /** @param {Part} whole @param {readonly Unconfirmed[]} edits */
 function folded(whole, edits) {
   return edits.reduce((below, { patch }) => {
@@ -129,8 +139,13 @@ function folded(whole, edits) {
   }, whole);
 }
 
-// What was laid over the same once is not made again, so slots stay the same values where nothing changed.
-/** @param {{ whole: Part, shown: readonly Slot[] }} below @param {Unconfirmed} edit @param {Held} held */
+// What was laid over the same once is not made again, so slots stay the same values where nothing
+// changed.
+/**
+ * @param {{ whole: Part, shown: readonly Slot[] }} below
+ * @param {Unconfirmed} edit
+ * @param {Held} held
+ */
 function over(below, edit, held) {
   if (edit.laid?.below !== below.whole || edit.laid.slots !== below.shown) {
     const whole = folded(below.whole, [edit]);

@@ -1,5 +1,6 @@
-// JSON Patch (RFC 6902) on values that are never written to: what a patch leads to has new parts where it differs, so a value that was
-// handed out stays what it was. A patch copies each container once, however many of its operations change it.
+// JSON Patch (RFC 6902) on values that are never written to: what a patch leads to has new parts
+// where it differs, so a value that was handed out stays what it was. A patch copies each container
+// once, however many of its operations change it.
 import { index, startsWith } from "./pointer.mjs";
 
 /** An operation does not fit the value. */
@@ -7,7 +8,10 @@ export class Misfit extends Error {
   message = "the patch does not fit";
 }
 
-/** The containers that one patch made. Nobody else has them, and each stands in one place, so the patch may write to them. */
+/**
+ * The containers that one patch made. Nobody else has them, and each stands in one place, so the
+ * patch may write to them.
+ */
 export class Owned {
   /** @type {Set<object>} */
   #made = new Set();
@@ -25,8 +29,9 @@ export class Owned {
   }
 
   /**
-   * Before a value stands in a second place, or is kept: no later operation writes to it. What the patch did not make holds nothing that it
-   * made, since a container is made with all those around it.
+   * Before a value stands in a second place, or is kept: no later operation writes to it. What the
+   * patch did not make holds nothing that it made, since a container is made with all those around
+   * it.
    * @param {any} part
    */
   share(part) {

@@ -1,4 +1,5 @@
-// A value that a view shows, by itself or as a part of another one: who hears of it, and changes of it.
+// A value that a view shows, by itself or as a part of another one: who hears of it, and changes of
+// it.
 import { Closed, Refused } from "./errors.mjs";
 import { Keyed, followed, shown } from "./elements.mjs";
 import { spelled, startsWith, tokens } from "./pointer.mjs";
@@ -9,12 +10,16 @@ import { same } from "./json.mjs";
 /** @typedef {import("../relay.js").Operation} Operation */
 /** @typedef {readonly (readonly any[])[] | null} Slots */
 /** @typedef {(listener: () => void) => () => void} Subscribe */
-/** @typedef {{ view: readonly Shown[], slots: Slots, confirmed: Slots, ready: Promise<any>, subscribe: Subscribe }} Source */
+/**
+ * @typedef {{ view: readonly Shown[], slots: Slots, confirmed: Slots, ready: Promise<any>,
+ * subscribe: Subscribe }} Source
+ */
 
 // How often `update` tries, if nothing is said.
 const TRIES = 20;
 
-// How long the second try waits at most, in milliseconds; each further one up to twice as long, so that many who count take turns.
+// How long the second try waits at most, in milliseconds; each further one up to twice as long, so
+// that many who count take turns.
 const PAUSE = 10;
 const LONGEST_PAUSE = 500;
 

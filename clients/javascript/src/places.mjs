@@ -1,5 +1,6 @@
-// The places of a board or a view. Each is made once, so that a component which asks for one each time it is drawn is given the same one.
-// They are held weakly: one that nobody holds or listens to is forgotten, and made anew when it is asked for again.
+// The places of a board or a view. Each is made once, so that a component which asks for one each
+// time it is drawn is given the same one. They are held weakly: one that nobody holds or listens to
+// is forgotten, and made anew when it is asked for again.
 import { Place } from "./place.mjs";
 
 /** @typedef {import("../relay.js").Shown} Shown */

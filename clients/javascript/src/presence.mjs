@@ -2,9 +2,9 @@
 // session ends, however it ends. A relay that knows no wills is told by renewals in its place
 // (renewal.mjs).
 //
-// The will is left before the entry is written, so that no entry is ever there without one. It tests
-// which session wrote the entry: where a later session of this client is here already, the late will
-// of an earlier one is refused, and leaves the entry.
+// The will is left before the entry is written, so that no entry is ever there without one. It
+// tests which session wrote the entry: where a later session of this client is here already, the
+// late will of an earlier one is refused, and leaves the entry.
 import { Closed, Refused, Unknown } from "./errors.mjs";
 import { Renewal } from "./renewal.mjs";
 import { newId } from "./id.mjs";
@@ -14,7 +14,8 @@ import { spelled, tokens } from "./pointer.mjs";
 /** @typedef {{ session: string, beat?: number } & Record<string, unknown>} Entry */
 /** @typedef {{ resolve: () => void, reject: (cause: unknown) => void }} Waiter */
 
-// What the client does by itself: nothing to be undone, and nothing to tell the application of where it is refused.
+// What the client does by itself: nothing to be undone, and nothing to tell the application of
+// where it is refused.
 const BY_ITSELF = { optimistic: true, undo: false, silent: true };
 
 export class Presence {
@@ -136,13 +137,14 @@ export class Presence {
     else this.#enter();
   }
 
-  // Where the entry could not be written, as in a room that has not begun, another document is another try.
+  // Where the entry could not be written, as in a room that has not begun, another document is
+  // another try.
   #changed() {
     if (!this.#isHere && this.#board.confirmed !== this.#failedOn) this.#enter();
   }
 
-  // Somebody took the entry away: by another document, or by the will of another window that has the
-  // same id.
+  // Somebody took the entry away: by another document, or by the will of another window that has
+  // the same id.
   #returned() {
     if (this.#isHere && !Object.hasOwn(this.people, this.#id)) this.#enter();
   }
@@ -183,7 +185,8 @@ export class Presence {
     this.#failedOn = confirmed;
   }
 
-  // Whoever comes first makes the object, which no patch can do without wiping one that is there: so it is made on what was seen.
+  // Whoever comes first makes the object, which no patch can do without wiping one that is there:
+  // so it is made on what was seen.
   #makeObject() {
     return this.#place.update((/** @type {unknown} */ people) => (isObject(people) ? undefined : {}), { undo: false });
   }

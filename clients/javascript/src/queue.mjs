@@ -1,4 +1,5 @@
-// Edits that wait for a connection: which are taken while there is none, and where they are kept beyond this page.
+// Edits that wait for a connection: which are taken while there is none, and where they are kept
+// beyond this page.
 import { parsed } from "./json.mjs";
 
 /**
@@ -40,7 +41,8 @@ export class Queue {
   }
 
   /**
-   * What an earlier page left, in its order. What no page leaves, as another program may, is nothing.
+   * What an earlier page left, in its order. What no page leaves, as another program may, is
+   * nothing.
    * @returns {Kept[]}
    */
   left() {

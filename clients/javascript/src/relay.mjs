@@ -1,4 +1,5 @@
-// A client of the relay (docs/PROTOCOL.md): the slots of a view, which stay right when connections are lost and the relay is restarted.
+// A client of the relay (docs/PROTOCOL.md): the slots of a view, which stay right when connections
+// are lost and the relay is restarted.
 import { Board } from "./board.mjs";
 import { Room } from "./room.mjs";
 import { checkRoom } from "./handshake.mjs";
@@ -27,8 +28,8 @@ export function room(url, options = {}) {
 }
 
 /**
- * What the slots of a view show when a patch is laid over them, as far as they tell it: of the others each is as it was, and `known` is
- * false. Fails where an operation is known not to fit.
+ * What the slots of a view show when a patch is laid over them, as far as they tell it: of the
+ * others each is as it was, and `known` is false. Fails where an operation is known not to fit.
  * @param {readonly Shown[]} view @param {readonly any[]} slots @param {readonly Operation[]} patch
  */
 export function overlaid(view, slots, patch) {

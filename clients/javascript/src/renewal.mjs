@@ -1,6 +1,6 @@
 // Who is here, told to a relay that knows no wills: each entry is renewed while its client is here,
-// and whoever sees that one was not renewed takes it away. Each renewal is an edit: a revision, told
-// to every watcher of the object.
+// and whoever sees that one was not renewed takes it away. Each renewal is an edit: a revision,
+// told to every watcher of the object.
 
 // A page in the background has its timers run once a minute: an entry outlives two such renewals.
 const DEFAULTS = { every: 20_000, gone: 150_000 };

@@ -1,4 +1,5 @@
-// Several views of one room over as few connections as they need: each part of a page watches what it shows, and knows of no other part.
+// Several views of one room over as few connections as they need: each part of a page watches what
+// it shows, and knows of no other part.
 import { Board } from "./board.mjs";
 import { Place } from "./place.mjs";
 import { Places } from "./places.mjs";
@@ -88,7 +89,8 @@ class Shared {
     this.#views.delete(view);
   }
 
-  // What nobody shows any more is watched as long as there is room for it, so that no slots are asked for anew.
+  // What nobody shows any more is watched as long as there is room for it, so that no slots are
+  // asked for anew.
   /** @param {readonly Shown[]} pointers */
   #with(pointers) {
     const shown = distinct([...this.#views.values(), pointers].flat());

@@ -1,4 +1,5 @@
-// Which changes surely touch a slot (docs/PROTOCOL.md, "What a change means to a slot"): of those the relay tells a watcher.
+// Which changes surely touch a slot (docs/PROTOCOL.md, "What a change means to a slot"): of those
+// the relay tells a watcher.
 import { index, startsWith, tokens } from "./pointer.mjs";
 import { Draft, goesOn, pathOf, placeOf, read } from "./known.mjs";
 
@@ -11,7 +12,8 @@ import { Draft, goesOn, pathOf, placeOf, read } from "./known.mjs";
  */
 
 /**
- * Whether a patch surely touches a slot of a view. Fails with `Misfit` where it is known to be refused.
+ * Whether a patch surely touches a slot of a view. Fails with `Misfit` where it is known to be
+ * refused.
  * @param {Part} whole
  * @param {readonly Operation[]} patch
  * @param {readonly Shown[]} view
@@ -44,14 +46,16 @@ function fromPlaces(whole, operation) {
   return operation.op === "move" ? [{ ...placeOf(whole, tokens(operation.from)), set: false }] : [];
 }
 
-// Where something is added. Of a member that may be there already it is not known whether it is merely set: then no size surely changes.
+// Where something is added. Of a member that may be there already it is not known whether it is
+// merely set: then no size surely changes.
 /** @param {Part} whole @param {readonly string[]} path @returns {Place} */
 function target(whole, path) {
   const place = placeOf(whole, path);
   return { ...place, set: place.list !== true && read(whole, path).is !== "absent" };
 }
 
-// Whether a move may lead to its own place, and so change nothing: the last element of a list to the end of it, which may not be known.
+// Whether a move may lead to its own place, and so change nothing: the last element of a list to
+// the end of it, which may not be known.
 /** @param {Origin} from @param {Place} to */
 function mayStay({ path, holder, at }, to) {
   if (to.path.length !== path.length) return false;

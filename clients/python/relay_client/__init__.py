@@ -1,5 +1,5 @@
-"""A client of the relay (docs/PROTOCOL.md): the slots of a view, which stay right when connections are
-lost and the relay is restarted.
+"""A client of the relay (docs/PROTOCOL.md): the slots of a view, which stay right when connections
+are lost and the relay is restarted.
 
     async with relay_client.connect("ws://127.0.0.1:8080/rooms/board", view=["/cards"]) as board:
         await board.edit([{"op": "add", "path": "/cards/-", "value": "milk"}])

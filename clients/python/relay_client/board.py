@@ -308,7 +308,8 @@ class Board:
     def edit_anew(
         self, patch: Patch, by_base: bool, options: ChangeOptions
     ) -> "asyncio.Future[int]":
-        """An edit of a change. If it is refused the application is told nothing: it is made anew."""
+        """An edit of a change. If it is refused the application is told nothing: it is made
+        anew."""
         base, epoch = (self.rev, self.epoch) if by_base else (_NO_BASE, None)
         counter = self._counter_of(base) if options.once and not by_base else None
         own = OwnEdit(patch)

@@ -1,5 +1,5 @@
-"""Changes of a document by a function that is given a draft of it. If the patch is refused since the
-document is another one by then, the function is called again, on what is shown then.
+"""Changes of a document by a function that is given a draft of it. If the patch is refused since
+the document is another one by then, the function is called again, on what is shown then.
 """
 from __future__ import annotations
 
@@ -19,8 +19,8 @@ if TYPE_CHECKING:
     from .board import Board
 
 PAUSE, LONGEST_PAUSE = 0.01, 0.5
-"""How long the third try waits at most; each further one up to twice as long, so that many who count
-take turns."""
+"""How long the third try waits at most; each further one up to twice as long, so that many who
+count take turns."""
 
 OUTDATED = (
     "stale",
@@ -60,8 +60,8 @@ Attempt = Callable[[], Optional[_Attempt]]
 def change(
     board: "Board", make: Callable[[Draft], Any], keys: Mapping[str, str], options: ChangeOptions
 ) -> "asyncio.Future[int]":
-    """Gives a future of the new revision; of that of the slots, if nothing is changed. What shows at
-    once is made at once."""
+    """Gives a future of the new revision; of that of the slots, if nothing is changed. What shows
+    at once is made at once."""
     if options.guard not in ("values", "base", "none"):
         raise ValueError(f"a guard is values, base or none, and not {options.guard!r}")
 

@@ -11,7 +11,8 @@ from .values import Patch, Slots
 @dataclass(frozen=True)
 class Change:
     slots: Slots
-    """What is shown now: `[value]` for each pointer of the view, or `[]` if it leads to nothing. No later change writes to it."""
+    """What is shown now: `[value]` for each pointer of the view, or `[]` if it leads to nothing. No
+    later change writes to it."""
     confirmed: Slots
     """What the relay has shown: the same without the optimistic edits that wait."""
     rev: int
@@ -19,7 +20,8 @@ class Change:
     pending: int
     """How many optimistic edits wait."""
     patch: Optional[Patch]
-    """What led to `confirmed` from the slots before, with slot k's value at /k/0; None if all came anew, or only what waits changed."""
+    """What led to `confirmed` from the slots before, with slot k's value at /k/0; None if all came
+    anew, or only what waits changed."""
 
 
 Listener = Callable[[Change], None]
@@ -49,7 +51,8 @@ class Listeners:
             reader.wake.set()
 
     async def read(self, first: Optional[Change]) -> AsyncIterator[Change]:
-        """What is shown, and then each change. A reader that is slow is given the newest one, in place of those that it missed."""
+        """What is shown, and then each change. A reader that is slow is given the newest one, in
+        place of those that it missed."""
         reader = _Newest(first)
         self._readers.add(reader)
         try:

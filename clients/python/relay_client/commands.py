@@ -67,8 +67,8 @@ class Room:
 
 
 async def get(url: str, pointers: List[str], timeout: float) -> None:
-    """Prints the value at each pointer. Refused, as `missing`, if one leads to nothing: then none is
-    printed, so that line k is always of pointer k."""
+    """Prints the value at each pointer. Refused, as `missing`, if one leads to nothing: then none
+    is printed, so that line k is always of pointer k."""
     room = Room(url, [*pointers], timeout, lambda change: None)
     async with room.board:
         slots = await room.answer(room.board.ready)

@@ -1,8 +1,10 @@
-"""What a client knows of a document by the slots of its view, and of the documents to which its own patches lead.
+"""What a client knows of a document by the slots of its view, and of the documents to which its own
+patches lead.
 
-A part of the document is a JSON value, which is known as a whole; `ABSENT`; `UNKNOWN`; or `Parts`, a container of which some members or
-elements are known. What an operation means to a slot (docs/PROTOCOL.md, "What a change means to a slot") follows: the operation is done
-to what is known, and the slots are read again.
+A part of the document is a JSON value, which is known as a whole; `ABSENT`; `UNKNOWN`; or `Parts`,
+a container of which some members or elements are known. What an operation means to a slot
+(docs/PROTOCOL.md, "What a change means to a slot") follows: the operation is done to what is known,
+and the slots are read again.
 """
 from __future__ import annotations
 
@@ -34,7 +36,8 @@ UNKNOWN = _Mark("UNKNOWN")
 
 @dataclass(frozen=True)
 class Parts:
-    """A list or an object, if anything stands there; an object for sure if a member is there whose name is no index."""
+    """A list or an object, if anything stands there; an object for sure if a member is there whose
+    name is no index."""
 
     known: Dict[str, Part] = field(default_factory=dict)
     size: Optional[int] = None
@@ -121,8 +124,8 @@ def after(document: Part, patch: Iterable[Operation]) -> Part:
 
 
 def step(document: Part, operation: Operation, draft: Optional[Draft] = None) -> Part:
-    """What is known after one operation of a patch: with the patch's draft what is known before is written to, as far as it is the
-    draft's own."""
+    """What is known after one operation of a patch: with the patch's draft what is known before is
+    written to, as far as it is the draft's own."""
     try:
         return _step(draft or Draft(), document, operation)
     except (KeyError, TypeError, AttributeError, ValueError) as error:
@@ -191,7 +194,8 @@ def _replaced(draft: Draft, document: Part, path: Path, new: Json) -> Part:
 def _changed(
     part: Part, path: Path, in_value: Callable[[Json, Path], Part], in_parts: Callable[[Parts, str], Parts]
 ) -> Part:
-    """Goes along a path to a value, or to the container of which the last token is, and changes that."""
+    """Goes along a path to a value, or to the container of which the last token is, and changes
+    that."""
     if is_value(_there(part)):
         return in_value(part, path)
     parts, token = _parts(part), path[0]
@@ -225,7 +229,8 @@ def _dropped(parts: Parts, token: str) -> Parts:
 
 
 def _unmoved(parts: Parts, token: str) -> Dict[str, Part]:
-    """What stands where it stood, if that is a list in which an element came or went: what is in front of it."""
+    """What stands where it stood, if that is a list in which an element came or went: what is in
+    front of it."""
     first = index(token)
 
     def stays(name: str, part: Part) -> bool:
@@ -257,6 +262,6 @@ def _size(value: Json) -> Json:
 
 
 def overlaid(view: View, slots: Slots, patch: Iterable[Operation]) -> Slots:
-    """What the slots of a view show when a patch is laid over them, as far as they tell it; of the others each is as it was. `DoesNotFit`
-    if it is known to be refused."""
+    """What the slots of a view show when a patch is laid over them, as far as they tell it; of the
+    others each is as it was. `DoesNotFit` if it is known to be refused."""
     return slots_of(after(known_by(view, slots), patch), view, slots)

@@ -1,5 +1,6 @@
-"""Patches of JSON values (RFC 6902). No value that was handed out is written to: what a patch leaves alone is shared with the value before,
-and each container that it changes is copied once, however many operations change it.
+"""Patches of JSON values (RFC 6902). No value that was handed out is written to: what a patch
+leaves alone is shared with the value before, and each container that it changes is copied once,
+however many operations change it.
 """
 from __future__ import annotations
 
@@ -74,14 +75,15 @@ def check_move(origin: Path, path: Path) -> None:
 
 
 class Draft:
-    """The containers that one patch has copied, which are its own: it writes to them, and to no others. One that is its own stands at one
-    place, within others that are."""
+    """The containers that one patch has copied, which are its own: it writes to them, and to no
+    others. One that is its own stands at one place, within others that are."""
 
     def __init__(self) -> None:
         self._own: Dict[int, Json] = {}  # by id; held here, so that none is given the id of one that is gone
 
     def share(self, part: Json) -> None:
-        """It comes to stand at a second place: it is not to be written to any more, nor is anything within it."""
+        """It comes to stand at a second place: it is not to be written to any more, nor is anything
+        within it."""
         if self._own.pop(id(part), None) is not None:
             for below in part.values() if isinstance(part, dict) else part:
                 self.share(below)

@@ -6,8 +6,8 @@ DOUBLINGS = 5
 
 
 class Patience:
-    """It doubles with each connection in a row that was given up, until slots come: a line on which they take long is not lost, and a line
-    that is dead in one direction is still found."""
+    """It doubles with each connection in a row that was given up, until slots come: a line on which
+    they take long is not lost, and a line that is dead in one direction is still found."""
 
     def __init__(self, quiet: float, patience: float):
         self._quiet, self._patience = quiet, patience
@@ -20,8 +20,8 @@ class Patience:
 
     @property
     def for_slots(self) -> float:
-        """Seconds from the answer that promises slots to the slots. Replies do not overtake what is being sent, so nothing is heard in
-        between."""
+        """Seconds from the answer that promises slots to the slots. Replies do not overtake what is
+        being sent, so nothing is heard in between."""
         return (self._quiet + self._patience) * self._grown
 
     @property

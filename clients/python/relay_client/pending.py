@@ -1,8 +1,8 @@
-"""Edits that the slots do not show yet: from their asking until what is held is of the revision that
-they made.
+"""Edits that the slots do not show yet: from their asking until what is held is of the revision
+that they made.
 
-Those that are optimistic are laid over what is held, in their order. A patch is done whole or not at
-all, so an edit of which an operation is known not to fit shows nothing.
+Those that are optimistic are laid over what is held, in their order. A patch is done whole or not
+at all, so an edit of which an operation is known not to fit shows nothing.
 """
 from __future__ import annotations
 
@@ -32,7 +32,8 @@ class Pending:
         edit.own.not_done()
 
     def done(self, edit: Edit, held: Held) -> None:
-        """It waits for its revision, if that touches a slot; else no message comes that it could wait for."""
+        """It waits for its revision, if that touches a slot; else no message comes that it could
+        wait for."""
         if not self._will_show(edit, held):
             self._edits.remove(edit)
             edit.own.not_done()
@@ -49,8 +50,8 @@ class Pending:
             return True  # other changes are on their way, so a message comes
 
     def reached(self, held: Held, document: Part, single: bool) -> None:
-        """Something else is held. Those edits leave that it shows. If it is one revision on from a document of which this is known,
-        that is the document to which its edit was done."""
+        """Something else is held. Those edits leave that it shows. If it is one revision on from a
+        document of which this is known, that is the document to which its edit was done."""
         for edit in [
             edit
             for edit in self._edits

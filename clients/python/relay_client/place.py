@@ -74,8 +74,9 @@ class Place:
     ) -> "asyncio.Future[int]":
         """Puts a value there, whatever stands there now; it shows at once. Gives a future, as
         `Board.edit` does. One value of a place is on its way at a time: of those that are set
-        meanwhile the newest is sent, unless something else is asked for in between. With `parents` the objects that are missing around it are made, in the
-        same patch. Then the edit has a base, and is made anew if others were faster."""
+        meanwhile the newest is sent, unless something else is asked for in between. With `parents`
+        the objects that are missing around it are made, in the same patch. Then the edit has a
+        base, and is made anew if others were faster."""
         slots = self._board.slots
         if slots is None:
             raise LookupError("the slots are not there yet")

@@ -52,7 +52,8 @@ def shown_path(shown: Shown) -> Path:
 
 
 def check_room(url: str) -> None:
-    """`ValueError` if the address is none of a room, as ws://127.0.0.1:8080/rooms/NAME. A path before it is a proxy's concern."""
+    """`ValueError` if the address is none of a room, as ws://127.0.0.1:8080/rooms/NAME. A path
+    before it is a proxy's concern."""
     parts = urlsplit(url)
     if parts.scheme not in ("ws", "wss") or not parts.hostname:
         raise ValueError(f"{url}: an address begins with ws://HOST or wss://HOST")

@@ -1,4 +1,5 @@
-"""Whether a patch surely touches a slot (docs/PROTOCOL.md, "What a change means to a slot"): of those the relay tells a watcher."""
+"""Whether a patch surely touches a slot (docs/PROTOCOL.md, "What a change means to a slot"): of
+those the relay tells a watcher."""
 from __future__ import annotations
 
 from dataclasses import dataclass
@@ -35,7 +36,8 @@ def place_of(document: Part, path: Path, exchanged: bool = False) -> Place:
 
 
 def touches(document: Part, patch: Iterable[Operation], view: View) -> bool:
-    """Whether a patch surely touches a slot of a view. `DoesNotFit` if it is known to be refused."""
+    """Whether a patch surely touches a slot of a view. `DoesNotFit` if it is known to be
+    refused."""
     draft, touched = Draft(), False
     for operation in patch:
         if touched:
@@ -66,8 +68,8 @@ def _places(document: Part, operation: Operation) -> List[Place]:
 
 
 def _may_stay(document: Part, origin: Place, to: Place) -> bool:
-    """Whether a move may lead to its own place, and so change nothing: the last element of a list to the end of it, which may not be
-    known."""
+    """Whether a move may lead to its own place, and so change nothing: the last element of a list
+    to the end of it, which may not be known."""
     if origin.path == to.path:
         return True
     *holder, token = origin.path

@@ -32,7 +32,8 @@ class Link(Protocol):
 
 
 OpenLink = Callable[[str], AsyncContextManager[Link]]
-"""Opens a connection to an address, and closes it in the end. `HandshakeFailed` if there is none to be had."""
+"""Opens a connection to an address, and closes it in the end. `HandshakeFailed` if there is none to
+be had."""
 
 
 class _Websocket:
@@ -61,8 +62,8 @@ def _text(text: Union[str, bytes]) -> str:
 
 
 def websocket(words: Dict[str, Any], patience: float) -> OpenLink:
-    """Connections with further words for `websockets.connect`. The client asks by requests of its own whether the relay is still
-    there, so `websockets` need not."""
+    """Connections with further words for `websockets.connect`. The client asks by requests of its
+    own whether the relay is still there, so `websockets` need not."""
     options = {
         "max_size": None,
         "ping_interval": None,

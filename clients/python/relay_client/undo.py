@@ -1,8 +1,9 @@
 """Undo and redo of a client's own edits, by inverse patches.
 
-The inverse of an edit is made of what the slots show at the revision before it. What it changes back it first compares by a `test` with
-what the edit left there, so that it is refused if somebody changed that since. No `test` can say that a member is absent, so an inverse
-that puts a member back is sent with a `base`: a revision at which the slots show that it is.
+The inverse of an edit is made of what the slots show at the revision before it. What it changes
+back it first compares by a `test` with what the edit left there, so that it is refused if somebody
+changed that since. No `test` can say that a member is absent, so an inverse that puts a member back
+is sent with a `base`: a revision at which the slots show that it is.
 """
 from __future__ import annotations
 
@@ -34,7 +35,8 @@ class Inverse:
 
 
 def inverse(document: Part, patch: Iterable[Operation]) -> Optional[Inverse]:
-    """What undoes a patch of a document of which this is known. None if that is too little, or there is nothing to undo."""
+    """What undoes a patch of a document of which this is known. None if that is too little, or
+    there is nothing to undo."""
     backwards: List[Patch] = []
     try:
         for operation in patch:
@@ -50,7 +52,8 @@ def inverse(document: Part, patch: Iterable[Operation]) -> Optional[Inverse]:
 
 
 def fits(document: Part, patch: Patch) -> bool:
-    """Whether an inverse can be applied to a document of which this is known, and overwrites nothing that it did not compare."""
+    """Whether an inverse can be applied to a document of which this is known, and overwrites
+    nothing that it did not compare."""
     draft = Draft()
     try:
         for operation in patch:
@@ -116,7 +119,8 @@ def _moved_back(document: Part, origin: Path, path: Path, replaced: List[Json]) 
 
 
 def _put_back(after: Part, path: Path, value: Json) -> Patch:
-    """What undoes a removal: the value comes between the elements that stood around it, or is a member again."""
+    """What undoes a removal: the value comes between the elements that stood around it, or is a
+    member again."""
     add, parent = _add(path, value), at(after, path[:-1])
     if not isinstance(parent, list):
         return [add]
@@ -202,7 +206,8 @@ class History:
 
     @staticmethod
     async def take(stack: List[OwnEdit]) -> Optional[Inverse]:
-        """The inverse of the newest edit that can be undone, which leaves the stack. None if there is none."""
+        """The inverse of the newest edit that can be undone, which leaves the stack. None if there
+        is none."""
         while stack:
             inverse = await asyncio.shield(stack.pop().inverse)
             if inverse is not None:

@@ -9,7 +9,8 @@ Json = Any
 Operation = Dict[str, Json]
 Patch = List[Operation]
 Shown = Union[str, Dict[str, str]]
-"""A pointer, for the value to which it leads; or {"size": pointer}, for how many elements or members that has."""
+"""A pointer, for the value to which it leads; or {"size": pointer}, for how many elements or
+members that has."""
 View = List[Shown]
 Slot = List[Json]
 """What one pointer of a view shows: `[value]`, or `[]` if it leads to nothing."""
@@ -18,14 +19,15 @@ Slots = List[Slot]
 State = Literal["connecting", "open", "waiting", "closed"]
 
 DEEPEST = 124
-"""How many containers a value may nest: a request nests three more around it, and the relay reads 127."""
+"""How many containers a value may nest: a request nests three more around it, and the relay reads
+127."""
 
 _HALF = re.compile("[\ud800-\udfff]")
 
 
 def as_json(value: object, path: str = "", depth: int = 0) -> Json:
-    """A copy, so that what is sent is what it was when it was asked for. Refuses what JSON cannot say (`TypeError`) and what the relay
-    does not take (`ValueError`), by the path of the value."""
+    """A copy, so that what is sent is what it was when it was asked for. Refuses what JSON cannot
+    say (`TypeError`) and what the relay does not take (`ValueError`), by the path of the value."""
     if value is None or isinstance(value, bool):
         return value
     if isinstance(value, int):

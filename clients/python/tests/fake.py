@@ -27,7 +27,8 @@ class FakeLink:
 
 
 class FakeRelay:
-    """Each handshake is answered by the next of `answers`, as an exception; or let in, once there is none."""
+    """Each handshake is answered by the next of `answers`, as an exception; or let in, once there
+    is none."""
 
     def __init__(self, *answers):
         self.answers, self.links = list(answers), []

@@ -93,7 +93,8 @@ class Connections(unittest.IsolatedAsyncioTestCase):
         await board.close()
 
     async def test_patience_counts_from_the_oldest_request(self):
-        """With an edit every 20 ms a dead peer is noticed after the patience, and not after the last of them."""
+        """With an edit every 20 ms a dead peer is noticed after the patience, and not after the
+        last of them."""
         relay = FakeRelay()
         board = await relay.begin(["/n"], [[1]], patience=0.2)
         loop = asyncio.get_running_loop()
@@ -204,7 +205,8 @@ class Optimistic(unittest.IsolatedAsyncioTestCase):
         self.shows([[1], [["milk"]]], [[1], [["milk"]]], 0)
 
     async def test_a_move_that_may_lead_to_its_own_place_leaves_with_its_answer(self):
-        """No message comes if it does: the whole document, and the last element of a list to the end."""
+        """No message comes if it does: the whole document, and the last element of a list to the
+        end."""
         relay = FakeRelay()
         board = await relay.begin(["/cards/1"], [["bread"]])
         for rev, origin, path in [(2, "", ""), (3, "/cards/1", "/cards/-")]:

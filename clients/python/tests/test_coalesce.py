@@ -1,4 +1,5 @@
-"""`Place.set`: one value of a place is on its way at a time, and of those that wait the newest is sent."""
+"""`Place.set`: one value of a place is on its way at a time, and of those that wait the newest is
+sent."""
 import asyncio, unittest
 from fake import FakeRelay, done, patch, refused, relay_client, settle, unawaited
 

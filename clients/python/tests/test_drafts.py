@@ -187,8 +187,8 @@ def paths(part, path=""):
 
 
 def other_edit(chance, document):
-    """What somebody else does. It makes no list of an object and no object of a list, which no test of a
-    guard says."""
+    """What somebody else does. It makes no list of an object and no object of a list, which no test
+    of a guard says."""
     path, part = chance.choice(list(paths(document)))
     made = value(chance, 1)
     if isinstance(part, list) and chance.random() < 0.7:

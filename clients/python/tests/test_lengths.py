@@ -33,7 +33,8 @@ class Long(unittest.IsolatedAsyncioTestCase):
         await self.ends(view=["/" + "x" * LONGEST])
 
     async def test_bytes_are_counted_as_they_are_sent(self):
-        """Of characters of one, two, three and four bytes: a text that is as long as it may be, and one that is a byte longer."""
+        """Of characters of one, two, three and four bytes: a text that is as long as it may be, and
+        one that is a byte longer."""
         self.board = await self.relay.begin(["/cards"], [[[]]])
         for character in ["x", "\u00e9", "\u20ac", "\U0001f600"]:
             longest = self.longest(character)

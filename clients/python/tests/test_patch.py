@@ -60,7 +60,8 @@ class Writes(unittest.TestCase):
                 self.check(document, [random_operation(chance) for _ in range(12)])
 
     def check(self, before, patch):
-        """Done as one patch, it comes to what its operations come to that are done one by one, and what was there is as it was."""
+        """Done as one patch, it comes to what its operations come to that are done one by one, and
+        what was there is as it was."""
         one_by_one, fitting = before, []
         for operation in patch:
             try:

@@ -1,4 +1,5 @@
-"""Slots that take longer than the patience of a connection, and peers that are gone without a word. All times are scaled."""
+"""Slots that take longer than the patience of a connection, and peers that are gone without a word.
+All times are scaled."""
 import asyncio, contextlib, json, unittest
 import websockets
 from fake import URL, FakeRelay, done, refused, relay_client, snapshot, unawaited, watching, welcome
@@ -8,12 +9,14 @@ QUIET, PATIENCE = 0.2, 0.1
 TIMES = {"quiet": QUIET, "patience": PATIENCE, "first_wait": 0.01, "longest_wait": 0.01}
 LONG = "x" * 400_000
 RATE = 400_000
-"""Bytes a second on the slow line. So the slots take a second, and the connection has a patience of 0.3."""
+"""Bytes a second on the slow line. So the slots take a second, and the connection has a patience of
+0.3."""
 SET = {"op": "replace", "path": "/n", "value": 2}
 
 
 async def play_relay(socket, *path):
-    """Answers as a relay with one document that nobody changes. Every other request is refused, as the client's question is."""
+    """Answers as a relay with one document that nobody changes. Every other request is refused, as
+    the client's question is."""
     messages = [welcome(1)]
     with contextlib.suppress(websockets.exceptions.ConnectionClosed):
         while True:
@@ -63,7 +66,8 @@ def connected(relay, **times):
 
 
 async def promised(relay, number):
-    """The relay's next connection, on which slots are due. The only request of each is its watch."""
+    """The relay's next connection, on which slots are due. The only request of each is its
+    watch."""
     await relay.until_link(number)
     await relay.say(welcome(1))
     await relay.say(watching(relay.last["id"]))

@@ -14,7 +14,8 @@ CASES = 3000
 
 class Inverses(unittest.TestCase):
     def test_an_inverse_leads_back_and_notices_what_others_did(self):
-        """By a view of a part of the document too: what can be undone by it is undone in the whole document."""
+        """By a view of a part of the document too: what can be undone by it is undone in the whole
+        document."""
         chance, undone, noticed = random.Random(5), 0, 0
         for _ in range(CASES):
             document = cases.value(chance, 4)
@@ -29,7 +30,8 @@ class Inverses(unittest.TestCase):
                 continue
             undone += 1
             self.assertEqual(text(applied(after, undoing.patch)), text(document), (document, view, edit, undoing))
-            # Somebody else changes something behind it: the inverse is refused, or changes nothing of theirs.
+            # Somebody else changes something behind it: the inverse is refused, or changes nothing
+            # of theirs.
             other, changed = cases.patched(chance, after)
             if undoing.puts_back and not fits(changed, undoing.patch):
                 noticed += 1

@@ -230,9 +230,9 @@ public final class Board implements AutoCloseable {
 
     /**
      * Ends the room: replaces the whole document by {@code null}. It is an edit with a base, the
-     * revision of what is shown, so it is refused, as {@code stale}, if anybody edited since. Before
-     * the first slots it waits for them. Once everybody has left, the room makes place for a new
-     * name if the relay has no other.
+     * revision of what is shown, so it is refused, as {@code stale}, if anybody edited since.
+     * Before the first slots it waits for them. Once everybody has left, the room makes place for a
+     * new name if the relay has no other.
      */
     public CompletableFuture<Long> end() {
         if (options.isReadOnly) return readOnly();

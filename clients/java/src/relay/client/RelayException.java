@@ -16,7 +16,8 @@ public abstract class RelayException extends RuntimeException {
      * The relay refused a request, and nothing changed by it. Or the board did before it was sent:
      * as {@code stale} an edit with a base of another run, as {@code too-long} a text by which the
      * connection would end, as {@code away} an edit that is not guarded while the connection is
-     * lost, as {@code changed} an undo, as {@code read-only} each edit of a board that only watches.
+     * lost, as {@code changed} an undo, as {@code read-only} each edit of a board that only
+     * watches.
      */
     public static final class Refused extends RelayException {
         private static final long serialVersionUID = 1;
