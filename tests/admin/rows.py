@@ -1,9 +1,10 @@
 """What each request is answered by: its name, its bytes, and the status, with the methods that a
 405 allows."""
 
-from asking import head
+from support.asking import head
 
 HEALTH = "GET /health HTTP/1.1"
+OPEN = "POST /open HTTP/1.1"
 STOP = "POST /stop HTTP/1.1"
 FORGET = "DELETE /rooms/none HTTP/1.1"
 
@@ -43,8 +44,9 @@ def rows():
         yield f"Host {host}", head(HEALTH, host=host), 403, None
         yield f"stop, Host {host}", head(STOP, host=host), 403, None
         yield f"forget, Host {host}", head(FORGET, host=host), 403, None
+        yield f"open, Host {host}", head(OPEN, host=host), 403, None
     for origin in ORIGINS:
-        for line in (HEALTH, STOP, FORGET, "GET /metrics HTTP/1.1", "GET /rooms HTTP/1.1"):
+        for line in (HEALTH, OPEN, STOP, FORGET, "GET /metrics HTTP/1.1", "GET /rooms HTTP/1.1"):
             yield f"Origin {origin}: {line}", head(line, f"Origin: {origin}"), 403, None
     yield "oRiGiN", head(STOP, "oRiGiN: http://localhost"), 403, None
     yield "no Host", head(STOP, host=None), 400, None
@@ -67,11 +69,14 @@ def rows():
     for path in ("/health", "/metrics", "/rooms"):
         for method in ("POST", "HEAD", "PUT", "get"):
             yield f"{method} {path}", head(f"{method} {path} HTTP/1.1"), 405, "GET"
-    for method in ("GET", "HEAD", "OPTIONS", "DELETE"):
-        yield f"{method} /stop", head(f"{method} /stop HTTP/1.1"), 405, "POST"
-    for method in ("GET", "HEAD", "PUT", "PATCH", "POST", "delete"):
+    for path in ("/open", "/stop"):
+        for method in ("GET", "HEAD", "OPTIONS", "DELETE"):
+            yield f"{method} {path}", head(f"{method} {path} HTTP/1.1"), 405, "POST"
+    yield "open, as it is", head(OPEN), 204, None
+    for method in ("HEAD", "PUT", "POST", "delete"):
         line = f"{method} /rooms/none HTTP/1.1"
-        yield line, head(line), 405, "DELETE"
+        yield line, head(line), 405, "GET, PATCH, DELETE"
+    yield "GET of no room", head("GET /rooms/none HTTP/1.1"), 404, None
     yield "no such room", head(FORGET), 404, None
     yield "a room without a name", head("DELETE /rooms/ HTTP/1.1"), 404, None
     yield "32 fields", head(HEALTH, *["X: x"] * 31), 200, None

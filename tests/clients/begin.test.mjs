@@ -1,4 +1,5 @@
-// `begin`: the document that a room begins with, also after a restart, and before anything that waits.
+// `begin`: the document that a room begins with, also after a restart, and before anything that
+// waits.
 import assert from "node:assert/strict";
 import { test } from "node:test";
 import { Refused, connect, room } from "../../clients/javascript/relay.mjs";

@@ -1,13 +1,14 @@
 #!/usr/bin/env python3
-"""Drives both clients with random edits, lost connections, restarts and short histories, and compares what they hold.
+"""Drives both clients with random edits, lost connections, restarts and short histories, and
+compares what they hold.
 
     tests/clients/run [SEEDS] [FIRST]
 
-At each quiet moment every client's slots are those that a fresh watcher is shown, no edit that was answered is lost or done twice, and
-no slots that were handed out have changed. Edits with a base are done on that revision of that run
-alone, and are sent again where the answer was lost, as those that are `once`; a count that all
-clients raise by a base, each from what it sees, is the number of the edits that raised it; and so
-is one that they raise by drafts.
+At each quiet moment every client's slots are those that a fresh watcher is shown, no edit that was
+answered is lost or done twice, and no slots that were handed out have changed. Edits with a base
+are done on that revision of that run alone, and are sent again where the answer was lost, as those
+that are `once`; a count that all clients raise by a base, each from what it sees, is the number of
+the edits that raised it; and so is one that they raise by drafts.
 """
 import asyncio, itertools, os, random, sys, time
 from browser import Browser
@@ -77,8 +78,8 @@ class Play:
         return 1000 + self.run
 
     async def restart(self):
-        """Another run, which may be at the revision of the one before, or at that from which all count on: only the epoch tells that nothing
-        of it is left."""
+        """Another run, which may be at the revision of the one before, or at that from which all
+        count on: only the epoch tells that nothing of it is left."""
         self.counts["restarts"] += 1
         rev, _ = await self.relay.shows(ROOM, [])
         self.proxy.port = None
@@ -127,7 +128,8 @@ class Play:
         await self.log(CHANGES, lambda logged: player.change(logged["value"]))
 
     async def log(self, kind, edit):
-        """Has an edit done with an operation that leaves its tag in the log, and keeps and gives what it came to."""
+        """Has an edit done with an operation that leaves its tag in the log, and keeps and gives
+        what it came to."""
         tag, began = f"{kind}{next(self.numbers)}", self.run
         answer = await edit({"op": "add", "path": "/log/-", "value": tag})
         self.edits[tag] = (began, self.run, answer)

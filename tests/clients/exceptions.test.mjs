@@ -1,4 +1,5 @@
-// What an application's functions do to the client that calls them. What they throw is reported as an uncaught exception, and it goes on.
+// What an application's functions do to the client that calls them. What they throw is reported as
+// an uncaught exception, and it goes on.
 import assert from "node:assert/strict";
 import { spawn } from "node:child_process";
 import { test } from "node:test";

@@ -1,4 +1,5 @@
-// What the JavaScript client offers beyond slots that stay right: each in a room of its own of one relay (RELAY names the program).
+// What the JavaScript client offers beyond slots that stay right: each in a room of its own of one
+// relay (RELAY names the program).
 import assert from "node:assert/strict";
 import { copyFileSync, mkdirSync, mkdtempSync, rmSync, writeFileSync } from "node:fs";
 import { tmpdir } from "node:os";
@@ -94,7 +95,8 @@ test("an edit that leaves no trace in the slots does not wait", async (t) => {
   await until(() => board.pending === 0);
   await board.edit([{ op: "move", from: "", path: "" }], { optimistic: true });
   await until(() => board.pending === 0);
-  // The last element moves to the end: nothing changes, and the slot does not tell that it is the last one.
+  // The last element moves to the end: nothing changes, and the slot does not tell that it is the
+  // last one.
   await board.watch(["/cards/2"]);
   await board.edit([{ op: "move", from: "/cards/2", path: "/cards/-" }], { optimistic: true });
   await until(() => board.pending === 0);
@@ -288,7 +290,8 @@ test("a Svelte store tells at once, and is written", async (t) => {
 });
 
 test("a Vue ref holds what is shown, until its component ends", async (t) => {
-  // Debian has no Vue 3: the two functions of it that the adapter calls stand here, as its documentation has them.
+  // Debian has no Vue 3: the two functions of it that the adapter calls stand here, as its
+  // documentation has them.
   const folder = mkdtempSync(join(tmpdir(), "vue-"));
   t.after(() => rmSync(folder, { recursive: true }));
   mkdirSync(join(folder, "node_modules/vue"), { recursive: true });

@@ -1,5 +1,6 @@
 #!/usr/bin/env python3
-"""examples/inspect.html in a headless browser: what it shows of a room, its slider, its log and its keys.
+"""examples/inspect.html in a headless browser: what it shows of a room, its slider, its log and its
+keys.
 
     inspect_page.py [FOLDER]   (screenshots go to FOLDER, in 400 and 1,400 pixels, light and dark)
 

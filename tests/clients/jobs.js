@@ -1,5 +1,5 @@
-// What a player of the JavaScript client does, in Node and in a page: `play(relay, url, view)` makes a function from what is asked to
-// a promise of the answer.
+// What a player of the JavaScript client does, in Node and in a page: `play(relay, url, view)`
+// makes a function from what is asked to a promise of the answer.
 "use strict";
 globalThis.play = ({ connect }, url, view) => {
   const handed = []; // slots that were handed out, and what they were then
@@ -24,8 +24,8 @@ globalThis.play = ({ connect }, url, view) => {
     );
   }
 
-  // What is shown over time, beside the edits that were asked for: each line says how the slots were, which edits had been asked for, and
-  // which of those had been taken back.
+  // What is shown over time, beside the edits that were asked for: each line says how the slots
+  // were, which edits had been asked for, and which of those had been taken back.
   const lines = [];
   const asked = [];
   const showing = {

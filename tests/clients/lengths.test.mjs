@@ -1,4 +1,5 @@
-// Texts that are long: the relay refuses those that it still reads, and the client those that would end the connection.
+// Texts that are long: the relay refuses those that it still reads, and the client those that would
+// end the connection.
 import assert from "node:assert/strict";
 import { test } from "node:test";
 import { Refused, connect } from "../../clients/javascript/relay.mjs";

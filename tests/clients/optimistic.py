@@ -1,9 +1,11 @@
 #!/usr/bin/env python3
-"""Edits that show at once, with lost connections and restarts: tests/clients/run plays it for as many seeds.
+"""Edits that show at once, with lost connections and restarts: tests/clients/run plays it for as
+many seeds.
 
-Each client writes down what it shows at each change. A watcher beside them has the document of each revision. What a client holds as
-confirmed is always what its view shows of the document at that revision, and what it shows is that of the document with its own edits
-that wait done on it, by another program's JSON Patch.
+Each client writes down what it shows at each change. A watcher beside them has the document of each
+revision. What a client holds as confirmed is always what its view shows of the document at that
+revision, and what it shows is that of the document with its own edits that wait done on it, by
+another program's JSON Patch.
 """
 import asyncio, itertools, json, os, random, sys, time
 import jsonpatch, websockets
@@ -51,7 +53,8 @@ class Watcher:
                 self.documents[message["rev"]] = slots[0][0]
 
     def at(self, rev):
-        """None where it was not told: what waited was folded into a snapshot, or the relay ended first."""
+        """None where it was not told: what waited was folded into a snapshot, or the relay ended
+        first."""
         return self.documents.get(rev)
 
 
@@ -166,7 +169,8 @@ class Play:
             raise Wrong(f"{kind} shows {line['slots']}, and not {wanted}, of {line['confirmed']} with {waiting}")
 
     def waits(self, edit, line):
-        """Until the slots are of a revision that is not below that of its answer, or of a later run."""
+        """Until the slots are of a revision that is not below that of its answer, or of a later
+        run."""
         return edit["done"] is None or (edit["epoch"], edit["done"]) > (line["epoch"], line["rev"])
 
 

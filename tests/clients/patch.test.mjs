@@ -1,4 +1,5 @@
-// JSON Patch in the JavaScript client: on values that are never written to, and with one copy of each container that a patch changes.
+// JSON Patch in the JavaScript client: on values that are never written to, and with one copy of
+// each container that a patch changes.
 import assert from "node:assert/strict";
 import { test } from "node:test";
 import { Misfit } from "../../clients/javascript/src/patch.mjs";
@@ -25,7 +26,10 @@ function orMisfit(make) {
   }
 }
 
-/** Each operation on a value of its own, so that no two parts of it are one; undefined where one does not fit. */
+/**
+ * Each operation on a value of its own, so that no two parts of it are one; undefined where one
+ * does not fit.
+ */
 function plainly(document, patch) {
   const led = patch.reduce((text, operation) => text && orMisfit(() => applied(JSON.parse(text), [operation])), JSON.stringify(document));
   return led && JSON.parse(led);

@@ -6,7 +6,10 @@ import { test } from "node:test";
 import { connect } from "../../clients/javascript/relay.mjs";
 import { begunRoom, scripted, until } from "./rooms.mjs";
 
-/** A proxy before the relay, over which so many bytes a second come to a client. Gives its address, and counts what is lost. */
+/**
+ * A proxy before the relay, over which so many bytes a second come to a client. Gives its address,
+ * and counts what is lost.
+ */
 async function throttled(t, url, rate) {
   const sockets = new Set();
   // A loss of a connection whose handshake was done has no cause.
@@ -119,7 +122,8 @@ test("once slots came the first patience is back", async (t) => {
       connections += 1;
     }
   };
-  // From the third connection on slots come, and then nothing: after `quiet` a request asks for an answer, for as long as patience has.
+  // From the third connection on slots come, and then nothing: after `quiet` a request asks for an
+  // answer, for as long as patience has.
   about(await losses(t, { WebSocket: sockets, quiet: 30, patience: 100 }, 5), [600, 1200, 130, 130, 130]);
 });
 

@@ -1,4 +1,5 @@
-// The JavaScript client in Node, played by lines: each is a JSON object with `id` and `do`, and has one answer with that `id`.
+// The JavaScript client in Node, played by lines: each is a JSON object with `id` and `do`, and has
+// one answer with that `id`.
 const { createInterface } = require("node:readline");
 const relay = require("../../clients/javascript/relay.js");
 require("./jobs.js");

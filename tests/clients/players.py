@@ -1,4 +1,5 @@
-"""Both clients, played in the same way: the one in Python, and the one in JavaScript in Node and in a browser."""
+"""Both clients, played in the same way: the one in Python, and the one in JavaScript in Node and in
+a browser."""
 import asyncio, itertools, json, os, sys
 from browser import Page
 
@@ -22,7 +23,8 @@ class InPython:
         return await self.answer(self.board, patch, how)
 
     async def answer(self, board, patch, how):
-        """What an edit comes to: on the revision of the board's slots if it is `based`, or `once`."""
+        """What an edit comes to: on the revision of the board's slots if it is `based`, or
+        `once`."""
         based = {"base": board.rev}
         options = {"based": based, "once": {"once": True}}.get(how, {})
         seen = {**based, "of": board.epoch} if how == "based" else options

@@ -1,4 +1,5 @@
-// Rooms of one relay for the tests of the JavaScript client (RELAY names the program), boards in them, and sockets that a test plays.
+// Rooms of one relay for the tests of the JavaScript client (RELAY names the program), boards in
+// them, and sockets that a test plays.
 import assert from "node:assert/strict";
 import { spawn } from "node:child_process";
 import { createInterface } from "node:readline";

@@ -1,4 +1,5 @@
-// Wills: what the relay does when a session ends, over lost connections, and of boards that share one.
+// Wills: what the relay does when a session ends, over lost connections, and of boards that share
+// one.
 import assert from "node:assert/strict";
 import { test } from "node:test";
 import { Closed, connect, room } from "../../clients/javascript/relay.mjs";
@@ -26,6 +27,7 @@ test("each connection leaves it again, before the edits that waited", async (t) 
   for (let lost = 1; lost < 4; lost += 1) {
     sockets.cut(true);
     await until(() => other.at("/cards").value.filter((card) => card === "left").length === lost);
+    await until(() => board.state === "waiting");
     board.edit(push("back"));
     sockets.cut(false);
     await until(() => other.at("/cards").value.at(-1) === "back");

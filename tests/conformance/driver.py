@@ -2,7 +2,8 @@
 import json, queue, subprocess, threading
 
 URL = "ws://127.0.0.1:1/rooms/board"
-"""A room's address at which nothing listens: the client's connections are played over the driver's lines."""
+"""A room's address at which nothing listens: the client's connections are played over the driver's
+lines."""
 PATIENCE = 60
 """Seconds for an answer of the driver, or for another connection."""
 SHORT = 400

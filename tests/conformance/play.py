@@ -63,15 +63,16 @@ class Play:
         return requests
 
     def asked_for_slots(self):
-        """The first request of a connection is a resume or a watch, of which a client may take either."""
+        """The first request of a connection is a resume or a watch, of which a client may take
+        either."""
         requests = self.heard()
         if not requests or requests[0].get("do") not in ("resume", "watch"):
             raise Failed(f"it says {requests}, and first of all neither resume nor watch")
         return requests
 
     def asks_anew(self):
-        """What came does not follow from what is held, so that may be wrong: the client watches, on this connection or on another one, and
-        does not resume."""
+        """What came does not follow from what is held, so that may be wrong: the client watches, on
+        this connection or on another one, and does not resume."""
         requests = self.heard()
         if self.driver.left:
             self.resumes_of = None
@@ -81,7 +82,8 @@ class Play:
             raise Failed(f"it says {requests}, and does not watch anew")
 
     def drops(self):
-        """Something is wrong, on the relay's side or on the client's: the client drops the connection, and watches on the next one."""
+        """Something is wrong, on the relay's side or on the client's: the client drops the
+        connection, and watches on the next one."""
         self.driver.look()
         if not self.driver.left:
             raise Failed("it goes on with a connection on which something is wrong")
@@ -114,7 +116,8 @@ class Play:
         self.driver.hear_late(words_of(message))
 
     def talk(self, rounds=20):
-        """Both say what they have to say, until nobody says more. Connections that the client leaves are opened anew. Gives the requests."""
+        """Both say what they have to say, until nobody says more. Connections that the client
+        leaves are opened anew. Gives the requests."""
         requests = []
         for _ in range(rounds):
             requests += self.heard()

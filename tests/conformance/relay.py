@@ -1,4 +1,5 @@
-"""The relay's part: a room, and one session that is played to the client (docs/PROTOCOL.md). Nothing is said until it is drawn."""
+"""The relay's part: a room, and one session that is played to the client (docs/PROTOCOL.md).
+Nothing is said until it is drawn."""
 import json
 import jsonpatch
 from driver import Failed, short
@@ -9,7 +10,8 @@ HISTORY = 8
 HEAVIEST = 65536
 """What a will weighs at most, about as many bytes as its text has."""
 ON_THE_WAY = 31
-"""Requests without a reply: with one more 32 replies could wait, and the relay would read nothing until one was drawn."""
+"""Requests without a reply: with one more 32 replies could wait, and the relay would read nothing
+until one was drawn."""
 
 
 class Relay:
@@ -170,7 +172,8 @@ def slot(document, shown):
 
 
 def difference(before, after):
-    """A patch that leads from one list of slots to the other: within a slot's value, if it is still that value."""
+    """A patch that leads from one list of slots to the other: within a slot's value, if it is still
+    that value."""
     patch = []
     for place, (one, other) in enumerate(zip(before, after)):
         if text(one) == text(other):
@@ -195,7 +198,8 @@ def within(before, after, path):
         start = min(len(before), len(after)) if start is None else start
         if len(before) == len(after):
             return sum([within(one, other, f"{path}/{place}") for place, (one, other) in enumerate(zip(before, after))], [])
-        # From the first element that is another one on: those that were there go, and those that are there come.
+        # From the first element that is another one on: those that were there go, and those that
+        # are there come.
         gone = [{"op": "remove", "path": f"{path}/{start}"} for _ in before[start:]]
         return gone + [{"op": "add", "path": f"{path}/{start + place}", "value": value} for place, value in enumerate(after[start:])]
     return replaced(path, after)

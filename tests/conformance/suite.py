@@ -1,5 +1,6 @@
 #!/usr/bin/env python3
-"""Plays a relay to a client: tests/conformance/run CLIENT_COMMAND, or with `--case NAME` in front one case alone."""
+"""Plays a relay to a client: tests/conformance/run CLIENT_COMMAND, or with `--case NAME` in front
+one case alone."""
 import os, sys, textwrap
 from concurrent.futures import ThreadPoolExecutor
 from dataclasses import dataclass
@@ -13,7 +14,8 @@ ABREAST = os.cpu_count() or 1
 
 @dataclass(frozen=True)
 class Played:
-    """How a case came out: `wrong` is None if the client did what it has to, and `asked` is false if the case does not concern it."""
+    """How a case came out: `wrong` is None if the client did what it has to, and `asked` is false
+    if the case does not concern it."""
 
     name: str
     asked: bool = True

@@ -1,5 +1,6 @@
-// Runs the snippets of documents in node, each in a room of its own of one relay (RELAY names the program), and compares what `show` shows
-// with the block `text` behind it. A component is drawn: node play.mjs FOLDER DOCUMENT...    FOLDER has the packages.
+// Runs the snippets of documents in node, each in a room of its own of one relay (RELAY names the
+// program), and compares what `show` shows with the block `text` behind it. A component is drawn:
+// node play.mjs FOLDER DOCUMENT...    FOLDER has the packages.
 import assert from "node:assert/strict";
 import { spawn } from "node:child_process";
 import { createInterface } from "node:readline";
@@ -13,7 +14,8 @@ const BEGUN = { cards: ["milk", "bread"], title: "Shopping", count: 0 };
 const COMPONENT = /^function ([A-Z]\w*)/m;
 const [folder, ...documents] = process.argv.slice(2);
 const needs = createRequire(join(folder, "package.json"));
-// The same module as the snippets import, so that what a board fails with is an instance of their classes.
+// The same module as the snippets import, so that what a board fails with is an instance of their
+// classes.
 const { connect } = await import(pathToFileURL(join(folder, "node_modules/@bolsteregret/relay/src/relay.mjs")));
 const relay = spawn(process.env.RELAY, ["serve", "--port", "0", "--epoch", "1000"], { stdio: ["ignore", "pipe", "ignore"] });
 process.on("exit", () => relay.kill());

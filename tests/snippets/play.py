@@ -1,8 +1,10 @@
-"""Runs the snippets of documents in Python, each in a room of its own of one relay (RELAY names the program), and compares what it prints
-with the block `text` behind it; then uses the board in a terminal, examples/board.py: play.py DOCUMENT...
+"""Runs the snippets of documents in Python, each in a room of its own of one relay (RELAY names the
+program), and compares what it prints with the block `text` behind it; then uses the board in a
+terminal, examples/board.py: play.py DOCUMENT...
 
-A snippet may use `url`, `board` and `show`, as docs/CLIENTS.md says, and await. One that runs an event loop is a program, which goes on
-until it is ended: it has to edit its room, and what it prints last has to be what the room shows.
+A snippet may use `url`, `board` and `show`, as docs/CLIENTS.md says, and await. One that runs an
+event loop is a program, which goes on until it is ended: it has to edit its room, and what it
+prints last has to be what the room shows.
 """
 import ast, asyncio, os, re, sys
 

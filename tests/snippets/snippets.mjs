@@ -1,4 +1,5 @@
-// The snippets of a document: blocks of JavaScript and TypeScript, each with what it prints, which the block `text` behind it says.
+// The snippets of a document: blocks of JavaScript and TypeScript, each with what it prints, which
+// the block `text` behind it says.
 import { readFileSync } from "node:fs";
 
 const BLOCK = /^```(\w+)\n([\s\S]*?)^```$/gm;

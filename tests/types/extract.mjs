@@ -1,4 +1,5 @@
-// Writes each snippet of the documents into a folder, as a file that is named after its place: node extract.mjs FOLDER DOCUMENT...
+// Writes each snippet of the documents into a folder, as a file that is named after its place: node
+// extract.mjs FOLDER DOCUMENT...
 import { join, relative } from "node:path";
 import { writeFileSync } from "node:fs";
 import { snippets } from "../snippets/snippets.mjs";

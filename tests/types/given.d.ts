@@ -1,4 +1,5 @@
-// What snippets of the documents may use without saying where it comes from: what tests/snippets/play.mjs makes.
+// What snippets of the documents may use without saying where it comes from: what
+// tests/snippets/play.mjs makes.
 interface Shopping {
   cards: string[];
   title: string;

@@ -1,4 +1,5 @@
-// How an application in TypeScript uses the client: it compiles in strict mode, and what is marked does not.
+// How an application in TypeScript uses the client: it compiles in strict mode, and what is marked
+// does not.
 import { Refused, connect, inspected, pointer, presence, room, type Board, type Json } from "@bolsteregret/relay";
 
 interface Card {

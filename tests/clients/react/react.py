@@ -1,6 +1,7 @@
 #!/usr/bin/env python3
-"""React's hooks of the JavaScript client, bundled by esbuild as an application bundles them: in a headless
-Chromium with React's strict mode, and as a server draws them. Then what a bundle weighs: react.py
+"""React's hooks of the JavaScript client, bundled by esbuild as an application bundles them: in a
+headless Chromium with React's strict mode, and as a server draws them. Then what a bundle weighs:
+react.py
 
 RELAY names the program, BROWSER_PROGRAM the browser.
 """

@@ -4,7 +4,8 @@ from .common import CARDS, begun, case, push
 
 LONGEST_REQUEST = 1_048_576
 LONGEST_TEXT = 1_056_768
-"""Bytes of a text: the relay refuses one that is longer than the first, and a connection ends by one that is longer than the second."""
+"""Bytes of a text: the relay refuses one that is longer than the first, and a connection ends by
+one that is longer than the second."""
 
 
 def bytes_said(play):
@@ -22,7 +23,8 @@ def bytes_around(play):
 
 
 def is_too_long(play, key):
-    """The client sends nothing of a request, and ends it as the relay ends those that it still reads."""
+    """The client sends nothing of a request, and ends it as the relay ends those that it still
+    reads."""
     if bytes_said(play):
         raise Failed(f"it sends {bytes_said(play)} bytes, by which its connection ends")
     play.ended(key, refused="too-long")

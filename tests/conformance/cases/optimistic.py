@@ -1,4 +1,5 @@
-"""Edits that show at once: what a client shows is the slots held, with such edits laid over them until the slots show them."""
+"""Edits that show at once: what a client shows is the slots held, with such edits laid over them
+until the slots show them."""
 from .common import BOARD, CARDS, back, begun, case, push
 
 SHOWN = ["milk", "tea"]

@@ -65,7 +65,8 @@ def a_patch_may_add_at_the_end(driver):
 def a_copy_is_another_value(driver):
     play = begun(driver, document={"cards": [{"x": {"y": []}}]})
     patch = [
-        # What this patch changed already is copied, and then the copy is changed, and then the original.
+        # What this patch changed already is copied, and then the copy is changed, and then the
+        # original.
         {"op": "add", "path": "/0/0/0/x/y/0", "value": 1},
         {"op": "copy", "from": "/0/0/0", "path": "/0/0/1"},
         {"op": "add", "path": "/0/0/1/x/y/1", "value": 2},

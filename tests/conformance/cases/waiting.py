@@ -1,4 +1,5 @@
-"""Edits that were not sent yet: they wait for a connection, or for a place among the requests on the way."""
+"""Edits that were not sent yet: they wait for a connection, or for a place among the requests on
+the way."""
 from driver import Failed
 from play import Play
 from relay import Relay
@@ -6,7 +7,8 @@ from .common import BOARD, CARDS, back, begun, case, push
 
 
 def made_offline(play, cards, **more):
-    """Edits that are made while there is no connection: those that the client takes, by their keys. The others end at once, refused."""
+    """Edits that are made while there is no connection: those that the client takes, by their keys.
+    The others end at once, refused."""
     keys = {play.edit(push(card), **more): card for card in cards}
     ends = {key: play.end_of(key) for key in keys}
     for key, end in ends.items():

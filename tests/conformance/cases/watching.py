@@ -1,4 +1,5 @@
-"""Clients that only watch: what others do reaches them, and their edits fail before they are sent."""
+"""Clients that only watch: what others do reaches them, and their edits fail before they are
+sent."""
 from driver import Failed
 from play import Play
 from relay import Relay

@@ -1,4 +1,5 @@
-"""Wills: what the relay is to do when the session ends. A will goes with its session, so each connection leaves it again."""
+"""Wills: what the relay is to do when the session ends. A will goes with its session, so each
+connection leaves it again."""
 from driver import Failed
 from play import Play
 from relay import Relay

@@ -7,7 +7,8 @@ const root = new URL("../../../", import.meta.url);
 const { JAVASCRIPT: file } = process.env;
 const { connect, presence } = await import(file ? pathToFileURL(file) : new URL("clients/javascript/relay.mjs", root));
 
-// No time is played, so none may pass: neither before another connection, nor until the client asks whether the relay is there.
+// No time is played, so none may pass: neither before another connection, nor until the client asks
+// whether the relay is there.
 const HOUR = 3_600_000;
 const times = { firstWait: 1, longestWait: 1, quiet: HOUR, patience: HOUR };
 

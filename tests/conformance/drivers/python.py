@@ -8,7 +8,8 @@ import relay_client
 
 HOUR = 3600
 TIMES = {"first_wait": 0.001, "longest_wait": 0.001, "quiet": HOUR, "patience": HOUR}
-"""No time is played, so none may pass: neither before another connection, nor until the client asks whether the relay is there."""
+"""No time is played, so none may pass: neither before another connection, nor until the client asks
+whether the relay is there."""
 SETTLED = 50
 """Rounds of the event loop after which everything has followed that follows without time."""
 

@@ -31,7 +31,7 @@ def ask(port, *parts):
     assert reply.fields["Connection"] == "close", reply
     assert reply.fields["X-Content-Type-Options"] == "nosniff", reply
     # A reply without content has no length.
-    assert (status == "204") == ("Content-Length" not in reply.fields), reply
+    assert (status in ("204", "304")) == ("Content-Length" not in reply.fields), reply
     assert int(reply.fields.get("Content-Length", 0)) == len(body), reply
     return reply
 
