@@ -35,6 +35,16 @@ WIDE = 16_000
 DONE, REFUSED, SNAPSHOT = b'"kind":"done"', b'"kind":"refused"', b'"kind":"snapshot"'
 
 
+# What is measured: who watches, as pointers; how the rows name them; and the kinds of edits, all if
+# none is named. An edit of one watcher touches what it watches, and those of the 255 touch nothing.
+REPLACE, HALFWAY = "replace a member", "insert halfway down a list, then remove"
+WATCHED = [
+    ([], "", ()),
+    ([""], ", one watcher", (REPLACE, HALFWAY)),
+    ([f"/other/{k}" for k in range(255)], ", beside 255 watchers of others", (REPLACE,)),
+]
+
+
 class Counting(Client):
     """A client that reads no message, but counts words that each has once."""
 
@@ -114,11 +124,11 @@ def kinds(kibibytes):
     middle = len(document(kibibytes)["list"]) // 2
     failing = {"op": "test", "path": "/members/k4", "value": 0}
     return {
-        "replace a member": [edit(replaced(3))],
+        REPLACE: [edit(replaced(3))],
         "insert at the front of a list, then remove": inserted(3),
-        "insert halfway down a list, then remove": inserted(middle),
-        "move in a list": [edit(moved(0))],
-        "move halfway down a list": [edit(moved(middle))],
+        HALFWAY: inserted(middle),
+        "move in a list, at its front by nine places": [edit(moved(0))],
+        "move in a list, halfway down by nine places": [edit(moved(middle))],
         "ten operations": [edit(*(replaced(key) for key in range(10)))],
         "refused at its second operation": [edit(replaced(3), failing)],
     }
@@ -178,15 +188,6 @@ class Instructions:
         return self.count
 
 
-# Who watches, as pointers: each edit touches the whole document, and none of them touches the
-# others' members.
-WATCHERS = {
-    "no watcher": [],
-    "one watcher": [""],
-    "255 watchers of a member each that no edit touches": [f"/other/{k}" for k in range(255)],
-}
-
-
 def measure(serve, value, kinds, pointers, edits, cost):
     client, pid = Counting(serve.port, "bench"), serve.process.pid
     client.edit([edit({"op": "add", "path": "", "value": value})])
@@ -207,13 +208,24 @@ def measured(value, kinds, pointers, edits, cost):
         return dict(measure(serve, value, kinds, pointers, edits, cost))
 
 
+def column(size, edits, cost):
+    """Of each kind of edit what one costs on a document of so many KiB."""
+    found = {}
+    for pointers, who, named in WATCHED:
+        all_kinds = kinds(size)
+        some = {kind: all_kinds[kind] for kind in named or all_kinds}
+        costs = measured(document(size), some, pointers, edits, cost())
+        found.update({kind + who: spent for kind, spent in costs.items()})
+    return found
+
+
 def medians(rounds):
     """Of each kind the median of the rounds."""
     return {kind: statistics.median(each[kind] for each in rounds) for kind in rounds[0]}
 
 
-def table(cost, who, heads, columns):
-    print(f"\n{cost.TITLE} an edit, {who}\n")
+def table(cost, heads, columns):
+    print(f"\n{cost.TITLE} an edit:\n")
     print("| Edit | " + " | ".join(heads) + " |")
     print("|---|" + "---|" * len(heads))
     for kind in columns[0]:
@@ -231,15 +243,11 @@ def main():
     words.add_argument("kibibytes", metavar="KIB", type=int, nargs="*", default=KIBIBYTES)
     given = words.parse_args()
     sizes, cost = given.kibibytes, Instructions if given.instructions else Microseconds
-    for who, pointers in WATCHERS.items():
-        rounds = [
-            [measured(document(size), kinds(size), pointers, given.edits, cost()) for size in sizes]
-            for _ in range(given.rounds)
-        ]
-        heads = [*(f"{size} KiB" for size in sizes), f"{sizes[-1]} against {sizes[0]} KiB"]
-        table(cost, who, heads[: len(sizes) + (len(sizes) > 1)], list(map(medians, zip(*rounds))))
+    rounds = [[column(size, given.edits, cost) for size in sizes] for _ in range(given.rounds)]
+    heads = [*(f"{size} KiB" for size in sizes), f"{sizes[-1]} against {sizes[0]} KiB"]
+    table(cost, heads[: len(sizes) + (len(sizes) > 1)], list(map(medians, zip(*rounds))))
     found = [measured(wide(), wide_kinds(), [], given.edits, cost()) for _ in range(given.rounds)]
-    table(cost, "no watcher", [f"one object of {WIDE:,} members"], [medians(found)])
+    table(cost, [f"one object of {WIDE:,} members"], [medians(found)])
 
 
 if __name__ == "__main__":

@@ -84,7 +84,7 @@ def part(pid, port, work, count):
         begun = Microseconds().spent(pid)
         work()
         spent = settled(pid) - begun
-    return f"{spent / count:12.0f} µs {other.longest * 1000:8.0f} ms"
+    return f"{spent / count:.0f} µs | {other.longest * 1000:.0f} ms"
 
 
 def measure(sessions):
@@ -93,7 +93,7 @@ def measure(sessions):
         clients = [Counting(port, "full") for _ in range(sessions)]
         watch = part(pid, port, lambda: watched(clients), sessions)
         leave = part(pid, port, lambda: left(clients), sessions)
-        print(f"{sessions:8} | {watch} | {leave}", flush=True)
+        print(f"| {sessions:,} | {watch} | {leave} |", flush=True)
 
 
 def main():
@@ -102,7 +102,8 @@ def main():
     words.add_argument("sessions", nargs="*", type=int, default=[256, 1000, 4000])
     asked = words.parse_args()
     open_files()
-    print("sessions | watches: CPU, wait | leaves: CPU, wait", flush=True)
+    print("| Sessions | For one that watches | Others wait | For one that leaves | Others wait |")
+    print("|---|---|---|---|---|", flush=True)
     for sessions in asked.sessions:
         measure(sessions)
 

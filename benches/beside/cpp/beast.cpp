@@ -1,5 +1,6 @@
-// The relay's protocol by Boost.Beast, as its examples are written: a session has a line of texts, and its stream sends one after another,
-// each by a write of its own. `room.hpp` says what is left out.
+// The relay's protocol by Boost.Beast, as its examples are written: a session has a line of texts,
+// and its stream sends one after another, each by a write of its own. `room.hpp` says what is left
+// out.
 #include <deque>
 
 #include "serve.hpp"

@@ -1,5 +1,6 @@
-// The same with fewer calls of the system: Beast makes the handshake alone, and frames are read and written here, so that all that waits
-// for a connection goes out in one write. `room.hpp` says what is left out.
+// The same with fewer calls of the system: Beast makes the handshake alone, and frames are read and
+// written here, so that all that waits for a connection goes out in one write. `room.hpp` says what
+// is left out.
 #include "frames.hpp"
 #include "serve.hpp"
 
@@ -22,7 +23,8 @@ public:
     void send(Text text) override { send(Opcode::text, *text); }
 
 private:
-    // What is sent before the loop comes round, or while a write is on its way, goes out in one write.
+    // What is sent before the loop comes round, or while a write is on its way, goes out in one
+    // write.
     void send(Opcode opcode, std::string_view payload) {
         const bool is_first = waiting_.empty() && sending_.empty();
         waiting_ += frame_head(opcode, payload.size());

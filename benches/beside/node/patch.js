@@ -1,6 +1,7 @@
-// JSON Patch (RFC 6902) on a document of plain JavaScript values, changed in place. Whole or not at all: each change leaves what takes it
-// back, and where an operation is refused the changes before it are taken back, the last one first. So an edit costs what it touches,
-// and no document is copied.
+// JSON Patch (RFC 6902) on a document of plain JavaScript values, changed in place. Whole or not at
+// all: each change leaves what takes it back, and where an operation is refused the changes before
+// it are taken back, the last one first. So an edit costs what it touches, and no document is
+// copied.
 "use strict";
 
 class Refused extends Error {
@@ -17,7 +18,8 @@ function tokens(pointer) {
   return pointer.split("/").map((token) => token.replaceAll("~1", "/").replaceAll("~0", "~"));
 }
 
-// The document is the member "" of its holder, and a pointer split at its slashes begins with "": so the root has a parent too.
+// The document is the member "" of its holder, and a pointer split at its slashes begins with "":
+// so the root has a parent too.
 function held(document) {
   return { "": document };
 }
@@ -48,7 +50,8 @@ function place(holder, pointer) {
   return { parent: path.reduce(part, holder), key };
 }
 
-// A scalar is its own copy. What an operation brings is copied, so that no later one changes it in the patch, or in a second place.
+// A scalar is its own copy. What an operation brings is copied, so that no later one changes it in
+// the patch, or in a second place.
 function copied(value) {
   return value !== null && typeof value === "object" ? structuredClone(value) : value;
 }
@@ -96,7 +99,8 @@ function take(holder, pointer, undo) {
   return old;
 }
 
-// Numbers by their value, texts by their code points, lists by their elements, objects by their members in any order.
+// Numbers by their value, texts by their code points, lists by their elements, objects by their
+// members in any order.
 function same(a, b) {
   if (a === b) return true;
   if (a === null || b === null || typeof a !== "object" || typeof b !== "object") return false;
@@ -136,7 +140,10 @@ function carryOut(holder, op, undo) {
   OPERATIONS.get(op.op)(holder, op, undo);
 }
 
-/** Applies all operations to the held document, or throws a `Refused` that says which one is at fault, and changes nothing. */
+/**
+ * Applies all operations to the held document, or throws a `Refused` that says which one is at
+ * fault, and changes nothing.
+ */
 function apply(holder, patch) {
   if (!Array.isArray(patch)) throw new Refused("shape");
   const undo = [];

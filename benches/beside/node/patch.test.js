@@ -1,5 +1,7 @@
-// The examples of RFC 6902's appendix, and that a refused patch leaves the document: node --test benches/beside/node/patch.test.js
-// A.13, a member that an object names twice, is not among them: JSON.parse takes the last one and says nothing.
+// The examples of RFC 6902's appendix, and that a refused patch leaves the document:
+// node --test benches/beside/node/patch.test.js
+// A.13, a member that an object names twice, is not among them: JSON.parse takes the last one and
+// says nothing.
 "use strict";
 const assert = require("node:assert");
 const test = require("node:test");

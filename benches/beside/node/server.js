@@ -1,13 +1,16 @@
 #!/usr/bin/env node
-// The relay's protocol (docs/PROTOCOL.md) as a server of Node's `ws` would be written: as far as a load speaks it, to be measured beside.
+// The relay's protocol (docs/PROTOCOL.md) as a server of Node's `ws` would be written: as far as a
+// load speaks it, to be measured beside.
 //
 //     server.js serve [--port PORT]     listens on 127.0.0.1, on a free port if none is named, and prints `listening PORT`
 //
-// It has rooms, edits by JSON Patch, whole or not at all, and views of values. A patch is told as one text to all who watch the same
-// view: the operations as they came where they stay within what a slot shows, and else what the slot shows now.
+// It has rooms, edits by JSON Patch, whole or not at all, and views of values. A patch is told as
+// one text to all who watch the same view: the operations as they came where they stay within what
+// a slot shows, and else what the slot shows now.
 //
-// Left out: `base`, `unwatch` and `resume`, so no history; slots that show a size; each limit (of texts, documents, views, rooms,
-// sessions, and of what waits for a watcher who does not read); numbers past 2^53, and the refusal of those that are not whole.
+// Left out: `base`, `unwatch` and `resume`, so no history; slots that show a size; each limit (of
+// texts, documents, views, rooms, sessions, and of what waits for a watcher who does not read);
+// numbers past 2^53, and the refusal of those that are not whole.
 "use strict";
 const { WebSocketServer } = require("ws");
 const { Refused, apply, get, held, tokens } = require("./patch.js");
@@ -24,7 +27,8 @@ function shown(holder, pointer) {
   }
 }
 
-// Pointers have one spelling, so one leads into another where its text goes on from the other's, by a slash.
+// Pointers have one spelling, so one leads into another where its text goes on from the other's, by
+// a slash.
 function leadsInto(inner, outer) {
   return inner.length > outer.length && inner.startsWith(outer) && inner[outer.length] === "/";
 }
@@ -35,14 +39,20 @@ function moved(path) {
   return /^(-|[0-9]+)$/.test(path.slice(slash + 1)) ? path.slice(0, slash) : path;
 }
 
-/** What a change at a path means to a slot: that it is `apart`, `inside` what the slot shows, or that the slot is to be told anew. */
+/**
+ * What a change at a path means to a slot: that it is `apart`, `inside` what the slot shows, or
+ * that the slot is to be told anew.
+ */
 function touch(pointer, path, op) {
   if (leadsInto(path, pointer)) return "inside";
   const stem = op === "replace" ? path : moved(path);
   return stem === pointer || leadsInto(pointer, stem) ? "anew" : "apart";
 }
 
-/** The touches of an operation: a move makes a change at both its places, and a copy wants its source within the slot too. */
+/**
+ * The touches of an operation: a move makes a change at both its places, and a copy wants its
+ * source within the slot too.
+ */
 function touches(pointer, { op, from, path }) {
   const target = touch(pointer, path, op);
   if (op === "move") return [touch(pointer, from, op), target];
