@@ -7,6 +7,8 @@ HEALTH = "GET /health HTTP/1.1"
 OPEN = "POST /open HTTP/1.1"
 STOP = "POST /stop HTTP/1.1"
 FORGET = "DELETE /rooms/none HTTP/1.1"
+ADMIT = "PUT /open/none HTTP/1.1"
+GETS = ["GET /metrics HTTP/1.1", "GET /rooms HTTP/1.1", "GET /wanted HTTP/1.1"]
 
 HERE = [
     "localhost",
@@ -46,7 +48,7 @@ def rows():
         yield f"forget, Host {host}", head(FORGET, host=host), 403, None
         yield f"open, Host {host}", head(OPEN, host=host), 403, None
     for origin in ORIGINS:
-        for line in (HEALTH, OPEN, STOP, FORGET, "GET /metrics HTTP/1.1", "GET /rooms HTTP/1.1"):
+        for line in (HEALTH, OPEN, STOP, FORGET, ADMIT, *GETS):
             yield f"Origin {origin}: {line}", head(line, f"Origin: {origin}"), 403, None
     yield "oRiGiN", head(STOP, "oRiGiN: http://localhost"), 403, None
     yield "no Host", head(STOP, host=None), 400, None
@@ -66,19 +68,29 @@ def rows():
         "http://localhost/health",
     ):
         yield path, head(f"GET {path} HTTP/1.1"), 404, None
-    for path in ("/health", "/metrics", "/rooms"):
+    for path in ("/health", "/metrics", "/rooms", "/wanted"):
         for method in ("POST", "HEAD", "PUT", "get"):
             yield f"{method} {path}", head(f"{method} {path} HTTP/1.1"), 405, "GET"
     for path in ("/open", "/stop"):
         for method in ("GET", "HEAD", "OPTIONS", "DELETE"):
             yield f"{method} {path}", head(f"{method} {path} HTTP/1.1"), 405, "POST"
     yield "open, as it is", head(OPEN), 204, None
+    yield "a room is open, as all are", head(ADMIT), 204, None
+    yield "no room can be closed", head("DELETE /open/none HTTP/1.1"), 409, None
+    for method in ("GET", "POST", "PATCH", "put"):
+        yield f"{method} a door", head(f"{method} /open/none HTTP/1.1"), 405, "PUT, DELETE"
+    yield "the door of no name", head("PUT /open/no%20name HTTP/1.1"), 404, None
     for method in ("HEAD", "PUT", "POST", "delete"):
         line = f"{method} /rooms/none HTTP/1.1"
         yield line, head(line), 405, "GET, PATCH, DELETE"
     yield "GET of no room", head("GET /rooms/none HTTP/1.1"), 404, None
     yield "no such room", head(FORGET), 404, None
     yield "a room without a name", head("DELETE /rooms/ HTTP/1.1"), 404, None
+    yield from lengths()
+
+
+def lengths():
+    """The same of heads that are long."""
     yield "32 fields", head(HEALTH, *["X: x"] * 31), 200, None
     yield "33 fields", head(HEALTH, *["X: x"] * 32), 431, None
     whole = head(HEALTH, "X: ")

@@ -1,5 +1,5 @@
 -- Which requests are accepted.
-use Rattle.std.proofs.Common.{◌≡◌, ℕ, Bool, true, false, not, IsTrue, List, [], ◌∷◌, ◌++◌, ◌&&◌, ◌||◌, ◌==◌, length, codes, bytes_eq, nat_le, Option, Some, None, is_some, is_none, Result, Ok, Err, refl, sym, ◌∙◌, ap, subst, arith, if◌then◌else◌, option_map, option_and_then}
+use Rattle.std.proofs.Common.{◌≡◌, ℕ, Bool, true, false, not, IsTrue, List, [], ◌∷◌, ◌++◌, ◌&&◌, ◌||◌, ◌==◌, length, codes, bytes_eq, nat_le, Option, Some, None, is_some, is_none, Result, Ok, Err, refl, sym, ◌∙◌, ap, subst, arith, if◌then◌else◌, option_and_then}
 use Rattle.std.proofs.lemmas.Bool.{eqb-true}
 use Rattle.std.proofs.lemmas.Bool.Decides.{nat_tests}
 use Rattle.std.proofs.lemmas.Slice.Eq.{bytes_eq-Decides}
@@ -15,14 +15,14 @@ use Rattle.relay_admin.specs.Host.{is_loopback}
 use Rattle.relay_admin.specs.Query.{path_of, query_of, pointer_in}
 use Rattle.relay_admin.specs.Cut.{behind}
 use Rattle.relay_admin.proofs.Prefixes.{behind_is}
-use Rattle.relay_admin.specs.Route.{Asked, request, forget, part, edit, target_of, method_of, request_at, Place, at_path, at_room, place_by, place_at, takes}
-use Rattle.relay_admin.specs.Verdict.{Judged, accept, checks, placed_by, placed, part_by, part_asked, edit_by, edit_asked, room_asked, asked_at, verdict_by, verdict_of, has_method}
+use Rattle.relay_admin.specs.Route.{Asked, request, forget, part, edit, admit, exclude, target_of, method_of, request_at, Place, at_path, at_room, at_door, named_by, place_by, place_at, takes}
+use Rattle.relay_admin.specs.Verdict.{Judged, accept, checks, placed_by, placed, part_by, part_asked, edit_by, edit_asked, room_asked, door_asked, asked_at, verdict_by, verdict_of, has_method}
 use Rattle.relay_admin.specs.declared.answer.Ask.{Ask}
 use Rattle.relay_admin.specs.declared.checks.TheConstants.{MAX_FIELDS}
 use Rattle.relay_admin.specs.declared.room.edit.TheConstants.{MAX_BODY}
 use Rattle.relay_admin.specs.declared.admin_fault.AdminFault.{AdminFault}
 use Rattle.relay_admin.specs.declared.request.AdminRequest.{AdminRequest}
-use Rattle.relay_admin.specs.declared.request.AdminRequest.TheVariants.{Health, Metrics, Rooms, Open, Stop}
+use Rattle.relay_admin.specs.declared.request.AdminRequest.TheVariants.{Health, Metrics, Rooms, Wanted, Open, Stop}
 
 -- each check passes
 abbrev pub Passed : List (Bool × AdminFault) → Type 0
@@ -64,6 +64,7 @@ path_found : (r : AdminRequest) → place_at (target_of r) ≡ Some (at_path r)
 path_found Health = refl
 path_found Metrics = refl
 path_found Rooms = refl
+path_found Wanted = refl
 path_found Open = refl
 path_found Stop = refl
 
@@ -71,34 +72,43 @@ path_found Stop = refl
 room_found : (name : List ℕ) → place_at (codes "/rooms/" ++ name) ≡ Some (at_room name)
 room_found name = refl
 
+-- and that of a door the door
+door_found : (name : List ℕ) → place_at (codes "/open/" ++ name) ≡ Some (at_door name)
+door_found name = refl
+
 -- and no other
 target_at : (target : List ℕ) (r : AdminRequest) → request_at target ≡ Some r → target ≡ target_of r
 target_at target r e =
     by_test (bytes_eq target (target_of Health)) (bytes_eq target (target_of Metrics))
     (bytes_eq target (target_of Open)) (bytes_eq target (target_of Rooms))
-    (bytes_eq target (target_of Stop))
+    (bytes_eq target (target_of Stop)) (bytes_eq target (target_of Wanted))
     (λ t. (bytes_eq-Decides target (target_of Health)).0 t) (λ t.
     (bytes_eq-Decides target (target_of Metrics)).0 t) (λ t.
     (bytes_eq-Decides target (target_of Open)).0 t) (λ t.
     (bytes_eq-Decides target (target_of Rooms)).0 t) (λ t.
-    (bytes_eq-Decides target (target_of Stop)).0 t) e
+    (bytes_eq-Decides target (target_of Stop)).0 t) (λ t.
+    (bytes_eq-Decides target (target_of Wanted)).0 t) e
   where
-    by_test : (a b c d f : Bool) → (a ≡ true → target ≡ target_of Health)
+    by_test : (a b c d f g : Bool) → (a ≡ true → target ≡ target_of Health)
         → (b ≡ true → target ≡ target_of Metrics) → (c ≡ true → target ≡ target_of Open)
         → (d ≡ true → target ≡ target_of Rooms) → (f ≡ true → target ≡ target_of Stop)
+        → (g ≡ true → target ≡ target_of Wanted)
         → (if a then Some Health else if b then Some Metrics else if c then Some Open
-        else if d then Some Rooms else if f then Some Stop else None) ≡ Some r
+        else if d then Some Rooms else if f then Some Stop else if g then Some Wanted
+        else None) ≡ Some r
         → target ≡ target_of r
-    by_test true b c d f p q u s t e = let same : Health ≡ r = cc in p refl ∙ ap target_of same
-    by_test false true c d f p q u s t e =
+    by_test true b c d f g p q u s t w e = let same : Health ≡ r = cc in p refl ∙ ap target_of same
+    by_test false true c d f g p q u s t w e =
         let same : Metrics ≡ r = cc in q refl ∙ ap target_of same
-    by_test false false true d f p q u s t e =
+    by_test false false true d f g p q u s t w e =
         let same : Open ≡ r = cc in u refl ∙ ap target_of same
-    by_test false false false true f p q u s t e =
+    by_test false false false true f g p q u s t w e =
         let same : Rooms ≡ r = cc in s refl ∙ ap target_of same
-    by_test false false false false true p q u s t e =
+    by_test false false false false true g p q u s t w e =
         let same : Stop ≡ r = cc in t refl ∙ ap target_of same
-    by_test false false false false false p q u s t e = absurd (cc)
+    by_test false false false false false true p q u s t w e =
+        let same : Wanted ≡ r = cc in w refl ∙ ap target_of same
+    by_test false false false false false false p q u s t w e = absurd (cc)
 
 -- a place is found only by its target
 path_there : (target : List ℕ) (found : Option AdminRequest) (r : AdminRequest)
@@ -106,23 +116,41 @@ path_there : (target : List ℕ) (found : Option AdminRequest) (r : AdminRequest
     → place_by found target ≡ Some (at_path r) → target ≡ target_of r
 path_there target (Some other) r at e =
     let same : other ≡ r = cc e in target_at target other at ∙ ap target_of same
-path_there target None r at e = absurd (by_rest (behind (codes "/rooms/") target) e)
+path_there target None r at e =
+    absurd (by_rests (behind (codes "/rooms/") target) (behind (codes "/open/") target) e)
   where
-    by_rest : (rest : Option (List ℕ)) → option_map at_room rest ≡ Some (at_path r) → ⊥
-    by_rest (Some name) e = cc e
-    by_rest None e = cc e
+    by_rests : (room door : Option (List ℕ)) → named_by room door ≡ Some (at_path r) → ⊥
+    by_rests (Some name) door e = cc e
+    by_rests None (Some name) e = cc e
+    by_rests None None e = cc e
 
 room_there : (target : List ℕ) (found : Option AdminRequest) (name : List ℕ)
     → place_by found target ≡ Some (at_room name) → target ≡ codes "/rooms/" ++ name
 room_there target (Some other) name e = absurd (cc e)
-room_there target None name e = by_rest (behind (codes "/rooms/") target) refl e
+room_there target None name e =
+    by_rests (behind (codes "/rooms/") target) (behind (codes "/open/") target) refl e
   where
-    by_rest : (rest : Option (List ℕ)) → behind (codes "/rooms/") target ≡ rest
-        → option_map at_room rest ≡ Some (at_room name) → target ≡ codes "/rooms/" ++ name
-    by_rest (Some other) b e =
+    by_rests : (room door : Option (List ℕ)) → behind (codes "/rooms/") target ≡ room
+        → named_by room door ≡ Some (at_room name) → target ≡ codes "/rooms/" ++ name
+    by_rests (Some other) door b e =
         let same : other ≡ name = cc e in
         behind_is (codes "/rooms/") target other b ∙ ap (λ n. codes "/rooms/" ++ n) same
-    by_rest None b e = absurd (cc e)
+    by_rests None (Some other) b e = absurd (cc e)
+    by_rests None None b e = absurd (cc e)
+
+door_there : (target : List ℕ) (found : Option AdminRequest) (name : List ℕ)
+    → place_by found target ≡ Some (at_door name) → target ≡ codes "/open/" ++ name
+door_there target (Some other) name e = absurd (cc e)
+door_there target None name e =
+    by_rests (behind (codes "/rooms/") target) (behind (codes "/open/") target) refl e
+  where
+    by_rests : (room door : Option (List ℕ)) → behind (codes "/open/") target ≡ door
+        → named_by room door ≡ Some (at_door name) → target ≡ codes "/open/" ++ name
+    by_rests (Some other) door b e = absurd (cc e)
+    by_rests None (Some other) b e =
+        let same : other ≡ name = cc e in
+        behind_is (codes "/open/") target other b ∙ ap (λ n. codes "/open/" ++ n) same
+    by_rests None None b e = absurd (cc e)
 
 -- a value that passes a test is there
 from_kept : (test : List ℕ → Bool) (o : Option (List ℕ)) → is_some (kept test o) ≡ true
@@ -272,6 +300,21 @@ room_asks name target method fields asked there taken e =
           tt,
         )
 
+-- and what is asked of the door of one
+door_asks : (name target method : List ℕ) (fields : Fields) (asked : Asked)
+    → target ≡ codes "/open/" ++ name → takes method (at_door name) ≡ true
+    → door_asked name method ≡ asked → Asks target method fields asked
+door_asks name target method fields asked there taken e =
+    subst (Asks target method fields) e
+    (by_method (bytes_eq method (codes "PUT"))
+    (λ t. (bytes_eq-Decides method (codes "PUT")).0 t) taken)
+  where
+    by_method : (put : Bool) → (put ≡ true → method ≡ codes "PUT")
+        → (put || bytes_eq method (codes "DELETE")) ≡ true
+        → Asks target method fields (if put then admit name else exclude name)
+    by_method true p taken = (there, p refl, tt)
+    by_method false p taken = (there, (bytes_eq-Decides method (codes "DELETE")).0 taken, tt)
+
 -- what is asked at a place has its target, method and fields
 place_asks : (place : Place) (head : Parts) (asked : Asked) → place_at head.target ≡ Some place
     → takes head.method place ≡ true → asked_at (Ok place) head.method head.fields ≡ Ok asked
@@ -286,6 +329,9 @@ place_asks (at_path r) head asked at taken e =
 place_asks (at_room name) head asked at taken e =
     room_asks name head.target head.method head.fields asked
     (room_there head.target (request_at head.target) name at) taken e
+place_asks (at_door name) head asked at taken e =
+    door_asks name head.target head.method head.fields asked
+    (door_there head.target (request_at head.target) name at) taken (cc e)
 
 -- a place at which this is asked
 abbrev IsAskedAt : Parts → Asked → Type 0
@@ -326,6 +372,18 @@ asks_place head (edit room tags size) (target, query) method (is, fields) = (
       (passes_edit room head.fields size query is)
       ∙ ap (λ l. edit_by None l room head.fields) (passes_length head.fields size is)
       ∙ ap (λ l. Ok (edit room l size)) (sym fields),
+)
+asks_place head (admit room) target method fields = (
+  at_door room,
+  ap place_at target ∙ door_found room,
+  ap (λ m. takes m (at_door room)) method,
+  ap (λ m. Ok (door_asked room m)) method,
+)
+asks_place head (exclude room) target method fields = (
+  at_door room,
+  ap place_at target ∙ door_found room,
+  ap (λ m. takes m (at_door room)) method,
+  ap (λ m. Ok (door_asked room m)) method,
 )
 
 -- an accepted head is admitted

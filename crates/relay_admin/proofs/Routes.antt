@@ -7,7 +7,7 @@ use Rattle.matchit.specs.Router.{RouteOf}
 use Rattle.relay_http_head.proofs.Routes.{IsPlain, or-none, nil-step, seek-nil}
 use Rattle.relay_admin.specs.Route.{target_of, request_at}
 use Rattle.relay_admin.specs.declared.request.AdminRequest.{AdminRequest}
-use Rattle.relay_admin.specs.declared.request.AdminRequest.TheVariants.{Health, Metrics, Rooms, Open, Stop}
+use Rattle.relay_admin.specs.declared.request.AdminRequest.TheVariants.{Health, Metrics, Rooms, Wanted, Open, Stop}
 use Rattle.matchit.specs.Seek.{seek, param_step, step, own, has_slash}
 
 abbrev pub ArePlain : {K : Type 0} → RowsOf K → Type 0
@@ -128,7 +128,7 @@ abbrev pub rows : RowsOf Route
 rows =
     (target_of Health, route_to Health) ∷ (target_of Metrics, route_to Metrics)
     ∷ (target_of Open, route_to Open) ∷ (target_of Rooms, route_to Rooms)
-    ∷ (target_of Stop, route_to Stop) ∷ []
+    ∷ (target_of Stop, route_to Stop) ∷ (target_of Wanted, route_to Wanted) ∷ []
 
 abbrev value : Route → AdminRequest
 value route = route.value
@@ -139,7 +139,8 @@ values path =
     (value_of value (bytes_eq path (target_of Metrics)) (route_to Metrics) _ _
     (value_of value (bytes_eq path (target_of Open)) (route_to Open) _ _
     (value_of value (bytes_eq path (target_of Rooms)) (route_to Rooms) _ _
-    (value_of value (bytes_eq path (target_of Stop)) (route_to Stop) None None refl))))
+    (value_of value (bytes_eq path (target_of Stop)) (route_to Stop) _ _
+    (value_of value (bytes_eq path (target_of Wanted)) (route_to Wanted) None None refl)))))
 
 -- a path finds the request whose target it is
 pub routed : (path : List ℕ)

@@ -2,7 +2,7 @@
 -- RFC 6585, section 5).
 use Rattle.std.specs.Prelude.{ℕ, List, [], codes}
 use Rattle.relay_admin.specs.declared.admin_fault.AdminFault.{AdminFault}
-use Rattle.relay_admin.specs.declared.admin_fault.AdminFault.TheVariants.{NoHead, TooLong, NoHost, OtherHost, Origin, NoPath, OnlyGet, OnlyPost, OnlyRoomMethods, BadQuery, Expectation, MediaType, NoLength, BadLength, BodyTooLong}
+use Rattle.relay_admin.specs.declared.admin_fault.AdminFault.TheVariants.{NoHead, TooLong, NoHost, OtherHost, Origin, NoPath, OnlyGet, OnlyPost, OnlyRoomMethods, OnlyDoorMethods, BadQuery, Expectation, MediaType, NoLength, BadLength, BodyTooLong}
 use Rattle.relay_admin.specs.declared.not_forgotten.NotForgotten.{NotForgotten}
 use Rattle.relay_admin.specs.declared.not_forgotten.NotForgotten.TheVariants as kept
 use Rattle.relay_admin.specs.declared.unavailable.Unavailable.{Unavailable}
@@ -18,6 +18,7 @@ status_of NoPath = 404
 status_of OnlyGet = 405
 status_of OnlyPost = 405
 status_of OnlyRoomMethods = 405
+status_of OnlyDoorMethods = 405
 status_of BadQuery = 400
 status_of Expectation = 417
 status_of MediaType = 415
@@ -30,6 +31,7 @@ abbrev pub line_of : AdminFault → List ℕ
 line_of OnlyGet = codes "Allow: GET\r\n"
 line_of OnlyPost = codes "Allow: POST\r\n"
 line_of OnlyRoomMethods = codes "Allow: GET, PATCH, DELETE\r\n"
+line_of OnlyDoorMethods = codes "Allow: PUT, DELETE\r\n"
 line_of MediaType = codes "Accept-Patch: application/json-patch+json\r\n"
 line_of _ = []
 
@@ -43,6 +45,7 @@ why_of NoPath = codes "there is no such path\n"
 why_of OnlyGet = codes "only GET\n"
 why_of OnlyPost = codes "only POST\n"
 why_of OnlyRoomMethods = codes "only GET, PATCH and DELETE\n"
+why_of OnlyDoorMethods = codes "only PUT and DELETE\n"
 why_of BadQuery = codes "the query is not one at=\n"
 why_of Expectation = codes "no Expect is met\n"
 why_of MediaType = codes "the body is no JSON Patch\n"
@@ -64,7 +67,7 @@ kept_why kept.Occupied = codes "a session is in the room\n"
 kept_why kept.Exhausted = codes "no revision is left\n"
 kept_why kept.NoMemory = codes "memory was refused\n"
 
--- the words of a room that cannot be entered now
+-- the words of a room that cannot be entered, or opened by name, now
 
 abbrev pub unavailable_why : Unavailable → List ℕ
 unavailable_why unavailable.Rooms = codes "all rooms are taken\n"

@@ -8,7 +8,7 @@ use Rattle.relay_admin.specs.Edits.{is_json_patch, number_of}
 use Rattle.relay_admin.specs.Host.{is_loopback}
 use Rattle.relay_admin.specs.Judged.{verdict_told}
 use Rattle.relay_admin.specs.Query.{path_of, query_of, pointer_in}
-use Rattle.relay_admin.specs.Route.{target_of, method_of, Asked, request, forget, part, edit}
+use Rattle.relay_admin.specs.Route.{target_of, method_of, Asked, request, forget, part, edit, admit, exclude}
 use Rattle.relay_admin.specs.Verdict.{accept, window}
 use Rattle.relay_admin.specs.declared.answer.Ask.{Ask}
 use Rattle.relay_admin.specs.declared.checks.TheConstants.{MAX_FIELDS}
@@ -28,9 +28,11 @@ asked_method (request r) = method_of r
 asked_method (forget room) = codes "DELETE"
 asked_method (part room at tags) = codes "GET"
 asked_method (edit room tags length) = codes "PATCH"
+asked_method (admit room) = codes "PUT"
+asked_method (exclude room) = codes "DELETE"
 
 -- of a part the target's path is the room's, and its query names the pointer; a room that is
--- forgotten has the whole rest of the target as its name
+-- forgotten, admitted or excluded has the whole rest of the target as its name
 abbrev pub HasTarget : Asked → List ℕ → Type 0
 HasTarget (request r) target = target ≡ target_of r
 HasTarget (forget room) target = target ≡ codes "/rooms/" ++ room
@@ -39,6 +41,8 @@ HasTarget (part room at tags) target =
     × (pointer_in (query_of name) ≡ Some at)
 HasTarget (edit room tags length) target =
     (target ≡ codes "/rooms/" ++ room) × (query_of room ≡ None)
+HasTarget (admit room) target = target ≡ codes "/open/" ++ room
+HasTarget (exclude room) target = target ≡ codes "/open/" ++ room
 
 -- the fields of an edit: a JSON Patch whose length is told beforehand and short enough, and nothing
 -- that is expected first
@@ -55,6 +59,8 @@ HasFields (forget room) fields = ⊤
 HasFields (part room at tags) fields = tags ≡ listed (codes "If-None-Match") fields
 HasFields (edit room tags length) fields =
     IsPatch fields length × (tags ≡ listed (codes "If-Match") fields)
+HasFields (admit room) fields = ⊤
+HasFields (exclude room) fields = ⊤
 
 -- a head that asks for this; a page in a browser can have sent it only as a GET whose answer the
 -- page cannot read

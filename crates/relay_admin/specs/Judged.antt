@@ -2,7 +2,7 @@
 use Rattle.std.specs.Prelude.{◌≡◌, Result, Ok, Err, string_bytes}
 use Rattle.relay_http_head.specs.declared.checks.Fault.{Fault}
 use Rattle.relay_http_head.specs.declared.checks.Fault.TheVariants.{Refused, NoMemory}
-use Rattle.relay_admin.specs.Route.{Place, at_path, at_room, Asked, request, forget, part, edit}
+use Rattle.relay_admin.specs.Route.{Place, at_path, at_room, at_door, Asked, request, forget, part, edit, admit, exclude}
 use Rattle.relay_admin.specs.Verdict.{Verdict, more, accept, refuse}
 use Rattle.relay_admin.specs.declared.answer.Ask.{Ask}
 use Rattle.relay_admin.specs.declared.answer.Ask.TheVariants as ask
@@ -23,6 +23,7 @@ Judges seen (Err NoMemory) wanted = Unit {0}
 abbrev pub place_of : Target → Place
 place_of (target.Request r) = at_path r
 place_of (target.Room name) = at_room name.now
+place_of (target.Door name) = at_door name.now
 
 abbrev pub part_of : PartRequest → Asked
 part_of p = part (string_bytes p.room) (string_bytes p.at) p.if_none_match
@@ -37,6 +38,8 @@ verdict_told (ask.Request r) = accept (request r)
 verdict_told (ask.Forget room) = accept (forget (string_bytes room))
 verdict_told (ask.Read p) = accept (part_of p)
 verdict_told (ask.Edit e) = accept (edit_of e)
+verdict_told (ask.Admit room) = accept (admit (string_bytes room))
+verdict_told (ask.Exclude room) = accept (exclude (string_bytes room))
 verdict_told (ask.Refused refusal) = refuse refusal
 
 -- the same of a result: a refusal is an answer too

@@ -38,6 +38,11 @@ gauge name help value = family_text name Gauge help ++ value_text name value []
 abbrev pub gauge_of_micros : List ℕ → List ℕ → ℕ → List ℕ
 gauge_of_micros name help value = family_text name Gauge help ++ value_text name value (codes "e-6")
 
+-- a counter with one value, in millionths
+abbrev pub counter_of_micros : List ℕ → List ℕ → ℕ → List ℕ
+counter_of_micros name help value =
+    family_text name Counter help ++ value_text name value (codes "e-6")
+
 -- a counter with one value
 abbrev pub counter : List ℕ → List ℕ → ℕ → List ℕ
 counter name help value = family_text name Counter help ++ value_text name value []

@@ -6,7 +6,7 @@ use Rattle.relay_admin.specs.declared.metrics.EndedBy.{EndedBy}
 use Rattle.relay_admin.specs.declared.metrics.Metrics.{Metrics}
 use Rattle.relay_admin.specs.declared.metrics.RefusedBy.{RefusedBy}
 use Rattle.relay_admin.specs.declared.metrics.SnapshotsBy.{SnapshotsBy}
-use Rattle.relay_admin.specs.Metric.{gauge, gauge_of_micros, counter, labelled_counter, word_and_count}
+use Rattle.relay_admin.specs.Metric.{gauge, gauge_of_micros, counter, counter_of_micros, labelled_counter, word_and_count}
 
 -- the rooms, the sessions, and what was edited
 abbrev pub hub_text : Metrics → List ℕ
@@ -106,6 +106,8 @@ rounds_text m = concat
     ∷ counter (codes "relay_rounds_total") (codes "Rounds of the server.") m.rounds
     ∷ gauge_of_micros (codes "relay_longest_round_seconds")
     (codes "How long the longest round of the last minute worked.") m.longest_round
+    ∷ counter_of_micros (codes "relay_hub_cost_seconds_total")
+    (codes "What the hub's work cost, as it is counted for the connections' credit.") m.hub_cost
     ∷ [])
 
 -- the whole text

@@ -4,7 +4,7 @@ use Rattle.http.specs.StatusCode.{status_text}
 use Rattle.relay_admin.specs.AdminFaults as refusal
 use Rattle.relay_admin.specs.Conditions.{tag_text}
 use Rattle.relay_admin.specs.declared.response.Response.{Response}
-use Rattle.relay_admin.specs.declared.response.Response.TheVariants.{Healthy, Unhealthy, Metrics, Rooms, Opened, Stopping, Forgotten, NotForgotten, Part, NotModified, Edited, NoRoom, NoValue, OtherRevision, Malformed, Unprocessable, Unavailable, Refused}
+use Rattle.relay_admin.specs.declared.response.Response.TheVariants.{Healthy, Unhealthy, Metrics, Rooms, Wanted, Opened, Admitted, Excluded, Open, Stopping, Forgotten, NotForgotten, Part, NotModified, Edited, NoRoom, NoValue, OtherRevision, Malformed, Unprocessable, Unavailable, Refused}
 use Rattle.relay_admin.specs.declared.room.revision_tag.RevisionTag.{RevisionTag}
 
 abbrev pub status_of : Response → ℕ
@@ -12,7 +12,11 @@ status_of Healthy = 200
 status_of (Unhealthy why) = 503
 status_of (Metrics text) = 200
 status_of (Rooms text) = 200
+status_of (Wanted text) = 200
 status_of Opened = 204
+status_of Admitted = 204
+status_of Excluded = 204
+status_of Open = 409
 status_of Stopping = 202
 status_of Forgotten = 204
 status_of (NotForgotten why) = refusal.kept_status why
@@ -30,6 +34,7 @@ status_of (Refused why) = refusal.status_of why
 abbrev pub kind_of : Response → List ℕ
 kind_of (Metrics text) = codes "text/plain; version=0.0.4; charset=utf-8"
 kind_of (Rooms text) = codes "application/json"
+kind_of (Wanted text) = codes "application/json"
 kind_of (Part tag value) = codes "application/json"
 kind_of (Edited tag reply) = codes "application/json"
 kind_of (Malformed reply) = codes "application/json"
@@ -63,7 +68,11 @@ body_of Healthy = codes "ok\n"
 body_of (Unhealthy why) = why.now
 body_of (Metrics text) = text.now
 body_of (Rooms text) = text.now
+body_of (Wanted text) = text.now
 body_of Opened = []
+body_of Admitted = []
+body_of Excluded = []
+body_of Open = codes "the relay is open\n"
 body_of Stopping = codes "stopping\n"
 body_of Forgotten = []
 body_of (NotForgotten why) = refusal.kept_why why
@@ -82,6 +91,8 @@ body_of (Refused why) = refusal.why_of why
 -- 15.3.5 and 15.4.5)
 abbrev pub has_content : Response → Bool
 has_content Opened = false
+has_content Admitted = false
+has_content Excluded = false
 has_content Forgotten = false
 has_content (NotModified tag) = false
 has_content _ = true

@@ -1,6 +1,6 @@
--- The list of rooms, as the tokens of its JSON.
-use Rattle.std.specs.Prelude.{ℕ, List, [], ◌∷◌, ◌++◌, Option, Some, None, codes, decimal}
-use Rattle.json.specs.Token.{Token, begin_array, begin_object, end_object, key, string, number}
+-- The lists of rooms, as the tokens of their JSON.
+use Rattle.std.specs.Prelude.{ℕ, List, [], ◌∷◌, ◌++◌, map, Option, Some, None, codes, decimal}
+use Rattle.json.specs.Token.{Token, begin_array, end_array, begin_object, end_object, key, string, number}
 
 -- a list without rooms, before its end
 abbrev pub begun : List Token
@@ -29,3 +29,7 @@ with_room name revision sessions weight empty tokens =
     (with_numbers revision sessions weight (tokens ++ begin_object ∷ key (codes "name")
     ∷ string name ∷ []))
     ++ end_object ∷ []
+
+-- the whole list of rooms that are only named
+abbrev pub names_listed : List (List ℕ) → List Token
+names_listed names = (begun ++ map string names) ++ end_array ∷ []

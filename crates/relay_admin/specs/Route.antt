@@ -2,13 +2,14 @@
 use Rattle.std.specs.Prelude.{ℕ, Bool, List, ◌||◌, if◌then◌else◌, codes, bytes_eq, Option, Some, None, option_map}
 use Rattle.relay_admin.specs.Cut.{behind}
 use Rattle.relay_admin.specs.declared.request.AdminRequest.{AdminRequest}
-use Rattle.relay_admin.specs.declared.request.AdminRequest.TheVariants.{Health, Metrics, Rooms, Open, Stop}
+use Rattle.relay_admin.specs.declared.request.AdminRequest.TheVariants.{Health, Metrics, Rooms, Wanted, Open, Stop}
 
 -- the target of a request
 abbrev pub target_of : AdminRequest → List ℕ
 target_of Health = codes "/health"
 target_of Metrics = codes "/metrics"
 target_of Rooms = codes "/rooms"
+target_of Wanted = codes "/wanted"
 target_of Open = codes "/open"
 target_of Stop = codes "/stop"
 
@@ -25,18 +26,27 @@ request_at target =
     if bytes_eq target (target_of Metrics) then Some Metrics else
     if bytes_eq target (target_of Open) then Some Open else
     if bytes_eq target (target_of Rooms) then Some Rooms else
-    if bytes_eq target (target_of Stop) then Some Stop else None
+    if bytes_eq target (target_of Stop) then Some Stop else
+    if bytes_eq target (target_of Wanted) then Some Wanted else None
 
--- where a target leads: to a request with a path of its own, or to a room, by what stands behind
--- `/rooms/`
+-- where a target leads: to a request with a path of its own; to a room, by what stands behind
+-- `/rooms/`; or to the door of a room, by what stands behind `/open/`
 pub data Place : Type 0 where
   at_path : AdminRequest → Place
   at_room : List ℕ → Place
+  at_door : List ℕ → Place
+
+abbrev pub named_by : Option (List ℕ) → Option (List ℕ) → Option Place
+named_by (Some room) door = Some (at_room room)
+named_by None door = option_map at_door door
+
+abbrev pub named_at : List ℕ → Option Place
+named_at target = named_by (behind (codes "/rooms/") target) (behind (codes "/open/") target)
 
 -- a path of a request comes first
 abbrev pub place_by : Option AdminRequest → List ℕ → Option Place
 place_by (Some r) target = Some (at_path r)
-place_by None target = option_map at_room (behind (codes "/rooms/") target)
+place_by None target = named_at target
 
 abbrev pub place_at : List ℕ → Option Place
 place_at target = place_by (request_at target) target
@@ -47,6 +57,7 @@ takes method (at_path r) = bytes_eq method (method_of r)
 takes method (at_room name) =
     bytes_eq method (codes "GET") || bytes_eq method (codes "PATCH")
     || bytes_eq method (codes "DELETE")
+takes method (at_door name) = bytes_eq method (codes "PUT") || bytes_eq method (codes "DELETE")
 
 -- what is asked
 pub data Asked : Type 0 where
@@ -58,3 +69,7 @@ pub data Asked : Type 0 where
   part : List ℕ → List ℕ → List ℕ → Asked
   -- for the room of a name, an edit, if its tag is the one listed, by a body of so many bytes
   edit : List ℕ → List ℕ → ℕ → Asked
+  -- that clients may enter the room of a name
+  admit : List ℕ → Asked
+  -- that nobody may enter the room of a name
+  exclude : List ℕ → Asked

@@ -8,11 +8,11 @@ use Rattle.relay_admin.specs.Conditions.{listed}
 use Rattle.relay_admin.specs.Edits.{edit_checks, length_asked}
 use Rattle.relay_admin.specs.Host.{is_loopback}
 use Rattle.relay_admin.specs.Query.{path_of, query_of, pointer_in}
-use Rattle.relay_admin.specs.Route.{Place, at_path, at_room, place_at, takes, Asked, request, forget, part, edit}
+use Rattle.relay_admin.specs.Route.{Place, at_path, at_room, at_door, place_at, takes, Asked, request, forget, part, edit, admit, exclude}
 use Rattle.relay_admin.specs.declared.checks.TheConstants.{MAX_FIELDS}
 use Rattle.relay_admin.specs.declared.reading.TheConstants.{MAX_HEAD}
 use Rattle.relay_admin.specs.declared.admin_fault.AdminFault.{AdminFault}
-use Rattle.relay_admin.specs.declared.admin_fault.AdminFault.TheVariants.{TooLong, NoHost, OtherHost, Origin, NoPath, OnlyGet, OnlyPost, OnlyRoomMethods, BadQuery}
+use Rattle.relay_admin.specs.declared.admin_fault.AdminFault.TheVariants.{TooLong, NoHost, OtherHost, Origin, NoPath, OnlyGet, OnlyPost, OnlyRoomMethods, OnlyDoorMethods, BadQuery}
 use Rattle.relay_admin.specs.declared.request.AdminRequest.TheVariants.{Open, Stop}
 
 -- wait for more bytes, accept what is asked, or refuse
@@ -35,6 +35,7 @@ abbrev pub wrong_method : Option Place → AdminFault
 wrong_method (Some (at_path Open)) = OnlyPost
 wrong_method (Some (at_path Stop)) = OnlyPost
 wrong_method (Some (at_room name)) = OnlyRoomMethods
+wrong_method (Some (at_door name)) = OnlyDoorMethods
 wrong_method _ = OnlyGet
 
 -- the checks of every head in their order: the condition, and the refusal if it fails
@@ -81,11 +82,17 @@ room_asked name method fields =
     if bytes_eq method (codes "GET") then part_asked name fields else
     if bytes_eq method (codes "PATCH") then edit_asked name fields else Ok (forget name)
 
+-- what is asked of the door of a room, by one of its methods
+abbrev pub door_asked : List ℕ → List ℕ → Asked
+door_asked name method =
+    if bytes_eq method (codes "PUT") then admit name else exclude name
+
 -- what a head asks at a place
 abbrev pub asked_at : Result Place AdminFault → List ℕ → Fields → Judged
 asked_at (Err refusal) method fields = Err refusal
 asked_at (Ok (at_path r)) method fields = Ok (request r)
 asked_at (Ok (at_room name)) method fields = room_asked name method fields
+asked_at (Ok (at_door name)) method fields = Ok (door_asked name method)
 
 abbrev pub asked_by : Parts → Judged
 asked_by head = asked_at (placed head) head.method head.fields

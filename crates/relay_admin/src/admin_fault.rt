@@ -18,8 +18,8 @@ pub enum AdminFault {
     OtherHost,
     /// 403: there is an `Origin`, so a page asked.
     Origin,
-    /// 404: the path is none of the five, and begins with no `/rooms/`. Or, once all before
-    /// [`AdminFault::BadQuery`] was checked, an edit has a query.
+    /// 404: the path is none of the six, and begins with neither `/rooms/` nor `/open/`. Or, once
+    /// all before [`AdminFault::BadQuery`] was checked, an edit has a query.
     NoPath,
     /// 405: the path takes `GET` alone.
     OnlyGet,
@@ -27,6 +27,8 @@ pub enum AdminFault {
     OnlyPost,
     /// 405: the path of a room takes `GET`, `PATCH` and `DELETE` alone.
     OnlyRoomMethods,
+    /// 405: the path of a door takes `PUT` and `DELETE` alone.
+    OnlyDoorMethods,
     /// 400: the query of a `GET` is not exactly one `at=`, or its value is not the escaped text of
     /// UTF-8.
     BadQuery,
@@ -56,9 +58,10 @@ impl AdminFault {
             AdminFault::TooLong => StatusCode::REQUEST_HEADER_FIELDS_TOO_LARGE,
             AdminFault::OtherHost | AdminFault::Origin => StatusCode::FORBIDDEN,
             AdminFault::NoPath => StatusCode::NOT_FOUND,
-            AdminFault::OnlyGet | AdminFault::OnlyPost | AdminFault::OnlyRoomMethods => {
-                StatusCode::METHOD_NOT_ALLOWED
-            }
+            AdminFault::OnlyGet
+            | AdminFault::OnlyPost
+            | AdminFault::OnlyRoomMethods
+            | AdminFault::OnlyDoorMethods => StatusCode::METHOD_NOT_ALLOWED,
             AdminFault::Expectation => StatusCode::EXPECTATION_FAILED,
             AdminFault::MediaType => StatusCode::UNSUPPORTED_MEDIA_TYPE,
             AdminFault::NoLength => StatusCode::LENGTH_REQUIRED,
@@ -75,6 +78,7 @@ impl AdminFault {
             AdminFault::OnlyGet => "Allow: GET\r\n",
             AdminFault::OnlyPost => "Allow: POST\r\n",
             AdminFault::OnlyRoomMethods => "Allow: GET, PATCH, DELETE\r\n",
+            AdminFault::OnlyDoorMethods => "Allow: PUT, DELETE\r\n",
             AdminFault::MediaType => "Accept-Patch: application/json-patch+json\r\n",
             AdminFault::NoHead
             | AdminFault::TooLong
@@ -104,6 +108,7 @@ impl AdminFault {
             AdminFault::OnlyGet => "only GET\n",
             AdminFault::OnlyPost => "only POST\n",
             AdminFault::OnlyRoomMethods => "only GET, PATCH and DELETE\n",
+            AdminFault::OnlyDoorMethods => "only PUT and DELETE\n",
             AdminFault::BadQuery => "the query is not one at=\n",
             AdminFault::Expectation => "no Expect is met\n",
             AdminFault::MediaType => "the body is no JSON Patch\n",

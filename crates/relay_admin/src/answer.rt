@@ -14,6 +14,14 @@ pub enum Ask {
     /// anything. Its response is [`crate::Response::Forgotten`] or
     /// [`crate::Response::NotForgotten`].
     Forget(String),
+    /// An accepted `PUT /open/NAME`: that clients may enter the room of this name from now on. The
+    /// name may be anything. Its response is [`crate::Response::Admitted`],
+    /// [`crate::Response::NoRoom`] or [`crate::Response::Unavailable`].
+    Admit(String),
+    /// An accepted `DELETE /open/NAME`: that nobody may enter the room of this name from now on,
+    /// and who is in it leaves. The name may be anything. Its response is
+    /// [`crate::Response::Excluded`] or [`crate::Response::Open`].
+    Exclude(String),
     /// An accepted `GET /rooms/NAME`: for a part of that room's document. What is said to a hub
     /// for it is [`crate::watch_text`].
     Read(PartRequest),

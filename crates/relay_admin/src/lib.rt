@@ -1,6 +1,7 @@
 //! The requests of an operator over plain HTTP/1.1, and their responses, as bytes: health, metrics,
 //! the list of rooms, a part of a room, an edit, the forgetting of a room, the opening of a closed
-//! relay, and the stop. For a part and an edit also what is said to a hub, and what it shows.
+//! relay or of one of its rooms, the rooms that are wanted, and the stop. For a part and an edit
+//! also what is said to a hub, and what it shows.
 //!
 //! The promise: the answer of [`ask`] depends on the bytes alone. A request is accepted exactly if
 //! `specs/Admitted.antt` says so of its head: it has one `Host`, which names the loopback, and no
@@ -16,6 +17,7 @@ mod answer;
 mod asking;
 mod checks;
 mod cut;
+mod door;
 mod host;
 mod metric;
 mod metrics;
@@ -29,6 +31,7 @@ mod rooms;
 mod route;
 mod target;
 mod unavailable;
+mod wanted;
 
 pub use admin_fault::AdminFault;
 pub use answer::Ask;
@@ -42,3 +45,4 @@ pub use response::{Response, response_text};
 pub use room::{EditRequest, EntityTags, MAX_BODY, PartRequest, RevisionTag};
 pub use rooms::{RoomRow, begin_rooms, end_rooms, write_room};
 pub use unavailable::Unavailable;
+pub use wanted::wanted_text;

@@ -37,6 +37,8 @@ pub struct Metrics<'a> {
     pub rounds: u64,
     /// How long the longest round of the last minute worked, in microseconds.
     pub longest_round: u64,
+    /// What the hub's work cost by its own count, in microseconds.
+    pub hub_cost: u64,
 }
 
 /// How many handshakes were refused, by the status.
@@ -350,6 +352,12 @@ fn write_rounds(alloc: Global, text: &mut String, metrics: &Metrics<'_>) -> Resu
             kind: Gauge,
             help: "How long the longest round of the last minute worked.",
             values: Micros(metrics.longest_round),
+        },
+        Metric {
+            name: "relay_hub_cost_seconds_total",
+            kind: Counter,
+            help: "What the hub's work cost, as it is counted for the connections' credit.",
+            values: Micros(metrics.hub_cost),
         },
     ];
     write_metrics(alloc, text, &rows)

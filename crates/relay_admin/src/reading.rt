@@ -9,6 +9,7 @@ ghost use Rattle.relay_http_head.specs.Parsing.{parts};
 use crate::admin_fault::AdminFault;
 use crate::answer::Ask;
 use crate::checks::judge;
+use crate::door::asked_of_door;
 use crate::room::asked_of_room;
 use crate::target::Target;
 use httparse::{EMPTY_HEADER, Request};
@@ -24,11 +25,11 @@ pub(crate) const MAX_HEAD_FIELDS: usize = 1_365;
 /// Answers all bytes received so far, of which the head must be within the first 4,096.
 ///
 /// If they begin with a head, the first check that fails gives the [`AdminFault`]: at most 32
-/// fields; one field `Host`; it names the loopback; no field `Origin`; one of the five paths, with
-/// no query, or `/rooms/NAME`; a method of the path. Then, of a `GET` for a room, a query that is
-/// one `at=`, or none; of a `PATCH`, no query; no `Expect`; the `Content-Type` of a JSON Patch; no
-/// `Transfer-Encoding`, and a `Content-Length`; which is one number; at most [`crate::MAX_BODY`]. A
-/// head that passes is a request, whatever follows it.
+/// fields; one field `Host`; it names the loopback; no field `Origin`; one of the six paths, with
+/// no query, or `/rooms/NAME`, or `/open/NAME`; a method of the path. Then, of a `GET` for a room,
+/// a query that is one `at=`, or none; of a `PATCH`, no query; no `Expect`; the `Content-Type` of a
+/// JSON Patch; no `Transfer-Encoding`, and a `Content-Length`; which is one number; at most
+/// [`crate::MAX_BODY`]. A head that passes is a request, whatever follows it.
 ///
 /// ```
 /// let head = "GET /rooms/board?at=/cards/0 HTTP/1.1\r\nHost: localhost\r\n\r\n";
@@ -91,6 +92,7 @@ fn asked(alloc: Global, head: &Head<'_, '_>, len: usize) -> Result<Ask, Fault<Ad
     match judge(alloc, head) {
         Ok(Target::Request(request)) => Ok(Ask::Request(request)),
         Ok(Target::Room(name)) => asked_of_room(alloc, name, head, len),
+        Ok(Target::Door(name)) => Ok(asked_of_door(alloc, name, head.method)?),
         Err(fault) => Err(fault),
     }
 }

@@ -11,7 +11,9 @@ pub enum AdminRequest {
     Metrics,
     /// `GET /rooms`: its rooms, as JSON.
     Rooms,
-    /// `POST /open`: that a relay which was started closed lets clients in.
+    /// `GET /wanted`: the rooms that clients were refused at since they are not open, as JSON.
+    Wanted,
+    /// `POST /open`: that a relay which was started closed lets clients into every room.
     Open,
     /// `POST /stop`: that it ends.
     Stop,
@@ -24,7 +26,10 @@ impl AdminRequest {
     {
         match self {
             AdminRequest::Open | AdminRequest::Stop => "POST",
-            AdminRequest::Health | AdminRequest::Metrics | AdminRequest::Rooms => "GET",
+            AdminRequest::Health
+            | AdminRequest::Metrics
+            | AdminRequest::Rooms
+            | AdminRequest::Wanted => "GET",
         }
     }
 }

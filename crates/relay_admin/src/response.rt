@@ -10,7 +10,7 @@ use http::StatusCode;
 use std::alloc::{AllocError, Global};
 
 /// A response, by what it says.
-#[derive(Clone, Copy, Debug, PartialEq, Eq)]
+#[derive(Clone, Copy, Debug)]
 pub enum Response<'a> {
     /// 200: the relay serves its clients.
     Healthy,
@@ -20,8 +20,17 @@ pub enum Response<'a> {
     Metrics(&'a str),
     /// 200: its rooms ([`crate::end_rooms`]).
     Rooms(&'a str),
-    /// 204: it lets clients in.
+    /// 200: the rooms that clients were refused at ([`crate::wanted_text`]).
+    Wanted(&'a str),
+    /// 204: it lets clients into every room.
     Opened,
+    /// 204: clients may enter the room.
+    Admitted,
+    /// 204: nobody may enter the room, and who was in it leaves.
+    Excluded,
+    /// 409: the relay lets clients into every room, so it keeps them out of none. Nothing was
+    /// changed.
+    Open,
     /// 202: it ends once what waits was told.
     Stopping,
     /// 204: the room was forgotten.
@@ -35,7 +44,7 @@ pub enum Response<'a> {
     NotModified(RevisionTag),
     /// 200: an edit made the revision with this tag, as the relay's own reply says.
     Edited { tag: RevisionTag, reply: &'a str },
-    /// 404: no room has this name.
+    /// 404: no room has this name, or none can have it.
     NoRoom,
     /// 404: the pointer leads to nothing.
     NoValue,
@@ -47,7 +56,8 @@ pub enum Response<'a> {
     /// 422: the patch cannot be made at the present document, as the relay's own refusal says (RFC
     /// 5789, section 2.2). Nothing was changed.
     Unprocessable(&'a str),
-    /// 503, to be asked again in a second: the room could not be entered, for this reason.
+    /// 503, to be asked again in a second: the room could not be entered, or opened by name, for
+    /// this reason.
     Unavailable(Unavailable),
     /// The status of the refusal.
     Refused(AdminFault),
@@ -61,10 +71,13 @@ impl<'a> Response<'a> {
             Response::Healthy
             | Response::Metrics(_)
             | Response::Rooms(_)
+            | Response::Wanted(_)
             | Response::Part { .. }
             | Response::Edited { .. } => StatusCode::OK,
             Response::Stopping => StatusCode::ACCEPTED,
-            Response::Opened | Response::Forgotten => StatusCode::NO_CONTENT,
+            Response::Opened | Response::Admitted | Response::Excluded | Response::Forgotten =>
+                StatusCode::NO_CONTENT,
+            Response::Open => StatusCode::CONFLICT,
             Response::NotForgotten(why) => why.status(),
             Response::NotModified(_) => StatusCode::NOT_MODIFIED,
             Response::Malformed(_) => StatusCode::BAD_REQUEST,
@@ -83,7 +96,11 @@ impl<'a> Response<'a> {
     {
         !matches!(
             self,
-            Response::Opened | Response::Forgotten | Response::NotModified(_)
+            Response::Opened
+                | Response::Admitted
+                | Response::Excluded
+                | Response::Forgotten
+                | Response::NotModified(_)
         )
     }
 
@@ -94,6 +111,7 @@ impl<'a> Response<'a> {
         match self {
             Response::Metrics(_) => "text/plain; version=0.0.4; charset=utf-8",
             Response::Rooms(_)
+            | Response::Wanted(_)
             | Response::Part { .. }
             | Response::Edited { .. }
             | Response::Malformed(_)
@@ -101,6 +119,9 @@ impl<'a> Response<'a> {
             Response::Healthy
             | Response::Unhealthy(_)
             | Response::Opened
+            | Response::Admitted
+            | Response::Excluded
+            | Response::Open
             | Response::Stopping
             | Response::Forgotten
             | Response::NotForgotten(_)
@@ -155,9 +176,17 @@ impl<'a> Response<'a> {
         match self {
             Response::Healthy => "ok\n",
             Response::Stopping => "stopping\n",
-            Response::Opened | Response::Forgotten | Response::NotModified(_) => "",
+            Response::Opened
+            | Response::Admitted
+            | Response::Excluded
+            | Response::Forgotten
+            | Response::NotModified(_) => "",
+            Response::Open => "the relay is open\n",
             Response::NotForgotten(why) => why.why(),
-            Response::Unhealthy(text) | Response::Metrics(text) | Response::Rooms(text) => *text,
+            Response::Unhealthy(text)
+            | Response::Metrics(text)
+            | Response::Rooms(text)
+            | Response::Wanted(text) => *text,
             Response::Part { value, .. } => *value,
             Response::Edited { reply, .. } => *reply,
             Response::Malformed(refusal) | Response::Unprocessable(refusal) => *refusal,

@@ -31,5 +31,6 @@ fn routes(alloc: Global) -> Result<Router<AdminRequest>, InsertError>
     router.insert("/open", AdminRequest::Open)?;
     router.insert("/rooms", AdminRequest::Rooms)?;
     router.insert("/stop", AdminRequest::Stop)?;
+    router.insert("/wanted", AdminRequest::Wanted)?;
     Ok(router)
 }

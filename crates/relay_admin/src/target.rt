@@ -1,7 +1,7 @@
 //! Where a target leads, and which methods are taken there.
 ghost use Rattle.std.specs.Prelude.{◌≡◌, IfOk, Some, codes, option_copied, option_map};
 ghost use Rattle.relay_admin.specs.Judged.{place_of};
-ghost use Rattle.relay_admin.specs.Route.{place_at, takes};
+ghost use Rattle.relay_admin.specs.Route.{named_at, place_at, takes};
 ghost use Rattle.relay_admin.specs.Verdict.{wrong_method};
 
 use crate::admin_fault::AdminFault;
@@ -13,6 +13,9 @@ use std::alloc::{AllocError, Global};
 /// What the targets of rooms begin with.
 const ROOMS: &str = "/rooms/";
 
+/// What the targets of doors begin with.
+const DOORS: &str = "/open/";
+
 /// Where a target leads.
 #[derive(Clone, Copy)]
 pub(crate) enum Target<'b> {
@@ -20,6 +23,8 @@ pub(crate) enum Target<'b> {
     Request(AdminRequest),
     /// `/rooms/NAME`: to a room, by what stands behind `/rooms/`, which may be anything.
     Room(&'b str),
+    /// `/open/NAME`: to the door of a room, by what stands behind `/open/`, which may be anything.
+    Door(&'b str),
 }
 
 impl Target<'_> {
@@ -30,6 +35,7 @@ impl Target<'_> {
         match self {
             Target::Request(request) => method == request.method(),
             Target::Room(_) => matches!(method, "GET" | "PATCH" | "DELETE"),
+            Target::Door(_) => matches!(method, "PUT" | "DELETE"),
         }
     }
 
@@ -39,10 +45,14 @@ impl Target<'_> {
     {
         match self {
             Target::Room(_) => AdminFault::OnlyRoomMethods,
+            Target::Door(_) => AdminFault::OnlyDoorMethods,
             Target::Request(AdminRequest::Open | AdminRequest::Stop) => AdminFault::OnlyPost,
-            Target::Request(AdminRequest::Health | AdminRequest::Metrics | AdminRequest::Rooms) => {
-                AdminFault::OnlyGet
-            }
+            Target::Request(
+                AdminRequest::Health
+                | AdminRequest::Metrics
+                | AdminRequest::Rooms
+                | AdminRequest::Wanted,
+            ) => AdminFault::OnlyGet,
         }
     }
 }
@@ -56,6 +66,16 @@ pub(crate) fn target_at<'b>(
 {
     match request_at(alloc, target)? {
         Some(request) => Ok(Some(Target::Request(request))),
-        None => Ok(behind(target, ROOMS).map(|name| Target::Room(name))),
+        None => Ok(named_at(target)),
+    }
+}
+
+/// The room or the door that a target names, if it begins as one of theirs.
+fn named_at(target: &str) -> Option<Target<'_>>
+    ensures { option_map place_of result ≡ named_at target.now }
+{
+    match behind(target, ROOMS) {
+        Some(name) => Some(Target::Room(name)),
+        None => behind(target, DOORS).map(|name| Target::Door(name)),
     }
 }

@@ -1,11 +1,11 @@
-//! Why a room cannot be entered now.
+//! Why a room cannot be entered, or opened by name, now.
 ghost use Rattle.std.specs.Prelude.{◌≡◌};
 ghost use Rattle.relay_admin.specs.AdminFaults.{unavailable_why};
 
-/// Why a room cannot be entered now. Nothing was changed.
+/// Why a room cannot be entered, or opened by name, now. Nothing was changed.
 #[derive(Clone, Copy, Debug, PartialEq, Eq)]
 pub enum Unavailable {
-    /// There are as many rooms as there may be, and none makes place.
+    /// There are as many rooms as there may be, and none makes place; or so many are open by name.
     Rooms,
     /// As many sessions are open as may be.
     Sessions,

@@ -5,10 +5,11 @@ use relay_test_stream::{Subject, cut, play};
 use std::alloc::{AllocGlobal, Global};
 
 const ROWS: &str = r#"
-# Accepts five requests, of HTTP/1.0 too, and whatever comes behind the head.
+# Accepts six requests, of HTTP/1.0 too, and whatever comes behind the head.
 ask GET /health HTTP/1.1\r\nHost: localhost\r\n\r\n => Request(Health)
 ask GET /metrics HTTP/1.1\r\nHost: localhost\r\n\r\n => Request(Metrics)
 ask GET /rooms HTTP/1.1\r\nHost: localhost\r\n\r\n => Request(Rooms)
+ask GET /wanted HTTP/1.1\r\nHost: localhost\r\n\r\n => Request(Wanted)
 ask POST /open HTTP/1.1\r\nHost: localhost\r\n\r\n => Request(Open)
 ask POST /stop HTTP/1.1\r\nHost: localhost\r\n\r\n => Request(Stop)
 ask GET /health HTTP/1.0\r\nHost: localhost\r\n\r\n => Request(Health)
@@ -56,7 +57,9 @@ ask HEAD /health HTTP/1.1\r\nHost: localhost\r\n\r\n => Refused(OnlyGet)
 ask get /health HTTP/1.1\r\nHost: localhost\r\n\r\n => Refused(OnlyGet)
 ask GET /stop HTTP/1.1\r\nHost: localhost\r\n\r\n => Refused(OnlyPost)
 ask GET /open HTTP/1.1\r\nHost: localhost\r\n\r\n => Refused(OnlyPost)
-ask POST /open/ HTTP/1.1\r\nHost: localhost\r\n\r\n => Refused(NoPath)
+ask GET /wanted/ HTTP/1.1\r\nHost: localhost\r\n\r\n => Refused(NoPath)
+ask GET /wanted?x=1 HTTP/1.1\r\nHost: localhost\r\n\r\n => Refused(NoPath)
+ask POST /wanted HTTP/1.1\r\nHost: localhost\r\n\r\n => Refused(OnlyGet)
 ask POST /open HTTP/1.1\r\nHost: localhost\r\nOrigin: null\r\n\r\n => Refused(Origin)
 ask GET /health HTTP/2.0\r\nHost: localhost\r\n\r\n => Refused(NoHead)
 
@@ -79,6 +82,33 @@ ask HEAD /rooms/r HTTP/1.1\r\nHost: localhost\r\n\r\n => Refused(OnlyRoomMethods
 ask get /rooms/r HTTP/1.1\r\nHost: localhost\r\n\r\n => Refused(OnlyRoomMethods)
 ask patch /rooms/r HTTP/1.1\r\nHost: localhost\r\n\r\n => Refused(OnlyRoomMethods)
 ask delete /rooms/r HTTP/1.1\r\nHost: localhost\r\n\r\n => Refused(OnlyRoomMethods)
+
+# Accepts a request to admit clients to a room or to exclude them, whatever its name is.
+ask PUT /open/r HTTP/1.1\r\nHost: localhost\r\n\r\n => Admit("r")
+ask PUT /open/ HTTP/1.1\r\nHost: localhost\r\n\r\n => Admit("")
+ask PUT /open/a/b?c HTTP/1.1\r\nHost: localhost\r\n\r\n => Admit("a/b?c")
+ask PUT /open/%72 HTTP/1.1\r\nHost: localhost\r\n\r\n => Admit("%72")
+ask PUT /open/r HTTP/1.1\r\nHost: localhost\r\nContent-Length: 3\r\n\r\nabc => Admit("r")
+ask DELETE /open/r HTTP/1.1\r\nHost: localhost\r\n\r\n => Exclude("r")
+ask DELETE /open/ HTTP/1.1\r\nHost: localhost\r\n\r\n => Exclude("")
+ask DELETE /open/a/b?c HTTP/1.1\r\nHost: localhost\r\n\r\n => Exclude("a/b?c")
+ask DELETE /open/r HTTP/1.1\r\nHost: localhost\r\nContent-Length: 3\r\n\r\nabc => Exclude("r")
+ask PUT /open HTTP/1.1\r\nHost: localhost\r\n\r\n => Refused(OnlyPost)
+ask DELETE /open HTTP/1.1\r\nHost: localhost\r\n\r\n => Refused(OnlyPost)
+ask PUT /opened/r HTTP/1.1\r\nHost: localhost\r\n\r\n => Refused(NoPath)
+ask PUT open/r HTTP/1.1\r\nHost: localhost\r\n\r\n => Refused(NoPath)
+ask PUT /open/r HTTP/1.1\r\n\r\n => Refused(NoHost)
+ask PUT /open/r HTTP/1.1\r\nHost: evil\r\n\r\n => Refused(OtherHost)
+ask PUT /open/r HTTP/1.1\r\nHost: localhost\r\nOrigin: null\r\n\r\n => Refused(Origin)
+ask DELETE /open/r HTTP/1.1\r\nHost: localhost\r\nOrigin: null\r\n\r\n => Refused(Origin)
+
+# Takes two methods for a door, and no other.
+ask GET /open/r HTTP/1.1\r\nHost: localhost\r\n\r\n => Refused(OnlyDoorMethods)
+ask POST /open/ HTTP/1.1\r\nHost: localhost\r\n\r\n => Refused(OnlyDoorMethods)
+ask PATCH /open/r?x HTTP/1.1\r\nHost: localhost\r\n\r\n => Refused(OnlyDoorMethods)
+ask HEAD /open/r HTTP/1.1\r\nHost: localhost\r\n\r\n => Refused(OnlyDoorMethods)
+ask put /open/r HTTP/1.1\r\nHost: localhost\r\n\r\n => Refused(OnlyDoorMethods)
+ask delete /open/r HTTP/1.1\r\nHost: localhost\r\n\r\n => Refused(OnlyDoorMethods)
 
 # Accepts a request for a part of a room, by a pointer in its query.
 ask GET /rooms/r HTTP/1.1\r\nHost: localhost\r\n\r\n => Read(PartRequest { room: "r", at: "", if_none_match: EntityTags { list: [] } })

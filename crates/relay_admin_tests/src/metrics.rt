@@ -49,6 +49,7 @@ const NUMBERS: Metrics<'static> = Metrics {
     shed: 24,
     rounds: 25,
     longest_round: 1_500_000,
+    hub_cost: 2_500_000,
 };
 
 /// Their text.
@@ -133,6 +134,9 @@ relay_rounds_total 25
 # HELP relay_longest_round_seconds How long the longest round of the last minute worked.
 # TYPE relay_longest_round_seconds gauge
 relay_longest_round_seconds 1500000e-6
+# HELP relay_hub_cost_seconds_total What the hub's work cost, as it is counted for the connections' credit.
+# TYPE relay_hub_cost_seconds_total counter
+relay_hub_cost_seconds_total 2500000e-6
 "#;
 
 #[test]

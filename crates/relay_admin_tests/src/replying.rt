@@ -1,8 +1,8 @@
-//! Tests of the responses, and of the list of rooms.
+//! Tests of the responses, and of the lists of rooms.
 use crate::shared::shown;
 use relay_admin::{
     AdminFault, NotForgotten, Response, RevisionTag, RoomRow, Unavailable, begin_rooms, end_rooms,
-    response_text, write_room,
+    response_text, wanted_text, write_room,
 };
 use relay_test_stream::{Subject, cut, play};
 use std::alloc::{AllocGlobal, Global};
@@ -58,11 +58,24 @@ reply 34 => (Refused(NoLength), "HTTP/1.1 411 Length Required\r\nContent-Type: t
 reply 35 => (Refused(BadLength), "HTTP/1.1 400 Bad Request\r\nContent-Type: text/plain; charset=utf-8\r\nContent-Length: 37\r\nCache-Control: no-store\r\nX-Content-Type-Options: nosniff\r\nConnection: close\r\n\r\nthe Content-Length is not one number\n")
 reply 36 => (Refused(BodyTooLong), "HTTP/1.1 413 Payload Too Large\r\nContent-Type: text/plain; charset=utf-8\r\nContent-Length: 21\r\nCache-Control: no-store\r\nX-Content-Type-Options: nosniff\r\nConnection: close\r\n\r\nthe body is too long\n")
 
+# Replies to requests of doors, and for the rooms that are wanted.
+reply 37 => (Admitted, "HTTP/1.1 204 No Content\r\nCache-Control: no-store\r\nX-Content-Type-Options: nosniff\r\nConnection: close\r\n\r\n")
+reply 38 => (Excluded, "HTTP/1.1 204 No Content\r\nCache-Control: no-store\r\nX-Content-Type-Options: nosniff\r\nConnection: close\r\n\r\n")
+reply 39 => (Open, "HTTP/1.1 409 Conflict\r\nContent-Type: text/plain; charset=utf-8\r\nContent-Length: 18\r\nCache-Control: no-store\r\nX-Content-Type-Options: nosniff\r\nConnection: close\r\n\r\nthe relay is open\n")
+reply 40 => (Refused(OnlyDoorMethods), "HTTP/1.1 405 Method Not Allowed\r\nContent-Type: text/plain; charset=utf-8\r\nContent-Length: 20\r\nAllow: PUT, DELETE\r\nCache-Control: no-store\r\nX-Content-Type-Options: nosniff\r\nConnection: close\r\n\r\nonly PUT and DELETE\n")
+reply 41 => (Wanted("[\"board\"]"), "HTTP/1.1 200 OK\r\nContent-Type: application/json\r\nContent-Length: 9\r\nCache-Control: no-store\r\nX-Content-Type-Options: nosniff\r\nConnection: close\r\n\r\n[\"board\"]")
+
+# Lists the names of rooms in their order.
+wanted => []
+wanted board => ["board"]
+wanted lobby board => ["lobby","board"]
+wanted a"b \ ä => ["a\"b","\\","ä"]
+
 # Lists rooms. Of an empty one it says for how long it has been empty.
 rooms => [{"name":"r","revision":0,"sessions":2,"weight":8},{"name":"\"","revision":18446744073709551615,"sessions":2,"weight":8,"empty":60}]
 "#;
 
-const REPLIES: [Response<'static>; 37] = [
+const REPLIES: [Response<'static>; 42] = [
     Response::Healthy,
     Response::Unhealthy("tired\n"),
     Response::Stopping,
@@ -106,6 +119,11 @@ const REPLIES: [Response<'static>; 37] = [
     Response::Refused(AdminFault::NoLength),
     Response::Refused(AdminFault::BadLength),
     Response::Refused(AdminFault::BodyTooLong),
+    Response::Admitted,
+    Response::Excluded,
+    Response::Open,
+    Response::Refused(AdminFault::OnlyDoorMethods),
+    Response::Wanted(r#"["board"]"#),
 ];
 
 const TAG: RevisionTag = RevisionTag {
@@ -129,6 +147,7 @@ impl<R: AllocGlobal> Subject<R> for Replies {
         match cut(act) {
             ("reply", index) => reply_at(rt.alloc(), index),
             ("rooms", _) => rooms(rt.alloc()),
+            ("wanted", names) => wanted(rt.alloc(), names),
             _ => None,
         }
     }
@@ -146,6 +165,15 @@ fn rooms(alloc: Global) -> Option<String> {
     write_room(&mut out, &row("r", 0, None)).ok()?;
     write_room(&mut out, &row("\"", u64::MAX, Some(60))).ok()?;
     end_rooms(out).ok()
+}
+
+/// The list of the names between spaces.
+fn wanted(alloc: Global, names: &str) -> Option<String> {
+    let mut list = Vec::new(alloc);
+    for name in names.split_whitespace() {
+        list.push(String::from_str(alloc, name).ok()?).ok()?;
+    }
+    wanted_text(alloc, &list).ok()
 }
 
 fn row(name: &str, revision: u64, empty: Option<u64>) -> RoomRow<'_> {

@@ -26,12 +26,12 @@ use Rattle.relay_link.specs.declared.visit.Visit.{Visit}
 use Rattle.relay_proto.specs.declared.access.Access.{Access}
 use Rattle.relay_event_loop.specs.Advances.{Links, IsNew, links_of, Advances, stays, turns, adds, removes, visits, sheds, acts, IsOfHouse}
 use Rattle.relay_event_loop.specs.declared.connection.Connection.{Connection}
-use Rattle.relay_event_loop.specs.declared.ready.Watched.{Watched}
+use Rattle.relay_event_loop.specs.declared.ready.TrackedStream.{TrackedStream}
 
 abbrev is_one : {X : Type 0} → Option X → ℕ
 is_one o = cond (is_some o) 1 0
 
-abbrev of : {S : Type 0} → Option (Connection S) → Option (Link (Watched S))
+abbrev of : {S : Type 0} → Option (Connection S) → Option (Link (TrackedStream S))
 of o = option_map (λ c. c.link) o
 
 -- A link that is gone has no session.
@@ -94,7 +94,7 @@ module _ {S : Type 0} (held : Slab (Connection S)) (key : ℕ) (was is : Connect
       let found : get_or held.slots key None ≡ Some was = there in
       omega (arith, sums, ap is_one found)
 
-  module _ {remaining : Watched S → Option (List ℕ)} where
+  module _ {remaining : TrackedStream S → Option (List ℕ)} where
     -- A connection changed, and its link did not.
     pub woken : (hub : State) → is.link ≡ was.link
         → Advances remaining hub (links_of held) hub (links_of (with_value held key is))
@@ -133,7 +133,7 @@ module _ {S : Type 0} (held : Slab (Connection S)) (key : ℕ) (was is : Connect
         (passes_ended remaining hub was.link is.link events closes gone)
 
 -- A new connection was added.
-pub added : {S : Type 0} {remaining : Watched S → Option (List ℕ)} (held new : Slab (Connection S))
+pub added : {S : Type 0} {remaining : TrackedStream S → Option (List ℕ)} (held new : Slab (Connection S))
     (key : ℕ) (connection : Connection S) (hub : State) → get held key ≡ None
     → Updates held new key (Some connection) → IsNew connection.link
     → Advances remaining hub (links_of held) hub (links_of new)
@@ -143,7 +143,7 @@ added held new key connection hub vacant updates fresh =
     (updated_others held new key (Some connection) updates) fresh
 
 -- A connection whose link is gone was removed.
-pub removed : {S : Type 0} {remaining : Watched S → Option (List ℕ)}
+pub removed : {S : Type 0} {remaining : TrackedStream S → Option (List ℕ)}
     (held new : Slab (Connection S)) (key : ℕ) (was : Connection S) (hub : State)
     → get held key ≡ Some was
     → stage_of was.link ≡ stage.Gone → Updates held new key None

@@ -22,14 +22,14 @@ use Rattle.relay_proto.specs.declared.access.Access.{Access}
 use Rattle.relay_event_loop.specs.Connections.{connections_of, limit_of}
 use Rattle.relay_event_loop.specs.Ready.{left_of}
 use Rattle.relay_event_loop.specs.declared.connection.Connection.{Connection}
-use Rattle.relay_event_loop.specs.declared.ready.Watched.{Watched}
+use Rattle.relay_event_loop.specs.declared.ready.TrackedStream.{TrackedStream}
 use Rattle.relay_event_loop.specs.declared.server.Server.{Server}
 
 -- by key, the link of the connection there, if there is one
 abbrev pub Links : Type 0 → Type 0
 Links S = ℕ → Option (Link S)
 
-abbrev pub links_of : {S : Type 0} → Slab (Connection S) → Links (Watched S)
+abbrev pub links_of : {S : Type 0} → Slab (Connection S) → Links (TrackedStream S)
 links_of held key = option_map (λ c. c.link) (get held key)
 
 -- by key, the session of that link, if it has one

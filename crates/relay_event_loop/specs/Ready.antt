@@ -1,7 +1,7 @@
 -- The stream of a connection.
 use Rattle.std.specs.Prelude.{ℕ, List, Option}
-use Rattle.relay_event_loop.specs.declared.ready.Watched.{Watched}
+use Rattle.relay_event_loop.specs.declared.ready.TrackedStream.{TrackedStream}
 
 -- the bytes that it has left, if they are known
-abbrev pub left_of : {S : Type 0} → (S → Option (List ℕ)) → Watched S → Option (List ℕ)
+abbrev pub left_of : {S : Type 0} → (S → Option (List ℕ)) → TrackedStream S → Option (List ℕ)
 left_of remaining watched = remaining watched.stream

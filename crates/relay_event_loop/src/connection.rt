@@ -7,7 +7,7 @@ ghost use Rattle.relay_event_loop.specs.Advances.{IsNew};
 ghost use Rattle.relay_event_loop.specs.Connections.{has_room};
 
 use crate::connection_log::{ConnectionId, HandshakeRefusal, RoomSession};
-use crate::ready::{StreamReadiness, Watched};
+use crate::ready::{StreamReadiness, TrackedStream};
 use relay_hub::{Event, Hub, OpenFault};
 use relay_link::{Link, Stage, Turn};
 use relay_operator::StreamReady;
@@ -34,7 +34,7 @@ pub(crate) struct Standing {
 /// A link, and what the server knows about it.
 #[derive(Drop)]
 pub(crate) struct Connection<S: Write + Drop> {
-    pub link: Link<Watched<S>>,
+    pub link: Link<TrackedStream<S>>,
     pub readiness: StreamReadiness,
     /// Whether something became ready since the last read turn of the link, or that turn left
     /// something to read in the stream.
@@ -70,7 +70,7 @@ impl<S: Read + Write + Drop> Connection<S> {
         ensures { IfOk result (λ connection. IsNew connection.link) }
     {
         let room = String::with_capacity(alloc, MAX_NAME)?;
-        let (stream, readiness) = Watched::new(alloc, stream)?;
+        let (stream, readiness) = TrackedStream::new(alloc, stream)?;
         Ok(Connection {
             link: Link::new(alloc, stream)?,
             readiness,

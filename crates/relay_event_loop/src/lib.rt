@@ -8,6 +8,7 @@ mod counted;
 mod eviction_log;
 mod ready;
 mod server;
+mod wanted_rooms;
 
 pub use connection_log::{
     ConnectionId, ConnectionLog, HandshakeRefusal, LogEntry, NoLog, RoomSession,

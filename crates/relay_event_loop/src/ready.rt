@@ -28,7 +28,7 @@ struct StreamState {
 /// nothing is left (epoll(7)), but stays so once it is known to be over, so that its end is read.
 /// It is writable until a write returns `WouldBlock`. A later event makes it ready again.
 #[derive(Drop)]
-pub(crate) struct Watched<S> {
+pub(crate) struct TrackedStream<S> {
     stream: S,
     readiness: StreamReadiness,
 }
@@ -105,9 +105,12 @@ impl StreamReadiness {
     }
 }
 
-impl<S> Watched<S> {
+impl<S> TrackedStream<S> {
     /// A stream that counts as ready until a call shows that it is not, and what is known of it.
-    pub(crate) fn new(alloc: Global, stream: S) -> Result<(Watched<S>, StreamReadiness), AllocError>
+    pub(crate) fn new(
+        alloc: Global,
+        stream: S,
+    ) -> Result<(TrackedStream<S>, StreamReadiness), AllocError>
     where
         S: Drop,
     {
@@ -126,11 +129,14 @@ impl<S> Watched<S> {
         let readiness = StreamReadiness {
             state: state.clone()?,
         };
-        Ok((Watched { stream, readiness }, StreamReadiness { state }))
+        Ok((
+            TrackedStream { stream, readiness },
+            StreamReadiness { state },
+        ))
     }
 }
 
-impl<S: Read> Read for Watched<S> {
+impl<S: Read> Read for TrackedStream<S> {
     ghost remaining = { left_of S.remaining };
 
     fn read(&mut self, buf: &mut [u8]) -> io::Result<usize> {
@@ -143,7 +149,7 @@ impl<S: Read> Read for Watched<S> {
     }
 }
 
-impl<S: Write> Write for Watched<S> {
+impl<S: Write> Write for TrackedStream<S> {
     ghost contents = { λ w. S.contents w.stream };
 
     fn write(&mut self, buf: &[u8]) -> io::Result<usize> {

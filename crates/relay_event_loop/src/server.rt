@@ -7,6 +7,7 @@ ghost use Rattle.relay_event_loop.specs.Rounds.{RoundsOf, ConnectedOf};
 
 mod accepting;
 mod administering;
+mod admitting;
 mod ending;
 mod forgetting;
 mod polling;
@@ -18,6 +19,7 @@ mod writing;
 
 use crate::connection::Connection;
 use crate::connection_log::ConnectionLog;
+use crate::wanted_rooms::WantedRooms;
 use forgetting::RoomPlaces;
 use indexmap::IndexMap;
 use relay_hub::{Hub, HubConfig};
@@ -40,12 +42,30 @@ pub fn connection_limit(sessions: u64) -> usize
 }
 
 /// A hub, the connections to it in a slab, and the source of their readiness.
+///
+/// ```
+/// let (wire, script) = (Wire::new(alloc), ReadinessScript::new(alloc));
+/// let listener = MemoryListener::new(alloc);
+/// let hub = Hub::new(alloc, 1, 1, 64, 32).ok()?;
+/// let mut server = Server::new(alloc, hub, ScriptedReadiness::of(&script), 1_000_000);
+/// // A client's handshake waits, and is answered in the round that accepts its connection.
+/// wire.try_borrow_mut().ok()?.perform(alloc, "asks 13 /rooms/a").ok()?;
+/// listener.add(&wire)?;
+/// server.round(alloc, &listener, &mut NoLog);
+/// assert!(rt; server.connections() == 1);
+/// assert!(rt; wire.try_borrow_mut().ok()?.output.as_slice().starts_with(b"HTTP/1.1 101 "));
+/// // In the end the client gets a close frame with 1001.
+/// server.end(alloc, &mut NoLog);
+/// assert!(rt; server.connections() == 0);
+/// assert!(rt; wire.try_borrow_mut().ok()?.output.as_slice().ends_with(b"\x88\x02\x03\xe9"));
+/// ```
 #[derive(Drop)]
 pub struct Server<S: Write + Drop, R> {
     hub: Hub,
     connections: Slab<Connection<S>>,
-    /// Whether clients may enter.
+    /// In which rooms clients may enter, and from which they were turned away.
     entrance: Entrance,
+    wanted: WantedRooms,
     /// The maximum number of connections.
     most: usize,
     readiness: R,
@@ -91,6 +111,7 @@ impl<S: Read + Write + OpenStream + Drop, R: Readiness<S>> Server<S, R> {
             hub,
             connections: Slab::new(alloc),
             entrance: Entrance::Open,
+            wanted: WantedRooms::new(alloc),
             most: connection_limit(config.sessions),
             readiness,
             events: Vec::new(alloc),
@@ -169,7 +190,7 @@ impl<S: Read + Write + OpenStream + Drop, R: Readiness<S>> Server<S, R> {
         self.accept(alloc, listener, log);
         let spending = self.read(alloc, log);
         self.write(alloc, log);
-        self.exchange_owing(alloc, spending, log);
+        self.serve_owing(alloc, spending, log);
         self.make_place(alloc, log);
     }
 

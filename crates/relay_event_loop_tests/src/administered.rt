@@ -65,6 +65,7 @@ metric relay_snapshots_total{cause="memory"} 0 => true
 metric relay_waiting_weight 0 => true
 metric relay_rounds_total 1 => true
 metric relay_longest_round_seconds 0e-6 => true
+metric relay_hub_cost_seconds_total 0e-6 => true
 
 # A closed server refuses its clients, counts them, and says so to an operator.
 closed
@@ -96,6 +97,71 @@ run-first 3 => 3
 status => 204
 body =>
 client-summary => 101 welcome going-away
+
+# Or one room: whoever comes may enter it, and no other.
+closed
+client asks 13 /rooms/r
+operator line PUT /open/r HTTP/1.1
+operator line Host: localhost
+operator line
+run-first 3 => 3
+status => 204
+body =>
+client-summary => 101 welcome going-away
+
+closed
+client asks 13 /rooms/r
+operator line PUT /open/s HTTP/1.1
+operator line Host: localhost
+operator line
+run-first 3 => 3
+status => 204
+client-summary => 503
+
+closed
+client asks 13 /rooms/r
+operator line PUT /open/no.name HTTP/1.1
+operator line Host: localhost
+operator line
+run-first 3 => 3
+status => 404
+body => there is no such room\n
+client-summary => 503
+
+# It says from which rooms clients were turned away, unless all are open.
+closed
+client asks 13 /rooms/r
+operator line GET /wanted HTTP/1.1
+operator line Host: localhost
+operator line
+run 3 => 3
+status => 200
+body => ["r"]
+client-summary => 503
+
+client asks 13 /rooms/r
+operator line GET /wanted HTTP/1.1
+operator line Host: localhost
+operator line
+run 3 => 3
+body => []
+
+# A server that is open to all closes no room.
+client asks 13 /rooms/r
+operator line DELETE /open/r HTTP/1.1
+operator line Host: localhost
+operator line
+run 3 => 3
+status => 409
+body => the relay is open\n
+client-summary => 101 welcome going-away
+
+closed
+operator line DELETE /open/r HTTP/1.1
+operator line Host: localhost
+operator line
+run 3 => 3
+status => 204
 
 # A page cannot open it.
 closed
@@ -188,17 +254,17 @@ fn play_case(rt: &(impl Abort + AllocGlobal), case: &str) {
     let mut port = Port {
         client: &client,
         operator: &operator,
-        entrance: Entrance::Open,
+        is_closed: false,
     };
     play(rt, &mut port, case).expect(rt, "each row holds");
 }
 
-/// The wires of a client and of an operator, and whether the server lets clients in.
+/// The wires of a client and of an operator, and whether the server begins closed.
 #[derive(Clone, Copy)]
 struct Port<'a> {
     client: &'a RefCell<Wire>,
     operator: &'a RefCell<Wire>,
-    entrance: Entrance,
+    is_closed: bool,
 }
 
 impl<R: AllocGlobal> Subject<R> for Port<'_> {
@@ -236,7 +302,7 @@ impl<R: AllocGlobal> Subject<R> for Port<'_> {
 impl Port<'_> {
     /// From now on the server lets no client in.
     fn close(&mut self, alloc: Global) -> Option<String> {
-        self.entrance = Entrance::Closed;
+        self.is_closed = true;
         Some(String::new(alloc))
     }
 
@@ -247,7 +313,7 @@ impl Port<'_> {
         script.try_borrow_mut().ok()?.add(ReadyEvent::Incoming)?;
         let mut admin = AdminPort::new(alloc, listener_with(alloc, self.operator)?);
         let listener = listener_with(alloc, self.client)?;
-        let mut server = server(alloc, &script, self.entrance)?;
+        let mut server = server(alloc, &script, self.is_closed)?;
         let run = server.run_administered(alloc, &listener, &mut admin, rounds, &mut NoLog);
         format!(in alloc; "{run}").ok()
     }
@@ -259,7 +325,7 @@ impl Port<'_> {
         let mut admin = AdminPort::new(alloc, listener_with(alloc, self.operator)?);
         let nobody = MemoryListener::new(alloc);
         let listener = listener_with(alloc, self.client)?;
-        let mut server = server(alloc, &script, self.entrance)?;
+        let mut server = server(alloc, &script, self.is_closed)?;
         server.run_administered(alloc, &nobody, &mut admin, rounds, &mut NoLog);
         script.try_borrow_mut().ok()?.add(ReadyEvent::Incoming)?;
         let run = server.run_administered(alloc, &listener, &mut admin, rounds, &mut NoLog);
@@ -290,12 +356,14 @@ type Administered<'a, 's> = Server<End<'a>, AdminReadiness<'s, ScriptedReadiness
 fn server<'a, 's>(
     alloc: Global,
     script: &'s RefCell<ReadinessScript>,
-    entrance: Entrance,
+    is_closed: bool,
 ) -> Option<Administered<'a, 's>> {
     let hub = Hub::with_config(alloc, HubConfig::new(1, 1, 64, 32)).ok()?;
     let readiness = AdminReadiness::new(ScriptedReadiness::of(script), &Still);
     let mut server = Server::new(alloc, hub, readiness, u64::MAX);
-    server.set_entrance(entrance);
+    if is_closed {
+        server.set_entrance(Entrance::closed(alloc));
+    }
     Some(server)
 }
 

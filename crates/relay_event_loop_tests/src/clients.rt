@@ -207,7 +207,7 @@ impl<'a> Clients<'a> {
         match word {
             "server" => self.begin(alloc, config(rest)?),
             "forget-rooms" => self.forget_rooms(),
-            "closed" => self.set_entrance(Entrance::Closed),
+            "closed" => self.set_entrance(Entrance::closed(alloc)),
             "opened" => self.set_entrance(Entrance::Open),
             "arrive" => self.arrive(alloc, rest),
             "enter" => self.enter(alloc, rest),

@@ -57,21 +57,6 @@ follows_wider more (makes {q = q} event answer before own step) =
 pub follows_none : {rooms : Rooms} {p q : Point} → Follows no_room p q → Follows rooms p q
 follows_none = follows_wider (λ room access none. absurd none)
 
--- a session that may open no room
-pub opens_none : {p q : Point} → Follows no_room p q → p.session ≡ None
-    → (q.session ≡ None) × (q.hub ≡ p.hub)
-opens_none stays bare = (bare, refl)
-opens_none (makes {q = q} event answer before own step) bare =
-    absurd (none_own q.session event (opens_none before bare).0 own)
-  where
-    none_own : (session : Option ℕ) (event : Event) → session ≡ None
-        → IsOwn no_room session event → ⊥
-    none_own session (Open room access) bare own = own.1
-    none_own session (Receive s text) bare own = cc
-    none_own session (Draw s) bare own = cc
-    none_own session (Close s) bare own = cc
-    none_own session event bare own = own
-
 -- the same of an equal state
 pub follows_from : {S : Type 0} {hub : Hub} {events : List Event} {q : Point} (remaining : S
     → Option (List ℕ)) (old state : State S) → state ≡ old
@@ -79,6 +64,13 @@ pub follows_from : {S : Type 0} {hub : Hub} {events : List Event} {q : Point} (r
     → Follows (asked_by remaining old) (at hub (session_of old) events) q
 follows_from {hub = hub} {events = events} {q = q} remaining old state same follows =
     subst (λ s. Follows (asked_by remaining s) (at hub (session_of s) events) q) same follows
+
+-- the same in any rooms
+pub follows_as : {S : Type 0} {rooms : Rooms} {hub : Hub} {events : List Event} {q : Point}
+    (old state : State S) → state ≡ old → Follows rooms (at hub (session_of state) events) q
+    → Follows rooms (at hub (session_of old) events) q
+follows_as {rooms = rooms} {hub = hub} {events = events} {q = q} old state same follows =
+    subst (λ s. Follows rooms (at hub (session_of s) events) q) same follows
 
 -- an event of a link that may open no session opens none
 no_opening : (session : Option ℕ) (event : Event) (answer : Answer) → IsOwn no_room session event

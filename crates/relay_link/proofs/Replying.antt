@@ -1,5 +1,5 @@
 -- What a link wrote of a reply, and what it keeps.
-use Rattle.std.proofs.Common.{◌≡◌, ℕ, List, [], ◌++◌, take, drop, Option, refl, sym, subst, ap, ◌∙◌, append_assoc, append-nil, Vec, Global, String}
+use Rattle.std.proofs.Common.{◌≡◌, ℕ, Bool, true, false, string_bytes, List, [], ◌++◌, take, drop, Option, refl, sym, subst, ap, ◌∙◌, append_assoc, append-nil, Vec, Global, String}
 use Rattle.std.proofs.KnownBytes.{Appends-trans, Appends-nil}
 use Rattle.std.proofs.lemmas.List.{take-append-drop}
 use Rattle.std.specs.Io.KnownBytes.{Appends, Keeps, Consumes}
@@ -12,12 +12,12 @@ use Rattle.relay_shake.specs.declared.answer.Shake.TheVariants.{Accept, Refuse}
 use Rattle.relay_proto.specs.declared.access.Access.{Access}
 use Rattle.relay_hub.specs.State.{State as Hub}
 use Rattle.relay_hub.specs.declared.event.Event.{Event}
+use Rattle.relay_link.specs.Entrance.{lets_in, unserved_reply}
 use Rattle.relay_link.specs.Hears.{Passes, HasReadNothing, BeginsFresh, PassesTexts}
 use Rattle.relay_link.specs.Replies.{WritesReply, RepliesTo, RepliesToHead, IfReplies, Replies}
 use Rattle.relay_link.specs.Stream.{stream_of, written}
 use Rattle.relay_link.specs.declared.corked_writer.CorkedWriter.{CorkedWriter}
 use Rattle.relay_link.specs.declared.entrance.Entrance.{Entrance}
-use Rattle.relay_link.specs.declared.entrance.Entrance.TheVariants as entry
 use Rattle.relay_link.specs.declared.handshake_reply.HandshakeReply.{HandshakeReply}
 use Rattle.relay_link.specs.declared.handshake_reply.Verdict.{Verdict}
 use Rattle.relay_link.specs.declared.handshake_reply.Verdict.TheVariants.{Entered, Refused}
@@ -83,28 +83,42 @@ module _ {S : Type 0} (contents : S → Option (List ℕ)) where
       )
 
   -- the reply of a head that is accepted
-  pub replies_open : (before : Option (List ℕ)) (room : String Global) (access : Access)
-      (reply : Vec ℕ Global) (s : ℕ) (state : State S)
+  pub replies_open : (entrance : Entrance) (before : Option (List ℕ)) (room : String Global)
+      (access : Access) (reply : Vec ℕ Global) (s : ℕ) (state : State S)
+      → lets_in entrance (string_bytes room) ≡ true
       → WritesReply contents before (Entered s) reply.items state
-      → RepliesTo contents entry.Open before (Accept room access reply) state
-  replies_open before room access reply s state writes =
-      record { verdict = Entered s; reply = reply.items; is = (refl, refl); writes = writes }
+      → RepliesTo contents entrance before (Accept room access reply) state
+  replies_open entrance before room access reply s state enters writes =
+      record { verdict = Entered s; reply = reply.items; is = (enters, refl); writes = writes }
 
-  pub replies_refused : (before : Option (List ℕ)) (room : String Global) (access : Access)
-      (reply refused : Vec ℕ Global) (state : State S) → refused.items ≡ refusal_of 503
+  unserved : (entrance : Entrance) (before : Option (List ℕ)) (room : String Global)
+      (access : Access) (reply : Vec ℕ Global) (refused : List ℕ) (state : State S) (enters : Bool)
+      → lets_in entrance (string_bytes room) ≡ enters → refused ≡ unserved_reply enters
+      → WritesReply contents before (Refused 503) refused state
+      → RepliesTo contents entrance before (Accept room access reply) state
+  unserved entrance before room access reply refused state enters whether is writes = record {
+    verdict = Refused 503;
+    reply = refused;
+    is = (refl, is ∙ ap unserved_reply (sym whether));
+    writes = writes;
+  }
+
+  pub replies_refused : (entrance : Entrance) (before : Option (List ℕ)) (room : String Global)
+      (access : Access) (reply refused : Vec ℕ Global) (state : State S)
+      → lets_in entrance (string_bytes room) ≡ true → refused.items ≡ refusal_of 503
       → WritesReply contents before (Refused 503) refused.items state
-      → RepliesTo contents entry.Open before (Accept room access reply) state
-  replies_refused before room access reply refused state is writes =
-      record { verdict = Refused 503; reply = refused.items; is = (refl, is); writes = writes }
+      → RepliesTo contents entrance before (Accept room access reply) state
+  replies_refused entrance before room access reply refused state enters is writes =
+      unserved entrance before room access reply refused.items state true enters is writes
 
-  -- and of one that is accepted while clients may not entrance
+  -- and of one that asks for a room in which clients may not enter
   pub replies_closed : (entrance : Entrance) (before : Option (List ℕ)) (room : String Global)
-      (access : Access) (reply : Vec ℕ Global) (state : State S) → entrance ≡ entry.Closed
+      (access : Access) (reply : Vec ℕ Global) (state : State S)
+      → lets_in entrance (string_bytes room) ≡ false
       → WritesReply contents before (Refused 503) closed_refusal state
       → RepliesTo contents entrance before (Accept room access reply) state
-  replies_closed entrance before room access reply state closed writes =
-      rw closed
-      (record { verdict = Refused 503; reply = closed_refusal; is = (refl, refl); writes = writes })
+  replies_closed entrance before room access reply state stays_out writes =
+      unserved entrance before room access reply closed_refusal state false stays_out refl writes
 
   -- the reply of a head that is refused
   pub replies_refuse : (entrance : Entrance) (before : Option (List ℕ)) (status : ℕ)
@@ -115,12 +129,13 @@ module _ {S : Type 0} (contents : S → Option (List ℕ)) where
       record { verdict = Refused status; reply = reply.items; is = (refl, refl); writes = writes }
 
   -- the stream is gone
-  pub replies_gone : (before : Option (List ℕ)) (room : String Global) (access : Access)
-      (reply : Vec ℕ Global) (state : State S) → state ≡ Gone
-      → RepliesTo contents entry.Open before (Accept room access reply) state
-  replies_gone before room access reply state gone =
+  pub replies_gone : (entrance : Entrance) (before : Option (List ℕ)) (room : String Global)
+      (access : Access) (reply : Vec ℕ Global) (state : State S)
+      → lets_in entrance (string_bytes room) ≡ true → state ≡ Gone
+      → RepliesTo contents entrance before (Accept room access reply) state
+  replies_gone entrance before room access reply state enters gone =
       rw gone
-      (record { verdict = Refused 503; reply = refusal_of 503; is = (refl, refl); writes = tt })
+      (unserved entrance before room access reply (refusal_of 503) Gone true enters refl tt)
 
 module _ {S : Type 0} (remaining contents : S → Option (List ℕ)) (entrance : Entrance) where
   -- a turn that changes nothing

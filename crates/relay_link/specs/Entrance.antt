@@ -1,17 +1,22 @@
--- What a link does while clients may enter, and while they may not.
-use Rattle.std.specs.Prelude.{◌≡◌, ℕ, List, None}
-use Rattle.relay_hub.specs.State.{State as Hub}
+-- In which rooms clients may enter, and what those are told who may not.
+use Rattle.std.specs.Prelude.{◌≡◌, ℕ, Bool, true, false, List, bytes_eq, string_bytes}
+use Rattle.std.specs.List.{list_any}
+use Rattle.relay_proto.specs.declared.access.Access.{Access}
 use Rattle.relay_shake.specs.Replies.{closed_refusal, refusal_of}
-use Rattle.relay_link.specs.Stage.{session_of}
+use Rattle.relay_link.specs.Follows.{Rooms}
 use Rattle.relay_link.specs.declared.entrance.Entrance.{Entrance}
-use Rattle.relay_link.specs.declared.entrance.Entrance.TheVariants as entry
-use Rattle.relay_link.specs.declared.state.State.{State}
+use Rattle.relay_link.specs.declared.entrance.Entrance.TheVariants.{Open, Only}
 
--- the reply to a good head for which no session was opened
-abbrev pub unserved_reply : Entrance → List ℕ
-unserved_reply entry.Open = refusal_of 503
-unserved_reply entry.Closed = closed_refusal
+-- whether clients may enter the room of a name
+abbrev pub lets_in : Entrance → List ℕ → Bool
+lets_in Open room = true
+lets_in (Only names) room = list_any (λ name. bytes_eq room (string_bytes name)) names.keys
 
--- a link without a session has none afterwards, and the hub is as it was
-abbrev pub OpensNone : {S : Type 0} → Hub → State S → Hub → State S → Type 0
-OpensNone hub old next new = session_of old ≡ None → (session_of new ≡ None) × (next ≡ hub)
+-- the rooms in which they may
+abbrev pub Within : Entrance → Rooms
+Within entrance room access = lets_in entrance room ≡ true
+
+-- the reply to a good head for which no session was opened, whether or not clients may enter there
+abbrev pub unserved_reply : Bool → List ℕ
+unserved_reply true = refusal_of 503
+unserved_reply false = closed_refusal

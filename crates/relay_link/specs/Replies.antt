@@ -1,26 +1,26 @@
 -- What a link writes of its reply to a handshake.
-use Rattle.std.specs.Prelude.{◌≡◌, ℕ, List, ◌++◌, Option, ⊤}
+use Rattle.std.specs.Prelude.{◌≡◌, ℕ, List, ◌++◌, Option, ⊤, true, string_bytes}
 use Rattle.std.specs.Io.KnownBytes.{Appends, Consumes}
 use Rattle.relay_shake.specs.Shaken.{AnswersHead, AnswersNoHead}
 use Rattle.relay_shake.specs.declared.answer.Shake.{Shake}
 use Rattle.relay_shake.specs.declared.answer.Shake.TheVariants.{More, Accept, Refuse}
-use Rattle.relay_link.specs.Entrance.{unserved_reply}
+use Rattle.relay_link.specs.Entrance.{lets_in, unserved_reply}
 use Rattle.relay_link.specs.Hears.{HasReadNothing}
 use Rattle.relay_link.specs.Stream.{stream_of, written}
 use Rattle.relay_link.specs.declared.entrance.Entrance.{Entrance}
-use Rattle.relay_link.specs.declared.entrance.Entrance.TheVariants as entry
 use Rattle.relay_link.specs.declared.handshake_reply.Verdict.{Verdict}
 use Rattle.relay_link.specs.declared.handshake_reply.Verdict.TheVariants.{Entered, Refused}
 use Rattle.relay_link.specs.declared.state.State.{State}
 use Rattle.relay_link.specs.declared.state.State.TheVariants.{Head, Replying, Open}
 
 -- The bytes of the reply to an answer, and what it reports. A head that is accepted gets the reply
--- of the handshake if clients may enter and the hub opened a session, and 503 if none was opened.
+-- of the handshake if clients may enter there and the hub opened a session, and 503 if none was
+-- opened.
 abbrev pub IsReply : Entrance → Shake → Verdict → List ℕ → Type 0
 IsReply entrance (Accept room access reply) (Entered s) bytes =
-    (entrance ≡ entry.Open) × (bytes ≡ reply.items)
+    (lets_in entrance (string_bytes room) ≡ true) × (bytes ≡ reply.items)
 IsReply entrance (Accept room access reply) (Refused status) bytes =
-    (status ≡ 503) × (bytes ≡ unserved_reply entrance)
+    (status ≡ 503) × (bytes ≡ unserved_reply (lets_in entrance (string_bytes room)))
 IsReply entrance (Refuse status reply) (Refused given) bytes =
     (given ≡ status) × (bytes ≡ reply.items)
 IsReply entrance (Refuse status reply) (Entered s) bytes = ⊥

@@ -1,10 +1,77 @@
-//! Whether clients may enter.
+//! In which rooms clients may enter.
+ghost use Rattle.std.specs.Prelude.{◌≡◌, ℕ, List, true, false, OnOk, OnErr};
+ghost use Rattle.relay_link.specs.Entrance.{lets_in};
 
-/// Whether a good handshake opens a session.
-#[derive(Clone, Copy, Debug, PartialEq, Eq)]
+use crate::entrance_fault::EntranceFault;
+use indexmap::IndexSet;
+use std::alloc::Global;
+
+/// In which rooms a good handshake opens a session.
+#[derive(Drop)]
 pub enum Entrance {
-    /// It opens one, if the hub does.
+    /// In each.
     Open,
-    /// It opens none. The reply is 503, and says that the client may try again after a second.
-    Closed,
+    /// In the rooms of these names alone. For another one the reply is 503, and says that the
+    /// client may try again after a second.
+    Only(IndexSet<String>),
+}
+
+impl Entrance {
+    /// In no room. Allocates nothing.
+    pub fn closed(alloc: Global) -> Entrance
+        ensures { (room : List ℕ) → lets_in result room ≡ false }
+    {
+        Entrance::Only(IndexSet::new(alloc))
+    }
+
+    /// Whether clients may enter no room. Allocates nothing.
+    pub fn is_closed(&self) -> bool {
+        matches!(self, Entrance::Only(names) if names.is_empty())
+    }
+
+    /// Whether clients may enter the room of a name. Allocates nothing.
+    pub fn lets_in(&self, room: &str) -> bool
+        ensures { result ≡ lets_in self.now room.now }
+    {
+        match self {
+            Entrance::Open => true,
+            Entrance::Only(names) => names.contains(room),
+        }
+    }
+
+    /// Lets clients into the room of a name too. `Full`: as many names are there as given, and this
+    /// one is not among them. An error leaves it as it was.
+    pub fn admit(&mut self, alloc: Global, room: &str, most: u64) -> Result<(), EntranceFault>
+        ensures admitted { OnOk result (lets_in self.new room.now ≡ true) }
+        ensures unchanged { OnErr result
+            ((name : List ℕ) → lets_in self.new name ≡ lets_in self.old name) }
+    {
+        let Entrance::Only(names) = self else {
+            return Ok(());
+        };
+        if names.contains(room) {
+            return Ok(());
+        }
+        if names.len() as u64 >= most {
+            return Err(EntranceFault::Full);
+        }
+        let name = String::from_str(alloc, room)?;
+        match names.insert(name) {
+            Ok(_) => Ok(()),
+            Err(_) => Err(EntranceFault::NoMemory),
+        }
+    }
+
+    /// Keeps clients out of the room of a name. `AllOpen`: they may enter every room, and nothing
+    /// is changed. Allocates nothing.
+    pub fn exclude(&mut self, room: &str) -> Result<(), EntranceFault>
+        ensures excluded { OnOk result (lets_in self.new room.now ≡ false) }
+        ensures unchanged { OnErr result (self.new ≡ self.old) }
+    {
+        let Entrance::Only(names) = self else {
+            return Err(EntranceFault::AllOpen);
+        };
+        let _ = names.swap_remove(room);
+        Ok(())
+    }
 }

@@ -17,6 +17,8 @@ pub(crate) struct EventLog {
     fault: Cell<Option<OpenFault>>,
     /// The place of the room of the session that it opened.
     place: Cell<Option<usize>>,
+    /// The room in which a client may not enter, if it asked for one.
+    turned_away: Option<String>,
     /// Whether memory was refused for a text that was to be drawn.
     lacks_memory: bool,
 }
@@ -46,6 +48,7 @@ impl EventLog {
             drawn: 0,
             fault: Cell::new(None),
             place: Cell::new(None),
+            turned_away: None,
             lacks_memory: false,
         })
     }
@@ -92,6 +95,20 @@ impl EventLog {
     /// The place of the room of the session that the hub opened, if it opened one.
     pub(crate) fn place(&self) -> Option<usize> {
         self.place.get()
+    }
+
+    /// Notes the room in which a client may not enter. Allocates nothing.
+    pub(crate) fn note_turned_away(&mut self, room: String)
+        ensures { self.new ≡ self.old }
+    {
+        self.turned_away = Some(room);
+    }
+
+    /// Takes the room in which a client may not enter, if it asked for one.
+    pub(crate) fn take_turned_away(&mut self) -> Option<String>
+        ensures { self.new ≡ self.old }
+    {
+        self.turned_away.take()
     }
 
     /// Notes that memory was refused for a text that was to be drawn. Allocates nothing.

@@ -1,8 +1,8 @@
 //! The handshake of a link: its request head, then the reply.
-ghost use Rattle.std.specs.Prelude.{◌≡◌, ◌≢◌, ◌+◌, ◌≤◌, length, [], is_some, Some, None, string_bytes, false};
+ghost use Rattle.std.specs.Prelude.{◌≡◌, ◌≢◌, ◌+◌, ◌≤◌, length, [], is_some, Some, None, string_bytes, true, false};
 ghost use Rattle.relay_link.specs.Adds.{Adds};
 ghost use Rattle.relay_link.specs.Asks.{Asks, Receives, awaits_head};
-ghost use Rattle.relay_link.specs.Entrance.{OpensNone};
+ghost use Rattle.relay_link.specs.Entrance.{lets_in, Within};
 ghost use Rattle.relay_link.specs.Ends.{turns_left};
 ghost use Rattle.relay_link.specs.Follows.{Follows, no_room, is_room, at};
 ghost use Rattle.relay_link.specs.Stage.{entered, leaves, stage_of, session_of};
@@ -13,7 +13,7 @@ ghost use Rattle.relay_shake.specs.Replies.{closed_refusal};
 ghost use Rattle.relay_shake.specs.declared.answer.Shake.TheVariants.{Accept};
 ghost use Rattle.relay_link.specs.Tells.{IsServing};
 ghost use Rattle.relay_link.specs.declared.end_cause.EndCause.TheVariants.{Silent};
-ghost use Rattle.relay_link.specs.declared.entrance.Entrance.TheVariants as entry;
+ghost use Rattle.relay_link.specs.declared.entrance.Entrance.{Entrance};
 ghost use Rattle.relay_link.specs.declared.handshake_reply.Verdict.TheVariants.{Refused};
 ghost use Rattle.relay_link.specs.declared.closing.TheConstants.{MAX_TURNS};
 ghost use Rattle.relay_link.specs.declared.event_log.TheConstants.{MAX_EVENTS};
@@ -39,12 +39,12 @@ use std::io::{Read, Write};
 pub(crate) const MAX_READ: usize = 4_096;
 
 /// Reads once, and checks the bytes received so far as a handshake.
-#[tactic(auto, using(crate::proofs::Following::follows_same, crate::proofs::Following::follows_none, crate::proofs::Following::opens_none, crate::proofs::Heads::received_past, crate::proofs::Hearing::passes_same))]
+#[tactic(auto, using(crate::proofs::Following::follows_same, crate::proofs::Following::follows_none, crate::proofs::Heads::received_past, crate::proofs::Hearing::passes_same))]
 pub(crate) fn listen<S: Read + Write + Drop>(
     alloc: Global,
     mut stream: CorkedWriter<S>,
     mut bytes: Vec<u8>,
-    entrance: Entrance,
+    entrance: &Entrance,
     hub: &mut Hub,
     events: &mut EventLog,
 ) -> Transition<S>
@@ -52,9 +52,9 @@ pub(crate) fn listen<S: Read + Write + Drop>(
     ensures follows { Follows (Asks bytes.items (S.remaining (stream_of stream)))
         (at hub.old None events.old) (at hub.new (session_of result.state) events.new) }
     ensures received { Receives S.remaining (State.Head stream bytes) result.state }
-    ensures closed { entrance ≡ entry.Closed
-        → OpensNone hub.old (State.Head stream bytes) hub.new result.state }
-    ensures replies { Replies S.remaining S.contents entrance (State.Head stream bytes)
+    ensures entrance { Follows (Within entrance.now) (at hub.old None events.old)
+        (at hub.new (session_of result.state) events.new) }
+    ensures replies { Replies S.remaining S.contents entrance.now (State.Head stream bytes)
         result.state }
     ensures passes { Passes events.old events.new [] }
     ensures adds { Adds 2 0 0 events.old events.new }
@@ -87,10 +87,13 @@ pub(crate) fn listen<S: Read + Write + Drop>(
                 access,
                 reply,
             },
-        ) => match entrance {
-            Entrance::Open => admit(alloc, stream, room, access, reply, hub, events),
-            Entrance::Closed => turn_away(alloc, stream, hub, events),
-        },
+        ) => {
+            if entrance.lets_in(room.as_str()) {
+                admit(alloc, stream, room, access, reply, hub, events)
+            } else {
+                turn_away(alloc, stream, room, hub, events)
+            }
+        }
         Ok(Shake::Refuse { status, reply }) => {
             answer(alloc, stream, reply, Verdict::Refused(status), hub, events)
         }
@@ -114,8 +117,9 @@ fn admit<S: Read + Write + Drop>(
     ensures follows { Follows (is_room (string_bytes room) access) (at hub.old None events.old)
         (at hub.new (session_of result.state) events.new) }
     ensures past { awaits_head result.state ≡ false }
-    ensures replies { RepliesTo S.contents entry.Open (written S.contents stream)
-        (Accept room access accepted) result.state }
+    ensures replies { (entrance : Entrance) → lets_in entrance (string_bytes room) ≡ true →
+        RepliesTo S.contents entrance (written S.contents stream) (Accept room access accepted)
+        result.state }
     ensures passes { Passes events.old events.new [] }
     ensures adds { Adds 2 0 0 events.old events.new }
     ensures serving { IsServing result.state }
@@ -139,11 +143,12 @@ fn admit<S: Read + Write + Drop>(
     }
 }
 
-/// Begins to write the refusal of a good handshake while clients may not entrance.
+/// Begins to write the refusal of a good handshake for a room in which clients may not enter.
 #[tactic(auto, using(crate::proofs::Following::follows_same, crate::proofs::Hearing::passes_same))]
 fn turn_away<S: Read + Write + Drop>(
     alloc: Global,
     stream: CorkedWriter<S>,
+    room: String,
     hub: &mut Hub,
     events: &mut EventLog,
 ) -> Transition<S>
@@ -160,6 +165,7 @@ fn turn_away<S: Read + Write + Drop>(
     ensures prompt { result.cause ≢ Some Silent }
     ensures patient { MAX_TURNS ≤ turns_left result.state }
 {
+    events.note_turned_away(room);
     match closed_refusal(alloc) {
         Ok(refused) => answer(alloc, stream, refused, Verdict::Refused(503), hub, events),
         Err(_) => Transition::gone(EndCause::Memory),

@@ -22,6 +22,7 @@ mod closing;
 mod corked_writer;
 mod end_cause;
 mod entrance;
+mod entrance_fault;
 mod event_log;
 mod events;
 mod handshake_reply;
@@ -40,6 +41,7 @@ mod visit_outcome;
 
 pub use end_cause::EndCause;
 pub use entrance::Entrance;
+pub use entrance_fault::EntranceFault;
 pub use link::{Link, MAX_DRAWS};
 pub use stage::Stage;
 pub use turn::Turn;

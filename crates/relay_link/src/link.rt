@@ -4,7 +4,7 @@ ghost use Rattle.relay_link.specs.Adds.{Adds, texts_of};
 ghost use Rattle.relay_link.specs.Asks.{asked_by, IsFresh, Receives};
 ghost use Rattle.relay_link.specs.BinaryAnswered.{BinaryAnsweredIfOpen};
 ghost use Rattle.relay_link.specs.Ends.{turns_left};
-ghost use Rattle.relay_link.specs.Entrance.{OpensNone};
+ghost use Rattle.relay_link.specs.Entrance.{Within};
 ghost use Rattle.relay_link.specs.Follows.{Follows, no_room, at, closing_of};
 ghost use Rattle.relay_link.specs.Hears.{PassesTexts};
 ghost use Rattle.relay_link.specs.Replies.{Replies};
@@ -165,29 +165,31 @@ impl<S: Read + Write + Drop> Link<S> {
         ensures unchanged { OnErr result (self.new ≡ self.old) }
         ensures hub_unchanged { OnErr result (hub.new ≡ hub.old) }
     {
-        self.take_turn(alloc, TurnPhase::Both, Entrance::Open, hub, draws)
+        self.take_turn(alloc, TurnPhase::Both, &Entrance::Open, hub, draws)
     }
 
     /// Runs the read part of a turn, for a link that reads more than once before it writes. As
     /// [`Link::turn`], but up to 640 bytes of an open link's output are corked until
-    /// [`Link::write_turn`]. A link that ends sends its output first. While `entrance` is
-    /// [`Entrance::Closed`], a valid handshake opens no session: the reply is 503, with
+    /// [`Link::write_turn`]. A link that ends sends its output first. A valid handshake for a room
+    /// that `entrance` does not let clients into opens no session: the reply is 503, with
     /// `Retry-After: 1`. A link that has a session is heard as ever.
     #[tactic(auto, using(crate::proofs::Telling::answers_if))]
     pub fn read_turn(
         &mut self,
         alloc: Global,
-        entrance: Entrance,
+        entrance: &Entrance,
         hub: &mut Hub,
         draws: u64,
     ) -> Result<Turn, AllocError>
         ensures turns { IfOk result (Turns S.remaining 1 draws hub.old self.old hub.new self.new) }
-        ensures closed { entrance ≡ entry.Closed → OpensNone hub.old self.old hub.new self.new }
+        ensures entrance { IfOk result (λ turn.
+            Follows (Within entrance.now) (at hub.old (session_of self.old) [])
+            (at hub.new (session_of self.new) turn.events.items)) }
         ensures frames { IfOk result (λ turn.
             WhileOpen (Answered S.remaining S.contents) hub.old [] self.old hub.new turn.events.items
             self.new) }
         ensures replies { OnOk result
-            (Replies S.remaining S.contents entrance self.old self.new) }
+            (Replies S.remaining S.contents entrance.now self.old self.new) }
         ensures binary { IfOk result
             (λ turn. BinaryAnsweredIfOpen S.contents self.old self.new turn.cause) }
         ensures forward { IsForward (stage_of self.old) (stage_of self.new) }
@@ -219,7 +221,7 @@ impl<S: Read + Write + Drop> Link<S> {
         ensures unchanged { OnErr result (self.new ≡ self.old) }
         ensures hub_unchanged { OnErr result (hub.new ≡ hub.old) }
     {
-        self.take_turn(alloc, TurnPhase::Write, Entrance::Open, hub, draws)
+        self.take_turn(alloc, TurnPhase::Write, &Entrance::Open, hub, draws)
     }
 
     /// Ends the link: closes its session, if it has one, and leaves it Gone with
@@ -264,6 +266,7 @@ impl<S: Read + Write + Drop> Link<S> {
             drawn: events.drawn(),
             cost: 0,
             fault: None,
+            turned_away: None,
             lacks_memory: false,
             events: events.into_events(),
             stage: Stage::Gone,
@@ -276,19 +279,21 @@ impl<S: Read + Write + Drop> Link<S> {
         &mut self,
         alloc: Global,
         phase: TurnPhase,
-        entrance: Entrance,
+        entrance: &Entrance,
         hub: &mut Hub,
         draws: u64,
     ) -> Result<Turn, AllocError>
         ensures turns { IfOk result (Turns S.remaining (texts_of phase) draws hub.old self.old
             hub.new self.new) }
-        ensures closed { entrance ≡ entry.Closed → OpensNone hub.old self.old hub.new self.new }
+        ensures entrance { IfOk result (λ turn.
+            Follows (Within entrance.now) (at hub.old (session_of self.old) [])
+            (at hub.new (session_of self.new) turn.events.items)) }
         ensures talks { IfOk result (λ turn.
             WhileOpen (Talks S.remaining S.contents (texts_of phase)) hub.old [] self.old hub.new
             turn.events.items self.new) }
         ensures serving { OnOk result (IsServing self.old) }
         ensures replies { OnOk result
-            (Replies S.remaining S.contents entrance self.old self.new) }
+            (Replies S.remaining S.contents entrance.now self.old self.new) }
         ensures binary { IfOk result
             (λ turn. BinaryAnsweredIfOpen S.contents self.old self.new turn.cause) }
         ensures forward { IsForward (stage_of self.old) (stage_of self.new) }
@@ -305,6 +310,7 @@ impl<S: Read + Write + Drop> Link<S> {
             drawn: events.drawn(),
             cost: hub.cost().saturating_sub(before),
             fault: events.fault(),
+            turned_away: events.take_turned_away(),
             lacks_memory: events.lacks_memory(),
             events: events.into_events(),
             stage: self.stage(),
@@ -315,12 +321,12 @@ impl<S: Read + Write + Drop> Link<S> {
 
 /// Runs a turn by the state of the link. In a write turn a link that waits for a head or a close is
 /// unchanged.
-#[tactic(auto, using(crate::proofs::Following::follows_same, crate::proofs::Following::opens_none, crate::proofs::Heads::received_none, crate::proofs::Heads::received_past, crate::proofs::Heads::received_open, crate::proofs::Heads::received_closing, crate::proofs::Hearing::passes_closing, crate::proofs::Hearing::passes_unchanged, crate::proofs::Replying::passes_replying, crate::proofs::Replying::passes_listening, crate::proofs::Replying::replies_unchanged))]
+#[tactic(auto, using(crate::proofs::Following::follows_same, crate::proofs::Following::follows_none, crate::proofs::Heads::received_none, crate::proofs::Heads::received_past, crate::proofs::Heads::received_open, crate::proofs::Heads::received_closing, crate::proofs::Hearing::passes_closing, crate::proofs::Hearing::passes_unchanged, crate::proofs::Replying::passes_replying, crate::proofs::Replying::passes_listening, crate::proofs::Replying::replies_unchanged))]
 fn advance<S: Read + Write + Drop>(
     alloc: Global,
     state: State<S>,
     phase: TurnPhase,
-    entrance: Entrance,
+    entrance: &Entrance,
     draws: u64,
     hub: &mut Hub,
     events: &mut EventLog,
@@ -334,8 +340,9 @@ fn advance<S: Read + Write + Drop>(
     ensures talks { WhileOpen (Talks S.remaining S.contents (texts_of phase)) hub.old events.old
         state hub.new events.new result.state }
     ensures serving { IsServing result.state }
-    ensures closed { entrance ≡ entry.Closed → OpensNone hub.old state hub.new result.state }
-    ensures replies { Replies S.remaining S.contents entrance state result.state }
+    ensures entrance { Follows (Within entrance.now) (at hub.old (session_of state) events.old)
+        (at hub.new (session_of result.state) events.new) }
+    ensures replies { Replies S.remaining S.contents entrance.now state result.state }
     ensures binary { BinaryAnsweredIfOpen S.contents state result.state result.cause }
     ensures passes { PassesTexts S.remaining (texts_of phase) hub.old state result.state events.old
         events.new }

@@ -74,13 +74,13 @@ pub(crate) fn turn<S: Read + Write + Drop>(
     if phase != TurnPhase::Write {
         socket.get_ref().begin_poll();
     }
-    let talked = talk(alloc, &mut socket, session, phase, draws, hub, events);
-    settle(talked, socket, session, hub, events)
+    let turned = serve(alloc, &mut socket, session, phase, draws, hub, events);
+    finish(turned, socket, session, hub, events)
 }
 
 /// The link after a turn: still open, or its session is closed.
 #[tactic(auto, using(crate::proofs::Following::follows_same, crate::proofs::Following::follows_then, crate::proofs::Hearing::passes_same))]
-fn settle<S: Read + Write + Drop>(
+fn finish<S: Read + Write + Drop>(
     turned: Result<(), Ending>,
     socket: Socket<S>,
     session: u64,
@@ -117,7 +117,7 @@ fn settle<S: Read + Write + Drop>(
 /// Sends pending output that is not corked. When none is left, the link may hear a text and draws
 /// messages; its output is sent, or corked until a write turn.
 #[tactic(auto, using(crate::proofs::Following::follows_same, crate::proofs::Following::follows_then, crate::proofs::Hearing::sends_none, crate::proofs::Hearing::sends_and_passes, crate::proofs::Telling::talked_none, crate::proofs::Telling::talked, crate::proofs::BinaryAnswered::answered_and_sent))]
-fn talk<S: Read + Write + Drop>(
+fn serve<S: Read + Write + Drop>(
     alloc: Global,
     socket: &mut Socket<S>,
     session: u64,
@@ -141,7 +141,7 @@ fn talk<S: Read + Write + Drop>(
     if !flush(socket)? {
         return Ok(());
     }
-    let exchanged = exchange(alloc, socket, session, phase, draws, hub, events);
+    let exchanged = hear_and_draw(alloc, socket, session, phase, draws, hub, events);
     // A link that ends still sends the messages that were framed before. If it is gone already, it
     // is so for the cause of that, and not of the flush.
     socket
@@ -156,7 +156,7 @@ fn talk<S: Read + Write + Drop>(
 
 /// Hears a text, if it may, then draws messages and frames them.
 #[tactic(auto, using(crate::proofs::Following::follows_same, crate::proofs::Following::follows_then, crate::proofs::Hearing::passes_on_none, crate::proofs::Hearing::passes_on_heard, crate::proofs::Telling::exchanged))]
-fn exchange<S: Read + Write + Drop>(
+fn hear_and_draw<S: Read + Write + Drop>(
     alloc: Global,
     socket: &mut Socket<S>,
     session: u64,
@@ -178,7 +178,7 @@ fn exchange<S: Read + Write + Drop>(
     ensures prompt { IfErr result (λ ending. IsPrompt (cause_of ending)) }
 {
     hear(alloc, socket, session, phase, hub, events)?;
-    gather(alloc, socket, session, draws, hub, events)?;
+    draw_messages(alloc, socket, session, draws, hub, events)?;
     Ok(())
 }
 
@@ -267,7 +267,7 @@ fn next_text<S: Read + Write + Drop>(socket: &mut Socket<S>) -> Result<Option<Te
 /// Draws up to `draws` messages and frames each, until output is pending. A draw that is out of
 /// memory ends the turn, and asks for another.
 #[tactic(auto, using(crate::proofs::Following::follows_same, crate::proofs::Following::follows_then, crate::proofs::Hearing::passes_same, crate::proofs::Hearing::passes_then, crate::proofs::Telling::tells_start, crate::proofs::Telling::tells_on, crate::proofs::Telling::tells_text))]
-fn gather<S: Read + Write + Drop>(
+fn draw_messages<S: Read + Write + Drop>(
     alloc: Global,
     socket: &mut Socket<S>,
     session: u64,

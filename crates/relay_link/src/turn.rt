@@ -23,6 +23,8 @@ pub struct Turn {
     pub cost: u64,
     /// Why the hub opened no session, if the turn asked it for one.
     pub fault: Option<OpenFault>,
+    /// The room of a valid handshake that was turned away, since clients may not enter there.
+    pub turned_away: Option<String>,
     /// Whether memory was refused for a text that was to be drawn, which still waits.
     pub lacks_memory: bool,
 }

@@ -131,7 +131,7 @@ fn say(
     if events::receive(alloc, hub, opening.session, text, events).is_err() {
         return VisitOutcome::Unheard(opening);
     }
-    match gather(alloc, hub, opening.session, texts, events) {
+    match draw_texts(alloc, hub, opening.session, texts, events) {
         Ok(()) => VisitOutcome::Answered(opening),
         Err(AllocError) => VisitOutcome::Undrawn(opening),
     }
@@ -139,7 +139,7 @@ fn say(
 
 /// Draws what waits for a session, until nothing does or there are as many texts as a visit draws.
 #[tactic(auto, using(crate::proofs::Visiting::drew_text, crate::proofs::Visiting::drew_on, crate::proofs::Telling::drew_same, crate::proofs::Hearing::passes_same, crate::proofs::Hearing::passes_then))]
-fn gather(
+fn draw_texts(
     alloc: Global,
     hub: &mut Hub,
     session: u64,

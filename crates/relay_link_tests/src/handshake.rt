@@ -45,7 +45,39 @@ hear => Gone by Refused(503) > try again
 hear => Gone
 waiting 1 => None
 
-# So it is if the hub is full: it is not asked.
+# Rooms are opened and closed one by one.
+bring closed
+bring open a
+bring asks 13 /rooms/a
+hear => open a; Open as 1 > switched
+
+bring closed
+bring open b
+bring asks 13 /rooms/a
+hear => Gone by Refused(503) > try again
+
+bring closed
+bring open a
+bring open b
+bring close a
+bring asks 13 /rooms/a
+hear => Gone by Refused(503) > try again
+
+bring closed
+bring open a
+bring open b
+bring close a
+bring asks 13 /rooms/b
+hear => open b; Open as 1 > switched
+
+# A room that is open in a hub that is full: the hub refuses.
+full
+bring closed
+bring open a
+bring asks 13 /rooms/a
+hear => open a; Gone by Refused(503) > unavailable
+
+# Where clients may not enter, a full hub is not asked.
 full
 bring closed
 bring asks 13 /rooms/a

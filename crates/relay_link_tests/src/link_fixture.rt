@@ -7,6 +7,9 @@ use relay_test_stream::{End, Wire, cut, in_words};
 use std::alloc::{AllocError, Global};
 use std::cell::{RefCell, RefMut};
 
+/// How many rooms may be open by name.
+const MOST_OPEN: u64 = 64;
+
 /// The act by which a client asks for the room `a`.
 pub(crate) const ASKS: &str = "asks 13 /rooms/a";
 
@@ -84,7 +87,8 @@ impl<'a> LinkFixture<'a> {
     /// - `hear` and `tell` run a read turn and a write turn;
     /// - `end` ends the link;
     /// - `bring ACT` does what comes before a turn; `bring closed` has no client enter by a read
-    ///   turn, and `bring opened` ends that;
+    ///   turn, `bring open ROOM` and `bring close ROOM` change that for a room, and `bring opened`
+    ///   for all;
     /// - `look` tells the stage and the session;
     /// - every other act is one of the wire, before a turn.
     fn turn(&mut self, alloc: Global, hub: &mut Hub, act: &str) -> Option<String> {
@@ -94,7 +98,7 @@ impl<'a> LinkFixture<'a> {
             "bring" => return self.brought(alloc, rest),
             "hear" => self
                 .link
-                .read_turn(alloc, self.entrance, hub, self.draws)
+                .read_turn(alloc, &self.entrance, hub, self.draws)
                 .ok()?,
             "tell" => self.link.write_turn(alloc, hub, self.draws).ok()?,
             "end" => self.link.end(alloc, hub).ok()?,
@@ -111,9 +115,11 @@ impl<'a> LinkFixture<'a> {
         match cut(act) {
             ("idle", _) => Some(()),
             ("closed", _) => {
-                self.entrance = Entrance::Closed;
+                self.entrance = Entrance::closed(alloc);
                 Some(())
             }
+            ("open", room) => self.entrance.admit(alloc, room, MOST_OPEN).ok(),
+            ("close", room) => self.entrance.exclude(room).ok(),
             ("opened", _) => {
                 self.entrance = Entrance::Open;
                 Some(())

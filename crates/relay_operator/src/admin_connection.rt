@@ -91,7 +91,7 @@ impl<S: Read + Write + OpenStream + Drop> AdminConnection<S> {
     }
 
     /// How much of an edit's body is still to be received, if it asks for one.
-    pub(crate) fn gathers(&self) -> Option<usize> {
+    pub(crate) fn missing_body(&self) -> Option<usize> {
         match self.asked.as_ref()? {
             RoomRequest::Edit(edit) => Some(self.missing(edit)),
             _ => None,
@@ -100,7 +100,7 @@ impl<S: Read + Write + OpenStream + Drop> AdminConnection<S> {
 
     /// Reads the rest of an edit's body, as much as is there, and no more than a turn may. `Over`
     /// if the stream is over or failed.
-    pub(crate) fn gather(&mut self, most: usize) -> Result<Found, AllocError> {
+    pub(crate) fn read_body(&mut self, most: usize) -> Result<Found, AllocError> {
         let mut missing = most;
         for _ in 0..BODY_READS {
             if missing == 0 {

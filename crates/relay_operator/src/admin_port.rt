@@ -3,12 +3,14 @@
 use crate::admin_connection::{AdminConnection, Found};
 use crate::admin_readiness::ADMIN_STREAM;
 use crate::admin_view::AdminView;
+use crate::admission::Admission;
 use crate::counters::Counters;
 use crate::readiness::Readiness;
 use crate::room_request::{self, Prepared, RoomRequest, RoomVisit};
 use relay_admin::{AdminRequest, Ask, Response, response_text};
 use relay_hub::{ForgetFault, Hub};
-use relay_link::Visit;
+use relay_link::{EntranceFault, Visit};
+use relay_proto::is_room_name;
 use std::alloc::{AllocError, Global};
 use std::io::{Read, Write};
 use std::mem;
@@ -84,7 +86,8 @@ where
 
     /// Gives each connection a turn, in which its request is read and the response is written; but
     /// for those that ask something of a room, which have their responses once
-    /// [`AdminPort::answer_forget`] or [`AdminPort::answer_visit`] says what came of it.
+    /// [`AdminPort::answer_admission`], [`AdminPort::answer_forget`] or [`AdminPort::answer_visit`]
+    /// says what came of it.
     pub fn turn(&mut self, alloc: Global, view: &AdminView<'_>) -> AdminTurn {
         let mut turn = AdminTurn {
             has_more: mem::replace(&mut self.is_behind, false),
@@ -120,8 +123,8 @@ where
         if connection.is_answered() {
             return (connection.tell(), None);
         }
-        if let Some(missing) = connection.gathers() {
-            return (connection.gather(missing).unwrap_or(Found::Over), None);
+        if let Some(missing) = connection.missing_body() {
+            return (connection.read_body(missing).unwrap_or(Found::Over), None);
         }
         if connection.asked().is_some() {
             return (Found::Nothing, None);
@@ -136,6 +139,14 @@ where
         };
         let reply = match asked {
             Ask::More => return (Found::Nothing, None),
+            Ask::Admit(room) if is_room_name(room.as_str()) => {
+                connection.ask_of_room(RoomRequest::Open(room));
+                return (Found::Nothing, None);
+            }
+            Ask::Exclude(room) => {
+                connection.ask_of_room(RoomRequest::Close(room));
+                return (Found::Nothing, None);
+            }
             Ask::Forget(room) => {
                 connection.ask_of_room(RoomRequest::Forget(room));
                 return (Found::Nothing, None);
@@ -149,6 +160,7 @@ where
                 return (Found::More, None);
             }
             Ask::Request(request) => view.reply(alloc, &self.counters, request),
+            Ask::Admit(_) => response_text(alloc, &Response::NoRoom),
             Ask::Refused(refusal) => response_text(alloc, &Response::Refused(refusal)),
         };
         match reply {
@@ -158,6 +170,32 @@ where
             }
             Err(_) => (Found::Over, None),
         }
+    }
+
+    /// What the oldest connection asks that has a room opened or closed.
+    pub fn next_admission(&self) -> Option<Admission<'_>> {
+        self.admission_at(self.first_to_admit()?)
+    }
+
+    fn admission_at(&self, place: usize) -> Option<Admission<'_>> {
+        match self.connections.get(place)?.asked()? {
+            RoomRequest::Open(room) => Some(Admission::Open(room.as_str())),
+            RoomRequest::Close(room) => Some(Admission::Close(room.as_str())),
+            _ => None,
+        }
+    }
+
+    /// Responds to that connection, by what came of it. A connection for which there is no memory
+    /// is dropped.
+    pub fn answer_admission(&mut self, alloc: Global, came: Result<(), EntranceFault>) {
+        let Some(place) = self.first_to_admit() else {
+            return;
+        };
+        let reply = match self.admission_at(place) {
+            Some(asked) => response_text(alloc, &asked.response(came)),
+            None => return,
+        };
+        self.answer_at(place, reply);
     }
 
     /// The room that the oldest connection which waits for that asked to be forgotten.
@@ -238,9 +276,19 @@ where
         self.is_behind = self.is_behind || found == Found::More;
     }
 
-    /// Whether a response that was given between turns is still to be sent.
+    /// Whether a response that was given between turns is still to be sent, or a visit to be made.
     pub fn is_behind(&self) -> bool {
-        self.is_behind
+        self.is_behind || self.first_to_visit().is_some()
+    }
+
+    /// The place of the oldest connection that asks for a room to be opened or closed.
+    fn first_to_admit(&self) -> Option<usize> {
+        self.connections.iter().position(|connection| {
+            matches!(
+                connection.asked(),
+                Some(RoomRequest::Open(_) | RoomRequest::Close(_))
+            )
+        })
     }
 
     /// The place of the oldest connection that asks for a room to be forgotten.

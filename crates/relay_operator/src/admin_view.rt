@@ -2,7 +2,7 @@
 use crate::counters::Counters;
 use relay_admin::{
     AdminRequest, DrawnMessages, Metrics, Response, RoomRow, SnapshotsBy, begin_rooms, end_rooms,
-    metrics_text, response_text, write_room,
+    metrics_text, response_text, wanted_text, write_room,
 };
 use relay_hub::{Hub, MAX_ROOMS, SnapshotCounts};
 use std::alloc::{AllocError, Global};
@@ -13,6 +13,8 @@ pub struct AdminView<'v> {
     pub hub: &'v Hub,
     /// Whether no client may enter until an operator says so.
     pub is_closed: bool,
+    /// The rooms from which clients were turned away since they are not open.
+    pub wanted: &'v [String],
     /// By a room's place in the hub, the second in which a session last left it; 0 beyond the end.
     pub left: &'v [u64],
     /// The present second.
@@ -62,6 +64,10 @@ impl AdminView<'_> {
                 let text = metrics_text(alloc, &self.metrics(counters, refusals.as_slice()))?;
                 response_text(alloc, &Response::Metrics(text.as_str()))
             }
+            AdminRequest::Wanted => {
+                let text = wanted_text(alloc, self.wanted)?;
+                response_text(alloc, &Response::Wanted(text.as_str()))
+            }
             AdminRequest::Rooms => {
                 let text = self.rooms(alloc)?;
                 response_text(alloc, &Response::Rooms(text.as_str()))
@@ -97,6 +103,7 @@ impl AdminView<'_> {
             shed: counters.shed,
             rounds: self.rounds,
             longest_round: self.longest_round,
+            hub_cost: self.hub.cost(),
         }
     }
 

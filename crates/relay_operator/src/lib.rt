@@ -1,13 +1,14 @@
 //! The operator's half of a server: the port at which an operator asks how it is, reads, edits and
-//! forgets rooms, lets clients in and stops it, what the responses say, and the readiness of all
-//! the server's sockets, the port's among them.
+//! forgets rooms, opens and closes them to clients and stops it, what the responses say, and the
+//! readiness of all the server's sockets, the port's among them.
 //!
 //! The promise: the port changes neither the hub nor anything else of its server. It sees both
 //! through references that nothing is written through ([`AdminView`]). Of a stop, and of letting
 //! clients in, it only says that it was asked ([`AdminTurn`]), and of a room that it is to be
-//! forgotten ([`AdminPort::room_to_forget`]) or visited ([`AdminPort::next_visit`]): the server
-//! does it, and says what came of it. No round knows of the port, since [`AdminReadiness`] takes
-//! the port's events out before a round sees them.
+//! opened or closed ([`AdminPort::next_admission`]), forgotten ([`AdminPort::room_to_forget`]) or
+//! visited ([`AdminPort::next_visit`]): the server does it, and says what came of it. No round
+//! knows of the port, since [`AdminReadiness`] takes the port's events out before a round sees
+//! them.
 //!
 //! No link is known here. What a server's log says of links, the server counts ([`Counters`]).
 #![tactic(auto)]
@@ -16,6 +17,7 @@ mod admin_connection;
 mod admin_port;
 mod admin_readiness;
 mod admin_view;
+mod admission;
 mod counters;
 mod longest_round;
 mod readiness;
@@ -24,6 +26,7 @@ mod room_request;
 pub use admin_port::{AdminPort, AdminTurn, MAX_CONNECTIONS};
 pub use admin_readiness::{ADMIN_LISTENER, AdminReadiness};
 pub use admin_view::AdminView;
+pub use admission::Admission;
 pub use counters::Counters;
 pub use readiness::{Polling, Readiness, ReadyEvent, StreamReady};
 pub use room_request::RoomVisit;

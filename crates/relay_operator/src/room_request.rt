@@ -11,6 +11,10 @@ use std::alloc::{AllocError, Global};
 /// What a connection asks of a room.
 #[derive(Drop)]
 pub(crate) enum RoomRequest {
+    /// `PUT /open/NAME`: that clients may enter it.
+    Open(String),
+    /// `DELETE /open/NAME`: that they may not.
+    Close(String),
     /// `DELETE`: that the room of this name is forgotten.
     Forget(String),
     /// `GET`: a part of its document.

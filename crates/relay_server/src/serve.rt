@@ -159,7 +159,7 @@ fn server_of<S: Read + Write + OpenStream + Drop, R: Readiness<S>>(
         server.forget_rooms();
     }
     if options.closed {
-        server.set_entrance(Entrance::Closed);
+        server.set_entrance(Entrance::closed(alloc));
     }
     server
 }

@@ -1,15 +1,12 @@
-//! How connections come: who is accepted, who makes room, and whether clients may enter.
-ghost use Rattle.std.specs.Prelude.{◌≡◌};
+//! How connections come: who is accepted, and who makes room.
 ghost use Rattle.relay_event_loop.specs.Advances.{KeepsFewer, KeepsWithin};
-ghost use Rattle.relay_event_loop.specs.Connections.{connections_of, entrance_of, hub_of, limit_of};
-ghost use Rattle.relay_event_loop.specs.Rounds.{RoundsOf};
 
 use super::Server;
 use crate::connection::Connection;
 use crate::connection_log::ConnectionLog;
 use crate::eviction_log::EvictionLog;
 use indexmap::IndexMap;
-use relay_link::{EndCause, Entrance};
+use relay_link::EndCause;
 use relay_operator::Readiness;
 use relay_schedule::Credit;
 use std::alloc::{AllocError, Global};
@@ -20,20 +17,6 @@ use std::net::{OpenListener, OpenStream, SocketAddr};
 const MAX_ACCEPTS: u32 = 8;
 
 impl<S: Read + Write + OpenStream + Drop, R: Readiness<S>> Server<S, R> {
-    /// From now on clients may enter, or may not: then each valid handshake is answered 503, with
-    /// `Retry-After: 1`, and opens no session. Sessions that are open stay, and are served as ever.
-    /// A new server lets clients in.
-    #[tactic(auto, using(crate::proofs::Rules::rounds))]
-    pub fn set_entrance(&mut self, entrance: Entrance)
-        ensures entrance { entrance_of self.new ≡ entrance }
-        ensures hub { hub_of self.new ≡ hub_of self.old }
-        ensures limit { limit_of self.new ≡ limit_of self.old }
-        ensures connections { connections_of self.new ≡ connections_of self.old }
-        ensures rounds { RoundsOf S.remaining self.old self.new }
-    {
-        self.entrance = entrance;
-    }
-
     /// Accepts waiting connections.
     #[tactic(auto, using(crate::proofs::Rules::advances))]
     pub(super) fn accept<L: OpenListener<Stream = S>, J: ConnectionLog>(

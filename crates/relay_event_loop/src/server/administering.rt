@@ -5,13 +5,13 @@ ghost use Rattle.relay_event_loop.specs.Connections.{connections_of, limit_of};
 ghost use Rattle.relay_event_loop.specs.Rounds.{RoundsOf};
 
 use super::Server;
-use super::reading::ROUND_COST;
+use super::reading::{ROUND_COST, TURN_COST};
 use crate::connection_log::ConnectionLog;
 use crate::counted::Counted;
-use relay_link::Entrance;
+use relay_link::{Entrance, Visit};
 use relay_operator::{AdminPort, AdminReadiness, AdminView, MAX_CONNECTIONS, Readiness};
 use relay_schedule::Spending;
-use std::alloc::Global;
+use std::alloc::{AllocError, Global};
 use std::io::{Read, Write};
 use std::net::{OpenListener, OpenStream};
 use std::time::{Clock, Duration};
@@ -97,7 +97,8 @@ where
         let has_more = admin.accept(alloc, &mut self.readiness);
         let view = AdminView {
             hub: &self.hub,
-            is_closed: self.entrance == Entrance::Closed,
+            is_closed: self.entrance.is_closed(),
+            wanted: self.wanted.as_slice(),
             left: self.places.empty.as_slice(),
             second: self.seconds,
             connections: self.connections.len() as u64,
@@ -108,14 +109,34 @@ where
         };
         let turn = admin.turn(alloc, &view);
         if turn.is_opening {
-            self.entrance = Entrance::Open;
+            self.set_entrance(Entrance::Open);
         }
+        self.admit_asked(alloc, admin, log);
         self.forget_asked(alloc, admin);
         self.visit_asked(alloc, admin, log);
         if has_more || turn.has_more || admin.is_behind() {
             self.readiness.ready_again();
         }
         turn.is_stopping
+    }
+
+    /// Opens and closes each room that the admin port asks for.
+    #[tactic(auto, using(crate::proofs::Rules::advances))]
+    fn admit_asked<L: OpenListener<Stream = S>, J: ConnectionLog>(
+        &mut self,
+        alloc: Global,
+        admin: &mut AdminPort<L>,
+        log: &mut J,
+    )
+        ensures { KeepsFewer S.remaining self.old self.new }
+    {
+        for _ in 0..MAX_CONNECTIONS {
+            let Some(asked) = admin.next_admission() else {
+                return;
+            };
+            let came = self.admit(alloc, asked, log);
+            admin.answer_admission(alloc, came);
+        }
     }
 
     /// Forgets each room that the admin port asks to be forgotten, in which nobody is.
@@ -132,7 +153,8 @@ where
         }
     }
 
-    /// Makes each visit that the admin port asks for.
+    /// Makes the visits that the admin port asks for, until they have cost what a round may. The
+    /// others wait for the next round.
     #[tactic(auto, using(crate::proofs::Rules::advances))]
     fn visit_asked<L: OpenListener<Stream = S>, J: ConnectionLog>(
         &mut self,
@@ -142,11 +164,16 @@ where
     )
         ensures { KeepsFewer S.remaining self.old self.new }
     {
+        let mut spending = Spending::within(ROUND_COST);
         for _ in 0..MAX_CONNECTIONS {
+            if !spending.allows_more() {
+                return;
+            }
             let Some(visit) = admin.next_visit(alloc, &self.hub) else {
                 return;
             };
             let came = self.visit(alloc, visit.room, visit.access, visit.text, log);
+            spending.spend(cost_of(&came));
             admin.answer_visit(alloc, &self.hub, came);
         }
     }
@@ -181,5 +208,13 @@ where
             }
         }
         false
+    }
+}
+
+/// What a visit cost.
+fn cost_of(came: &Result<Visit, AllocError>) -> u64 {
+    match came {
+        Ok(visit) => visit.cost.saturating_add(TURN_COST),
+        Err(AllocError) => TURN_COST,
     }
 }

@@ -56,13 +56,13 @@ impl<S: Read + Write + OpenStream + Drop, R: Readiness<S>> Server<S, R> {
             return;
         };
         turn.cause = turn.cause.and(Some(cause));
-        self.settle(key, before, &turn, log);
+        self.finish_turn(key, before, &turn, log);
     }
 
     /// Logs what a turn did to a connection, queues those whom its text told something, and drops
     /// the connection if its link is gone.
     #[tactic(auto, using(crate::proofs::Rules::advances))]
-    pub(super) fn settle<J: ConnectionLog>(
+    pub(super) fn finish_turn<J: ConnectionLog>(
         &mut self,
         key: usize,
         before: Stage,

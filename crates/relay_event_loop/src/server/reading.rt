@@ -71,7 +71,7 @@ impl<S: Read + Write + OpenStream + Drop, R: Readiness<S>> Server<S, R> {
 
     /// Reads from the connections that owe, in order, does wills, and sends what came of it.
     #[tactic(auto, using(crate::proofs::Rules::advances))]
-    pub(super) fn exchange_owing<J: ConnectionLog>(
+    pub(super) fn serve_owing<J: ConnectionLog>(
         &mut self,
         alloc: Global,
         before: Spending,
@@ -184,9 +184,9 @@ impl<S: Read + Write + OpenStream + Drop, R: Readiness<S>> Server<S, R> {
             return 0;
         };
         let before = connection.link.stage();
-        let Ok(turn) = connection
+        let Ok(mut turn) = connection
             .link
-            .read_turn(alloc, self.entrance, &mut self.hub, draws)
+            .read_turn(alloc, &self.entrance, &mut self.hub, draws)
         else {
             self.shed(log);
             return TURN_COST;
@@ -194,7 +194,8 @@ impl<S: Read + Write + OpenStream + Drop, R: Readiness<S>> Server<S, R> {
         let cost = cost_of(&turn, connection.readiness.take_read());
         connection.charge(cost);
         connection.read_pending = connection.readiness.may_go_on();
-        self.settle(key, before, &turn, log);
+        self.wanted.note(turn.turned_away.take());
+        self.finish_turn(key, before, &turn, log);
         cost
     }
 }

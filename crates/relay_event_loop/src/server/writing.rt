@@ -137,7 +137,7 @@ impl<S: Read + Write + OpenStream + Drop, R: Readiness<S>> Server<S, R> {
             return 0;
         };
         connection.charge(turn.cost.saturating_add(TURN_COST));
-        self.settle(key, before, &turn, log);
+        self.finish_turn(key, before, &turn, log);
         turn.drawn
     }
 }

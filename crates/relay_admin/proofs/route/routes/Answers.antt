@@ -1,4 +1,4 @@
--- The router has the five rows, in the order of their paths.
+-- The router has the six rows, in the order of their paths.
 use Rattle.matchit.proofs.OnLiterals.{matchit_on_literals}
 use Rattle.relay_admin.proofs.Routes.{routed}
 use Rattle.relay_admin.proofs.route.routes.Goals as goal
@@ -11,4 +11,5 @@ returns c = λ path.
     let d = rw b.1 at c.in_ok-insert-3.ensures in
     let e = rw d.1 at c.in_ok-insert-4.ensures in
     let f = rw e.1 at c.in_ok-insert-5.ensures in
-    rw f.1 (routed path)
+    let g = rw f.1 at c.in_ok-insert-6.ensures in
+    rw g.1 (routed path)

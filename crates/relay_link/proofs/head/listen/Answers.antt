@@ -1,12 +1,12 @@
 -- The room and the access are those that the head asks for: the bytes received before, and those
 -- that the read took.
-use Rattle.std.proofs.Common.{rules, ◌≡◌, ◌≤◌, ℕ, List, false, length, take, string_bytes, Some, sym, ap, is_err, ◌∙◌, subst}
+use Rattle.std.proofs.Common.{rules, ◌≡◌, ◌≤◌, ℕ, List, true, false, length, take, string_bytes, Some, sym, ap, is_err, ◌∙◌, subst}
 use Rattle.std.specs.Io.KnownBytes.{Consumes}
 use Rattle.relay_proto.specs.declared.access.Access.{Access}
 use Rattle.relay_link.specs.Asks.{Asks, Receives}
+use Rattle.relay_link.specs.Entrance.{lets_in, Within}
 use Rattle.relay_link.specs.Follows.{is_room}
 use Rattle.relay_link.specs.Stream.{stream_of}
-use Rattle.relay_link.specs.declared.entrance.Entrance.TheVariants as entry
 use Rattle.relay_link.specs.declared.head.TheConstants.{MAX_READ}
 use Rattle.relay_link.specs.declared.state.State.TheVariants.{Head}
 use Rattle.relay_link.proofs.Following.{follows_wider}
@@ -14,8 +14,8 @@ use Rattle.relay_link.proofs.Heads.{extended, asks_with}
 use Rattle.relay_link.proofs.Replying.{replies_closed, replies_head, replies_refuse}
 use Rattle.relay_link.proofs.head.listen.Goals as goal
 
-pub returns-in-Open-clause-follows : goal.returns-in-Open-clause-follows
-returns-in-Open-clause-follows g c = follows_wider asks c.admit.ensures.follows
+pub returns-then-lets_in-clause-follows : goal.returns-then-lets_in-clause-follows
+returns-then-lets_in-clause-follows g c = follows_wider asks c.admit.ensures.follows
   where
     asks : (room : List ℕ) (access : Access)
         → is_room (string_bytes c.in-Ok-Accept.room) c.in-Ok-Accept.access room access
@@ -38,6 +38,17 @@ returns-in-Open-clause-follows g c = follows_wider asks c.admit.ensures.follows
         (ap Some (ap (λ r. (r, c.in-Ok-Accept.access)) (sym name)
         ∙ ap (λ a. (room, a)) (sym given))))
 
+-- Clients may enter the room.
+pub returns-then-lets_in-clause-entrance : goal.returns-then-lets_in-clause-entrance
+returns-then-lets_in-clause-entrance g c = follows_wider within c.admit.ensures.follows
+  where
+    within : (room : List ℕ) (access : Access)
+        → is_room (string_bytes c.in-Ok-Accept.room) c.in-Ok-Accept.access room access
+        → Within c.args.entrance.now room access
+    within room access (name, given) =
+        let enters : lets_in c.args.entrance.now (string_bytes c.in-Ok-Accept.room) ≡ true =
+        search rules in ap (lets_in c.args.entrance.now) name ∙ enters
+
 -- The head is not whole: the bytes that the read took are held.
 pub returns-in-Ok-More-clause-received : goal.returns-in-Ok-More-clause-received
 returns-in-Ok-More-clause-received g c =
@@ -53,8 +64,8 @@ returns-in-Ok-More-clause-received g c =
     (sym c.on-in-Ok-More.ensures) (taken, first, grown)
 
 -- The head is whole: the reply is the answer to those bytes.
-pub returns-in-Open-clause-replies : goal.returns-in-Open-clause-replies
-returns-in-Open-clause-replies g c =
+pub returns-then-lets_in-clause-replies : goal.returns-then-lets_in-clause-replies
+returns-then-lets_in-clause-replies g c =
     let fits : is_err c.extend_from_slice.result ≡ false = search rules in
     let whole = c.as_slice.ensures.value
     ∙ extended c.extend_from_slice.result c.args.bytes.items
@@ -62,12 +73,14 @@ returns-in-Open-clause-replies g c =
     let taken = take c.in-Ok.len c.read.new.buf in
     let first : Consumes (g.S.Read.remaining (stream_of c.args.stream))
     (g.S.Read.remaining (stream_of c.read.new.self)) taken = c.in-Ok.ensures.bytes.0 in
-    replies_head g.S.Read.remaining g.S.Write.contents c.args.entrance c.args.stream c.read.new.self
-    c.args.bytes _ taken c.in-Ok-Accept.field-0 _ whole first c.in-Ok-Accept.ensures.head
-    c.in-Ok-Accept.ensures.no_head
-    (rw (c.in-Ok-Accept.field-0-is, c.in-Open.is) c.admit.ensures.replies)
+    let enters : lets_in c.args.entrance.now (string_bytes c.in-Ok-Accept.room) ≡ true =
+    search rules in
+    replies_head g.S.Read.remaining g.S.Write.contents c.args.entrance.now c.args.stream
+    c.read.new.self c.args.bytes _ taken c.in-Ok-Accept.field-0 _ whole first
+    c.in-Ok-Accept.ensures.head c.in-Ok-Accept.ensures.no_head
+    (rw c.in-Ok-Accept.field-0-is (c.admit.ensures.replies c.args.entrance.now enters))
 
--- The same while clients may not enter.
+-- The same for a room in which clients may not enter.
 pub returns-in-Ok-Accept-clause-replies : goal.returns-in-Ok-Accept-clause-replies
 returns-in-Ok-Accept-clause-replies g c =
     let fits : is_err c.extend_from_slice.result ≡ false = search rules in
@@ -77,12 +90,13 @@ returns-in-Ok-Accept-clause-replies g c =
     let taken = take c.in-Ok.len c.read.new.buf in
     let first : Consumes (g.S.Read.remaining (stream_of c.args.stream))
     (g.S.Read.remaining (stream_of c.read.new.self)) taken = c.in-Ok.ensures.bytes.0 in
-    let closed : c.args.entrance ≡ entry.Closed = search rules in
-    replies_head g.S.Read.remaining g.S.Write.contents c.args.entrance c.args.stream c.read.new.self
-    c.args.bytes _ taken c.in-Ok-Accept.field-0 _ whole first c.in-Ok-Accept.ensures.head
-    c.in-Ok-Accept.ensures.no_head
+    let stays_out : lets_in c.args.entrance.now (string_bytes c.in-Ok-Accept.room) ≡ false =
+    search rules in
+    replies_head g.S.Read.remaining g.S.Write.contents c.args.entrance.now c.args.stream
+    c.read.new.self c.args.bytes _ taken c.in-Ok-Accept.field-0 _ whole first
+    c.in-Ok-Accept.ensures.head c.in-Ok-Accept.ensures.no_head
     (rw c.in-Ok-Accept.field-0-is
-    (replies_closed g.S.Write.contents _ _ _ _ _ _ closed c.turn_away.ensures.writes))
+    (replies_closed g.S.Write.contents _ _ _ _ _ _ stays_out c.turn_away.ensures.writes))
 
 pub returns-in-Ok-Refuse-clause-replies : goal.returns-in-Ok-Refuse-clause-replies
 returns-in-Ok-Refuse-clause-replies g c =
@@ -93,8 +107,8 @@ returns-in-Ok-Refuse-clause-replies g c =
     let taken = take c.in-Ok.len c.read.new.buf in
     let first : Consumes (g.S.Read.remaining (stream_of c.args.stream))
     (g.S.Read.remaining (stream_of c.read.new.self)) taken = c.in-Ok.ensures.bytes.0 in
-    replies_head g.S.Read.remaining g.S.Write.contents c.args.entrance c.args.stream c.read.new.self
-    c.args.bytes _ taken c.in-Ok-Refuse.field-0 _ whole first c.in-Ok-Refuse.ensures.head
-    c.in-Ok-Refuse.ensures.no_head
+    replies_head g.S.Read.remaining g.S.Write.contents c.args.entrance.now c.args.stream
+    c.read.new.self c.args.bytes _ taken c.in-Ok-Refuse.field-0 _ whole first
+    c.in-Ok-Refuse.ensures.head c.in-Ok-Refuse.ensures.no_head
     (rw c.in-Ok-Refuse.field-0-is
     (replies_refuse g.S.Write.contents _ _ _ _ _ c.answer.ensures.writes))

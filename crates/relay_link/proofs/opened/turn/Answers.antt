@@ -12,19 +12,19 @@ pub returns-clause-talks : goal.returns-clause-talks
 returns-clause-talks g c =
     let before = at c.args.hub.now (Some c.args.session) c.args.events.now in
     let talks = Talks g.S.Read.remaining g.S.Write.contents (texts_of c.args.phase) in
-    let state = c.settle.result.state in
-    subst (λ socket. IfOpen talks before socket c.settle.new.hub c.settle.new.events state)
+    let state = c.finish.result.state in
+    subst (λ socket. IfOpen talks before socket c.finish.new.hub c.finish.new.events state)
     c.widen.ensures
-    (talked_into g.S.Read.remaining g.S.Write.contents c.talk-talked.result _ _ _ _ _ _ _ _ _ _
-    c.talk-talked.ensures.talks c.settle.ensures.stays c.settle.ensures.over)
+    (talked_into g.S.Read.remaining g.S.Write.contents c.serve-turned.result _ _ _ _ _ _ _ _ _ _
+    c.serve-turned.ensures.talks c.finish.ensures.stays c.finish.ensures.over)
 
 pub returns-clause-passes : goal.returns-clause-passes
 returns-clause-passes g c =
     let most = allowed_reads c.args.hub.now (Some c.args.session) (texts_of c.args.phase) in
-    let state = c.settle.result.state in
+    let state = c.finish.result.state in
     let events = c.args.events.now in
-    subst (λ socket. ReadsTexts g.S.Read.remaining most socket state events c.settle.new.events)
+    subst (λ socket. ReadsTexts g.S.Read.remaining most socket state events c.finish.new.events)
     c.widen.ensures
-    (reads_into g.S.Read.remaining g.S.Write.contents c.talk-talked.result _ _ _ _ _ _ _ _ _ _
-    c.talk-talked.ensures.talks c.talk-talked.ensures.passes c.settle.ensures.stays
-    c.settle.ensures.over c.settle.ensures.passes)
+    (reads_into g.S.Read.remaining g.S.Write.contents c.serve-turned.result _ _ _ _ _ _ _ _ _ _
+    c.serve-turned.ensures.talks c.serve-turned.ensures.passes c.finish.ensures.stays
+    c.finish.ensures.over c.finish.ensures.passes)

@@ -7,12 +7,12 @@ use Rattle.relay_event_loop.proofs.server.Server.end_link.Goals as goal
 pub returns : goal.returns
 returns g c = (
   (
-    c.settle.ensures.0.0,
+    c.finish_turn.ensures.0.0,
     advances_then (ended c.args.self.now.connections c.args.key c.in-Some.connection.now _
         (sym c.in-Some.ensures.value) _ _ _ c.in-Ok.ensures.follows c.in-Ok.ensures.closes
-        c.in-Ok.ensures.gone) c.settle.ensures.0.1,
+        c.in-Ok.ensures.gone) c.finish_turn.ensures.0.1,
   ),
-  no_more_then _ _ _ c.settle.ensures.1
+  no_more_then _ _ _ c.finish_turn.ensures.1
       (no_more c.args.self.now.connections c.args.key c.in-Some.connection.now _
       (sym c.in-Some.ensures.value)),
 )

@@ -8,5 +8,5 @@ returns-clause-rounds g c =
     let read =
     advances_then (advances_then begun c.accept.ensures.0.1) c.read-spending.ensures.0.1 in
     let written =
-    advances_then (advances_then read c.write.ensures.0.1) c.exchange_owing.ensures.0.1 in
+    advances_then (advances_then read c.write.ensures.0.1) c.serve_owing.ensures.0.1 in
     rounds_of (advances_then written c.make_place.ensures.0.1)

@@ -8,14 +8,14 @@ use Rattle.relay_event_loop.proofs.server.Server.write_link.Goals as goal
 pub returns : goal.returns
 returns g c = (
   (
-    c.settle.ensures.0.0,
+    c.finish_turn.ensures.0.0,
     advances_then (turned c.args.self.now.connections c.args.key c.in-Some.connection.now _
         (sym c.in-Some.ensures.value) _ _ _ c.in-Ok.ensures.turns.follows
         c.in-Ok.ensures.turns.received
         (passes_wider _ c.args.self.now.hub _ _ _ _ c.in-Ok.ensures.turns.passes))
-        c.settle.ensures.0.1,
+        c.finish_turn.ensures.0.1,
   ),
-  no_more_then _ _ _ c.settle.ensures.1
+  no_more_then _ _ _ c.finish_turn.ensures.1
       (no_more c.args.self.now.connections c.args.key c.in-Some.connection.now _
       (sym c.in-Some.ensures.value)),
 )

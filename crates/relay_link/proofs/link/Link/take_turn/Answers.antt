@@ -7,7 +7,7 @@ use Rattle.relay_link.specs.Hears.{PassesTexts}
 use Rattle.relay_link.specs.Replies.{Replies}
 use Rattle.relay_link.specs.Stage.{session_of}
 use Rattle.relay_link.proofs.Closed.{closed}
-use Rattle.relay_link.proofs.Following.{follows_from}
+use Rattle.relay_link.proofs.Following.{follows_as, follows_from}
 use Rattle.relay_link.proofs.link.Link.take_turn.Goals as goal
 
 pub returns-clause-turns : goal.returns-clause-turns
@@ -21,7 +21,7 @@ returns-clause-turns g c = record {
   few = search rules;
   heard = search rules;
   passes =
-      rw c.into_events.ensures (subst₂ (λ state events.
+      rw (c.into_events.ensures ∙ c.take_turned_away.ensures) (subst₂ (λ state events.
       PassesTexts g.S.Read.remaining (texts_of c.args.phase) c.args.hub.now state
       c.advance-next.result.state events c.advance-next.new.events) (c.replace-state.ensures.value
       ∙ c.self.view_is) c.in_ok-events.ensures c.advance-next.ensures.passes);
@@ -29,7 +29,8 @@ returns-clause-turns g c = record {
   closed = λ s had gone.
       let was : session_of c.replace-state.result ≡ Some s =
       ap session_of (c.replace-state.ensures.value ∙ c.self.view_is) ∙ had in
-      rw c.into_events.ensures (closed c.advance-next.ensures.follows s was gone);
+      rw (c.into_events.ensures ∙ c.take_turned_away.ensures)
+      (closed c.advance-next.ensures.follows s was gone);
   over = search rules;
   stage = search rules;
   cause = search rules;
@@ -41,7 +42,8 @@ returns-clause-turns g c = record {
 pub returns-clause-replies : goal.returns-clause-replies
 returns-clause-replies g c =
     subst (λ state.
-    Replies g.S.Read.remaining g.S.Write.contents c.args.entrance state c.advance-next.result.state)
+    Replies g.S.Read.remaining g.S.Write.contents c.args.entrance.now state
+    c.advance-next.result.state)
     (c.replace-state.ensures.value ∙ c.self.view_is) c.advance-next.ensures.replies
 
 pub returns-clause-binary : goal.returns-clause-binary
@@ -50,3 +52,7 @@ returns-clause-binary g c =
     BinaryAnsweredIfOpen g.S.Write.contents state c.advance-next.result.state
     c.advance-next.result.cause)
     (c.replace-state.ensures.value ∙ c.self.view_is) c.advance-next.ensures.binary
+
+pub returns-clause-entrance : goal.returns-clause-entrance
+returns-clause-entrance g c =
+    follows_as _ _ (c.replace-state.ensures.value ∙ c.self.view_is) (search rules)

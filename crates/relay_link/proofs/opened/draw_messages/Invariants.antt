@@ -4,7 +4,7 @@ use Rattle.relay_link.specs.Adds.{Adds}
 use Rattle.relay_link.specs.Follows.{Follows, no_room, at}
 use Rattle.relay_link.specs.Hears.{Passes}
 use Rattle.relay_link.specs.Tells.{Tells}
-use Rattle.relay_link.proofs.opened.gather.Given as goal
+use Rattle.relay_link.proofs.opened.draw_messages.Given as goal
 
 abbrev pub invariant-loop : goal.invariant-loop
 invariant-loop g l = record {

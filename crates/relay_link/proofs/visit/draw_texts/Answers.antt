@@ -1,7 +1,7 @@
 -- A pass drew one text more.
 use Rattle.std.proofs.Common.{rules}
 use Rattle.relay_link.proofs.Visiting.{drew_text, draws_one}
-use Rattle.relay_link.proofs.visit.gather.Goals as goal
+use Rattle.relay_link.proofs.visit.draw_texts.Goals as goal
 
 pub loop-preserved : goal.loop-preserved
 loop-preserved c = record {

@@ -4,7 +4,7 @@ use Rattle.relay_link.specs.Adds.{Adds, draws}
 use Rattle.relay_link.specs.Follows.{at}
 use Rattle.relay_link.specs.Hears.{Passes}
 use Rattle.relay_link.specs.Tells.{Drew}
-use Rattle.relay_link.proofs.visit.gather.Given as goal
+use Rattle.relay_link.proofs.visit.draw_texts.Given as goal
 
 abbrev pub invariant-loop : goal.invariant-loop
 invariant-loop l = record {

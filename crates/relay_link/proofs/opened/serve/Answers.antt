@@ -3,7 +3,7 @@
 use Rattle.std.proofs.Common.{refl}
 use Rattle.relay_link.proofs.Hearing.{sends_none}
 use Rattle.relay_link.proofs.Telling.{talked_none, talked}
-use Rattle.relay_link.proofs.opened.talk.Goals as goal
+use Rattle.relay_link.proofs.opened.serve.Goals as goal
 
 pub returns-then-not-branch-clause-talks : goal.returns-then-not-branch-clause-talks
 returns-then-not-branch-clause-talks g c =
@@ -17,5 +17,5 @@ returns-in_err-flush-clause-passes g c = sends_none g.S.Read.remaining _ _ _ _ r
 
 pub returns-in_ok-sent-clause-talks : goal.returns-in_ok-sent-clause-talks
 returns-in_ok-sent-clause-talks g c =
-    talked g.S.Read.remaining g.S.Write.contents c.exchange-exchanged.result _ _ _ _ _ _ _
-    c.flush.ensures.frames c.exchange-exchanged.ensures.exchanges c.flush-sent.ensures.frames
+    talked g.S.Read.remaining g.S.Write.contents c.hear_and_draw-exchanged.result _ _ _ _ _ _ _
+    c.flush.ensures.frames c.hear_and_draw-exchanged.ensures.exchanges c.flush-sent.ensures.frames

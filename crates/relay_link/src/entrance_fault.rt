@@ -1,0 +1,19 @@
+//! Why the rooms in which clients may enter stay as they are.
+use std::alloc::AllocError;
+
+/// Why a room is not opened to clients, or not closed.
+#[derive(Clone, Copy, Debug, PartialEq, Eq)]
+pub enum EntranceFault {
+    /// Clients may enter every room, so that none can be closed.
+    AllOpen,
+    /// Clients may enter as many rooms as there may be.
+    Full,
+    /// Memory was refused.
+    NoMemory,
+}
+
+impl From<AllocError> for EntranceFault {
+    fn from(_: AllocError) -> EntranceFault {
+        EntranceFault::NoMemory
+    }
+}

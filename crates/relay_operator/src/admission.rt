@@ -1,0 +1,25 @@
+//! What is asked of the way into a room, and the response by what came of it.
+use relay_admin::{Response, Unavailable};
+use relay_link::EntranceFault;
+
+/// What an operator asks of a room, by its name.
+#[derive(Clone, Copy, Debug, PartialEq, Eq)]
+pub enum Admission<'a> {
+    /// `PUT`: that clients may enter it.
+    Open(&'a str),
+    /// `DELETE`: that no client may enter it, and that who is in it is ended.
+    Close(&'a str),
+}
+
+impl Admission<'_> {
+    /// The response, by what came of it.
+    pub(crate) fn response(self, came: Result<(), EntranceFault>) -> Response<'static> {
+        match (came, self) {
+            (Ok(()), Admission::Open(_)) => Response::Admitted,
+            (Ok(()), Admission::Close(_)) => Response::Excluded,
+            (Err(EntranceFault::AllOpen), _) => Response::Open,
+            (Err(EntranceFault::Full), _) => Response::Unavailable(Unavailable::Rooms),
+            (Err(EntranceFault::NoMemory), _) => Response::Unavailable(Unavailable::Memory),
+        }
+    }
+}
