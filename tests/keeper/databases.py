@@ -8,8 +8,9 @@ import subprocess
 import tempfile
 
 from relay_keeper.store import LeaseLost, StoreFailed
-from relay_keeper.stores import BadStore, opened
+from relay_keeper.stores import BadStore, opened, shared
 from stores import FIRST, SECOND, refuses, state
+from support.patience import until
 from support.play import main, shows
 from support.postgres import cluster
 
@@ -75,6 +76,74 @@ def what_a_database_refuses_leaves_what_was_there(database):
         assert store.get("board") == state(1, FIRST)
         store.check()
         assert store.put(state(2, SECOND))
+
+
+@contextlib.contextmanager
+def two_keepers(where, relay="boards"):
+    with contextlib.closing(shared(where, relay, 1, 600.0)) as one:
+        with contextlib.closing(shared(where, relay, 1, 600.0)) as other:
+            assert one.take() and other.take()
+            yield one, other
+
+
+@shows
+def a_room_of_several_keepers_is_written_by_the_one_that_has_it(database):
+    with two_keepers(database.database()) as (one, other):
+        assert one.take_room("board") and one.take_room("board") and not other.take_room("board")
+        assert other.take_room("other") and one.take_epoch(7) and not other.take_epoch(7)
+        assert one.put(state(1, FIRST))
+        for write in (
+            lambda: other.put(state(2, SECOND)),
+            lambda: other.mark("board", 8, 1),
+            lambda: other.set_aside("board"),
+        ):
+            refuses(LeaseLost, write)
+        one.give_room("board")
+        refuses(LeaseLost, lambda: one.put(state(2, SECOND)))
+        assert other.take_room("board") and other.get("board") == state(1, FIRST)
+
+
+@shows
+def a_keeper_of_all_rooms_and_those_of_single_ones_keep_each_other_out(database):
+    where = database.database()
+    with contextlib.closing(opened(where, relay="boards")) as whole:
+        with two_keepers(where):
+            assert not whole.take()
+        assert whole.take()
+        with contextlib.closing(shared(where, "boards", 1, 600.0)) as late:
+            assert not late.take()
+            with two_keepers(where, "forms"):
+                pass
+
+
+@shows
+def a_keeper_is_told_which_rooms_others_of_its_group_ask_for(database):
+    where = database.database()
+    with two_keepers(where) as (one, other), two_keepers(where, "forms") as (apart, _):
+        one.ask_for("board")
+        one.ask_for("other")
+        other.check()
+        assert other.asked_for() == ["board", "other"] and other.asked_for() == []
+        assert apart.asked_for() == []
+
+
+@shows
+def a_connection_that_is_cut_takes_all_locks_with_it(database):
+    with two_keepers(database.database()) as (one, other):
+        assert one.take_room("board")
+        one.cut()
+        refuses(LeaseLost, one.check)
+        refuses(LeaseLost, one.asked_for)
+        refuses(LeaseLost, lambda: one.put(state(1, FIRST)))
+        until(lambda: other.take_room("board"))
+
+
+@shows
+def of_several_hosts_the_first_that_is_as_it_is_wanted_is_taken(database):
+    where = database.database().replace("host=", "target_session_attrs=read-write&host=/nowhere,")
+    with contextlib.closing(opened(where)) as store:
+        assert store.take() and store.put(state(1, FIRST))
+    refuses(StoreFailed, lambda: opened(where.replace("read-write", "standby")).take())
 
 
 @shows

@@ -13,6 +13,7 @@ from relay_keeper.stores import opened
 from support.play import main, shows
 from support.postgres import cluster
 
+SHARE = ("share", "ws://127.0.0.1:1", "--admin", "http://127.0.0.1:1")
 FIRST, SECOND = {"cards": ["milk", "\x00 é \t\n"]}, [1, None, {"a/b": {}}]
 
 
@@ -140,6 +141,9 @@ def wrong_words_have_a_status_of_their_own(_):
         (["keep", "ws://127.0.0.1:1", "--pace", "0", "--store", "x", "room"], 2),
         (["keep", "ws://127.0.0.1:1", "--history", "0", "--store", "x", "room"], 2),
         (["keep", "ws://127.0.0.1:1"], 1),
+        (["share", "ws://127.0.0.1:1", "--store", "postgresql://x"], 2),
+        ([*SHARE, "--store", "sqlite:x"], 1),
+        ([*SHARE, "--store", "postgresql://nobody@/none?host=/nowhere"], 1),
         (["restore"], 1),
         (["restore", "--store", "x", "board", "2", "3"], 1),
         (["list", "--store", "nothing://x"], 1),
@@ -154,7 +158,7 @@ def wrong_words_have_a_status_of_their_own(_):
 
 @shows
 def each_word_has_help_with_an_example(_):
-    for word in ("keep", "restore", "list", "export", "import"):
+    for word in ("keep", "share", "restore", "list", "export", "import"):
         told, status = says(word, "--help")
         flat = " ".join(told.split())
         assert status == 0 and f"Example: relay-keeper {word} " in flat, told

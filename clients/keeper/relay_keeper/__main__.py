@@ -8,9 +8,12 @@ from typing import Optional, Sequence
 
 import relay_client
 
+from .admin import OpenToAll
 from .commands import COMMANDS
 from .lines import BadLine
+from .moving import EpochTaken
 from .names import BadName
+from .sharing import Gone
 from .store import LeaseLost, NoState, Taken
 from .stores import BadStore
 from .words import parsed
@@ -19,8 +22,11 @@ FAULTS = (
     BadLine,
     BadName,
     BadStore,
+    EpochTaken,
+    Gone,
     LeaseLost,
     NoState,
+    OpenToAll,
     Taken,
     relay_client.Refused,
     OSError,

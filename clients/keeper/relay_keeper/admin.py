@@ -6,13 +6,14 @@ import json
 import re
 import urllib.parse
 from dataclasses import dataclass
-from typing import Any, Dict, Mapping, NamedTuple, Optional, Tuple
+from typing import Any, Dict, List, Mapping, NamedTuple, Optional, Tuple
 
+from .names import is_name
 from .state import Json
 from .store import as_text
 
-SECONDS = 10.0
-"""How long an answer may take."""
+SECONDS, STOPPING = 10.0, 2.0
+"""How long an answer may take, and that to a stop."""
 LONGEST = 1_048_576
 """Bytes of a patch that the relay reads."""
 _TAG = re.compile(r'"(\d+)-(\d+)"')
@@ -28,6 +29,10 @@ class Full(NoAnswer):
     def __init__(self, seconds: int, said: str):
         super().__init__(said)
         self.seconds = seconds
+
+
+class OpenToAll(Exception):
+    """The relay lets clients into all rooms, so none can be closed."""
 
 
 class Tag(NamedTuple):
@@ -131,6 +136,35 @@ class Admin:
         _expected(answer, 204)
         return True
 
+    # Rooms by their names.
+
+    def wanted(self) -> List[str]:
+        """The rooms that clients were refused at, since they are not open."""
+        return [room for room in _json(self._ask("GET", "/wanted", wanted=200)) if is_name(room)]
+
+    def admit(self, room: str) -> None:
+        """Lets clients into a room. `Full` if the relay has no place for it."""
+        self._ask("PUT", f"/open/{room}", wanted=204)
+
+    def exclude(self, room: str) -> None:
+        """Lets nobody into a room, and ends its sessions. `OpenToAll`."""
+        answer = self._ask("DELETE", f"/open/{room}")
+        if answer.status == 409:
+            raise OpenToAll(f"{self.url}: {answer.said}; start it with --closed")
+        _expected(answer, 204)
+
+    def forget(self, room: str) -> bool:
+        """False if somebody is in it."""
+        answer = self._ask("DELETE", f"/rooms/{room}")
+        if answer.status in (404, 409):
+            return answer.status == 404
+        _expected(answer, 204)
+        return True
+
+    def stop(self) -> None:
+        """Ends the relay, and its sessions first."""
+        self._ask("POST", "/stop", wanted=202, seconds=STOPPING)
+
     def _ask(
         self,
         method: str,
@@ -138,8 +172,9 @@ class Admin:
         fields: Optional[Mapping[str, str]] = None,
         body: Optional[bytes] = None,
         wanted: Optional[int] = None,
+        seconds: float = SECONDS,
     ) -> Answer:
-        link = http.client.HTTPConnection(self._host, self._port, timeout=SECONDS)
+        link = http.client.HTTPConnection(self._host, self._port, timeout=seconds)
         try:
             link.request(method, path, body, dict(fields or {}))
             reply = link.getresponse()

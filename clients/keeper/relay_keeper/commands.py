@@ -15,8 +15,9 @@ from .names import BadName, Chosen, is_name, listed as names_of
 from .pace import Pace
 from .putting_back import PuttingBack
 from .restore import listing, restore_kept, restore_room
+from .share import Group, share
 from .store import Store
-from .stores import BadStore, opened, take
+from .stores import BadStore, opened, shared, take
 
 log = logging.getLogger("relay_keeper")
 
@@ -35,6 +36,23 @@ def keeping(asked: argparse.Namespace) -> int:
                     chosen,
                     _admin(asked),
                     asked.every,
+                )
+            )
+        )
+    return 0
+
+
+def sharing(asked: argparse.Namespace) -> int:
+    store = shared(asked.store, asked.relay, asked.history, asked.apart)
+    with contextlib.closing(store):
+        asyncio.run(
+            share(
+                Group(
+                    asked.url,
+                    store,
+                    lambda: Pace(asked.pace, asked.age),
+                    Admin(asked.admin),
+                    asked.idle,
                 )
             )
         )
@@ -113,6 +131,7 @@ def importing(asked: argparse.Namespace) -> int:
 
 COMMANDS: Dict[str, Callable[[argparse.Namespace], int]] = {
     "keep": keeping,
+    "share": sharing,
     "restore": restoring,
     "list": listing_all,
     "export": exporting,

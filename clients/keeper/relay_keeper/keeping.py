@@ -6,7 +6,7 @@ import logging
 import signal
 from concurrent.futures import ThreadPoolExecutor
 from dataclasses import dataclass
-from typing import Any, Callable, List, Optional
+from typing import Any, Callable, Coroutine, List, Optional
 
 from .admin import Admin
 from .finding import Finding
@@ -42,18 +42,31 @@ class Asked:
     """Seconds from one list of the operator's port to the next one."""
 
 
+Work = Callable[[Means, "asyncio.Future[Any]"], Coroutine[Any, Any, None]]
+"""What a keeper does once it has the lease, until the future is done."""
+
+
 async def keep(asked: Asked) -> None:
     """Until SIGTERM or SIGINT. Then everything that was heard is written. Fails with what closed a
     board, if something did, and with `LeaseLost`."""
+
+    async def work(means: Means, stopping: "asyncio.Future[Any]") -> None:
+        await _keep(asked, means, stopping)
+
+    await until_stopped(asked.url, asked.store, asked.pace, work)
+
+
+async def until_stopped(url: str, store: Store, pace: Callable[[], Pace], work: Work) -> None:
+    """Waits for the lease of the store, and then works, until SIGTERM or SIGINT."""
     stop = asyncio.Event()
     for sign in (signal.SIGTERM, signal.SIGINT):
         asyncio.get_running_loop().add_signal_handler(sign, stop.set)
     stopping = asyncio.ensure_future(stop.wait())
     with ThreadPoolExecutor(THREADS) as disk:
-        means = Means(asked.url, asked.store, disk, asked.pace)
-        leased = await _first(stopping, asyncio.ensure_future(_lease(means)))
+        means = Means(url, store, disk, pace)
+        leased = await first(stopping, asyncio.ensure_future(_lease(means)))
         if leased is not stopping:
-            await _keep(asked, means, stopping)
+            await work(means, stopping)
     stopping.cancel()
 
 
@@ -68,7 +81,7 @@ async def _keep(asked: Asked, means: Means, stopping: "asyncio.Future[Any]") -> 
         beside.append(asyncio.ensure_future(finding.find()))
     telling = asyncio.ensure_future(_tell_ready(rooms, asyncio.ensure_future(ready)))
     try:
-        await _first(stopping, rooms.failed, *beside)
+        await first(stopping, rooms.failed, *beside)
     finally:
         notify("STOPPING=1")
         for task in (*beside, telling):
@@ -79,7 +92,7 @@ async def _keep(asked: Asked, means: Means, stopping: "asyncio.Future[Any]") -> 
         rooms.failed.result()
 
 
-async def _first(*tasks: "asyncio.Future[Any]") -> "asyncio.Future[Any]":
+async def first(*tasks: "asyncio.Future[Any]") -> "asyncio.Future[Any]":
     """The one that is done first. Fails as it does."""
     done, _ = await asyncio.wait(tasks, return_when=asyncio.FIRST_COMPLETED)
     first = next(task for task in tasks if task in done)

@@ -1,6 +1,7 @@
 """A store in a database of PostgreSQL, by Debian's python3-psycopg."""
 from __future__ import annotations
 
+import contextlib
 import hashlib
 import importlib
 import threading
@@ -23,6 +24,7 @@ SILENCE = {
 }
 ITS_SILENCE = """SET tcp_keepalives_idle = 10; SET tcp_keepalives_interval = 5;
 SET tcp_keepalives_count = 4; SET tcp_user_timeout = 30000"""
+LEASE = "SELECT pg_try_advisory_lock(?)"
 
 
 class PostgreSQL(Table):
@@ -31,21 +33,21 @@ class PostgreSQL(Table):
 
     JSON = "json"
     BYTES = "octet_length(CAST(document AS text))"
+    SILENCE, ITS_SILENCE, LEASE = SILENCE, ITS_SILENCE, LEASE
 
     def __init__(self, address: str, relay: str, history: int, apart: float):
         self._driver = _driver()
         given: Dict[str, Any] = self._parsed(address)
         shown = given.get("dbname", "postgresql"), given.get("host", "this machine")
         super().__init__("database {} of {}".format(*shown), relay, history, apart)
-        self._words = {**SILENCE, **given}
-        self._key = _key(f"relay-keeper {relay}")
+        self._hosts = _each_host({**self.SILENCE, **given})
+        self._key = key(f"relay-keeper {relay}")
         self._one_at_a_time = threading.Lock()
         self._connection: Optional[Any] = None
         self._is_holder = False
 
     def take(self) -> bool:
-        asked = "SELECT pg_try_advisory_lock(?)"
-        [[is_taken]] = self._transaction(lambda run: run(asked, (self._key,))[1])
+        [[is_taken]] = self._transaction(lambda run: run(self.LEASE, (self._key,))[1])
         if is_taken:
             self._is_holder = True
             self._transaction(self._made, leased=True)
@@ -61,7 +63,7 @@ class PostgreSQL(Table):
 
     def _made(self, run: Run) -> None:
         # Two at once would make it twice, each for a relay of its own.
-        run("SELECT pg_advisory_xact_lock(?)", (_key("relay-keeper"),))
+        run("SELECT pg_advisory_xact_lock(?)", (key("relay-keeper"),))
         self._make(run)
 
     def _parsed(self, address: str) -> Dict[str, Any]:
@@ -87,15 +89,24 @@ class PostgreSQL(Table):
         lease."""
         is_there = self._connection is not None and not self._connection.closed
         if (leased or self._is_holder) and not (is_there and self._is_holder):
-            raise LeaseLost(f"{self.where}: the lease is not held")
+            state = "lost" if self._is_holder else "not held"
+            raise LeaseLost(f"{self.where}: the lease is {state}")
         if is_there:
             return self._connection
         try:
-            self._connection = self._driver.connect(autocommit=True, **self._words)
-            self._connection.execute(ITS_SILENCE)
+            self._connection = self._connect()
+            self._connection.execute(self.ITS_SILENCE)
         except self._driver.Error as error:
             raise StoreFailed(f"{self.where}: {error}") from error
         return self._connection
+
+    def _connect(self) -> Any:
+        """To the first host that is as the address wants it."""
+        *others, last = self._hosts
+        for words in others:
+            with contextlib.suppress(self._driver.Error):
+                return self._driver.connect(autocommit=True, **words)
+        return self._driver.connect(autocommit=True, **last)
 
 
 def _driver() -> Any:
@@ -106,7 +117,18 @@ def _driver() -> Any:
         raise StoreFailed(f"postgresql: {wanted}") from None
 
 
-def _key(words: str) -> int:
+def _each_host(words: Dict[str, Any]) -> List[Dict[str, Any]]:
+    """The words for each host of an address. psycopg waits for all of them together as long as
+    `connect_timeout` says, so one that is gone would keep it from the next."""
+    hosts, ports = (str(words.get(name, "")).split(",") for name in ("host", "port"))
+    if len(hosts) == 1 or "hostaddr" in words:
+        return [words]
+    if len(ports) != len(hosts):
+        ports = ports[:1] * len(hosts)
+    return [{**words, "host": host, "port": port} for host, port in zip(hosts, ports)]
+
+
+def key(words: str) -> int:
     """A number of 64 bits for an advisory lock."""
     return int.from_bytes(hashlib.sha256(words.encode()).digest()[:8], "big", signed=True)
 

@@ -98,7 +98,7 @@ class PuttingBack:
     def _until_it_stands(self, state: State, is_there: bool) -> Optional[Tag]:
         for _ in range(TRIES):
             try:
-                tried = self._try(state) if is_there else self._edit(state, None)
+                tried = self._try(state) if is_there else self.edit(state, None)
             except Full as full:
                 log.warning("%s: the relay says %s", state.room, full)
                 if self._pauses == 0:
@@ -116,17 +116,17 @@ class PuttingBack:
         """A room that is there is not overwritten, unless it was never edited."""
         there = self._admin.document(state.room)
         if there is None:
-            return self._edit(state, None)
+            return self.edit(state, None)
         tag, document = there
         if same(document, state.document):
             self._store.mark(state.room, tag.epoch, tag.revision)
             return Tried(tag)
         if tag.revision == 0:
-            return self._edit(state, tag)
+            return self.edit(state, tag)
         log.warning("%s: another client was first, so the room is left as it is", state.room)
         return Tried()
 
-    def _edit(self, state: State, base: Optional[Tag]) -> Tried:
+    def edit(self, state: State, base: Optional[Tag]) -> Tried:
         """Guarded by the room's revision, or by its document where there is no room yet."""
         value = {"op": "add", "path": "", "value": state.document}
         guard = [] if base else [{"op": "test", "path": "", "value": None}]

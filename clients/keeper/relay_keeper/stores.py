@@ -6,6 +6,7 @@ from typing import Optional
 
 from .folder import Folder
 from .names import is_name
+from .shared import Shared
 from .store import Store, Taken
 
 NAME = "relay"
@@ -22,8 +23,7 @@ def opened(
 ) -> Store:
     """`where` is files:FOLDER, sqlite:PATH, postgresql://.., or a folder. A database may have the
     rooms of several relays, each under a name of its own; a folder has those of one."""
-    if relay is not None and not is_name(relay):
-        raise BadStore(f"{relay!r}: a relay's name is as that of a room")
+    _check(relay)
     scheme, colon, rest = where.partition(":")
     if where.startswith(POSTGRESQL):
         from .postgresql import PostgreSQL
@@ -39,6 +39,19 @@ def opened(
         raise BadStore("--relay is for databases; a folder has the rooms of one relay")
     path = rest if scheme == "files" and colon else where
     return Folder(pathlib.Path(path), history, apart)
+
+
+def shared(where: str, relay: Optional[str], history: int, apart: float) -> Shared:
+    """Of several keepers."""
+    _check(relay)
+    if not where.startswith(POSTGRESQL):
+        raise BadStore(f"{where!r}: several keepers share a database, postgresql://..")
+    return Shared(where, relay or NAME, history, apart)
+
+
+def _check(relay: Optional[str]) -> None:
+    if relay is not None and not is_name(relay):
+        raise BadStore(f"{relay!r}: a relay's name is as that of a room")
 
 
 def take(store: Store) -> None:

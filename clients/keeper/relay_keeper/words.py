@@ -15,6 +15,14 @@ written. A document is written once edits have brought a tenth of its bytes (--p
 latest when its oldest unwritten edit is so old (--age). So a crash of the keeper and the relay
 together, as of the machine, loses at most the edits of that time, and one of the keeper alone
 nothing. A second keeper on a store waits until the first one ends."""
+SHARE = """Keeps the rooms of one of several relays in PostgreSQL, which all of their keepers share:
+each room is open on one relay at a time, and is put back there before clients are let in. Start the
+relay with --closed, and with an --epoch that no other one has. This keeper has a lock for each room
+that its relay has. It takes those that clients want, unless another keeper has them, which is asked
+then to give them up, and it gives up those that are empty (--idle). Says `ready` once it has the
+database, so that the relay is started. However it ends, it stops its relay: by SIGTERM once
+everything is written; with status 1 if the locks are lost, or the relay does not answer. An edit
+that was answered is written within a second."""
 RESTORE = """Without a room: puts all kept documents back into a relay, by its operator's port
 (--admin), and lets its clients in. With a room: puts an older state of it back, or lists those that
 there are. With --url it becomes the document of the room, by an edit; without, that of the store,
@@ -50,6 +58,7 @@ def _parser() -> argparse.ArgumentParser:
     )
     commands = made.add_subparsers(dest="command", required=True)
     _keep(commands)
+    _share(commands)
     _restore(commands)
     for word, what, text, example in (
         ("list", "list what is kept", LIST, "list --store /var/lib/relay-keeper/8081"),
@@ -84,6 +93,28 @@ def _keep(commands: "argparse._SubParsersAction[argparse.ArgumentParser]") -> No
     command.add_argument(
         "--list", type=pathlib.Path, metavar="FILE", help="names for --match, one a line"
     )
+    _writing(command, age=5.0)
+
+
+def _share(commands: "argparse._SubParsersAction[argparse.ArgumentParser]") -> None:
+    example = """share ws://127.0.0.1:8081 --admin http://127.0.0.1:9081 --store
+    postgresql://keeper@db1,db2/rooms?target_session_attrs=read-write --relay boards"""
+    command = _command(commands, "share", "keep the rooms of several relays", SHARE, example)
+    command.add_argument("url", metavar="URL", help="of the relay, as ws://127.0.0.1:8081")
+    _store(command, required=True)
+    _admin(command, "open and close rooms there", required=True)
+    command.add_argument(
+        "--idle",
+        type=_positive,
+        default=30.0,
+        metavar="SECONDS",
+        help="after which an empty room is given up (30)",
+    )
+    _writing(command, age=0.5)
+
+
+def _writing(command: argparse.ArgumentParser, age: float) -> None:
+    """When is written, and what."""
     command.add_argument(
         "--pace",
         type=_positive,
@@ -94,10 +125,10 @@ def _keep(commands: "argparse._SubParsersAction[argparse.ArgumentParser]") -> No
     command.add_argument(
         "--age",
         type=_seconds,
-        default=5.0,
+        default=age,
         metavar="SECONDS",
         help="how old an unwritten edit of a document of 1 MiB may be, and in proportion of a "
-        "smaller one (5); 0 writes all at once",
+        "smaller one (%(default)s); 0 writes all at once",
     )
     command.add_argument(
         "--history", type=_count, default=1, metavar="N", help="states kept of each room (1)"
@@ -142,9 +173,9 @@ def _store(command: argparse.ArgumentParser, required: bool = False) -> None:
     )
 
 
-def _admin(command: argparse.ArgumentParser, what: str) -> None:
+def _admin(command: argparse.ArgumentParser, what: str, required: bool = False) -> None:
     text = f"the relay's operator's port, as http://127.0.0.1:9081: {what}"
-    command.add_argument("--admin", metavar="URL", help=text)
+    command.add_argument("--admin", required=required, metavar="URL", help=text)
 
 
 def _match(command: argparse.ArgumentParser, what: str) -> None:
