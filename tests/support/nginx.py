@@ -22,10 +22,11 @@ PATHS = ("client_body", "proxy", "fastcgi", "uwsgi", "scgi")
 
 
 class Nginx:
-    """Runs in a folder, in front of relays on these ports. Of one worker it is known that it deals
-    connections in turn where no rule says where they go."""
+    """Runs in a folder, in front of relays on these ports, or of relays of several machines at
+    these addresses, which share their rooms. Of one worker it is known that it deals connections in
+    turn where no rule says where they go. `before` are words in front of the program."""
 
-    def __init__(self, folder, relays, connections=512, workers=1, address="127.0.0.1"):
+    def __init__(self, folder, relays, connections=512, workers=1, address="127.0.0.1", before=()):
         self.folder, self.port, self.address = pathlib.Path(folder), free_port(), address
         self.certificate = self.folder / "relay.pem"
         self._certify()
@@ -33,7 +34,7 @@ class Nginx:
         self._configure(relays, connections, workers)
         path = f"{os.environ['PATH']}:/usr/sbin"
         words = [shutil.which("nginx", path=path), "-p", folder, "-c", self.folder / "nginx.conf"]
-        self.process = subprocess.Popen(words, stderr=subprocess.DEVNULL)
+        self.process = subprocess.Popen([*before, *words], stderr=subprocess.DEVNULL)
         until(lambda: listens(self.port, address) or self.process.poll() is not None)
         if self.process.poll() is not None:
             error = (self.folder / "error.log").read_text()
@@ -71,9 +72,13 @@ class Nginx:
         subprocess.run(["sh", "-eu"], input=commands, text=True, check=True)
 
     def _configure(self, relays, connections, workers):
-        servers = "".join(f"    server 127.0.0.1:{port} max_fails=0;\n" for port in relays)
         conf = (ROOT / "docs/running/nginx.conf").read_text()
-        conf = re.sub(r"( *server 127\.0\.0\.1:\d+ max_fails=0;\n)+", servers, conf)
+        if isinstance(relays[0], str):
+            conf = re.sub(r"upstream relays {.*?\n}\n", several(relays), conf, flags=re.S)
+            conf = conf.replace("proxy_next_upstream off;", "proxy_next_upstream error timeout;")
+        else:
+            servers = "".join(f"    server 127.0.0.1:{port} max_fails=0;\n" for port in relays)
+            conf = re.sub(r"( *server 127\.0\.0\.1:\d+ max_fails=0;\n)+", servers, conf)
         conf = conf.replace("listen 443", f"listen {self.address}:{self.port}")
         for folder in ("/etc/ssl/", "/etc/nginx/"):
             conf = conf.replace(folder, f"{self.folder}/")
@@ -84,3 +89,11 @@ class Nginx:
         text = CONF.format(connections=connections, workers=workers, **words)
         (self.folder / "nginx.conf").write_text(text)
         self.folder.chmod(0o755)
+
+
+def several(relays):
+    """The block of relays of several machines."""
+    block = (ROOT / "docs/running/nginx-several.conf").read_text().partition("\n\n")[2]
+    words = re.search(r"max_fails=1 [^;]*", block)[0]
+    servers = "".join(f"    server {relay} {words};\n" for relay in relays)
+    return re.sub(r"( *server [\d.]+:\d+ max_fails=1 .*;\n)+", servers, block)
