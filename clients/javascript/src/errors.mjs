@@ -39,7 +39,7 @@ export class Closed extends Error {
 /** @type {Record<number, string>} */
 const ADVICE = {
   404: ": an address ends with /rooms/NAME",
-  503: ": it is full (--sessions, --rooms), not open yet (--closed), or about to stop",
+  503: ": it is full (--sessions, --rooms), --closed, or stopping",
 };
 
 /** No connection could be made. The client goes on trying. */

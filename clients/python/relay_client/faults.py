@@ -51,7 +51,7 @@ class Closed(Exception):
 
 ADVICE = {
     404: "an address ends with /rooms/NAME",
-    503: "it is full (--sessions, --rooms), not open yet (--closed), or about to stop",
+    503: "it is full (--sessions, --rooms), --closed, or stopping",
 }
 
 
