@@ -6,8 +6,8 @@ use Rattle.std.specs.Prelude.{option_map}
 use Rattle.relay_hub.specs.Log.{Log, Watching, documents, watching, view_message, hearing}
 use Rattle.relay_hub.specs.Session.{Session, snapshot_of, patch_message, message_of, front_message, message_text, ReadsBack, later}
 use Rattle.relay_hub.specs.Stands.{HoldsRevision, IsAtNamed, EachLeads, PatchFits, OutboxStands, WatchStands, Follows, StandsFor}
-use Rattle.relay_hub.specs.State.{State, RoomSessions, Home, place_of, session_in}
-use Rattle.relay_hub.specs.Step.{Draws, InRoom, AtPlace, Step}
+use Rattle.relay_hub.specs.State.{State, RoomSessions, Home, index_of, session_in}
+use Rattle.relay_hub.specs.Step.{Draws, InRoom, AtIndex, Step}
 use Rattle.relay_hub.specs.declared.config.HubConfig.{HubConfig}
 use Rattle.relay_hub.specs.declared.event.Answer.TheVariants.{Drawn}
 use Rattle.relay_hub.specs.declared.event.Event.TheVariants.{Draw}
@@ -187,36 +187,36 @@ module _ (b : HubConfig) (E : Log) (hub new : State) (s : ℕ) (c : Client) (tex
       rw same
       (front_of_session (documents E r.name) r.room_sessions.room mine.session
       b.max_waiting_patches c (watching b E s) m
-      (stands.rooms r.place r.name r.room_sessions r.there).is
+      (stands.rooms r.index r.name r.room_sessions r.there).is
       at_home.1 at_home.2 tracks found front back)
 
-  of_session : (place : ℕ) (name : List ℕ) (g h : RoomSessions) (o : Option Session)
-      → slice_get hub.rooms place ≡ Some (name, g) → place_of hub s ≡ Some place
+  of_session : (index : ℕ) (name : List ℕ) (g h : RoomSessions) (o : Option Session)
+      → slice_get hub.rooms index ≡ Some (name, g) → index_of hub s ≡ Some index
       → session_in g.sessions s ≡ o
       → Draws s o (Drawn (Some text)) g h → Leads c text (watching b E s)
-  of_session place name g h None there at is draws = absurd draws
-  of_session place name g h (Some x) there at is draws =
+  of_session index name g h None there at is draws = absurd draws
+  of_session index name g h (Some x) there at is draws =
       of_front
       (record {
-        room = record { place = place; name = name; room_sessions = g; there = there };
+        room = record { index = index; name = name; room_sessions = g; there = there };
         session = x;
         at = at;
         is = is;
       }) (front_message g.room x) refl draws.0 draws.2
 
-  of_room : (place : ℕ) (o : Option (List ℕ × RoomSessions)) → slice_get hub.rooms place ≡ o
-      → place_of hub s ≡ Some place
-      → InRoom place o hub (Drawn (Some text)) (λ g h.
+  of_room : (index : ℕ) (o : Option (List ℕ × RoomSessions)) → slice_get hub.rooms index ≡ o
+      → index_of hub s ≡ Some index
+      → InRoom index o hub (Drawn (Some text)) (λ g h.
       Draws s (session_in g.sessions s) (Drawn (Some text)) g h) new → Leads c text (watching b E s)
-  of_room place None there at step = absurd (cc step.0)
-  of_room place (Some home) there at step =
-      of_session place home.0 home.1 step.0 (session_in home.1.sessions s) there at refl step.1
+  of_room index None there at step = absurd (cc step.0)
+  of_room index (Some home) there at step =
+      of_session index home.0 home.1 step.0 (session_in home.1.sessions s) there at refl step.1
 
-  of_place : (o : Option ℕ) → place_of hub s ≡ o
-      → AtPlace o hub (Drawn (Some text)) (λ g h.
+  of_place : (o : Option ℕ) → index_of hub s ≡ o
+      → AtIndex o hub (Drawn (Some text)) (λ g h.
       Draws s (session_in g.sessions s) (Drawn (Some text)) g h) new → Leads c text (watching b E s)
   of_place None at step = absurd (cc step.0)
-  of_place (Some place) at step = of_room place (slice_get hub.rooms place) refl at step
+  of_place (Some index) at step = of_room index (slice_get hub.rooms index) refl at step
 
   pub drawn_leads : Step hub (Draw s) (Drawn (Some text)) new → Leads c text (watching b E s)
-  drawn_leads step = of_place (place_of hub s) refl step
+  drawn_leads step = of_place (index_of hub s) refl step

@@ -3,8 +3,8 @@ use Rattle.std.proofs.Common.{◌≡◌, ◌≢◌, ◌⊎◌, ℕ, zero, suc, �
 use Rattle.std.proofs.lemmas.Bool.Decides.{eqb_tells}
 use Rattle.std.specs.Map.{lookup}
 use Rattle.relay_hub.specs.Session.{Session}
-use Rattle.relay_hub.specs.State.{State, RoomSessions, Home, IsHub, place_of, session_in}
-use Rattle.relay_hub.specs.Step.{Step, AtPlace, InRoom, ClosesIn, ClosesAt, DoesWill}
+use Rattle.relay_hub.specs.State.{State, RoomSessions, Home, IsHub, index_of, session_in}
+use Rattle.relay_hub.specs.Step.{Step, AtIndex, InRoom, ClosesIn, ClosesAt, DoesWill}
 use Rattle.relay_hub.specs.declared.event.Answer.{Answer}
 use Rattle.relay_hub.specs.declared.event.Answer.TheVariants.{Opened, NotOpened, Closed, WillDone, NoWill, Forgotten, NotForgotten}
 use Rattle.relay_hub.specs.declared.event.Event.{Event}
@@ -26,7 +26,7 @@ with_session key mine sessions other = if key == other then mine else sessions o
 
 -- nothing that `OneEach` speaks of changed
 pub one_each_same : {hub next : State} {old new : Sessions}
-    → ((t : ℕ) → place_of next t ≡ place_of hub t) → ((key : ℕ) → new key ≡ old key)
+    → ((t : ℕ) → index_of next t ≡ index_of hub t) → ((key : ℕ) → new key ≡ old key)
     → OneEach hub old → OneEach next new
 one_each_same homes same each = record {
   opened = λ key s is. rw (homes s) (each.opened key s (sym (same key) ∙ is));
@@ -37,65 +37,65 @@ one_each_same homes same each = record {
 
 -- Where an event leaves the sessions.
 
-in_room_homes : (place : ℕ) (o : Option (List ℕ
+in_room_homes : (index : ℕ) (o : Option (List ℕ
     × RoomSessions)) (old new : State) (answer : Answer) (Does : RoomSessions → RoomSessions
     → Type 0)
-    → InRoom place o old answer Does new → (t : ℕ) → place_of new t ≡ place_of old t
-in_room_homes place (Some home) old new answer Does step t = ap (λ hub. place_of hub t) step.2
-in_room_homes place None old new answer Does step t = ap (λ hub. place_of hub t) step.1
+    → InRoom index o old answer Does new → (t : ℕ) → index_of new t ≡ index_of old t
+in_room_homes index (Some home) old new answer Does step t = ap (λ hub. index_of hub t) step.2
+in_room_homes index None old new answer Does step t = ap (λ hub. index_of hub t) step.1
 
 at_place_homes : (o : Option ℕ) (old new : State) (answer : Answer) (Does : RoomSessions
-    → RoomSessions → Type 0) → AtPlace o old answer Does new → (t : ℕ)
-    → place_of new t ≡ place_of old t
-at_place_homes (Some place) old new answer Does step t =
-    in_room_homes place (slice_get old.rooms place) old new answer Does step t
-at_place_homes None old new answer Does step t = ap (λ hub. place_of hub t) step.1
+    → RoomSessions → Type 0) → AtIndex o old answer Does new → (t : ℕ)
+    → index_of new t ≡ index_of old t
+at_place_homes (Some index) old new answer Does step t =
+    in_room_homes index (slice_get old.rooms index) old new answer Does step t
+at_place_homes None old new answer Does step t = ap (λ hub. index_of hub t) step.1
 
 -- session s was closed, and no other
 abbrev IsClosed : ℕ → State → State → Type 0
-IsClosed s old new = (t : ℕ) → place_of new t ≡ (if s == t then None else place_of old t)
+IsClosed s old new = (t : ℕ) → index_of new t ≡ (if s == t then None else index_of old t)
 
-closed_in : (s place : ℕ) (name : List ℕ) (g : RoomSessions) (o : Option Session) (old new : State)
-    (answer : Answer) → IsSome o → ClosesIn s place name g o old answer new → IsClosed s old new
-closed_in s place name g (Some x) old new Closed is step = step.home
-closed_in s place name g (Some x) old new answer is step = absurd step
-closed_in s place name g None old new answer is step = absurd (cc is)
+closed_in : (s index : ℕ) (name : List ℕ) (g : RoomSessions) (o : Option Session) (old new : State)
+    (answer : Answer) → IsSome o → ClosesIn s index name g o old answer new → IsClosed s old new
+closed_in s index name g (Some x) old new Closed is step = step.home
+closed_in s index name g (Some x) old new answer is step = absurd step
+closed_in s index name g None old new answer is step = absurd (cc is)
 
 closed_home : (s : ℕ) (old new : State) (answer : Answer) (home : Home old s)
-    → ClosesAt s (Some home.room.place) old answer new → IsClosed s old new
+    → ClosesAt s (Some home.room.index) old answer new → IsClosed s old new
 closed_home s old new answer home step =
-    closed_in s home.room.place home.room.name home.room.room_sessions
+    closed_in s home.room.index home.room.name home.room.room_sessions
     (session_in home.room.room_sessions.sessions s) old new answer (rw home.is refl)
     (rw home.room.there at step)
 
 closed : (s : ℕ) (o : Option ℕ) (old new : State) (answer : Answer) → IsHub old
-    → place_of old s ≡ o → IsSome o → ClosesAt s o old answer new → IsClosed s old new
-closed s (Some place) old new answer is at some step =
-    let home = is.homes s place at in
-    let same : Some place ≡ Some home.room.place = sym at ∙ home.at in
+    → index_of old s ≡ o → IsSome o → ClosesAt s o old answer new → IsClosed s old new
+closed s (Some index) old new answer is at some step =
+    let home = is.homes s index at in
+    let same : Some index ≡ Some home.room.index = sym at ∙ home.at in
     closed_home s old new answer home (subst (λ o. ClosesAt s o old answer new) same step)
 closed s None old new answer is at some step = absurd (cc some)
 
 -- No session's place changes by an event of the house.
 
 will_homes : (wills : List Will) (old new : State) (answer : Answer) → DoesWill wills old answer new
-    → (t : ℕ) → place_of new t ≡ place_of old t
-will_homes [] old new NoWill step t = ap (λ hub. place_of hub t) step
+    → (t : ℕ) → index_of new t ≡ index_of old t
+will_homes [] old new NoWill step t = ap (λ hub. index_of hub t) step
 will_homes [] old new answer step t = absurd step
 will_homes (w ∷ wills) old new (WillDone short) step t =
-    ap (λ hub. place_of hub t) step.1
-    ∙ in_room_homes w.place (slice_get old.rooms w.place) old step.0 (WillDone short) _ step.2 t
+    ap (λ hub. index_of hub t) step.1
+    ∙ in_room_homes w.index (slice_get old.rooms w.index) old step.0 (WillDone short) _ step.2 t
 will_homes (w ∷ wills) old new answer step t = absurd step
 
 forget_homes : (name : List ℕ) (old new : State) (answer : Answer)
     → Step old (Forget name) answer new
-    → (t : ℕ) → place_of new t ≡ place_of old t
-forget_homes name old new (Forgotten rev) step t = ap (λ hub. place_of hub t) step.1.begins
-forget_homes name old new (NotForgotten fault) step t = ap (λ hub. place_of hub t) step.1
+    → (t : ℕ) → index_of new t ≡ index_of old t
+forget_homes name old new (Forgotten rev) step t = ap (λ hub. index_of hub t) step.1.begins
+forget_homes name old new (NotForgotten fault) step t = ap (λ hub. index_of hub t) step.1
 forget_homes name old new answer step t = absurd step
 
 house_homes : (event : Event) (answer : Answer) (old new : State) → IsOfHouse event
-    → Step old event answer new → (t : ℕ) → place_of new t ≡ place_of old t
+    → Step old event answer new → (t : ℕ) → index_of new t ≡ index_of old t
 house_homes DoWill answer old new of_house step = will_homes old.wills old new answer step
 house_homes (Forget name) answer old new of_house step = forget_homes name old new answer step
 house_homes event answer old new of_house step = absurd of_house
@@ -123,32 +123,32 @@ module _ (key : ℕ) (sessions : Sessions) where
   ]
 
   -- a link without a session opened session n, which was not open before
-  opens : (n place : ℕ) (old new : State) → place_of old n ≡ None
-      → ((t : ℕ) → place_of new t ≡ (if n == t then Some place else place_of old t))
+  opens : (n index : ℕ) (old new : State) → index_of old n ≡ None
+      → ((t : ℕ) → index_of new t ≡ (if n == t then Some index else index_of old t))
       → OneEach old (with_session key None sessions)
       → OneEach new (with_session key (Some n) sessions)
-  opens n place old new fresh home each = record { opened = opened; once = once; all = all }
+  opens n index old new fresh home each = record { opened = opened; once = once; all = all }
     where
-      was_open : (k s : ℕ) → key ≢ k → sessions k ≡ Some s → IsSome (place_of old s)
+      was_open : (k s : ℕ) → key ≢ k → sessions k ≡ Some s → IsSome (index_of old s)
       was_open k s apart is = each.opened k s (away None k apart ∙ is)
 
       -- session n is no other connection's
       never : (k s : ℕ) → key ≢ k → sessions k ≡ Some s → Some n ≡ Some s → ⊥
       never k s apart is same =
           let number : n ≡ s = cc same in
-          let some : IsSome (place_of old n) =
-          subst (λ t. IsSome (place_of old t)) (sym number) (was_open k s apart is) in
+          let some : IsSome (index_of old n) =
+          subst (λ t. IsSome (index_of old t)) (sym number) (was_open k s apart is) in
           cc (some, fresh)
 
-      opened : (k s : ℕ) → with_session key (Some n) sessions k ≡ Some s → IsSome (place_of new s)
+      opened : (k s : ℕ) → with_session key (Some n) sessions k ≡ Some s → IsSome (index_of new s)
       opened k s is = elim (whose (Some n) k s is) [
         | inl mine ↦
             let number : n ≡ s = cc mine.1 in
             rw (home s) (by_number (λ t b. n ≡ t
-            → IsSome (if b then Some place else place_of old t)) n s (λ same.
+            → IsSome (if b then Some index else index_of old t)) n s (λ same.
             refl) (λ apart same. absurd (apart same)) number)
-        | inr other ↦ rw (home s) (by_number (λ t b. IsSome (place_of old t)
-            → IsSome (if b then Some place else place_of old t)) n s (λ was.
+        | inr other ↦ rw (home s) (by_number (λ t b. IsSome (index_of old t)
+            → IsSome (if b then Some index else index_of old t)) n s (λ was.
             refl) (λ apart was. was) (was_open k s other.0 other.1))
       ]
 
@@ -165,7 +165,7 @@ module _ (key : ℕ) (sessions : Sessions) where
         ]
       ]
 
-      all : (s : ℕ) → IsSome (place_of new s)
+      all : (s : ℕ) → IsSome (index_of new s)
           → (k : ℕ) × (with_session key (Some n) sessions k ≡ Some s)
       all s some = elim (eqb_tells n s) [
         | inl same ↦ (key, mine_there (Some n) ∙ ap Some same.1)
@@ -194,7 +194,7 @@ module _ (key : ℕ) (sessions : Sessions) where
           → with_session key (Some c) sessions k ≡ Some s
       was k s apart is = away (Some c) k apart ∙ is
 
-      opened : (k s : ℕ) → with_session key None sessions k ≡ Some s → IsSome (place_of new s)
+      opened : (k s : ℕ) → with_session key None sessions k ≡ Some s → IsSome (index_of new s)
       opened k s is =
           let other = other_key k s is in
           elim (eqb_tells c s) [
@@ -211,7 +211,7 @@ module _ (key : ℕ) (sessions : Sessions) where
           let two = other_key o s also in
           each.once k o s (was k s one.0 one.1) (was o s two.0 two.1)
 
-      all : (s : ℕ) → IsSome (place_of new s)
+      all : (s : ℕ) → IsSome (index_of new s)
           → (k : ℕ) × (with_session key None sessions k ≡ Some s)
       all s some = elim (eqb_tells c s) [
         | inl same ↦ let none : IsSome {T = ℕ} None = rw (home s, same.0) at some in
@@ -230,18 +230,18 @@ module _ (key : ℕ) (sessions : Sessions) where
       → OneEach new (with_session key (session_after mine event answer) sessions)
   one_event rooms mine (Open name access) (Opened opening) old new is own step each =
       let o = step.1 in
-      opens opening.session o.place old new (ap (λ t. place_of old t) o.number
+      opens opening.session o.index old new (ap (λ t. index_of old t) o.number
       ∙ is.below old.next (omega arith)) o.home (subst (λ session.
       OneEach old (with_session key session sessions)) own.0 each)
   one_event rooms mine (Open name access) (NotOpened fault) old new is own step each =
-      one_each_same (λ t. ap (λ hub. place_of hub t) step.1) (λ k. refl) each
+      one_each_same (λ t. ap (λ hub. index_of hub t) step.1) (λ k. refl) each
   one_event rooms mine (Receive s text) answer old new is own step each =
-      one_each_same (at_place_homes (place_of old s) old new answer _ step) (λ k. refl) each
+      one_each_same (at_place_homes (index_of old s) old new answer _ step) (λ k. refl) each
   one_event rooms mine (Draw s) answer old new is own step each =
-      one_each_same (at_place_homes (place_of old s) old new answer _ step) (λ k. refl) each
+      one_each_same (at_place_homes (index_of old s) old new answer _ step) (λ k. refl) each
   one_event rooms mine (Close s) answer old new is own step each =
       let some = each.opened key s (mine_there mine ∙ own) in
-      closes s old new (closed s (place_of old s) old new answer is refl some step)
+      closes s old new (closed s (index_of old s) old new answer is refl some step)
       (subst (λ session. OneEach old (with_session key session sessions)) own each)
   one_event rooms mine (Open name access) answer old new is own step each = absurd step
   one_event rooms mine event answer old new is own step each = absurd own
@@ -266,7 +266,7 @@ guest_comes : (hub : State) (sessions : Sessions) → OneEach hub sessions
     → OneEach hub (with_guest sessions)
 guest_comes hub sessions each = record { opened = opened; once = once; all = all }
   where
-    opened : (key s : ℕ) → with_guest sessions key ≡ Some s → IsSome (place_of hub s)
+    opened : (key s : ℕ) → with_guest sessions key ≡ Some s → IsSome (index_of hub s)
     opened zero s is = absurd (cc is)
     opened (suc key) s is = each.opened key s is
 
@@ -276,14 +276,14 @@ guest_comes hub sessions each = record { opened = opened; once = once; all = all
     once (suc key) zero s is also = absurd (cc also)
     once (suc key) (suc other) s is also = ap suc (each.once key other s is also)
 
-    all : (s : ℕ) → IsSome (place_of hub s) → (key : ℕ) × (with_guest sessions key ≡ Some s)
+    all : (s : ℕ) → IsSome (index_of hub s) → (key : ℕ) × (with_guest sessions key ≡ Some s)
     all s some = let found = each.all s some in (suc found.0, found.1)
 
 guest_leaves : (hub : State) (sessions : Sessions) → OneEach hub (with_guest sessions)
     → OneEach hub sessions
 guest_leaves hub sessions each = record { opened = opened; once = once; all = all }
   where
-    opened : (key s : ℕ) → sessions key ≡ Some s → IsSome (place_of hub s)
+    opened : (key s : ℕ) → sessions key ≡ Some s → IsSome (index_of hub s)
     opened key s is = each.opened (suc key) s is
 
     once : (key other s : ℕ) → sessions key ≡ Some s → sessions other ≡ Some s → key ≡ other
@@ -293,7 +293,7 @@ guest_leaves hub sessions each = record { opened = opened; once = once; all = al
     at_next zero s is = absurd (cc is)
     at_next (suc key) s is = (key, is)
 
-    all : (s : ℕ) → IsSome (place_of hub s) → (key : ℕ) × (sessions key ≡ Some s)
+    all : (s : ℕ) → IsSome (index_of hub s) → (key : ℕ) × (sessions key ≡ Some s)
     all s some = let found = each.all s some in at_next found.0 s found.1
 
 -- a link's session changes, and no other

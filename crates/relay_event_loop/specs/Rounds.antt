@@ -3,7 +3,7 @@
 use Rattle.std.specs.Prelude.{ℕ, ◌≡◌, List, Option, Some, IsSome}
 use Rattle.relay_hub.specs.Log.{Log}
 use Rattle.relay_hub.specs.Stands.{StandsFor, EachHoldsPresent, EachIsAtNamed}
-use Rattle.relay_hub.specs.State.{State, IsHub, place_of}
+use Rattle.relay_hub.specs.State.{State, IsHub, index_of}
 use Rattle.relay_hub.specs.declared.config.HubConfig.{HubConfig}
 use Rattle.relay_event_loop.specs.Advances.{Links, links_of, Sessions, sessions_in, Advances, with_turns}
 use Rattle.relay_event_loop.specs.Ready.{left_of}
@@ -11,11 +11,11 @@ use Rattle.relay_event_loop.specs.declared.server.Server.{Server}
 
 pub record OneEach (hub : State) (sessions : Sessions) : Type 0 where
   -- the session of a connection is open
-  pub opened : (key s : ℕ) → sessions key ≡ Some s → IsSome (place_of hub s)
+  pub opened : (key s : ℕ) → sessions key ≡ Some s → IsSome (index_of hub s)
   -- no two connections have the same one
   pub once : (key other s : ℕ) → sessions key ≡ Some s → sessions other ≡ Some s → key ≡ other
   -- an open session has a connection
-  pub all : (s : ℕ) → IsSome (place_of hub s) → (key : ℕ) × (sessions key ≡ Some s)
+  pub all : (s : ℕ) → IsSome (index_of hub s) → (key : ℕ) × (sessions key ≡ Some s)
 
 -- a hub as each is, whose open sessions are each that of exactly one connection
 abbrev pub Connected : State → Sessions → Type 0

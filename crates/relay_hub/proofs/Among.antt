@@ -16,7 +16,7 @@ use Rattle.relay_hub.specs.State.{EachOnce, IsRising, is_number, numbers, sessio
 use Rattle.relay_hub.specs.Step.{Notified, after_notified}
 use Rattle.relay_hub.specs.Watched.{NotifiedIf, after_if, NotifiedAmong}
 use Rattle.relay_hub.proofs.Rising.{first_below, rest_rises}
-use Rattle.relay_hub.proofs.Sessions.{none_there, place_within}
+use Rattle.relay_hub.proofs.Sessions.{none_there, index_within}
 use Rattle.relay_hub.proofs.Notified.{notified_number}
 
 -- Numbers that rise.
@@ -90,8 +90,8 @@ module _ (d : Document) (changes : List Change) (room : Room) where
       → NotifiedAmong (s ∷ []) d changes room a
       (after_notified changes room a (get_or xs i z).view short (get_or xs i z)) xs
       (slice_set xs i y) (if short then 1 else 0)
-  one_among s a [] i z y short place within once notified = absurd (omega (arith, within))
-  one_among s a (x ∷ xs) zero z y short place within once notified =
+  one_among s a [] i z y short index within once notified = absurd (omega (arith, within))
+  one_among s a (x ∷ xs) zero z y short index within once notified =
       elim (eqb_tells x.number s) [
         | inl same ↦
             let left = after_notified changes room a x.view short x in (
@@ -105,14 +105,14 @@ module _ (d : Document) (changes : List Change) (room : Room) where
                   xs 0) (sym (is_named x.number s true same.0))
                   (absent_among s left xs (subst (λ n. session_in xs n ≡ None) same.1 once.0)),
             )
-        | inr other ↦ let no : 0 ≡ 1 + position_or_len (is_number s) xs = rw other.0 at place in
+        | inr other ↦ let no : 0 ≡ 1 + position_or_len (is_number s) xs = rw other.0 at index in
             absurd (omega (arith, no))
       ]
-  one_among s a (x ∷ xs) (suc i) z y short place within once notified =
+  one_among s a (x ∷ xs) (suc i) z y short index within once notified =
       elim (eqb_tells x.number s) [
-        | inl same ↦ let no : suc i ≡ 0 = rw same.0 at place in absurd (omega (arith, no))
+        | inl same ↦ let no : suc i ≡ 0 = rw same.0 at index in absurd (omega (arith, no))
         | inr other ↦
-            let further : suc i ≡ 1 + position_or_len (is_number s) xs = rw other.0 at place in
+            let further : suc i ≡ 1 + position_or_len (is_number s) xs = rw other.0 at index in
             let left = after_notified changes room a (get_or xs i z).view short (get_or xs i z) in
             let count : ℕ = if short then 1 else 0 in (
               false,
@@ -128,16 +128,16 @@ module _ (d : Document) (changes : List Change) (room : Room) where
             )
       ]
 
-  -- the session with the number is notified, at its place
-  pub place_among : (s : ℕ) (a : Allowance) (xs : List Session) (i : ℕ) (z y : Session)
+  -- the session with the number is notified, at its index
+  pub index_among : (s : ℕ) (a : Allowance) (xs : List Session) (i : ℕ) (z y : Session)
       (short : Bool) → position (is_number s) xs ≡ Some i → EachOnce xs
       → Notified d changes room a short (get_or xs i z) y
       → NotifiedAmong (s ∷ []) d changes room a
       (after_notified changes room a (get_or xs i z).view short (get_or xs i z)) xs
       (slice_set xs i y) (if short then 1 else 0)
-  place_among s a xs i z y short at once notified =
-      let place = place_within xs s i at in
-      one_among s a xs i z y short place.1 place.0 once notified
+  index_among s a xs i z y short at once notified =
+      let index = index_within xs s i at in
+      one_among s a xs i z y short index.1 index.0 once notified
 
   -- if the numbers name no session, none is notified
   nobody : (ns : List ℕ) (a : Allowance) (xs : List Session) → Free ns xs
@@ -283,7 +283,7 @@ module _ (d : Document) (changes : List Change) (room : Room) where
   none_among a [] = (refl, refl)
   none_among a (x ∷ xs) = (false, 0, (refl, refl), refl, none_among a xs)
 
-  -- those of the numbers before a place were notified, and now the one at that place is
+  -- those of the numbers before an index were notified, and now the one at that index is
   pub next_among : (numbers : List ℕ) (k e : ℕ) (a b z : Allowance) (xs ys zs : List Session)
       (n m : ℕ) → IsRising xs → IsStrictlyIncreasing numbers → k < length numbers
       → NotifiedAmong (take k numbers) d changes room a b xs ys n

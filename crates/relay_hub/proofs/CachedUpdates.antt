@@ -29,43 +29,43 @@ use Rattle.relay_hub.specs.declared.cached_update.TheConstants.{MAX_SHARED}
 -- ---- looking for the patch of a view
 
 -- one of them is for this view
-pub made_at : (patches : List CachedPatch) (place : ℕ) (kept : CachedPatch) (pointers : View)
-    → place < length patches → slice_index_or patches place kept ≡ kept
+pub made_at : (patches : List CachedPatch) (index : ℕ) (kept : CachedPatch) (pointers : View)
+    → index < length patches → slice_index_or patches index kept ≡ kept
     → same_view kept.view pointers ≡ true
     → is_made (views_of patches) pointers ≡ true
-made_at [] place kept pointers within there same = absurd (omega (arith, within))
+made_at [] index kept pointers within there same = absurd (omega (arith, within))
 made_at (first ∷ patches) zero kept pointers within there same =
     rw (ap (λ (k : CachedPatch). same_view k.view pointers) there ∙ same) refl
-made_at (first ∷ patches) (suc place) kept pointers within there same =
+made_at (first ∷ patches) (suc index) kept pointers within there same =
     or_true (same_view first.view pointers) (is_made (views_of patches) pointers)
-    (made_at patches place kept pointers (omega (arith, within)) there same)
+    (made_at patches index kept pointers (omega (arith, within)) there same)
   where
     or_true : (a b : Bool) → b ≡ true → (a || b) ≡ true
     or_true true b is = refl
     or_true false b is = is
 
 -- nor is the next one, if none of the first ones is
-pub not_made_next : (patches : List CachedPatch) (place : ℕ) (kept : CachedPatch) (pointers : View)
-    → place < length patches → slice_index_or patches place kept ≡ kept
-    → is_made (views_of (take place patches)) pointers ≡ false
+pub not_made_next : (patches : List CachedPatch) (index : ℕ) (kept : CachedPatch) (pointers : View)
+    → index < length patches → slice_index_or patches index kept ≡ kept
+    → is_made (views_of (take index patches)) pointers ≡ false
     → same_view kept.view pointers ≡ false
-    → is_made (views_of (take (suc place) patches)) pointers ≡ false
-not_made_next [] place kept pointers within there none other = absurd (omega (arith, within))
+    → is_made (views_of (take (suc index) patches)) pointers ≡ false
+not_made_next [] index kept pointers within there none other = absurd (omega (arith, within))
 not_made_next (first ∷ patches) zero kept pointers within there none other =
     rw (ap (λ (k : CachedPatch). same_view k.view pointers) there ∙ other) refl
-not_made_next (first ∷ patches) (suc place) kept pointers within there none other =
+not_made_next (first ∷ patches) (suc index) kept pointers within there none other =
     let both =
     neither (same_view first.view pointers)
-    (is_made (views_of (take place patches)) pointers) none in
-    rw both.0 (not_made_next patches place kept pointers (omega (arith, within)) there both.1 other)
+    (is_made (views_of (take index patches)) pointers) none in
+    rw both.0 (not_made_next patches index kept pointers (omega (arith, within)) there both.1 other)
 
 -- the one that was found
-holds_of : {X : Type 0} (P : X → Type 0) (xs : List X) (x : X) (place : ℕ) → AllByRecursion P xs
-    → place < length xs → slice_index_or xs place x ≡ x → P x
-holds_of P [] x place all within there = absurd (omega (arith, within))
+holds_of : {X : Type 0} (P : X → Type 0) (xs : List X) (x : X) (index : ℕ) → AllByRecursion P xs
+    → index < length xs → slice_index_or xs index x ≡ x → P x
+holds_of P [] x index all within there = absurd (omega (arith, within))
 holds_of P (first ∷ xs) x zero all within there = subst P there all.0
-holds_of P (first ∷ xs) x (suc place) all within there =
-    holds_of P xs x place all.1 (omega (arith, within)) there
+holds_of P (first ∷ xs) x (suc index) all within there =
+    holds_of P xs x index all.1 (omega (arith, within)) there
 
 pub patch_found : (room : Room) (patches : List CachedPatch) (pointers : View) (patch : ℕ
     × List Op) → AllByRecursion (IsKeptPatch room) patches

@@ -16,7 +16,7 @@ pub by_finding : {X : Type 0} (P : Type 0) (o : Option X) → (o ≡ None → P)
 by_finding P None none some = none refl
 by_finding P (Some x) none some = some x refl
 
--- what follows if a place is found or not
+-- what follows if an index is found or not
 pub tested : (b : Bool) (n i : ℕ) → (if b then Some n else None) ≡ Some i → (b ≡ true) × (i ≡ n)
 tested true n i h = (refl, cc)
 tested false n i h = absurd (cc h)

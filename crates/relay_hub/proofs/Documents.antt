@@ -59,9 +59,9 @@ goes_on_led most ds room next changes d h document history leads rev before at r
         → Leads before (changes_since rev (with_revision changes past)) d
     go (inl above) =
         let last : rev ≡ past.newest + 1 = omega (arith, above, reaches_with.made) in
-        let place : rev ≡ length ds = omega (arith, last, h.numbered) in
+        let index : rev ≡ length ds = omega (arith, last, h.numbered) in
         let same : Some before ≡ Some d =
-        sym at ∙ (ap (λ k. slice_get (ds ++ d ∷ []) k) place ∙ slice_get-last ds d) in
+        sym at ∙ (ap (λ k. slice_get (ds ++ d ∷ []) k) index ∙ slice_get-last ds d) in
         let is : before ≡ d = cc in
         rw (last, changes_since-newest (with_revision changes past)) is
     go (inr below) =
@@ -95,13 +95,13 @@ goes_on_steps most ds room next changes d h history leads rev before after cs at
     past : Past
     past = room.history
 
-    held_with : (place : ℕ) → past.newest + 1 - (rev + 1) ≡ place
-        → slice_get (changes ∷ past.changes) place ≡ Some cs
-    held_with place same =
+    held_with : (index : ℕ) → past.newest + 1 - (rev + 1) ≡ index
+        → slice_get (changes ∷ past.changes) index ≡ Some cs
+    held_with index same =
         let taken : slice_get (take past.limit (changes ∷ past.changes))
         (past.newest + 1 - (rev + 1)) ≡ Some cs =
         subst (λ (p : Past). slice_get p.changes (p.newest - (rev + 1)) ≡ Some cs) history held in
-        slice_get-taken past.limit (changes ∷ past.changes) place cs (ap (λ k.
+        slice_get-taken past.limit (changes ∷ past.changes) index cs (ap (λ k.
         slice_get (take past.limit (changes ∷ past.changes)) k) (sym same) ∙ taken)
 
     older : rev < length ds → slice_get ds rev ≡ Some before

@@ -15,10 +15,10 @@ use Rattle.relay_room.specs.Room.{begun, revision}
 use Rattle.relay_room.proofs.Rooms.{begun_is_room}
 use Rattle.relay_tree.specs.Document.{Document, null}
 use Rattle.relay_tree.specs.declared.count.TheConstants.{MAX_COUNT}
-use Rattle.relay_hub.specs.Log.{Log, Entry, entry, place, home, is_opened, documents, reaching, beginning, watching}
+use Rattle.relay_hub.specs.Log.{Log, Entry, entry, index, home, is_opened, documents, reaching, beginning, watching}
 use Rattle.relay_hub.specs.Session.{newcomer}
 use Rattle.relay_hub.specs.Stands.{RoomStands, OutboxStands, RoomSessionsStand, HomeStands, MayBegin, named_will, StandsFor}
-use Rattle.relay_hub.specs.State.{RoomSessions, room_sessions, State, RoomOf, place_of, place_named, vacant_in, Home, above, floor_over, floor_at, is_crowded, session_in}
+use Rattle.relay_hub.specs.State.{RoomSessions, room_sessions, State, RoomOf, index_of, index_named, vacant_in, Home, above, floor_over, floor_at, is_crowded, session_in}
 use Rattle.relay_hub.specs.Step.{open_fault, Founds, floor_after, Enters, Opens, left_of, Closes}
 use Rattle.relay_hub.specs.declared.config.HubConfig.{HubConfig}
 use Rattle.relay_hub.specs.declared.event.Answer.TheVariants.{Opened, Closed}
@@ -38,7 +38,7 @@ use Rattle.relay_hub.proofs.Wills.{have_more, have_set, have_left, named_set as 
 number_left : (hub : State) (name : List ℕ) → open_fault hub name ≡ None → IsCount hub.next
 number_left hub name h =
     let test : nat_lt MAX_COUNT hub.next ≡ false =
-    last (not (is_room_name name)) (is_crowded (place_named name hub.rooms) hub)
+    last (not (is_room_name name)) (is_crowded (index_named name hub.rooms) hub)
     (nat_le hub.config.sessions (length hub.homes + length hub.wills))
     (nat_lt MAX_COUNT hub.next) h in
     grind (arith, nat_tests, test)
@@ -79,10 +79,10 @@ may_reach : (floor : ℕ) (ds : List Document) → MayBegin floor ds → Reaches
 may_reach floor ds (inl short) =
     let gap = floor + 1 - length ds in
     let r = floor - length ds in
-    let place : floor ≡ length ds + r = omega (arith, short) in
+    let index : floor ≡ length ds + r = omega (arith, short) in
     record {
       long = omega (arith, short, length-append ds (replicate gap null), length-replicate gap null);
-      last = ap (λ k. slice_get (reaching floor ds) k) place
+      last = ap (λ k. slice_get (reaching floor ds) k) index
           ∙ (behind ds (replicate gap null) r ∙ null_at gap r (omega (arith, short)));
     }
 may_reach floor ds (inr one) = rw one (only floor)
@@ -148,7 +148,7 @@ module _ (b : HubConfig) (E : Log) (old new : State) (name : List ℕ) (access :
   -- a session that was open before
   others_home : (t : ℕ) → n ≢ t
       → (home (e ∷ E) t ≡ home E t) × (watching b (e ∷ E) t ≡ watching b E t)
-      × (place_of new t ≡ place_of old t)
+      × (index_of new t ≡ index_of old t)
   others_home t apart =
       let other : (n == t) ≡ false =
       grind (arith, nat_tests, apart) in
@@ -156,18 +156,18 @@ module _ (b : HubConfig) (E : Log) (old new : State) (name : List ℕ) (access :
 
   may_still : (ds : List Document) → MayBegin old.floor ds → MayBegin new.floor ds
   may_still ds (inl short) =
-      let more = floor_rises old (place_named name old.rooms) in
+      let more = floor_rises old (index_named name old.rooms) in
       inl (omega (arith, short, more, step.floor))
   may_still ds (inr one) = inr one
 
-  join_stands : (i : ℕ) → place_named name old.rooms ≡ Some i
-      → Enters o name access (Some i) old step.place new → StandsFor b (e ∷ E) new
+  join_stands : (i : ℕ) → index_named name old.rooms ≡ Some i
+      → Enters o name access (Some i) old step.index new → StandsFor b (e ∷ E) new
   join_stands i named enters =
       let known = enters.1 in
       let g = enters.2 in
       let h = enters.3 in
       let at = enters.4 in
-      let r : RoomOf old = record { place = i; name = known; room_sessions = g; there = at } in
+      let r : RoomOf old = record { index = i; name = known; room_sessions = g; there = at } in
       let same : known ≡ name = name_found old.rooms name known g i named at in
       let room = stands.rooms i known g at in
       let mine : (n == n) ≡ true = grind (arith, nat_tests) in
@@ -196,10 +196,10 @@ module _ (b : HubConfig) (E : Log) (old new : State) (name : List ℕ) (access :
         known =
             λ other p there. by_name (λ x. (x || is_opened E other) ≡ true) other name (λ is. refl)
             (λ apart. set_known b E e old r h stands (λ other apart. docs other) (λ other apart.
-            begins other) other p (ap (place_named other) (sym enters.5) ∙ there));
+            begins other) other p (ap (index_named other) (sym enters.5) ∙ there));
         others = λ other none. may_still (documents (e ∷ E) other)
             (set_others b E e old r h stands (λ other apart. docs other) (λ other apart.
-            begins other) other (ap (place_named other) (sym enters.5) ∙ none));
+            begins other) other (ap (index_named other) (sym enters.5) ∙ none));
         sessions = λ t. elim (eqb_tells n t) [
           | inl is ↦ rw (
             step.home t,
@@ -210,7 +210,7 @@ module _ (b : HubConfig) (E : Log) (old new : State) (name : List ℕ) (access :
             enters.7.1.found t,
             is.0,
           )
-              (ap (λ k. Some (place k access [])) (sym same), welcome, (refl, refl, refl))
+              (ap (λ k. Some (index k access [])) (sym same), welcome, (refl, refl, refl))
           | inr apart ↦
               let o = others_home t apart.1 in
               rw (o.2, enters.5)
@@ -240,7 +240,7 @@ module _ (b : HubConfig) (E : Log) (old new : State) (name : List ℕ) (access :
       (newcomer old.config access new.floor n
       ∷ [])
 
-  module _ (absent : place_named name old.rooms ≡ None) (rev : o.rev
+  module _ (absent : index_named name old.rooms ≡ None) (rev : o.rev
       ≡ new.floor) (floor : IsCount new.floor) where
     may : MayBegin new.floor (documents E name)
     may = may_still (documents E name) (stands.others name absent)
@@ -291,7 +291,7 @@ module _ (b : HubConfig) (E : Log) (old new : State) (name : List ℕ) (access :
         → slice_get old.rooms p ≡ Some (known, g) → known ≢ name
     elsewhere_named p known g at same =
         let found = stands.names p known g at in
-        absurd (cc (absent, ap (λ n. place_named n old.rooms) (sym same) ∙ found))
+        absurd (cc (absent, ap (λ n. index_named n old.rooms) (sym same) ∙ found))
 
     -- each room is the new one, or was there
     room_stands : {A B : Type 0} (p : ℕ) (known : List ℕ) (g : RoomSessions)
@@ -326,13 +326,13 @@ module _ (b : HubConfig) (E : Log) (old new : State) (name : List ℕ) (access :
         newcomer_outbox b.max_waiting_patches old.config access new.floor n epoch_counts floor count
         waiting_is
 
-    -- a name without a room afterwards had none before, or a room that made place
+    -- a name without a room afterwards had none before, or a room that was evicted
     others_still : (other : List ℕ) → other ≢ name → MayBegin new.floor (documents E other)
         → MayBegin new.floor (documents (e ∷ E) other)
     others_still other apart may =
         subst (MayBegin new.floor) (sym (begun_elsewhere E name access o other apart)) may
 
-    found_stands : Founds None (name, founded) old.rooms step.place new.rooms
+    found_stands : Founds None (name, founded) old.rooms step.index new.rooms
         → StandsFor b (e ∷ E) new
     found_stands enters = record {
       config = step.config ∙ stands.config;
@@ -354,21 +354,21 @@ module _ (b : HubConfig) (E : Log) (old new : State) (name : List ℕ) (access :
       ];
       known =
           λ other p there. by_name (λ x. (x || is_opened E other) ≡ true) other name (λ is. refl)
-          (λ apart. by_finding (is_opened E other ≡ true) (place_named other old.rooms)
+          (λ apart. by_finding (is_opened E other ≡ true) (index_named other old.rooms)
           (λ none. let still = named_apart old.rooms other name founded apart none in
-          absurd (cc (still, ap (place_named other) (sym enters.1) ∙ there)))
+          absurd (cc (still, ap (index_named other) (sym enters.1) ∙ there)))
           (λ p was. stands.known other p was));
       others = λ other none.
-          let before : place_named other old.rooms ≡ None =
-          by_finding (place_named other old.rooms
-          ≡ None) (place_named other old.rooms) (λ h. h)
+          let before : index_named other old.rooms ≡ None =
+          by_finding (index_named other old.rooms
+          ≡ None) (index_named other old.rooms) (λ h. h)
           (λ p there. let still = named_earlier old.rooms other (name, founded) p there in
-          absurd (cc (still, ap (place_named other) (sym enters.1) ∙ none))) in
+          absurd (cc (still, ap (index_named other) (sym enters.1) ∙ none))) in
           let apart : other ≢ name = λ same. let here = named_last old.rooms name founded absent in
           absurd (cc (
             here,
-            ap (λ n. place_named n (old.rooms ++ (name, founded) ∷ [])) (sym same)
-                ∙ (ap (place_named other) (sym enters.1) ∙ none),
+            ap (λ n. index_named n (old.rooms ++ (name, founded) ∷ [])) (sym same)
+                ∙ (ap (index_named other) (sym enters.1) ∙ none),
           )) in
           others_still other apart (may_still (documents E other) (stands.others other before));
       sessions = λ t. elim (eqb_tells n t) [
@@ -382,7 +382,7 @@ module _ (b : HubConfig) (E : Log) (old new : State) (name : List ℕ) (access :
         )
             (refl, first_outbox, (refl, refl, refl))
         | inr apart ↦ let o = others_home t apart.1 in
-            rw (o.0, o.1, o.2, enters.1) (later t (place_of old t) (stands.sessions t))
+            rw (o.0, o.1, o.2, enters.1) (later t (index_of old t) (stands.sessions t))
       ];
       wills = rw (
         enters.1,
@@ -426,10 +426,10 @@ module _ (b : HubConfig) (E : Log) (old new : State) (name : List ℕ) (access :
         later t (Some p) h = later_room_sessions t p (slice_get old.rooms p) refl h
         later t None h = h
 
-    -- it takes the place of one that makes place, whose name may begin again above it
+    -- it replaces one that is evictable, whose name may begin again above it
     replaced_stands : (i : ℕ) (v : Vacant old.rooms i) → old.wills ≡ []
         → above v.room_sessions ≤ new.floor
-        → Founds (Some i) (name, founded) old.rooms step.place new.rooms → StandsFor b (e ∷ E) new
+        → Founds (Some i) (name, founded) old.rooms step.index new.rooms → StandsFor b (e ∷ E) new
     replaced_stands i v none over enters = record {
       config = step.config ∙ stands.config;
       floor = floor;
@@ -447,24 +447,24 @@ module _ (b : HubConfig) (E : Log) (old new : State) (name : List ℕ) (access :
             rw enters.1 (other_named known p found (λ same.
             k.0
             (let both : Some p ≡ Some i = sym found
-            ∙ (ap (λ n. place_named n old.rooms) same ∙ taken) in cc)) ∙ found)
+            ∙ (ap (λ n. index_named n old.rooms) same ∙ taken) in cc)) ∙ found)
       ];
       known =
           λ other p there. by_name (λ x. (x || is_opened E other) ≡ true) other name (λ is. refl)
           (λ apart. by_name (λ x. is_opened E other ≡ true) other v.name
-          (λ same. stands.known other i (ap (λ n. place_named n old.rooms) same ∙ taken))
+          (λ same. stands.known other i (ap (λ n. index_named n old.rooms) same ∙ taken))
           (λ differ.
           stands.known other p (sym
           (named_other old.rooms i v.name name other v.room_sessions founded v.there differ
-          apart) ∙ (ap (place_named other) (sym enters.1) ∙ there))));
+          apart) ∙ (ap (index_named other) (sym enters.1) ∙ there))));
       others = λ other none.
           let apart : other ≢ name =
           λ same. let here = named_written old.rooms i name founded absent v.within in
           absurd (cc (
             here,
             ap (λ n.
-                place_named n (slice_set old.rooms i (name, founded))) (sym same)
-                ∙ (ap (place_named other) (sym enters.1) ∙ none),
+                index_named n (slice_set old.rooms i (name, founded))) (sym same)
+                ∙ (ap (index_named other) (sym enters.1) ∙ none),
           )) in
           others_still other apart (by_name (λ x.
           MayBegin new.floor (documents E other)) other v.name
@@ -475,7 +475,7 @@ module _ (b : HubConfig) (E : Log) (old new : State) (name : List ℕ) (access :
           (λ differ. may_still (documents E other)
           (stands.others other (sym
           (named_other old.rooms i v.name name other v.room_sessions founded v.there differ
-          apart) ∙ (ap (place_named other) (sym enters.1) ∙ none)))));
+          apart) ∙ (ap (index_named other) (sym enters.1) ∙ none)))));
       sessions = λ t. elim (eqb_tells n t) [
         | inl is ↦ rw (
           step.home t,
@@ -487,13 +487,13 @@ module _ (b : HubConfig) (E : Log) (old new : State) (name : List ℕ) (access :
         )
             (refl, first_outbox, (refl, refl, refl))
         | inr apart ↦ let o = others_home t apart.1 in
-            rw (o.0, o.1, o.2, enters.1) (elsewhere t (place_of old t) (stands.sessions t))
+            rw (o.0, o.1, o.2, enters.1) (elsewhere t (index_of old t) (stands.sessions t))
       ];
       wills = rw (step.wills, none) (rw none at stands.wills);
       willing = rw (step.wills, none) tt;
     }
       where
-        taken : place_named v.name old.rooms ≡ Some i
+        taken : index_named v.name old.rooms ≡ Some i
         taken = stands.names i v.name v.room_sessions v.there
 
         cases : (p : ℕ) (known : List ℕ) (g : RoomSessions)
@@ -506,13 +506,13 @@ module _ (b : HubConfig) (E : Log) (old new : State) (name : List ℕ) (access :
               g,
             ) (ap (λ rooms. slice_get rooms p) (sym enters.1) ∙ at)
 
-        other_named : (known : List ℕ) (p : ℕ) → place_named known old.rooms ≡ Some p
+        other_named : (known : List ℕ) (p : ℕ) → index_named known old.rooms ≡ Some p
             → known ≢ v.name
-            → place_named known (slice_set old.rooms i (name, founded))
-            ≡ place_named known old.rooms
+            → index_named known (slice_set old.rooms i (name, founded))
+            ≡ index_named known old.rooms
         other_named known p found differ =
             named_other old.rooms i v.name name known v.room_sessions founded v.there differ
-            (λ same. absurd (cc (absent, ap (λ n. place_named n old.rooms) (sym same) ∙ found)))
+            (λ same. absurd (cc (absent, ap (λ n. index_named n old.rooms) (sym same) ∙ found)))
 
         -- who is at home is so in another room
         elsewhere : (t : ℕ) (o : Option ℕ)
@@ -531,7 +531,7 @@ module _ (b : HubConfig) (E : Log) (old new : State) (name : List ℕ) (access :
         elsewhere t None h = h
 
     new_stands : (at : Option ℕ) → vacant_in old ≡ at
-        → Founds at (name, founded) old.rooms step.place new.rooms → StandsFor b (e ∷ E) new
+        → Founds at (name, founded) old.rooms step.index new.rooms → StandsFor b (e ∷ E) new
     new_stands (Some i) is enters =
         let v = vacant old.config.rooms old.wills old.rooms i is in
         let floor : new.floor ≡ floor_over old.floor (slice_get old.rooms i) =
@@ -545,22 +545,22 @@ module _ (b : HubConfig) (E : Log) (old new : State) (name : List ℕ) (access :
         )) enters
     new_stands None is enters = found_stands enters
 
-  enter_stands : (at : Option ℕ) → place_named name old.rooms ≡ at
-      → Enters o name access at old step.place new → IsCount new.floor → StandsFor b (e ∷ E) new
+  enter_stands : (at : Option ℕ) → index_named name old.rooms ≡ at
+      → Enters o name access at old step.index new → IsCount new.floor → StandsFor b (e ∷ E) new
   enter_stands (Some i) named enters floor = join_stands i named enters
   enter_stands None named enters floor =
       new_stands named enters.0 floor (vacant_in old) refl enters.1
 
   pub open_stands : StandsFor b (e ∷ E) new
   open_stands =
-      enter_stands (place_named name old.rooms) refl step.enters
-      (rw step.floor (floor_count old (place_named name old.rooms) stands.floor))
+      enter_stands (index_named name old.rooms) refl step.enters
+      (rw step.floor (floor_count old (index_named name old.rooms) stands.floor))
 
 -- Closings.
 
 pub close_stands : (b : HubConfig) (E : Log) (old new : State) (s : ℕ) (mine : Home old s)
     → StandsFor b E old
-    → Closes s mine.room.place mine.room.name mine.room.room_sessions mine.session.will old new
+    → Closes s mine.room.index mine.room.name mine.room.room_sessions mine.session.will old new
     → StandsFor b (entry (Close s) Closed ∷ E) new
 close_stands b E old new s mine stands step =
     let e = entry (Close s) Closed in
@@ -568,9 +568,9 @@ close_stands b E old new s mine stands step =
     let will = mine.session.will in
     let h = step.left in
     let at_home = here b E old s mine stands in
-    let there : slice_get (slice_set old.rooms r.place (r.name, h)) r.place ≡ Some (r.name, h) =
-    slice_get-set old.rooms r.place (r.name, r.room_sessions) (r.name, h) r.there in
-    let within = slice_get_within old.rooms r.place (r.name, r.room_sessions) r.there in
+    let there : slice_get (slice_set old.rooms r.index (r.name, h)) r.index ≡ Some (r.name, h) =
+    slice_get-set old.rooms r.index (r.name, r.room_sessions) (r.name, h) r.there in
+    let within = slice_get_within old.rooms r.index (r.name, r.room_sessions) r.there in
     record {
       config = step.config ∙ stands.config;
       floor = rw step.floor stands.floor;
@@ -579,7 +579,7 @@ close_stands b E old new s mine stands step =
       count = omega (arith, step.count, stands.count);
       rooms =
           rw step.rooms (set_rooms b E e old r h stands (λ other apart. refl) (λ other apart.
-          refl) (rw step.leaves.0 (stands.rooms r.place r.name r.room_sessions r.there)));
+          refl) (rw step.leaves.0 (stands.rooms r.index r.name r.room_sessions r.there)));
       names =
           rw step.rooms (set_names b E e old r h stands (λ other apart. refl) (λ other apart.
           refl));
@@ -605,15 +605,15 @@ close_stands b E old new s mine stands step =
         step.rooms,
         step.wills,
         at_home.0,
-        map-append (named_will (slice_set old.rooms r.place (r.name, h))) old.wills
-            (left_of r.place will),
-        same_wills old.rooms r.place r.name r.room_sessions h old.wills r.there stands.willing,
+        map-append (named_will (slice_set old.rooms r.index (r.name, h))) old.wills
+            (left_of r.index will),
+        same_wills old.rooms r.index r.name r.room_sessions h old.wills r.there stands.willing,
         stands.wills,
-        named_left (slice_set old.rooms r.place (r.name, h)) r.place r.name h will there,
+        named_left (slice_set old.rooms r.index (r.name, h)) r.index r.name h will there,
       ) refl;
       willing =
           rw (step.rooms, step.wills)
-          (have_left (slice_set old.rooms r.place (r.name, h)) old.wills r.place will
-          (omega (arith, within, length-set old.rooms r.place (r.name, h)))
-          (have_set old.rooms r.place (r.name, h) old.wills stands.willing));
+          (have_left (slice_set old.rooms r.index (r.name, h)) old.wills r.index will
+          (omega (arith, within, length-set old.rooms r.index (r.name, h)))
+          (have_set old.rooms r.index (r.name, h) old.wills stands.willing));
     }

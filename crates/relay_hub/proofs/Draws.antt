@@ -100,7 +100,7 @@ watch_drawn ds room x pointers _ _ _ k _ reads h = h
 pub draw_stands : (b : HubConfig) (E : Log) (old : State) (s : ℕ) (mine : Home old s)
     (h : RoomSessions) (text : Option (List ℕ)) → StandsFor b E old
     → Draws s (Some mine.session) (Drawn text) mine.room.room_sessions h
-    → StandsFor b (entry (Draw s) (Drawn text) ∷ E) (with_room mine.room.place mine.room.name h old)
+    → StandsFor b (entry (Draw s) (Drawn text) ∷ E) (with_room mine.room.index mine.room.name h old)
 draw_stands b E old s mine h text stands step =
     let r = mine.room in
     let x = mine.session in
@@ -108,7 +108,7 @@ draw_stands b E old s mine h text stands step =
     let at_home = here b E old s mine stands in
     let reads =
     front_reads r.room_sessions.room x.view o.replies o.patches o.due
-    (stands.rooms r.place r.name r.room_sessions r.there).is at_home.1.replies
+    (stands.rooms r.index r.name r.room_sessions r.there).is at_home.1.replies
     at_home.1.patches step.2 in
     let same : (s == s) ≡ true = grind (arith, nat_tests) in
     session_changes b E (entry (Draw s) (Drawn text)) old r h stands (λ other apart.

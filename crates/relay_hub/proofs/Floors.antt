@@ -5,7 +5,7 @@ use Rattle.relay_hub.specs.State.{RoomSessions, State, vacant_in, above, floor_o
 use Rattle.relay_hub.specs.Step.{floor_after}
 use Rattle.relay_hub.proofs.Rooms.{above_count, vacant}
 
--- it stays a count, since a room that makes place has a revision left
+-- it stays a count, since an evictable room has a revision left
 pub floor_count : (hub : State) (at : Option ℕ) → hub.floor ≤ MAX_COUNT
     → floor_after at hub ≤ MAX_COUNT
 floor_count hub (Some i) count = count
@@ -27,7 +27,7 @@ floor_rises hub None = over (option_and_then (slice_get hub.rooms) (vacant_in hu
     over (Some room) = omega arith
     over None = omega arith
 
--- above the room that makes place
+-- above the room that is evictable
 pub floor_is : (hub : State) (at : Option ℕ) (i : ℕ) (name : List ℕ) (g : RoomSessions)
     → is_some at ≡ false → vacant_in hub ≡ Some i
     → slice_get hub.rooms i ≡ Some (name, g) → floor_after at hub ≡ max hub.floor (above g)

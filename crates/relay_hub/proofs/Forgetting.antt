@@ -8,7 +8,7 @@ use Rattle.relay_tree.specs.declared.count.TheConstants.{MAX_COUNT}
 use Rattle.relay_hub.specs.Log.{Log, Entry, entry, home, documents, reaching, beginning, watching}
 use Rattle.relay_hub.specs.Session.{Session}
 use Rattle.relay_hub.specs.Stands.{RoomStands, SessionStands, StandsFor}
-use Rattle.relay_hub.specs.State.{RoomSessions, room_sessions, State, RoomOf, place_named, session_in}
+use Rattle.relay_hub.specs.State.{RoomSessions, room_sessions, State, RoomOf, index_named, session_in}
 use Rattle.relay_hub.specs.Step.{anew_fault, forget_fault, Forgets}
 use Rattle.relay_hub.specs.declared.config.HubConfig.{HubConfig}
 use Rattle.relay_hub.specs.declared.event.Answer.TheVariants.{Forgotten}
@@ -43,11 +43,11 @@ idle g h =
 pub absent : (g : RoomSessions) (t : ℕ) → g.sessions ≡ [] → session_in g.sessions t ≡ None
 absent g t empty = rw empty refl
 
--- the room at the place of a name is the one that is forgotten
-pub fault_is : (hub : State) (name : List ℕ) (place : ℕ) (room : List ℕ × RoomSessions)
-    → place_named name hub.rooms ≡ Some place
-    → slice_get hub.rooms place ≡ Some room → forget_fault hub name ≡ anew_fault room.1
-fault_is hub name place room named there = rw (named, there) refl
+-- the room at the index of a name is the one that is forgotten
+pub fault_is : (hub : State) (name : List ℕ) (index : ℕ) (room : List ℕ × RoomSessions)
+    → index_named name hub.rooms ≡ Some index
+    → slice_get hub.rooms index ≡ Some room → forget_fault hub name ≡ anew_fault room.1
+fault_is hub name index room named there = rw (named, there) refl
 
 module _ (b : HubConfig) (E : Log) (old new : State) (name : List ℕ) (rev : ℕ)
     (stands : StandsFor b E old)
@@ -59,16 +59,16 @@ module _ (b : HubConfig) (E : Log) (old new : State) (name : List ℕ) (rev : �
   g = step.room
 
   abbrev r : RoomOf old
-  r = record { place = step.place; name = name; room_sessions = g; there = step.there }
+  r = record { index = step.index; name = name; room_sessions = g; there = step.there }
 
   abbrev ds : List Document
   ds = documents E name
 
   is_idle : IsIdle g
-  is_idle = idle g (sym (fault_is old name step.place (name, g) step.named step.there) ∙ may)
+  is_idle = idle g (sym (fault_is old name step.index (name, g) step.named step.there) ∙ may)
 
   was : RoomStands b (beginning E name) ds g.room
-  was = stands.rooms step.place name g step.there
+  was = stands.rooms step.index name g step.there
 
   here : bytes_eq name name ≡ true
   here = (bytes_eq-Decides name name).1 refl

@@ -1,4 +1,4 @@
--- A new room in the map that the code keeps: behind the others, or in the place of one.
+-- A new room in the map that the code keeps: behind the others, or at the index of one.
 use Rattle.std.proofs.Common.{◌≡◌, ◌∙◌, ◌<◌, ◌-◌, ap, sym, arith, ℕ, zero, suc, Option, Some, None, slice_get, List, [], ◌∷◌, ◌++◌, length, length-append, slice_set}
 use Rattle.std.specs.Prelude.{swap_remove, IfSome, string_bytes}
 use Rattle.std.specs.String.{string_eq}
@@ -10,7 +10,7 @@ use Rattle.indexmap.specs.IndexMap.{IndexMap, insert_entry}
 use Rattle.relay_room.specs.Room.{State as Room}
 use Rattle.relay_hub.specs.Representation.{named, rooms_of}
 use Rattle.relay_hub.specs.Session.{Session}
-use Rattle.relay_hub.specs.State.{RoomSessions, room_sessions, place_named}
+use Rattle.relay_hub.specs.State.{RoomSessions, room_sessions, index_named}
 use Rattle.relay_hub.proofs.OpenFaults.{absent}
 
 -- the room that an entry is, by what made its key, its room and its session
@@ -24,11 +24,11 @@ entry_is key name g room begun x first key_is room_is first_is made =
 -- an entry under a new name goes behind the others
 pub entered_last : {A S : Type 0} (m : IndexMap (String A) RoomSessions S) (key : String A)
     (name : List ℕ) (g : RoomSessions) (entries : List (String A × RoomSessions))
-    → string_bytes key ≡ name → place_named name (rooms_of m.entries) ≡ None
+    → string_bytes key ≡ name → index_named name (rooms_of m.entries) ≡ None
     → entries ≡ insert_entry string_eq m.entries key g → entries ≡ m.entries ++ (key, g) ∷ []
 entered_last m key name g entries key_is none is =
     is ∙ insert_entry-new string_eq m key g
-    (absent key m.entries (ap (λ n. place_named n (rooms_of m.entries)) key_is ∙ none))
+    (absent key m.entries (ap (λ n. index_named n (rooms_of m.entries)) key_is ∙ none))
 
 pub put_last : {A : Type 0} (es new : List (String A × RoomSessions)) (entry : String A
     × RoomSessions) (room : List ℕ × RoomSessions) → new ≡ es ++ entry ∷ [] → named entry ≡ room
@@ -37,7 +37,7 @@ put_last es new entry room is same =
     ap (λ xs. rooms_of xs) is
     ∙ (map-append named es (entry ∷ []) ∙ ap (λ r. rooms_of es ++ r ∷ []) same)
 
--- the last one comes to the place of another
+-- the last one comes to the index of another
 swap_last : {X : Type 0} (xs : List X) (v d : X) (i : ℕ) → i < length xs
     → swap_remove (xs ++ v ∷ []) i d ≡ slice_set xs i v
 swap_last xs v d i within =

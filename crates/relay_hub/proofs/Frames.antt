@@ -3,10 +3,10 @@ use Rattle.std.proofs.Common.{◌≡◌, ◌≢◌, ℕ, ◌==◌, true, List, �
 use Rattle.std.proofs.lemmas.Bool.Decides.{eqb_tells}
 use Rattle.relay_room.specs.Room.{State as Room}
 use Rattle.relay_tree.specs.Document.{Document}
-use Rattle.relay_hub.specs.Log.{Log, Entry, Watching, Place, place, home, is_opened, documents, beginning, watching, left, opened, open_count}
+use Rattle.relay_hub.specs.Log.{Log, Entry, Watching, Place, index, home, is_opened, documents, beginning, watching, left, opened, open_count}
 use Rattle.relay_hub.specs.Session.{Session}
 use Rattle.relay_hub.specs.Stands.{RoomStands, OutboxStands, WatchStands, SessionStands, RoomSessionsStand, HomeStands, MayBegin, named_will, StandsFor}
-use Rattle.relay_hub.specs.State.{RoomSessions, State, HaveRooms, RoomOf, Home, place_of, place_named, session_in}
+use Rattle.relay_hub.specs.State.{RoomSessions, State, HaveRooms, RoomOf, Home, index_of, index_named, session_in}
 use Rattle.relay_hub.specs.Step.{ChangesOnly, with_room, with_wills}
 use Rattle.relay_hub.specs.declared.config.HubConfig.{HubConfig}
 use Rattle.relay_hub.specs.declared.will.Will.{Will}
@@ -23,14 +23,14 @@ pub record Quiet (E : Log) (e : Entry) : Type 0 where
 
 -- a session of a room
 pub session_stands : (b : HubConfig) (E : Log) (hub : State) (t : ℕ) (r : RoomOf hub)
-    → StandsFor b E hub → place_of hub t ≡ Some r.place
+    → StandsFor b E hub → index_of hub t ≡ Some r.index
     → SessionStands b.max_waiting_patches (documents E) r.name r.room_sessions.room
     (session_in r.room_sessions.sessions t) (home E t) (watching b E t)
 session_stands b E hub t r h at = rw (at, r.there) at (h.sessions t)
 
 -- a session that is open
 pub here : (b : HubConfig) (E : Log) (hub : State) (s : ℕ) (mine : Home hub s) → StandsFor b E hub
-    → (home E s ≡ Some (place mine.room.name mine.session.access mine.session.will))
+    → (home E s ≡ Some (index mine.room.name mine.session.access mine.session.will))
     × OutboxStands b.max_waiting_patches mine.session
     × WatchStands (documents E mine.room.name) mine.room.room_sessions.room mine.session
     (watching b E s)
@@ -38,14 +38,14 @@ here b E hub s mine h =
     let found = session_stands b E hub s mine.room h mine.at in rw mine.is at found
 
 -- two rooms have different names
-names_apart : (b : HubConfig) (E : Log) (hub : State) (place p : ℕ) (name known : List ℕ)
+names_apart : (b : HubConfig) (E : Log) (hub : State) (index p : ℕ) (name known : List ℕ)
     (g k : RoomSessions) → StandsFor b E hub
-    → slice_get hub.rooms place ≡ Some (name, g) → slice_get hub.rooms p ≡ Some (known, k)
-    → p ≢ place → known ≢ name
-names_apart b E hub place p name known g k h at there apart same =
-    let one = h.names place name g at in
+    → slice_get hub.rooms index ≡ Some (name, g) → slice_get hub.rooms p ≡ Some (known, k)
+    → p ≢ index → known ≢ name
+names_apart b E hub index p name known g k h at there apart same =
+    let one = h.names index name g at in
     let two = h.names p known k there in
-    let both : Some p ≡ Some place = sym two ∙ (ap (λ n. place_named n hub.rooms) same ∙ one) in
+    let both : Some p ≡ Some index = sym two ∙ (ap (λ n. index_named n hub.rooms) same ∙ one) in
     apart cc
 
 -- a session needs only the same documents of its room, the same home and the same watching
@@ -87,83 +87,83 @@ unaffected b E e hub h quiet begins leaves homes same watches = record {
   is = h.is;
   next = rw quiet.opened h.next;
   count = h.count ∙ sym quiet.count;
-  rooms = λ place name g at. rw (same name, begins name) (h.rooms place name g at);
+  rooms = λ index name g at. rw (same name, begins name) (h.rooms index name g at);
   names = h.names;
-  known = λ name place there. quiet.rooms name ∙ h.known name place there;
+  known = λ name index there. quiet.rooms name ∙ h.known name index there;
   others = λ name none. subst (MayBegin hub.floor) (sym (same name)) (h.others name none);
   sessions = λ t. rw (homes t, watches t)
       (home_stays b.max_waiting_patches (documents E) (documents (e ∷ E)) hub.rooms t
-      (place_of hub t) (home E t) (watching b E t) same (h.sessions t));
+      (index_of hub t) (home E t) (watching b E t) same (h.sessions t));
   wills = h.wills ∙ sym leaves;
   willing = h.willing;
 }
 
--- an entry after which the room at a place differs, and no documents of other names do
+-- an entry after which the room at an index differs, and no documents of other names do
 module _ (b : HubConfig) (E : Log) (e : Entry) (old : State) (r : RoomOf old) (h : RoomSessions)
     (stands : StandsFor b E old)
     (elsewhere : (other : List ℕ) → other ≢ r.name → documents (e ∷ E) other ≡ documents E other)
     (begins : (other : List ℕ) → other ≢ r.name → beginning (e ∷ E) other ≡ beginning E other) where
   pub set_rooms : RoomStands b (beginning (e ∷ E) r.name) (documents (e ∷ E) r.name) h.room
       → (p : ℕ) (known : List ℕ) (k : RoomSessions)
-      → slice_get (slice_set old.rooms r.place (r.name, h)) p ≡ Some (known, k)
+      → slice_get (slice_set old.rooms r.index (r.name, h)) p ≡ Some (known, k)
       → RoomStands b (beginning (e ∷ E) known) (documents (e ∷ E) known) k.room
   set_rooms room p known k is =
-      elim (slice_set_cases old.rooms r.place p (r.name, h) (known, k) is) [
+      elim (slice_set_cases old.rooms r.index p (r.name, h) (known, k) is) [
         | inl same ↦
             let named : known ≡ r.name = ap (λ (n : List ℕ × RoomSessions). n.0) same.1 in
             let is : k ≡ h = ap (λ (n : List ℕ × RoomSessions). n.1) same.1 in
             rw (named, is) room
         | inr other ↦
             let apart =
-            names_apart b E old r.place p r.name known r.room_sessions k stands r.there
+            names_apart b E old r.index p r.name known r.room_sessions k stands r.there
             other.1 other.0 in
             rw (elsewhere known apart, begins known apart) (stands.rooms p known k other.1)
       ]
 
   pub set_names : (p : ℕ) (known : List ℕ) (k : RoomSessions)
-      → slice_get (slice_set old.rooms r.place (r.name, h)) p ≡ Some (known, k)
-      → place_named known (slice_set old.rooms r.place (r.name, h)) ≡ Some p
+      → slice_get (slice_set old.rooms r.index (r.name, h)) p ≡ Some (known, k)
+      → index_named known (slice_set old.rooms r.index (r.name, h)) ≡ Some p
   set_names p known k is =
-      named_set old.rooms r.place r.name known r.room_sessions h r.there
-      ∙ elim (slice_set_cases old.rooms r.place p (r.name, h) (known, k) is) [
+      named_set old.rooms r.index r.name known r.room_sessions h r.there
+      ∙ elim (slice_set_cases old.rooms r.index p (r.name, h) (known, k) is) [
         | inl same ↦
             let named : known ≡ r.name = ap (λ (n : List ℕ × RoomSessions). n.0) same.1 in
-            rw (named, same.0) (stands.names r.place r.name r.room_sessions r.there)
+            rw (named, same.0) (stands.names r.index r.name r.room_sessions r.there)
         | inr other ↦ stands.names p known k other.1
       ]
 
   pub set_known : (other : List ℕ) (p : ℕ)
-      → place_named other (slice_set old.rooms r.place (r.name, h)) ≡ Some p
+      → index_named other (slice_set old.rooms r.index (r.name, h)) ≡ Some p
       → is_opened E other ≡ true
   set_known other p there =
       stands.known other p (sym
-      (named_set old.rooms r.place r.name other r.room_sessions h r.there) ∙ there)
+      (named_set old.rooms r.index r.name other r.room_sessions h r.there) ∙ there)
 
   pub set_others : (other : List ℕ)
-      → place_named other (slice_set old.rooms r.place (r.name, h)) ≡ None
+      → index_named other (slice_set old.rooms r.index (r.name, h)) ≡ None
       → MayBegin old.floor (documents (e ∷ E) other)
   set_others other none =
-      let absent : place_named other old.rooms ≡ None =
-      sym (named_set old.rooms r.place r.name other r.room_sessions h r.there) ∙ none in
+      let absent : index_named other old.rooms ≡ None =
+      sym (named_set old.rooms r.index r.name other r.room_sessions h r.there) ∙ none in
       let apart : other ≢ r.name =
-      λ same. let found = stands.names r.place r.name r.room_sessions r.there in
-      absurd (cc (ap (λ n. place_named n old.rooms) same, absent, found)) in
+      λ same. let found = stands.names r.index r.name r.room_sessions r.there in
+      absurd (cc (ap (λ n. index_named n old.rooms) same, absent, found)) in
       subst (MayBegin old.floor) (sym (elsewhere other apart)) (stands.others other absent)
 
   -- a session in another room is unchanged, and one in this room is notified
   pub set_home : (t : ℕ) (there : Option Place) (w : Option Watching)
-      → (place_of old t ≢ Some r.place → there ≡ home E t)
-      → (place_of old t ≢ Some r.place → w ≡ watching b E t)
-      → (place_of old t ≡ Some r.place
+      → (index_of old t ≢ Some r.index → there ≡ home E t)
+      → (index_of old t ≢ Some r.index → w ≡ watching b E t)
+      → (index_of old t ≡ Some r.index
       → SessionStands b.max_waiting_patches (documents (e ∷ E)) r.name h.room
       (session_in h.sessions t) there w)
-      → HomeStands b.max_waiting_patches (documents (e ∷ E)) (slice_set old.rooms r.place (
+      → HomeStands b.max_waiting_patches (documents (e ∷ E)) (slice_set old.rooms r.index (
         r.name,
         h,
-      )) t (place_of old t) there w
-  set_home t there w known watches here = go (place_of old t) refl
+      )) t (index_of old t) there w
+  set_home t there w known watches here = go (index_of old t) refl
     where
-      away : (p : ℕ) → place_of old t ≡ Some p → p ≢ r.place → there ≡ home E t
+      away : (p : ℕ) → index_of old t ≡ Some p → p ≢ r.index → there ≡ home E t
           → w ≡ watching b E t
           → RoomSessionsStand b.max_waiting_patches (documents (e ∷ E)) t (slice_get old.rooms p)
           there w
@@ -172,40 +172,40 @@ module _ (b : HubConfig) (E : Log) (e : Entry) (old : State) (r : RoomOf old) (h
           (room_sessions_stay b.max_waiting_patches (documents E) (documents (e ∷ E)) t
           (slice_get old.rooms p) (home E t) (watching b E t)
           (λ other k is.
-          elsewhere other (names_apart b E old r.place p r.name other r.room_sessions k stands
+          elsewhere other (names_apart b E old r.index p r.name other r.room_sessions k stands
           r.there is apart))
           (rw home_at at (stands.sessions t)))
 
-      go : (o : Option ℕ) → place_of old t ≡ o
+      go : (o : Option ℕ) → index_of old t ≡ o
           → HomeStands b.max_waiting_patches (documents (e ∷ E))
-          (slice_set old.rooms r.place (r.name, h)) t o there w
+          (slice_set old.rooms r.index (r.name, h)) t o there w
       go None home_at =
           known (λ is. absurd (cc (home_at, is))) ∙ (rw home_at at (stands.sessions t))
       go (Some p) home_at =
-          elim (eqb_tells p r.place) [
+          elim (eqb_tells p r.index) [
             | inl same ↦ rw (
               same.1,
-              slice_get-set old.rooms r.place (r.name, r.room_sessions) (r.name, h) r.there,
+              slice_get-set old.rooms r.index (r.name, r.room_sessions) (r.name, h) r.there,
             )
                 (here (home_at ∙ ap Some same.1))
-            | inr other ↦ rw (slice_get-set_other old.rooms r.place p (r.name, h) other.1)
+            | inr other ↦ rw (slice_get-set_other old.rooms r.index p (r.name, h) other.1)
                 (away p home_at other.1 (known (elsewhere_at other.1))
                 (watches (elsewhere_at other.1)))
           ]
         where
-          elsewhere_at : p ≢ r.place → place_of old t ≢ Some r.place
-          elsewhere_at apart is = apart (let both : Some p ≡ Some r.place = sym home_at ∙ is in cc)
+          elsewhere_at : p ≢ r.index → index_of old t ≢ Some r.index
+          elsewhere_at apart is = apart (let both : Some p ≡ Some r.index = sym home_at ∙ is in cc)
 
   -- if no session is opened or closed, and these wills are left
   pub room_and_wills_change : (wills : List Will) → map (named_will old.rooms) wills ≡ left (e ∷ E)
       → HaveRooms old.rooms wills → Quiet E e
       → RoomStands b (beginning (e ∷ E) r.name) (documents (e ∷ E) r.name) h.room
-      → ((t : ℕ) → place_of old t ≢ Some r.place → home (e ∷ E) t ≡ home E t)
-      → ((t : ℕ) → place_of old t ≢ Some r.place → watching b (e ∷ E) t ≡ watching b E t)
-      → ((t : ℕ) → place_of old t ≡ Some r.place
+      → ((t : ℕ) → index_of old t ≢ Some r.index → home (e ∷ E) t ≡ home E t)
+      → ((t : ℕ) → index_of old t ≢ Some r.index → watching b (e ∷ E) t ≡ watching b E t)
+      → ((t : ℕ) → index_of old t ≡ Some r.index
       → SessionStands b.max_waiting_patches (documents (e ∷ E)) r.name h.room
       (session_in h.sessions t) (home (e ∷ E) t) (watching b (e ∷ E) t))
-      → StandsFor b (e ∷ E) (with_wills wills (with_room r.place r.name h old))
+      → StandsFor b (e ∷ E) (with_wills wills (with_room r.index r.name h old))
   room_and_wills_change wills leaves have quiet room homes watches here = record {
     config = stands.config;
     floor = stands.floor;
@@ -218,19 +218,19 @@ module _ (b : HubConfig) (E : Log) (e : Entry) (old : State) (r : RoomOf old) (h
     others = set_others;
     sessions =
         λ t. set_home t (home (e ∷ E) t) (watching b (e ∷ E) t) (homes t) (watches t) (here t);
-    wills = same_wills old.rooms r.place r.name r.room_sessions h wills r.there have ∙ leaves;
-    willing = have_set old.rooms r.place (r.name, h) wills have;
+    wills = same_wills old.rooms r.index r.name r.room_sessions h wills r.there have ∙ leaves;
+    willing = have_set old.rooms r.index (r.name, h) wills have;
   }
 
   -- the same if the wills are those that were left
   pub room_changes : left (e ∷ E) ≡ left E → Quiet E e
       → RoomStands b (beginning (e ∷ E) r.name) (documents (e ∷ E) r.name) h.room
-      → ((t : ℕ) → place_of old t ≢ Some r.place → home (e ∷ E) t ≡ home E t)
-      → ((t : ℕ) → place_of old t ≢ Some r.place → watching b (e ∷ E) t ≡ watching b E t)
-      → ((t : ℕ) → place_of old t ≡ Some r.place
+      → ((t : ℕ) → index_of old t ≢ Some r.index → home (e ∷ E) t ≡ home E t)
+      → ((t : ℕ) → index_of old t ≢ Some r.index → watching b (e ∷ E) t ≡ watching b E t)
+      → ((t : ℕ) → index_of old t ≡ Some r.index
       → SessionStands b.max_waiting_patches (documents (e ∷ E)) r.name h.room
       (session_in h.sessions t) (home (e ∷ E) t) (watching b (e ∷ E) t))
-      → StandsFor b (e ∷ E) (with_room r.place r.name h old)
+      → StandsFor b (e ∷ E) (with_room r.index r.name h old)
   room_changes leaves quiet room homes watches here =
       room_and_wills_change old.wills (stands.wills
       ∙ sym leaves) stands.willing quiet room homes watches here
@@ -238,16 +238,16 @@ module _ (b : HubConfig) (E : Log) (e : Entry) (old : State) (r : RoomOf old) (h
   -- if only one session differs, and no documents do
   pub session_changes : left (e ∷ E) ≡ left E → beginning (e ∷ E) r.name ≡ beginning E r.name
       → Quiet E e → ((other : List ℕ) → documents (e ∷ E) other ≡ documents E other)
-      → (s : ℕ) (y : Session) → place_of old s ≡ Some r.place
-      → home (e ∷ E) s ≡ Some (place r.name y.access y.will)
+      → (s : ℕ) (y : Session) → index_of old s ≡ Some r.index
+      → home (e ∷ E) s ≡ Some (index r.name y.access y.will)
       → ChangesOnly s (Some y) r.room_sessions h
       → ((t : ℕ) → s ≢ t → (home (e ∷ E) t ≡ home E t) × (watching b (e ∷ E) t ≡ watching b E t))
       → OutboxStands b.max_waiting_patches y
       → WatchStands (documents E r.name) r.room_sessions.room y (watching b (e ∷ E) s)
-      → StandsFor b (e ∷ E) (with_room r.place r.name h old)
+      → StandsFor b (e ∷ E) (with_room r.index r.name h old)
   session_changes leaves began quiet same s y s_at s_home changes others contents watch =
       room_changes leaves quiet
-      (rw (same r.name, began, changes.0) (stands.rooms r.place r.name r.room_sessions r.there))
+      (rw (same r.name, began, changes.0) (stands.rooms r.index r.name r.room_sessions r.there))
       (λ t apart. (others t (other_number t apart)).0)
       (λ t apart. (others t (other_number t apart)).1)
       (λ t t_at. rw (changes.0, changes.1.found t)
@@ -265,5 +265,5 @@ module _ (b : HubConfig) (E : Log) (e : Entry) (old : State) (r : RoomOf old) (h
         (others t apart).1,
       ) (session_stands b E old t r stands t_at)))))
     where
-      other_number : (t : ℕ) → place_of old t ≢ Some r.place → s ≢ t
-      other_number t apart is = apart (subst (λ u. place_of old u ≡ Some r.place) is s_at)
+      other_number : (t : ℕ) → index_of old t ≢ Some r.index → s ≢ t
+      other_number t apart is = apart (subst (λ u. index_of old u ≡ Some r.index) is s_at)

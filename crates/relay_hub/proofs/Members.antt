@@ -24,8 +24,8 @@ use Rattle.relay_tree.specs.declared.count.TheConstants.{MAX_COUNT}
 use Rattle.relay_hub.specs.Admitted.{admitted}
 use Rattle.relay_hub.specs.Refusal.{refused, future_refusal}
 use Rattle.relay_hub.specs.Session.{Session, replied, newcomer, leaves_will, watches, unwatches, resumes, drawn}
-use Rattle.relay_hub.specs.State.{RoomSessions, room_sessions, State, EachOnce, Home, RoomOf, IsHub, HaveRooms, place_of, place_named, vacant_in, is_crowded, session_in}
-use Rattle.relay_hub.specs.Step.{OnlyAt, EditServed, WillServed, ResumeServed, Serves, Receives, Draws, with_room, with_wills, InRoom, AtPlace, open_fault, Founds, Enters, Opens, left_of, Closes, ClosesIn, ClosesInRoom, ClosesAt, DoesWill, forget_fault, Forgets, Step}
+use Rattle.relay_hub.specs.State.{RoomSessions, room_sessions, State, EachOnce, Home, RoomOf, IsHub, HaveRooms, index_of, index_named, vacant_in, is_crowded, session_in}
+use Rattle.relay_hub.specs.Step.{OnlyAt, EditServed, WillServed, ResumeServed, Serves, Receives, Draws, with_room, with_wills, InRoom, AtIndex, open_fault, Founds, Enters, Opens, left_of, Closes, ClosesIn, ClosesInRoom, ClosesAt, DoesWill, forget_fault, Forgets, Step}
 use Rattle.relay_hub.specs.declared.config.HubConfig.{HubConfig}
 use Rattle.relay_hub.specs.declared.event.Answer.{Answer}
 use Rattle.relay_hub.specs.declared.event.Answer.TheVariants.{Opened, NotOpened, Heard, Drawn, Closed, WillDone, NoWill, Forgotten, NotForgotten, NoSession}
@@ -46,17 +46,17 @@ use Rattle.relay_hub.proofs.Wills.{have_more, have_set, have_left, few_left}
 -- each session is in no room but its own
 abbrev StandAlone : State → Type 0
 StandAlone hub =
-    (place : ℕ) (name : List ℕ) (g : RoomSessions) → slice_get hub.rooms place ≡ Some (name, g)
-    → (t : ℕ) (x : Session) → session_in g.sessions t ≡ Some x → place_of hub t ≡ Some place
+    (index : ℕ) (name : List ℕ) (g : RoomSessions) → slice_get hub.rooms index ≡ Some (name, g)
+    → (t : ℕ) (x : Session) → session_in g.sessions t ≡ Some x → index_of hub t ≡ Some index
 
 -- one room differs: its sessions have it as their room, and the others keep theirs
-set_alone : (old new : State) (place : ℕ) (name : List ℕ) (g : RoomSessions) → IsHub old
-    → new.rooms ≡ slice_set old.rooms place (name, g)
-    → ((t p : ℕ) → place_of old t ≡ Some p → p ≢ place → place_of new t ≡ Some p)
-    → ((t : ℕ) (x : Session) → session_in g.sessions t ≡ Some x → place_of new t ≡ Some place)
+set_alone : (old new : State) (index : ℕ) (name : List ℕ) (g : RoomSessions) → IsHub old
+    → new.rooms ≡ slice_set old.rooms index (name, g)
+    → ((t p : ℕ) → index_of old t ≡ Some p → p ≢ index → index_of new t ≡ Some p)
+    → ((t : ℕ) (x : Session) → session_in g.sessions t ≡ Some x → index_of new t ≡ Some index)
     → StandAlone new
-set_alone old new place name g h rooms others here p known h_g at t x is =
-    elim (slice_set_cases old.rooms place p (name, g) (
+set_alone old new index name g h rooms others here p known h_g at t x is =
+    elim (slice_set_cases old.rooms index p (name, g) (
       known,
       h_g,
     ) (ap (λ rooms. slice_get rooms p) (sym rooms) ∙ at)) [
@@ -68,14 +68,14 @@ set_alone old new place name g h rooms others here p known h_g at t x is =
 -- each session is in its room only once
 abbrev StandOnce : State → Type 0
 StandOnce hub =
-    (place : ℕ) (name : List ℕ) (g : RoomSessions) → slice_get hub.rooms place ≡ Some (name, g)
+    (index : ℕ) (name : List ℕ) (g : RoomSessions) → slice_get hub.rooms index ≡ Some (name, g)
     → EachOnce g.sessions
 
 -- one room differs, and each of its sessions is there only once
-set_once : (old new : State) (place : ℕ) (name : List ℕ) (g : RoomSessions) → IsHub old
-    → new.rooms ≡ slice_set old.rooms place (name, g) → EachOnce g.sessions → StandOnce new
-set_once old new place name g h rooms once p known k at =
-    elim (slice_set_cases old.rooms place p (name, g) (
+set_once : (old new : State) (index : ℕ) (name : List ℕ) (g : RoomSessions) → IsHub old
+    → new.rooms ≡ slice_set old.rooms index (name, g) → EachOnce g.sessions → StandOnce new
+set_once old new index name g h rooms once p known k at =
+    elim (slice_set_cases old.rooms index p (name, g) (
       known,
       k,
     ) (ap (λ rooms. slice_get rooms p) (sym rooms) ∙ at)) [
@@ -84,41 +84,41 @@ set_once old new place name g h rooms once p known k at =
     ]
 
 -- one room differs, and each session whose room it still is remains in it
-set_homes : (old new : State) (place : ℕ) (name : List ℕ) (was g : RoomSessions)
-    → slice_get old.rooms place ≡ Some (name, was) → new.rooms ≡ slice_set old.rooms place (name, g)
-    → (t : ℕ) (home : Home old t) → place_of new t ≡ Some home.room.place
-    → (home.room.place ≡ place → (y : Session) × (session_in g.sessions t ≡ Some y)) → Home new t
-set_homes old new place name was g at rooms t home still stays =
+set_homes : (old new : State) (index : ℕ) (name : List ℕ) (was g : RoomSessions)
+    → slice_get old.rooms index ≡ Some (name, was) → new.rooms ≡ slice_set old.rooms index (name, g)
+    → (t : ℕ) (home : Home old t) → index_of new t ≡ Some home.room.index
+    → (home.room.index ≡ index → (y : Session) × (session_in g.sessions t ≡ Some y)) → Home new t
+set_homes old new index name was g at rooms t home still stays =
     let r = home.room in
-    elim (eqb_tells r.place place) [
+    elim (eqb_tells r.index index) [
       | inl same ↦
           let y = stays same.1 in
-          let there : slice_get new.rooms r.place ≡ Some (name, g) =
-          rw (rooms, same.1) (slice_get-set old.rooms place (name, was) (name, g) at) in
+          let there : slice_get new.rooms r.index ≡ Some (name, g) =
+          rw (rooms, same.1) (slice_get-set old.rooms index (name, was) (name, g) at) in
           record {
-            room = record { place = r.place; name = name; room_sessions = g; there = there };
+            room = record { index = r.index; name = name; room_sessions = g; there = there };
             session = y.0;
             at = still;
             is = y.1;
           }
       | inr other ↦
-          let there : slice_get new.rooms r.place ≡ Some (r.name, r.room_sessions) =
-          rw (rooms, slice_get-set_other old.rooms place r.place (name, g) other.1) r.there
+          let there : slice_get new.rooms r.index ≡ Some (r.name, r.room_sessions) =
+          rw (rooms, slice_get-set_other old.rooms index r.index (name, g) other.1) r.there
           in
           record {
             room = record
-                { place = r.place; name = r.name; room_sessions = r.room_sessions; there = there };
+                { index = r.index; name = r.name; room_sessions = r.room_sessions; there = there };
             session = home.session;
             at = still;
             is = home.is;
           }
     ]
 
--- the room at the place of a session's room
-same_home : (hub : State) (t place : ℕ) (name : List ℕ) (g : RoomSessions) (home : Home hub t)
-    → slice_get hub.rooms place ≡ Some (name, g) → home.room.place ≡ place
+-- the room at the index of a session's room
+same_home : (hub : State) (t index : ℕ) (name : List ℕ) (g : RoomSessions) (home : Home hub t)
+    → slice_get hub.rooms index ≡ Some (name, g) → home.room.index ≡ index
     → session_in g.sessions t ≡ Some home.session
-same_home hub t place name g home at same =
+same_home hub t index name g home at same =
     let both : ◌≡◌ {A = Option (List ℕ × RoomSessions)} (Some (
       home.room.name,
       home.room.room_sessions,
@@ -149,21 +149,21 @@ some_one (Some x) h = (x, refl)
 some_one None h = absurd (cc h)
 
 -- a session of the new room was in the old one, so it is its room
-stays_home : (hub : State) (place : ℕ) (name : List ℕ) (old new : RoomSessions) → IsHub hub
-    → slice_get hub.rooms place ≡ Some (name, old) → Keeps old new
-    → (t : ℕ) (x : Session) → session_in new.sessions t ≡ Some x → place_of hub t ≡ Some place
-stays_home hub place name old new h at keeps t x is =
-    by_finding (place_of hub t ≡ Some place) (session_in old.sessions t)
+stays_home : (hub : State) (index : ℕ) (name : List ℕ) (old new : RoomSessions) → IsHub hub
+    → slice_get hub.rooms index ≡ Some (name, old) → Keeps old new
+    → (t : ℕ) (x : Session) → session_in new.sessions t ≡ Some x → index_of hub t ≡ Some index
+stays_home hub index name old new h at keeps t x is =
+    by_finding (index_of hub t ≡ Some index) (session_in old.sessions t)
     (λ gone. absurd (cc (keeps.none t gone, is)))
-    (λ y there. h.members place name old at t y there)
+    (λ y there. h.members index name old at t y there)
 
-in_room_is_hub : (old new : State) (place : ℕ) (answer : Answer) (Does : RoomSessions
+in_room_is_hub : (old new : State) (index : ℕ) (answer : Answer) (Does : RoomSessions
     → RoomSessions → Type 0) (o : Option (List ℕ × RoomSessions)) → IsHub old
-    → ((g h : RoomSessions) → Does g h → Keeps g h) → slice_get old.rooms place ≡ o
-    → InRoom place o old answer Does new → IsHub new
-in_room_is_hub old new place answer Does None h keeps at step = rw step.1 h
-in_room_is_hub old new place answer Does (Some there) h keeps at step =
-    let next = with_room place there.0 step.0 old in
+    → ((g h : RoomSessions) → Does g h → Keeps g h) → slice_get old.rooms index ≡ o
+    → InRoom index o old answer Does new → IsHub new
+in_room_is_hub old new index answer Does None h keeps at step = rw step.1 h
+in_room_is_hub old new index answer Does (Some there) h keeps at step =
+    let next = with_room index there.0 step.0 old in
     let kept = keeps there.1 step.0 step.1 in
     subst IsHub (sym step.2) (record {
       config = h.config;
@@ -171,25 +171,25 @@ in_room_is_hub old new place answer Does (Some there) h keeps at step =
       below = h.below;
       homes = λ t p t_at.
           let home = h.homes t p t_at in
-          set_homes old next place there.0 there.1 step.0 at refl t home home.at
+          set_homes old next index there.0 there.1 step.0 at refl t home home.at
           (λ same.
           some_one (session_in step.0.sessions t)
-          (kept.some t home.session (same_home old t place there.0 there.1 home at same)));
-      members = set_alone old next place there.0 step.0 h refl (λ t p e other.
-          e) (stays_home old place there.0 there.1 step.0 h at kept);
+          (kept.some t home.session (same_home old t index there.0 there.1 home at same)));
+      members = set_alone old next index there.0 step.0 h refl (λ t p e other.
+          e) (stays_home old index there.0 there.1 step.0 h at kept);
       once =
-          set_once old next place there.0 step.0 h refl
-          (kept.once (h.once place there.0 there.1 at));
+          set_once old next index there.0 step.0 h refl
+          (kept.once (h.once index there.0 there.1 at));
       few = h.few;
-      wills = have_set old.rooms place (there.0, step.0) old.wills h.wills;
+      wills = have_set old.rooms index (there.0, step.0) old.wills h.wills;
     })
 
 at_home_is_hub : (old new : State) (answer : Answer) (Does : RoomSessions → RoomSessions
-    → Type 0) (place : Option ℕ) → IsHub old
-    → ((g h : RoomSessions) → Does g h → Keeps g h) → AtPlace place old answer Does new → IsHub new
+    → Type 0) (index : Option ℕ) → IsHub old
+    → ((g h : RoomSessions) → Does g h → Keeps g h) → AtIndex index old answer Does new → IsHub new
 at_home_is_hub old new answer Does None h keeps step = rw step.1 h
-at_home_is_hub old new answer Does (Some place) h keeps step =
-    in_room_is_hub old new place answer Does (slice_get old.rooms place) h keeps refl step
+at_home_is_hub old new answer Does (Some index) h keeps step =
+    in_room_is_hub old new index answer Does (slice_get old.rooms index) h keeps refl step
 
 -- what is done in a room adds and removes no session
 
@@ -283,36 +283,36 @@ draw_keeps s o answer old new e h = absurd h
 -- a new session
 
 -- a session that already had a room is not the new one
-not_new : (old : State) (n t p : ℕ) → IsHub old → n ≡ old.next → place_of old t ≡ Some p → n ≢ t
+not_new : (old : State) (n t p : ℕ) → IsHub old → n ≡ old.next → index_of old t ≡ Some p → n ≢ t
 not_new old n t p h number at same =
-    let none : place_of old t ≡ None =
+    let none : index_of old t ≡ None =
     h.below t (omega (arith, number, same)) in absurd (cc (none, at))
 
-opens_stays : (old new : State) (n place t p : ℕ) → IsHub old → n ≡ old.next
-    → ((t : ℕ) → place_of new t ≡ (if n == t then Some place else place_of old t))
-    → place_of old t ≡ Some p → place_of new t ≡ Some p
-opens_stays old new n place t p h number home at =
+opens_stays : (old new : State) (n index t p : ℕ) → IsHub old → n ≡ old.next
+    → ((t : ℕ) → index_of new t ≡ (if n == t then Some index else index_of old t))
+    → index_of old t ≡ Some p → index_of new t ≡ Some p
+opens_stays old new n index t p h number home at =
     let test : (n == t) ≡ false = grind (arith, nat_tests, not_new old n t p h number at) in
     rw (home t, test) at
 
 opens_below : (old new : State) (name : List ℕ) (access : Access) (o : Opening) → IsHub old
-    → Opens old name access o new → (t : ℕ) → new.next ≤ t → place_of new t ≡ None
+    → Opens old name access o new → (t : ℕ) → new.next ≤ t → index_of new t ≡ None
 opens_below old new name access o h step t late =
     let test : (o.session == t) ≡ false = grind (arith, nat_tests, late, step.next) in
     rw (step.home t, test) (h.below t (omega (arith, late, step.next, step.number)))
 
-joins_alone : (old new : State) (name : List ℕ) (access : Access) (o : Opening) (place i : ℕ)
+joins_alone : (old new : State) (name : List ℕ) (access : Access) (o : Opening) (index i : ℕ)
     → IsHub old → o.session ≡ old.next
-    → ((t : ℕ) → place_of new t ≡ (if o.session == t then Some place else place_of old t))
-    → Enters o name access (Some i) old place new → StandAlone new
-joins_alone old new name access o place i h number home step =
+    → ((t : ℕ) → index_of new t ≡ (if o.session == t then Some index else index_of old t))
+    → Enters o name access (Some i) old index new → StandAlone new
+joins_alone old new name access o index i h number home step =
     let g = step.2 in
     set_alone old new i step.1 step.3 h step.5 (λ t p at other.
-    opens_stays old new o.session place t p h number home at)
+    opens_stays old new o.session index t p h number home at)
     (λ t x is. rw (home t) (by_number
     (λ t b. (if b then Some (newcomer old.config access (revision g.room) o.session)
     else session_in g.sessions t) ≡ Some x
-    → (if b then Some place else place_of old t) ≡ Some i) o.session t
+    → (if b then Some index else index_of old t) ≡ Some i) o.session t
     (λ here. ap Some step.0) (λ other there.
     h.members i step.1 g step.4 t x there) (sym (step.7.1.found t) ∙ is)))
 
@@ -325,33 +325,33 @@ founded old name access floor n = (
 )
 
 -- the newcomer alone stands in it
-founded_alone : (old new : State) (access : Access) (floor n place t : ℕ) (x : Session)
-    → ((t : ℕ) → place_of new t ≡ (if n == t then Some place else place_of old t))
-    → session_in (newcomer old.config access floor n ∷ []) t ≡ Some x → place_of new t ≡ Some place
-founded_alone old new access floor n place t x home is =
+founded_alone : (old new : State) (access : Access) (floor n index t : ℕ) (x : Session)
+    → ((t : ℕ) → index_of new t ≡ (if n == t then Some index else index_of old t))
+    → session_in (newcomer old.config access floor n ∷ []) t ≡ Some x → index_of new t ≡ Some index
+founded_alone old new access floor n index t x home is =
     let first = newcomer old.config access floor n in
     rw (home t) (by_number (λ t b. (if b then Some first else None) ≡ Some x
-    → (if b then Some place else place_of old t) ≡ Some place) n t
+    → (if b then Some index else index_of old t) ≡ Some index) n t
     (λ here. refl) (λ other none. absurd (cc none)) is)
 
 -- nobody is at home in a room that is vacant
 not_vacant : (old : State) (i t : ℕ) (v : Vacant old.rooms i) (home : Home old t)
-    → home.room.place ≡ i → ⊥
+    → home.room.index ≡ i → ⊥
 not_vacant old i t v home same =
     let is = same_home old t i v.name v.room_sessions home v.there same in
     let none : session_in v.room_sessions.sessions t ≡ None = rw v.empty refl in
     absurd (cc (is, none))
 
-founds_alone : (old new : State) (name : List ℕ) (access : Access) (floor n place : ℕ)
+founds_alone : (old new : State) (name : List ℕ) (access : Access) (floor n index : ℕ)
     (o : Option ℕ) → IsHub old → n ≡ old.next
-    → ((t : ℕ) → place_of new t ≡ (if n == t then Some place else place_of old t))
-    → Founds o (founded old name access floor n) old.rooms place new.rooms → StandAlone new
-founds_alone old new name access floor n place (Some i) h number home step p known g at t x is =
+    → ((t : ℕ) → index_of new t ≡ (if n == t then Some index else index_of old t))
+    → Founds o (founded old name access floor n) old.rooms index new.rooms → StandAlone new
+founds_alone old new name access floor n index (Some i) h number home step p known g at t x is =
     set_alone old new i name (founded old name access floor n).1 h step.1 (λ t p at other.
-    opens_stays old new n place t p h number home at)
-    (λ t x is. founded_alone old new access floor n place t x home is
+    opens_stays old new n index t p h number home at)
+    (λ t x is. founded_alone old new access floor n index t x home is
     ∙ ap Some step.0) p known g at t x is
-founds_alone old new name access floor n place None h number home step p known g at t x is =
+founds_alone old new name access floor n index None h number home step p known g at t x is =
     let room = founded old name access floor n in
     elim (append_cases old.rooms p room (
       known,
@@ -360,25 +360,25 @@ founds_alone old new name access floor n place None h number home step p known g
       | inl k ↦
           let there : session_in room.1.sessions t ≡ Some x =
           ap (λ (r : List ℕ × RoomSessions). session_in r.1.sessions t) (sym k.1) ∙ is in
-          founded_alone old new access floor n place t x home there ∙ ap Some (step.0 ∙ sym k.0)
-      | inr k ↦ opens_stays old new n place t p h number home (h.members p known g k.1 t x is)
+          founded_alone old new access floor n index t x home there ∙ ap Some (step.0 ∙ sym k.0)
+      | inr k ↦ opens_stays old new n index t p h number home (h.members p known g k.1 t x is)
     ]
 
-enters_alone : (old new : State) (name : List ℕ) (access : Access) (o : Opening) (place : ℕ)
+enters_alone : (old new : State) (name : List ℕ) (access : Access) (o : Opening) (index : ℕ)
     (at : Option ℕ) → IsHub old → o.session ≡ old.next
-    → ((t : ℕ) → place_of new t ≡ (if o.session == t then Some place else place_of old t))
-    → Enters o name access at old place new → StandAlone new
-enters_alone old new name access o place (Some i) h number home step =
-    joins_alone old new name access o place i h number home step
-enters_alone old new name access o place None h number home step =
-    founds_alone old new name access new.floor o.session place (vacant_in old) h number home step.1
+    → ((t : ℕ) → index_of new t ≡ (if o.session == t then Some index else index_of old t))
+    → Enters o name access at old index new → StandAlone new
+enters_alone old new name access o index (Some i) h number home step =
+    joins_alone old new name access o index i h number home step
+enters_alone old new name access o index None h number home step =
+    founds_alone old new name access new.floor o.session index (vacant_in old) h number home step.1
 
-founds_once : (old new : State) (name : List ℕ) (access : Access) (floor n place : ℕ)
+founds_once : (old new : State) (name : List ℕ) (access : Access) (floor n index : ℕ)
     (o : Option ℕ) → IsHub old
-    → Founds o (founded old name access floor n) old.rooms place new.rooms → StandOnce new
-founds_once old new name access floor n place (Some i) h step =
+    → Founds o (founded old name access floor n) old.rooms index new.rooms → StandOnce new
+founds_once old new name access floor n index (Some i) h step =
     set_once old new i name (founded old name access floor n).1 h step.1 (refl, tt)
-founds_once old new name access floor n place None h step = λ p known g at.
+founds_once old new name access floor n index None h step = λ p known g at.
     elim (append_cases old.rooms p (founded old name access floor n) (
       known,
       g,
@@ -387,36 +387,36 @@ founds_once old new name access floor n place None h step = λ p known g at.
       | inr k ↦ h.once p known g k.1
     ]
 
-enters_once : (old new : State) (name : List ℕ) (access : Access) (o : Opening) (place : ℕ)
-    (at : Option ℕ) → IsHub old → Enters o name access at old place new → StandOnce new
-enters_once old new name access o place (Some i) h step =
+enters_once : (old new : State) (name : List ℕ) (access : Access) (o : Opening) (index : ℕ)
+    (at : Option ℕ) → IsHub old → Enters o name access at old index new → StandOnce new
+enters_once old new name access o index (Some i) h step =
     set_once old new i step.1 step.3 h step.5 (step.7.1.once (h.once i step.1 step.2 step.4))
-enters_once old new name access o place None h step =
-    founds_once old new name access new.floor o.session place (vacant_in old) h step.1
+enters_once old new name access o index None h step =
+    founds_once old new name access new.floor o.session index (vacant_in old) h step.1
 
 -- a session that has a room after an opening is the new one, or had it before
-home_cases : (old new : State) (n place t p : ℕ)
-    → ((t : ℕ) → place_of new t ≡ (if n == t then Some place else place_of old t))
-    → place_of new t ≡ Some p
-    → ((n ≡ t) × (p ≡ place)) ⊎ ((n ≢ t) × (place_of old t ≡ Some p))
-home_cases old new n place t p home at =
-    let found : (if n == t then Some place else place_of old t) ≡ Some p = sym (home t) ∙ at in
+home_cases : (old new : State) (n index t p : ℕ)
+    → ((t : ℕ) → index_of new t ≡ (if n == t then Some index else index_of old t))
+    → index_of new t ≡ Some p
+    → ((n ≡ t) × (p ≡ index)) ⊎ ((n ≢ t) × (index_of old t ≡ Some p))
+home_cases old new n index t p home at =
+    let found : (if n == t then Some index else index_of old t) ≡ Some p = sym (home t) ∙ at in
     elim (eqb_tells n t) [
-      | inl same ↦ let here : Some place ≡ Some p = rw same.0 at found in inl (same.1, cc)
-      | inr other ↦ let there : place_of old t ≡ Some p = rw other.0 at found in
+      | inl same ↦ let here : Some index ≡ Some p = rw same.0 at found in inl (same.1, cc)
+      | inr other ↦ let there : index_of old t ≡ Some p = rw other.0 at found in
           inr (other.1, there)
     ]
 
 -- the home of the new session, if the opening made its room
 newcomer_home : (old new : State) (name : List ℕ) (access : Access) (floor n t p : ℕ) → n ≡ t
-    → place_of new t ≡ Some p → slice_get new.rooms p ≡ Some (founded old name access floor n)
+    → index_of new t ≡ Some p → slice_get new.rooms p ≡ Some (founded old name access floor n)
     → Home new t
 newcomer_home old new name access floor n t p same at there =
     let test : (n == t) ≡ true = grind (arith, nat_tests, same) in
     record {
       room =
           record {
-            place = p;
+            index = p;
             name = name;
             room_sessions = (founded old name access floor n).1;
             there = there;
@@ -427,27 +427,27 @@ newcomer_home old new name access floor n t p same at there =
     }
 
 -- that of a session that was open, in a room that is unchanged
-unchanged_home : (old new : State) (t : ℕ) (was : Home old t) → place_of new t ≡ Some was.room.place
-    → slice_get new.rooms was.room.place ≡ Some (was.room.name, was.room.room_sessions) → Home new t
+unchanged_home : (old new : State) (t : ℕ) (was : Home old t) → index_of new t ≡ Some was.room.index
+    → slice_get new.rooms was.room.index ≡ Some (was.room.name, was.room.room_sessions) → Home new t
 unchanged_home old new t was at there =
     let r = was.room in
     record {
       room =
-          record { place = r.place; name = r.name; room_sessions = r.room_sessions; there = there };
+          record { index = r.index; name = r.name; room_sessions = r.room_sessions; there = there };
       session = was.session;
       at = at;
       is = was.is;
     }
 
-founds_homes : (old new : State) (name : List ℕ) (access : Access) (floor n place : ℕ)
+founds_homes : (old new : State) (name : List ℕ) (access : Access) (floor n index : ℕ)
     (o : Option ℕ) → vacant_in old ≡ o → IsHub old → n ≡ old.next
-    → ((t : ℕ) → place_of new t ≡ (if n == t then Some place else place_of old t))
-    → Founds o (founded old name access floor n) old.rooms place new.rooms
-    → (t p : ℕ) → place_of new t ≡ Some p → Home new t
-founds_homes old new name access floor n place (Some i) is_vacant h number home step t p at =
+    → ((t : ℕ) → index_of new t ≡ (if n == t then Some index else index_of old t))
+    → Founds o (founded old name access floor n) old.rooms index new.rooms
+    → (t p : ℕ) → index_of new t ≡ Some p → Home new t
+founds_homes old new name access floor n index (Some i) is_vacant h number home step t p at =
     let room = founded old name access floor n in
     let v = vacant old.config.rooms old.wills old.rooms i is_vacant in
-    elim (home_cases old new n place t p home at) [
+    elim (home_cases old new n index t p home at) [
       | inl mine ↦
           let here : p ≡ i = mine.1 ∙ step.0 in
           newcomer_home old new name access floor n t p mine.0 at (rw (
@@ -457,13 +457,13 @@ founds_homes old new name access floor n place (Some i) is_vacant h number home 
       | inr other ↦
           let was = h.homes t p other.1 in
           let r = was.room in
-          unchanged_home old new t was (opens_stays old new n place t r.place h number home was.at)
-          (rw (step.1, slice_get-set_other old.rooms i r.place room (not_vacant old i t v was))
+          unchanged_home old new t was (opens_stays old new n index t r.index h number home was.at)
+          (rw (step.1, slice_get-set_other old.rooms i r.index room (not_vacant old i t v was))
           r.there)
     ]
-founds_homes old new name access floor n place None is_vacant h number home step t p at =
+founds_homes old new name access floor n index None is_vacant h number home step t p at =
     let room = founded old name access floor n in
-    elim (home_cases old new n place t p home at) [
+    elim (home_cases old new n index t p home at) [
       | inl mine ↦
           let here : p ≡ length old.rooms = mine.1 ∙ step.0 in
           newcomer_home old new name access floor n t p mine.0 at (rw (
@@ -473,27 +473,27 @@ founds_homes old new name access floor n place None is_vacant h number home step
       | inr other ↦
           let was = h.homes t p other.1 in
           let r = was.room in
-          unchanged_home old new t was (opens_stays old new n place t r.place h number home was.at)
-          (rw step.1 (slice_get-earlier old.rooms room (r.name, r.room_sessions) r.place r.there))
+          unchanged_home old new t was (opens_stays old new n index t r.index h number home was.at)
+          (rw step.1 (slice_get-earlier old.rooms room (r.name, r.room_sessions) r.index r.there))
     ]
 
-enters_homes : (old new : State) (name : List ℕ) (access : Access) (o : Opening) (place : ℕ)
+enters_homes : (old new : State) (name : List ℕ) (access : Access) (o : Opening) (index : ℕ)
     (at : Option ℕ) → IsHub old → o.session ≡ old.next
-    → ((t : ℕ) → place_of new t ≡ (if o.session == t then Some place else place_of old t))
-    → Enters o name access at old place new
-    → (t p : ℕ) → place_of new t ≡ Some p → Home new t
-enters_homes old new name access o place (Some i) h number home step t p at =
+    → ((t : ℕ) → index_of new t ≡ (if o.session == t then Some index else index_of old t))
+    → Enters o name access at old index new
+    → (t p : ℕ) → index_of new t ≡ Some p → Home new t
+enters_homes old new name access o index (Some i) h number home step t p at =
     let g = step.2 in
     let k = step.3 in
     let x = newcomer old.config access (revision g.room) o.session in
-    elim (home_cases old new o.session place t p home at) [
+    elim (home_cases old new o.session index t p home at) [
       | inl mine ↦
           let here : p ≡ i = mine.1 ∙ step.0 in
           let test : (o.session == t) ≡ true = grind (arith, nat_tests, mine.0) in
           record {
             room =
                 record {
-                  place = p;
+                  index = p;
                   name = step.1;
                   room_sessions = k;
                   there = rw (here, step.5)
@@ -505,23 +505,23 @@ enters_homes old new name access o place (Some i) h number home step t p at =
           }
       | inr other ↦
           let was = h.homes t p other.1 in
-          let still : place_of new t ≡ Some was.room.place =
-          opens_stays old new o.session place t was.room.place h number home was.at in
+          let still : index_of new t ≡ Some was.room.index =
+          opens_stays old new o.session index t was.room.index h number home was.at in
           set_homes old new i step.1 g k step.4 step.5 t was still
           (λ same.
           let test : (o.session == t) ≡ false = grind (arith, nat_tests, other.0) in
           (was.session, rw (step.7.1.found t, test) (same_home old t i step.1 g was step.4 same)))
     ]
-enters_homes old new name access o place None h number home step t p at =
-    founds_homes old new name access new.floor o.session place (vacant_in old) refl h number home
+enters_homes old new name access o index None h number home step t p at =
+    founds_homes old new name access new.floor o.session index (vacant_in old) refl h number home
     step.1 t p at
 
--- a place for another session is left
-place_left : (hub : State) (name : List ℕ) → open_fault hub name ≡ None
+-- room for another session is left
+index_left : (hub : State) (name : List ℕ) → open_fault hub name ≡ None
     → length hub.homes + length hub.wills < hub.config.sessions
-place_left hub name h =
+index_left hub name h =
     let test : nat_le hub.config.sessions (length hub.homes + length hub.wills) ≡ false =
-    third (not (is_room_name name)) (is_crowded (place_named name hub.rooms) hub)
+    third (not (is_room_name name)) (is_crowded (index_named name hub.rooms) hub)
     (nat_le hub.config.sessions (length hub.homes + length hub.wills))
     (nat_lt MAX_COUNT hub.next) h in
     grind (arith, nat_tests, test)
@@ -534,15 +534,15 @@ place_left hub name h =
     third false false true w h = absurd (cc h)
     third false false false w h = refl
 
-enters_wills : (old new : State) (name : List ℕ) (access : Access) (o : Opening) (place : ℕ)
+enters_wills : (old new : State) (name : List ℕ) (access : Access) (o : Opening) (index : ℕ)
     (at : Option ℕ) → HaveRooms old.rooms old.wills
-    → Enters o name access at old place new → HaveRooms new.rooms old.wills
-enters_wills old new name access o place (Some i) have step =
+    → Enters o name access at old index new → HaveRooms new.rooms old.wills
+enters_wills old new name access o index (Some i) have step =
     rw step.5 (have_set old.rooms i (step.1, step.3) old.wills have)
-enters_wills old new name access o place None have step = go (vacant_in old) step.1
+enters_wills old new name access o index None have step = go (vacant_in old) step.1
   where
     go : (v : Option ℕ)
-        → Founds v (founded old name access new.floor o.session) old.rooms place new.rooms
+        → Founds v (founded old name access new.floor o.session) old.rooms index new.rooms
         → HaveRooms new.rooms old.wills
     go (Some i) founds =
         rw founds.1 (have_set old.rooms i (founded old name access new.floor o.session) old.wills
@@ -558,19 +558,19 @@ open_is_hub : (old new : State) (name : List ℕ) (access : Access) (o : Opening
     → open_fault old name ≡ None → Opens old name access o new → IsHub new
 open_is_hub old new name access o h may step = record {
   config = rw step.config h.config;
-  floor = rw step.floor (floor_count old (place_named name old.rooms) h.floor);
+  floor = rw step.floor (floor_count old (index_named name old.rooms) h.floor);
   below = opens_below old new name access o h step;
   homes =
-      enters_homes old new name access o step.place (place_named name old.rooms) h step.number
+      enters_homes old new name access o step.index (index_named name old.rooms) h step.number
       step.home step.enters;
   members =
-      enters_alone old new name access o step.place (place_named name old.rooms) h step.number
+      enters_alone old new name access o step.index (index_named name old.rooms) h step.number
       step.home step.enters;
-  once = enters_once old new name access o step.place (place_named name old.rooms) h step.enters;
-  few = let left = place_left old name may in
+  once = enters_once old new name access o step.index (index_named name old.rooms) h step.enters;
+  few = let left = index_left old name may in
       rw (step.config, step.wills) (omega (arith, step.count, left));
   wills =
-      rw step.wills (enters_wills old new name access o step.place (place_named name old.rooms)
+      rw step.wills (enters_wills old new name access o step.index (index_named name old.rooms)
       h.wills step.enters);
 }
 
@@ -581,86 +581,86 @@ otherwise true u v w other is = absurd (cc other)
 otherwise false u v w other is = is
 
 closes_is_hub : (old new : State) (s : ℕ) (r : RoomOf old) (will : List Op) → IsHub old
-    → place_of old s ≡ Some r.place → Closes s r.place r.name r.room_sessions will old new
+    → index_of old s ≡ Some r.index → Closes s r.index r.name r.room_sessions will old new
     → IsHub new
 closes_is_hub old new s r will h home step = record {
   config = rw step.config h.config;
   floor = rw step.floor h.floor;
   homes = λ t p t_at.
-      let found : (if s == t then None else place_of old t) ≡ Some p = sym (step.home t) ∙ t_at in
+      let found : (if s == t then None else index_of old t) ≡ Some p = sym (step.home t) ∙ t_at in
       elim (eqb_tells s t) [
         | inl same ↦ let none : None ≡ Some p = rw same.0 at found in absurd (cc none)
         | inr other ↦
-            let before : place_of old t ≡ Some p = rw other.0 at found in
+            let before : index_of old t ≡ Some p = rw other.0 at found in
             let was = h.homes t p before in
-            let still : place_of new t ≡ Some was.room.place =
-            otherwise (s == t) None (place_of old t) (place_of new t) other.0 (step.home t)
+            let still : index_of new t ≡ Some was.room.index =
+            otherwise (s == t) None (index_of old t) (index_of new t) other.0 (step.home t)
             ∙ was.at in
-            set_homes old new r.place r.name r.room_sessions step.left r.there step.rooms t was
+            set_homes old new r.index r.name r.room_sessions step.left r.there step.rooms t was
             still
             (λ same. (
               was.session,
               otherwise (s == t) None (session_in r.room_sessions.sessions t)
                   (session_in step.left.sessions t) other.0 (step.leaves.1.found t)
-                  ∙ same_home old t r.place r.name r.room_sessions was r.there same,
+                  ∙ same_home old t r.index r.name r.room_sessions was r.there same,
             ))
       ];
   once =
-      set_once old new r.place r.name step.left h step.rooms
-      (step.leaves.1.once (h.once r.place r.name r.room_sessions r.there));
+      set_once old new r.index r.name step.left h step.rooms
+      (step.leaves.1.once (h.once r.index r.name r.room_sessions r.there));
   below =
-      λ t late. rw (step.home t) (by_number (λ t b. place_of old t ≡ None
-      → (if b then None else place_of old t) ≡ None) s t (λ e. refl) (λ other e. e)
+      λ t late. rw (step.home t) (by_number (λ t b. index_of old t ≡ None
+      → (if b then None else index_of old t) ≡ None) s t (λ e. refl) (λ other e. e)
       (h.below t (omega (arith, late, step.next))));
-  members = set_alone old new r.place r.name step.left h step.rooms
-      (λ t p is other. rw (step.home t) (by_number (λ t b. place_of old t ≡ Some p
-      → (if b then None else place_of old t) ≡ Some p) s t
-      (λ e. let same : Some p ≡ Some r.place = sym e ∙ home in
+  members = set_alone old new r.index r.name step.left h step.rooms
+      (λ t p is other. rw (step.home t) (by_number (λ t b. index_of old t ≡ Some p
+      → (if b then None else index_of old t) ≡ Some p) s t
+      (λ e. let same : Some p ≡ Some r.index = sym e ∙ home in
       absurd (other cc)) (λ apart e. e) is))
       (λ t x is. rw (step.home t) (by_number (λ t b.
       (if b then None else session_in r.room_sessions.sessions t) ≡ Some x
-      → (if b then None else place_of old t) ≡ Some r.place) s t
+      → (if b then None else index_of old t) ≡ Some r.index) s t
       (λ e. absurd (cc e)) (λ apart e.
-      h.members r.place r.name r.room_sessions r.there t x e) (sym (step.leaves.1.found t)
+      h.members r.index r.name r.room_sessions r.there t x e) (sym (step.leaves.1.found t)
       ∙ is)));
   few =
       rw (step.config, step.wills) (omega (
         arith,
         h.few,
         step.count,
-        few_left r.place will,
-        length-append old.wills (left_of r.place will),
+        few_left r.index will,
+        length-append old.wills (left_of r.index will),
       ));
   wills =
-      let within = slice_get_within old.rooms r.place (r.name, r.room_sessions) r.there in
+      let within = slice_get_within old.rooms r.index (r.name, r.room_sessions) r.there in
       rw (step.rooms, step.wills)
-      (have_left (slice_set old.rooms r.place (r.name, step.left)) old.wills r.place will
-      (omega (arith, within, length-set old.rooms r.place (r.name, step.left)))
-      (have_set old.rooms r.place (r.name, step.left) old.wills h.wills));
+      (have_left (slice_set old.rooms r.index (r.name, step.left)) old.wills r.index will
+      (omega (arith, within, length-set old.rooms r.index (r.name, step.left)))
+      (have_set old.rooms r.index (r.name, step.left) old.wills h.wills));
 }
 
 close_in_is_hub : (old new : State) (s : ℕ) (r : RoomOf old) (o : Option Session) (answer : Answer)
-    → IsHub old → place_of old s ≡ Some r.place
-    → ClosesIn s r.place r.name r.room_sessions o old answer new → IsHub new
+    → IsHub old → index_of old s ≡ Some r.index
+    → ClosesIn s r.index r.name r.room_sessions o old answer new → IsHub new
 close_in_is_hub old new s r None NoSession h home step = rw step h
 close_in_is_hub old new s r (Some x) Closed h home step =
     closes_is_hub old new s r x.will h home step
 close_in_is_hub old new s r o answer h home step = absurd step
 
-close_in_room_is_hub : (old new : State) (s place : ℕ) (o : Option (List ℕ
-    × RoomSessions)) (answer : Answer) → IsHub old → place_of old s ≡ Some place
-    → slice_get old.rooms place ≡ o → ClosesInRoom s place o old answer new → IsHub new
-close_in_room_is_hub old new s place None answer h home at step = rw step.1 h
-close_in_room_is_hub old new s place (Some there) answer h home at step =
+close_in_room_is_hub : (old new : State) (s index : ℕ) (o : Option (List ℕ
+    × RoomSessions)) (answer : Answer) → IsHub old → index_of old s ≡ Some index
+    → slice_get old.rooms index ≡ o → ClosesInRoom s index o old answer new → IsHub new
+close_in_room_is_hub old new s index None answer h home at step = rw step.1 h
+close_in_room_is_hub old new s index (Some there) answer h home at step =
     let r : RoomOf old =
-    record { place = place; name = there.0; room_sessions = there.1; there = at } in
+    record { index = index; name = there.0; room_sessions = there.1; there = at } in
     close_in_is_hub old new s r (session_in there.1.sessions s) answer h home step
 
 close_is_hub : (old new : State) (s : ℕ) (o : Option ℕ) (answer : Answer) → IsHub old
-    → place_of old s ≡ o → ClosesAt s o old answer new → IsHub new
+    → index_of old s ≡ o → ClosesAt s o old answer new → IsHub new
 close_is_hub old new s None answer h home step = rw step.1 h
-close_is_hub old new s (Some place) answer h home step =
-    close_in_room_is_hub old new s place (slice_get old.rooms place) answer h home refl step
+close_is_hub old new s (Some index) answer h home step =
+    close_in_room_is_hub old new s index (slice_get old.rooms index) answer h home refl step
 
 -- a will that is done
 
@@ -691,26 +691,26 @@ will_keeps config patch (Ok d) short old new h =
     }
 
 -- what is done in a room leaves the wills
-in_room_wills : (old done : State) (place : ℕ) (answer : Answer) (Does : RoomSessions
+in_room_wills : (old done : State) (index : ℕ) (answer : Answer) (Does : RoomSessions
     → RoomSessions → Type 0) (o : Option (List ℕ × RoomSessions))
-    → InRoom place o old answer Does done
+    → InRoom index o old answer Does done
     → (done.wills ≡ old.wills) × (done.homes ≡ old.homes) × (done.config ≡ old.config)
-in_room_wills old done place answer Does (Some there) step = rw step.2 (refl, refl, refl)
-in_room_wills old done place answer Does None step = rw step.1 (refl, refl, refl)
+in_room_wills old done index answer Does (Some there) step = rw step.2 (refl, refl, refl)
+in_room_wills old done index answer Does None step = rw step.1 (refl, refl, refl)
 
 does_will_is_hub : (old new : State) (wills : List WillLeft) (answer : Answer) → IsHub old
     → old.wills ≡ wills → DoesWill wills old answer new → IsHub new
 does_will_is_hub old new [] NoWill h is step = rw step h
 does_will_is_hub old new (w ∷ wills) (WillDone short) h is step =
     let done = step.0 in
-    let k = in_room_is_hub old done w.place (WillDone short) (λ g k.
+    let k = in_room_is_hub old done w.index (WillDone short) (λ g k.
     WillServed old.config w.patch (edited g.room None w.patch) short g k)
-    (slice_get old.rooms w.place) h
+    (slice_get old.rooms w.index) h
     (λ g k served. will_keeps old.config w.patch (edited g.room None w.patch) short g k served) refl
     step.2 in
-    let same = in_room_wills old done w.place (WillDone short) (λ g k.
+    let same = in_room_wills old done w.index (WillDone short) (λ g k.
     WillServed old.config w.patch (edited g.room None w.patch) short g k)
-    (slice_get old.rooms w.place) step.2 in
+    (slice_get old.rooms w.index) step.2 in
     let all : done.wills ≡ w ∷ wills = same.0 ∙ is in
     let few : length done.homes + length (w ∷ wills) ≤ done.config.sessions = rw all at k.few in
     let have : HaveRooms done.rooms (w ∷ wills) = rw all at k.wills in
@@ -718,7 +718,7 @@ does_will_is_hub old new (w ∷ wills) (WillDone short) h is step =
       config = k.config;
       floor = k.floor;
       below = k.below;
-      homes = λ t place at. kept_home done wills t (k.homes t place at);
+      homes = λ t index at. kept_home done wills t (k.homes t index at);
       members = k.members;
       once = k.once;
       few = omega (arith, few);
@@ -731,7 +731,7 @@ does_will_is_hub old new (w ∷ wills) (WillDone short) h is step =
         let r = home.room in
         record {
           room = record
-              { place = r.place; name = r.name; room_sessions = r.room_sessions; there = r.there };
+              { index = r.index; name = r.name; room_sessions = r.room_sessions; there = r.there };
           session = home.session;
           at = home.at;
           is = home.is;
@@ -745,22 +745,22 @@ forgets_is_hub : (old new : State) (name : List ℕ) (rev : ℕ) → IsHub old
 forgets_is_hub old new name rev h may step =
     let g = step.room in
     let anew = room_sessions (begun null rev old.config.history) [] in
-    let next = with_room step.place name anew old in
-    let is = idle g (sym (fault_is old name step.place (name, g) step.named step.there) ∙ may) in
+    let next = with_room step.index name anew old in
+    let is = idle g (sym (fault_is old name step.index (name, g) step.named step.there) ∙ may) in
     subst IsHub (sym step.begins) (record {
       config = h.config;
       floor = h.floor;
       below = h.below;
       homes = λ t p t_at.
           let home = h.homes t p t_at in
-          set_homes old next step.place name g anew step.there refl t home home.at (λ same.
+          set_homes old next step.index name g anew step.there refl t home home.at (λ same.
           absurd (nobody g t home.session is.empty
-          (same_home old t step.place name g home step.there same)));
-      members = set_alone old next step.place name anew h refl (λ t p e other. e) (λ t x none.
+          (same_home old t step.index name g home step.there same)));
+      members = set_alone old next step.index name anew h refl (λ t p e other. e) (λ t x none.
           absurd (cc none));
-      once = set_once old next step.place name anew h refl tt;
+      once = set_once old next step.index name anew h refl tt;
       few = h.few;
-      wills = have_set old.rooms step.place (name, anew) old.wills h.wills;
+      wills = have_set old.rooms step.index (name, anew) old.wills h.wills;
     })
   where
     nobody : (g : RoomSessions) (t : ℕ) (x : Session) → g.sessions ≡ []
@@ -775,15 +775,15 @@ step_is_hub old new (Open name access) (Opened o) h step =
 step_is_hub old new (Open name access) (NotOpened fault) h step = rw step.1 h
 step_is_hub old new (Receive s text) answer h step =
     at_home_is_hub old new answer (λ g k.
-    Receives old.config s (session_in g.sessions s) text answer g k) (place_of old s) h
+    Receives old.config s (session_in g.sessions s) text answer g k) (index_of old s) h
     (λ g k does. receive_keeps old.config s (session_in g.sessions s) text answer g k refl does)
     step
 step_is_hub old new (Draw s) answer h step =
     at_home_is_hub old new answer (λ g k.
-    Draws s (session_in g.sessions s) answer g k) (place_of old s) h
+    Draws s (session_in g.sessions s) answer g k) (index_of old s) h
     (λ g k does. draw_keeps s (session_in g.sessions s) answer g k refl does) step
 step_is_hub old new (Close s) answer h step =
-    close_is_hub old new s (place_of old s) answer h refl step
+    close_is_hub old new s (index_of old s) answer h refl step
 step_is_hub old new DoWill answer h step = does_will_is_hub old new old.wills answer h refl step
 step_is_hub old new (Forget name) (Forgotten rev) h step =
     forgets_is_hub old new name rev h step.0 step.1

@@ -8,7 +8,7 @@ use Rattle.relay_hub.specs.Allowance.{Allowance}
 use Rattle.relay_hub.specs.Session.{Session}
 use Rattle.relay_hub.specs.Step.{Notified, after_notified, NotifiedFrom}
 
--- if nothing differs from a place on, the session there does not differ
+-- if nothing differs from an index on, the session there does not differ
 same_item : (xs ys : List Session) (i : ℕ) (z : Session) → drop i ys ≡ drop i xs
     → get_or ys i z ≡ get_or xs i z
 same_item xs ys i z h =
@@ -18,7 +18,7 @@ same_item xs ys i z h =
     ∙ (ap (λ (l : List Session). get_or l 0 z) h
     ∙ (get_or-drop i xs 0 z ∙ ap (λ k. get_or xs k z) e)))
 
--- nor does anything behind a write at that place
+-- nor does anything behind a write at that index
 pub rest_more : (xs ys : List Session) (i : ℕ) (y : Session) → drop i ys ≡ drop i xs
     → drop (i + 1) (slice_set ys i y) ≡ drop (i + 1) xs
 rest_more xs ys i y h =
@@ -49,7 +49,7 @@ module _ (d : Document) (changes : List Change) (room : Room) where
   )
   notified_last allowance rest _ _ n short x y h notified = absurd h
 
-  -- the sessions before a place were notified, and now the one at that place is
+  -- the sessions before an index were notified, and now the one at that index is
   pub tell_more : (allowance rest : Allowance) (xs ys : List Session) (i n : ℕ) (short : Bool)
       (z y : Session) → i < length xs → length ys ≡ length xs → drop i ys ≡ drop i xs →
       Notified d changes room rest short (get_or ys i z) y

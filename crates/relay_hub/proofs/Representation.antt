@@ -12,7 +12,7 @@ use Rattle.relay_tree.specs.Document.{null}
 use Rattle.relay_hub.specs.Call.{StepIf, ReceivesIf, DrawsIf, HasSpace, forgetting}
 use Rattle.relay_hub.specs.Representation.{named, hub_of}
 use Rattle.relay_hub.specs.Session.{Session}
-use Rattle.relay_hub.specs.State.{RoomSessions, room_sessions, State, IsHub, place_of, place_named, session_in, session_of}
+use Rattle.relay_hub.specs.State.{RoomSessions, room_sessions, State, IsHub, index_of, index_named, session_in, session_of}
 use Rattle.relay_hub.specs.Step.{ChangesOnly, WillServed, with_room, left_of, DoesWill, anew_fault, forget_fault, Step}
 use Rattle.relay_hub.specs.Queries.{room_and_session, may_hear}
 use Rattle.relay_hub.specs.declared.event.Answer.{Answer}
@@ -28,23 +28,23 @@ use Rattle.relay_hub.proofs.Lists.{slice_set_same}
 use Rattle.relay_hub.proofs.Forgetting.{fault_is}
 use Rattle.relay_hub.proofs.Rooms.{some_named, name_found}
 
--- the room at a place
+-- the room at an index
 pub room_at : {A : Type 0} (es : List (String A
     × RoomSessions)) (i : ℕ) (key : String A) (g : RoomSessions)
     → slice_get es i ≡ Some (key, g)
     → slice_get (map named es) i ≡ Some (string_bytes key, g)
 room_at es i key g h = slice_get-map named es i ∙ ap (option_map named) h
 
--- no room behind the last place
+-- no room behind the last index
 pub no_room_at : {A : Type 0} (es : List (String A × RoomSessions)) (i : ℕ) → slice_get es i ≡ None
     → slice_get (map named es) i ≡ None
 no_room_at es i h = slice_get-map named es i ∙ ap (option_map named) h
 
--- the room and the session of a number, once its place is known
-pub found_home : (hub : State) (s place : ℕ) (home : List ℕ × RoomSessions)
-    → place_of hub s ≡ Some place → slice_get hub.rooms place ≡ Some home
+-- the room and the session of a number, once its index is known
+pub found_home : (hub : State) (s index : ℕ) (home : List ℕ × RoomSessions)
+    → index_of hub s ≡ Some index → slice_get hub.rooms index ≡ Some home
     → room_and_session hub s ≡ option_map (λ x. (home.1.room, x)) (session_in home.1.sessions s)
-found_home hub s place home h k = rw (h, k) refl
+found_home hub s index home h k = rw (h, k) refl
 
 -- Writes, and the room of a session that is open.
 
@@ -72,21 +72,21 @@ gone [] i h = refl
 gone (e ∷ es) zero h = absurd (cc h)
 gone (e ∷ es) (suc i) h = gone es i h
 
--- there is a room at the place of a name
+-- there is a room at the index of a name
 pub never_unnamed : {A : Type 0} (es : List (String A × RoomSessions)) (name : List ℕ) (i : ℕ)
-    → place_named name (map named es) ≡ Some i → slice_get (values_of es) i ≡ None → ⊥
+    → index_named name (map named es) ≡ Some i → slice_get (values_of es) i ≡ None → ⊥
 never_unnamed es name i found none =
     let room = some_named (map named es) name i found in
     absurd (cc (gone es i none, room.1))
 
-module _ (h : Inside) (s i : ℕ) (is : IsHub (hub_of h)) (at : place_of (hub_of h) s ≡ Some i) where
+module _ (h : Inside) (s i : ℕ) (is : IsHub (hub_of h)) (at : index_of (hub_of h) s ≡ Some i) where
   home : (name : List ℕ) × (g : RoomSessions) × (x : Session)
       × (slice_get (hub_of h).rooms i ≡ Some (name, g)) × (session_in g.sessions s ≡ Some x)
   home =
       let found = is.homes s i at in
       let r = found.room in
-      let both : Some r.place ≡ Some i = sym found.at ∙ at in
-      let same : r.place ≡ i = cc in (
+      let both : Some r.index ≡ Some i = sym found.at ∙ at in
+      let same : r.index ≡ i = cc in (
         r.name,
         r.room_sessions,
         found.session,
@@ -94,7 +94,7 @@ module _ (h : Inside) (s i : ℕ) (is : IsHub (hub_of h)) (at : place_of (hub_of
         found.is,
       )
 
-  -- a room is at its place
+  -- a room is at its index
   pub never_missing : slice_get (values h.rooms) i ≡ None → ⊥
   never_missing none = absurd (cc (gone h.rooms.entries i none, home.3))
 
@@ -145,7 +145,7 @@ module _ (h : Inside) (s i : ℕ) (is : IsHub (hub_of h)) (at : place_of (hub_of
 
 -- Steps.
 
--- the hub after the sessions of the room at a place were written
+-- the hub after the sessions of the room at an index were written
 abbrev pub hub_with : Inside → ℕ → RoomSessions → State
 hub_with h i g = hub_of (record h { rooms = with_value_at h.rooms i g })
 
@@ -196,7 +196,7 @@ same_hub h i old new there same =
     ∙ with_room_same (hub_of h) i w.name old w.was)
 
 -- what is done in a session's room, or nothing, is a step if it is one in the room
-module _ (h : Inside) (s i : ℕ) (old new : RoomSessions) (home : place_of (hub_of h) s
+module _ (h : Inside) (s i : ℕ) (old new : RoomSessions) (home : index_of (hub_of h) s
     ≡ Some i) (there : slice_get (values h.rooms) i ≡ Some old) where
   unchanged : new ≡ old → hub_with h i new ≡ hub_of h
   unchanged same = same_hub h i old new there same
@@ -219,7 +219,7 @@ module _ (h : Inside) (s i : ℕ) (old new : RoomSessions) (home : place_of (hub
   -- a session that is closed is removed from the room and from the list of homes
   pub closes : (homes : List (ℕ × ℕ)) (wills : List Will) (x : Session)
       → session_in old.sessions s ≡ Some x → ChangesOnly s None old new
-      → ((t : ℕ) → lookup (nat_eq t) homes ≡ (if s == t then None else place_of (hub_of h) t))
+      → ((t : ℕ) → lookup (nat_eq t) homes ≡ (if s == t then None else index_of (hub_of h) t))
       → length homes + 1 ≡ length h.homes.entries
       → wills ≡ h.wills.items ++ left_of i x.will
       → Step (hub_of h) (Close s) answer.Closed (hub_leaving h i new homes wills)
@@ -240,14 +240,14 @@ module _ (h : Inside) (s i : ℕ) (old new : RoomSessions) (home : place_of (hub
 -- the oldest will is done in its room
 pub will_done : (h : Inside) (w : Will) (old new : RoomSessions) (left : List Will) (short : ℕ)
     → slice_get h.wills.items 0 ≡ Some w
-    → slice_get (values h.rooms) w.place ≡ Some old → left ≡ remove h.wills.items 0
+    → slice_get (values h.rooms) w.index ≡ Some old → left ≡ remove h.wills.items 0
     → WillServed h.config w.patch (edited old.room None w.patch) short old new
     → Step (hub_of h) DoWill (answer.WillDone short)
-    (hub_leaving h w.place new h.homes.entries left)
+    (hub_leaving h w.index new h.homes.entries left)
 will_done h w old new left short oldest there is served =
     subst (λ wills. left ≡ remove wills 0
     → DoesWill wills (hub_of h) (answer.WillDone short)
-    (hub_leaving h w.place new h.homes.entries left)) (sym all) done is
+    (hub_leaving h w.index new h.homes.entries left)) (sym all) done is
   where
     head : (wills : List Will) → slice_get wills 0 ≡ Some w → wills ≡ w ∷ drop 1 wills
     head (v ∷ wills) at = let same : v ≡ w = cc in ap (λ u. u ∷ wills) same
@@ -258,17 +258,17 @@ will_done h w old new left short oldest there is served =
 
     done : left ≡ remove (w ∷ drop 1 h.wills.items) 0
         → DoesWill (w ∷ drop 1 h.wills.items) (hub_of h) (answer.WillDone short)
-        (hub_leaving h w.place new h.homes.entries left)
+        (hub_leaving h w.index new h.homes.entries left)
     done is =
-        let k = written h.rooms.entries w.place old new there in (
-          hub_with h w.place new,
-          ap (λ wills. hub_leaving h w.place new h.homes.entries wills) is,
-          rw k.was (new, served, hub_with-is h w.place old new k),
+        let k = written h.rooms.entries w.index old new there in (
+          hub_with h w.index new,
+          ap (λ wills. hub_leaving h w.index new h.homes.entries wills) is,
+          rw k.was (new, served, hub_with-is h w.index old new k),
         )
 
 -- the room of a name is forgotten, or not
 pub forgets : (h : Inside) (name : List ℕ) (i : ℕ) (old new : RoomSessions)
-    (result : Result ℕ ForgetFault) → place_named name (hub_of h).rooms ≡ Some i
+    (result : Result ℕ ForgetFault) → index_named name (hub_of h).rooms ≡ Some i
     → slice_get (values h.rooms) i ≡ Some old
     → IfOk result (λ rev. (rev ≡ revision old.room + 1)
     × (new ≡ room_sessions (begun null rev h.config.history) []))
@@ -301,7 +301,7 @@ forgets h name i old new result at there ok may fault err = go result ok may fau
     go (Ok rev) ok may fault err = (
       is ∙ may,
       record {
-        place = i;
+        index = i;
         room = old;
         named = at;
         there = w.was ∙ ap (λ n. Some (n, old)) known;

@@ -199,7 +199,7 @@ module _ (xs : List Session) (n i : ℕ) (d : Session) (point : IsPartitionPoint
   before : (k : ℕ) → k < i → (get_or xs k d).number < n
   before k less = point.0 k d (omega arith) less
 
-  -- if the first session with no lower number has the number, it is the place
+  -- if the first session with no lower number has the number, it is the index
   pub found_there : i < length xs → (get_or xs i d).number ≡ n → position (is_number n) xs ≡ Some i
   found_there within is =
       let inside : nat_lt i (length xs) ≡ true = grind (arith, nat_tests, within) in

@@ -12,10 +12,10 @@ use Rattle.relay_room.specs.Room.{revision}
 use Rattle.relay_tree.specs.Document.{Document, null}
 use Rattle.relay_tree.specs.declared.count.TheConstants.{MAX_COUNT}
 use Rattle.relay_hub.specs.Admitted.{permitted}
-use Rattle.relay_hub.specs.Log.{Log, Place, Bequest, place, entry, home, left, document_left, documents, documents_after, document_added, extended, requested, reaching, beginning, beginning_after}
+use Rattle.relay_hub.specs.Log.{Log, Place, Bequest, index, entry, home, left, document_left, documents, documents_after, document_added, extended, requested, reaching, beginning, beginning_after}
 use Rattle.relay_hub.specs.Stands.{MayBegin}
 use Rattle.relay_hub.specs.Session.{Session}
-use Rattle.relay_hub.specs.State.{RoomSessions, place_named, is_null, makes_place, above, vacant_place}
+use Rattle.relay_hub.specs.State.{RoomSessions, index_named, is_null, is_evictable, above, vacant_index}
 use Rattle.relay_hub.specs.declared.event.Answer.{Answer}
 use Rattle.relay_hub.specs.declared.event.Answer.TheVariants.{Opened, Heard, WillDone, Forgotten}
 use Rattle.relay_hub.specs.declared.event.Event.{Event}
@@ -39,26 +39,26 @@ by_name P a b same other = go (bytes_eq a b) (bytes_eq-Decides a b).0 (bytes_eq-
 pub named_set : (rooms : List (List ℕ
     × RoomSessions)) (i : ℕ) (known name : List ℕ) (g h : RoomSessions)
     → slice_get rooms i ≡ Some (known, g)
-    → place_named name (slice_set rooms i (known, h)) ≡ place_named name rooms
+    → index_named name (slice_set rooms i (known, h)) ≡ index_named name rooms
 named_set rooms i known name g h at =
     position_set (λ room. bytes_eq name room.0) rooms i (known, g) (known, h) at refl
 
 pub named_earlier : (rooms : List (List ℕ × RoomSessions)) (name : List ℕ) (v : List ℕ
-    × RoomSessions) (i : ℕ) → place_named name rooms ≡ Some i
-    → place_named name (rooms ++ v ∷ []) ≡ Some i
+    × RoomSessions) (i : ℕ) → index_named name rooms ≡ Some i
+    → index_named name (rooms ++ v ∷ []) ≡ Some i
 named_earlier rooms name v i h = position_earlier (λ room. bytes_eq name room.0) rooms v i h
 
 pub named_last : (rooms : List (List ℕ × RoomSessions)) (name : List ℕ) (g : RoomSessions)
-    → place_named name rooms ≡ None
-    → place_named name (rooms ++ (name, g) ∷ []) ≡ Some (length rooms)
+    → index_named name rooms ≡ None
+    → index_named name (rooms ++ (name, g) ∷ []) ≡ Some (length rooms)
 named_last rooms name g h =
     position_last (λ room.
     bytes_eq name room.0) rooms (name, g) h ((bytes_eq-Decides name name).1 refl)
 
 -- a room of another name, appended, is not found
 pub named_apart : (rooms : List (List ℕ × RoomSessions)) (other name : List ℕ) (g : RoomSessions)
-    → other ≢ name → place_named other rooms ≡ None
-    → place_named other (rooms ++ (name, g) ∷ []) ≡ None
+    → other ≢ name → index_named other rooms ≡ None
+    → index_named other (rooms ++ (name, g) ∷ []) ≡ None
 named_apart rooms other name g apart h =
     position_apart (λ room.
     bytes_eq other room.0) rooms (
@@ -66,9 +66,9 @@ named_apart rooms other name g apart h =
       g,
     ) h (by_name (λ b. b ≡ false) other name (λ same. absurd (apart same)) (λ differ. refl))
 
--- there is a room at the place of a name
+-- there is a room at the index of a name
 pub some_named : (rooms : List (List ℕ × RoomSessions)) (name : List ℕ) (i : ℕ)
-    → place_named name rooms ≡ Some i
+    → index_named name rooms ≡ Some i
     → (room : List ℕ × RoomSessions) × (slice_get rooms i ≡ Some room)
 some_named rooms name i found =
     go rooms i (position_within (λ room. bytes_eq name room.0) rooms i found)
@@ -79,10 +79,10 @@ some_named rooms name i found =
     go (r ∷ rs) zero h = (r, refl)
     go (r ∷ rs) (suc i) h = go rs i (omega arith)
 
--- the room at the place of a name has the name
+-- the room at the index of a name has the name
 pub name_found : (rooms : List (List ℕ
     × RoomSessions)) (name known : List ℕ) (g : RoomSessions) (i : ℕ)
-    → place_named name rooms ≡ Some i → slice_get rooms i ≡ Some (known, g) → known ≡ name
+    → index_named name rooms ≡ Some i → slice_get rooms i ≡ Some (known, g) → known ≡ name
 name_found rooms name known g i found at =
     let here : List ℕ × RoomSessions = (known, g) in
     let p = position-Some (λ (room : List ℕ × RoomSessions).
@@ -97,7 +97,7 @@ pub named_other : (rooms : List (List ℕ
     × RoomSessions)) (i : ℕ) (known name other : List ℕ) (g h : RoomSessions)
     → slice_get rooms i ≡ Some (known, g)
     → other ≢ known → other ≢ name
-    → place_named other (slice_set rooms i (name, h)) ≡ place_named other rooms
+    → index_named other (slice_set rooms i (name, h)) ≡ index_named other rooms
 named_other rooms i known name other g h at not_known not_name =
     position_set (λ room.
     bytes_eq other room.0) rooms i (known, g) (
@@ -110,14 +110,14 @@ named_other rooms i known name other g h at not_known not_name =
 
 -- a new name is found where its room was written
 pub named_written : (rooms : List (List ℕ
-    × RoomSessions)) (i : ℕ) (name : List ℕ) (g : RoomSessions) → place_named name rooms ≡ None
+    × RoomSessions)) (i : ℕ) (name : List ℕ) (g : RoomSessions) → index_named name rooms ≡ None
     → i < length rooms
-    → place_named name (slice_set rooms i (name, g)) ≡ Some i
+    → index_named name (slice_set rooms i (name, g)) ≡ Some i
 named_written rooms i name g none within =
     position_written (λ room.
     bytes_eq name room.0) rooms i (name, g) none ((bytes_eq-Decides name name).1 refl) within
 
--- The place that a new room takes from another.
+-- The index of the room that a new one replaces.
 
 pub record Vacant (rooms : List (List ℕ × RoomSessions)) (i : ℕ) : Type 0 where
   pub name : List ℕ
@@ -128,17 +128,17 @@ pub record Vacant (rooms : List (List ℕ × RoomSessions)) (i : ℕ) : Type 0 w
   pub empty : room_sessions.sessions ≡ []
   pub left : revision room_sessions.room < MAX_COUNT
 
--- no room makes place while a will is left to be done
+-- no room is evictable while a will is left to be done
 pub none_left : (most : ℕ) (wills : List Will) (rooms : List (List ℕ × RoomSessions)) (i : ℕ)
-    → vacant_place most wills rooms ≡ Some i → wills ≡ []
+    → vacant_index most wills rooms ≡ Some i → wills ≡ []
 none_left most [] rooms i is = refl
 none_left most (w ∷ wills) rooms i is = absurd (cc is)
 
 pub vacant : (most : ℕ) (wills : List Will) (rooms : List (List ℕ × RoomSessions)) (i : ℕ)
-    → vacant_place most wills rooms ≡ Some i → Vacant rooms i
+    → vacant_index most wills rooms ≡ Some i → Vacant rooms i
 vacant most wills rooms i is =
     taken (nat_le most (length rooms)) (ap (λ ws.
-    vacant_place most ws rooms) (sym (none_left most wills rooms i is)) ∙ is)
+    vacant_index most ws rooms) (sym (none_left most wills rooms i is)) ∙ is)
   where
     all : (a b c : Bool) → (a && b && c) ≡ true → (a ≡ true) × (b ≡ true) × (c ≡ true)
     all true true c h = (refl, refl, h)
@@ -160,18 +160,18 @@ vacant most wills rooms i is =
     there (r ∷ rs) zero h = (r, refl)
     there (r ∷ rs) (suc i) h = there rs i (omega (arith, h))
 
-    taken : (b : Bool) → (if b then position (λ room. makes_place room.1) rooms else None) ≡ Some i
+    taken : (b : Bool) → (if b then position (λ room. is_evictable room.1) rooms else None) ≡ Some i
         → Vacant rooms i
     taken false h = absurd (cc h)
     taken true h =
         let within = position_within (λ (room : List ℕ × RoomSessions).
-        makes_place room.1) rooms i h in
+        is_evictable room.1) rooms i h in
         let r = there rooms i within in
         let p = position-Some (λ (room : List ℕ × RoomSessions).
-        makes_place room.1) rooms i r.0 h in
+        is_evictable room.1) rooms i r.0 h in
         let here : get_or rooms i r.0 ≡ r.0 = get_or_from_slice_get rooms i r.0 r.0 r.1 in
-        let makes : makes_place r.0.1 ≡ true =
-        ap (λ (room : List ℕ × RoomSessions). makes_place room.1) (sym here) ∙ p.1 in
+        let makes : is_evictable r.0.1 ≡ true =
+        ap (λ (room : List ℕ × RoomSessions). is_evictable room.1) (sym here) ∙ p.1 in
         let t =
         all (is_null r.0.1.room.document) (length r.0.1.sessions == 0)
         (nat_lt (revision r.0.1.room) MAX_COUNT) makes in
@@ -187,7 +187,7 @@ vacant most wills rooms i is =
 
 -- it does, as a test
 pub vacant_makes : (rooms : List (List ℕ × RoomSessions)) (i : ℕ) (v : Vacant rooms i)
-    → makes_place v.room_sessions ≡ true
+    → is_evictable v.room_sessions ≡ true
 vacant_makes rooms i v =
     let more : nat_lt (revision v.room_sessions.room) MAX_COUNT ≡ true =
     grind (arith, nat_tests, v.left) in
@@ -202,7 +202,7 @@ above_count g left = go (revision g.room) left
     go (suc rev) h = let test : (suc rev == 0) ≡ false = grind (arith, nat_tests) in
         rw test (omega (arith, h))
 
--- a room that made place lets a room of its name begin above it
+-- a room that was evicted lets a room of its name begin above it
 pub may_begin_again : (floor : ℕ) (g : RoomSessions) (ds : List Document)
     → revision g.room + 1 ≡ length ds → slice_get ds 0 ≡ Some null → above g ≤ floor
     → MayBegin floor ds
@@ -225,7 +225,7 @@ may_begin_again floor g ds made first over = go (revision g.room) made over
 
 -- a text that asks for no edit, or for a refused one, adds no document anywhere
 pub none_added : (E : Log) (s short : ℕ) (text name : List ℕ) (access : Access) (will : List Op)
-    → home E s ≡ Some (place name access will)
+    → home E s ≡ Some (index name access will)
     → requested (documents E name) (permitted access (request_of_text text)) ≡ None
     → (other : List ℕ) → documents (entry (Receive s text) (Heard (Answered short)) ∷ E) other
     ≡ documents E other
@@ -241,7 +241,7 @@ none_added E s short text name access will at none other =
     (λ apart. refl))
 
 pub one_added : (E : Log) (s short : ℕ) (text name : List ℕ) (access : Access) (will : List Op)
-    (d : Document) → home E s ≡ Some (place name access will)
+    (d : Document) → home E s ≡ Some (index name access will)
     → requested (documents E name) (permitted access (request_of_text text)) ≡ Some d
     → documents (entry (Receive s text) (Heard (Answered short)) ∷ E) name
     ≡ documents E name ++ d ∷ []
@@ -250,7 +250,7 @@ one_added E s short text name access will d at adds =
     rw (at, same, adds) refl
 
 pub others_stay : (E : Log) (s short : ℕ) (text name : List ℕ) (access : Access) (will : List Op)
-    → home E s ≡ Some (place name access will)
+    → home E s ≡ Some (index name access will)
     → (other : List ℕ) → other ≢ name
     → documents (entry (Receive s text) (Heard (Answered short)) ∷ E) other ≡ documents E other
 others_stay E s short text name access will at other apart =

@@ -13,9 +13,9 @@ use Rattle.relay_hub.specs.State.{session_in, is_number, EachOnce}
 use Rattle.relay_hub.specs.Step.{OnlyAt}
 use Rattle.relay_hub.proofs.Cases.{by_number, tested, untested}
 
--- The place of a session.
+-- The index of a session.
 
--- if no place is found, there is no session
+-- if no index is found, there is no session
 pub not_found : (xs : List Session) (s : ℕ) → position (is_number s) xs ≡ None
     → session_in xs s ≡ None
 not_found xs s h =
@@ -23,9 +23,9 @@ not_found xs s h =
     let past : length xs ≤ n = grind (arith, nat_tests, untested (nat_lt n (length xs)) n h) in
     rw (find_at (is_number s) xs) (slice_get_past xs n past)
 
-pub place_within : (xs : List Session) (s i : ℕ) → position (is_number s) xs ≡ Some i
+pub index_within : (xs : List Session) (s i : ℕ) → position (is_number s) xs ≡ Some i
     → (i < length xs) × (i ≡ position_or_len (is_number s) xs)
-place_within xs s i h =
+index_within xs s i h =
     let n = position_or_len (is_number s) xs in
     let t : (nat_lt n (length xs) ≡ true) × (i ≡ n) = tested (nat_lt n (length xs)) n i h in
     let within : n < length xs = grind (arith, nat_tests, t.0) in
@@ -33,12 +33,12 @@ place_within xs s i h =
 
 pub found : (xs : List Session) (s i : ℕ) → position (is_number s) xs ≡ Some i
     → session_in xs s ≡ slice_get xs i
-found xs s i h = rw (place_within xs s i h).1 (find_at (is_number s) xs)
+found xs s i h = rw (index_within xs s i h).1 (find_at (is_number s) xs)
 
--- the session is the one at the place
+-- the session is the one at the index
 pub found_at : (xs : List Session) (s i : ℕ) → position (is_number s) xs ≡ Some i → (d : Session)
     → session_in xs s ≡ Some (get_or xs i d)
-found_at xs s i h d = found xs s i h ∙ slice_get-get_or xs i d (place_within xs s i h).0
+found_at xs s i h d = found xs s i h ∙ slice_get-get_or xs i d (index_within xs s i h).0
 
 -- so it is the same as a session found in another way
 pub same_session : (xs : List Session) (s i : ℕ) → position (is_number s) xs ≡ Some i
@@ -52,11 +52,11 @@ some_at [] i h = absurd (omega arith)
 some_at (x ∷ xs) zero h = (x, refl)
 some_at (x ∷ xs) (suc i) h = some_at xs i (omega arith)
 
--- if its place was found, the session exists
+-- if its index was found, the session exists
 pub session_there : (xs : List Session) (s i : ℕ) → position (is_number s) xs ≡ Some i
     → (x : Session) × (session_in xs s ≡ Some x)
 session_there xs s i h =
-    let p = some_at xs i (place_within xs s i h).0 in (p.0, found xs s i h ∙ p.1)
+    let p = some_at xs i (index_within xs s i h).0 in (p.0, found xs s i h ∙ p.1)
 
 number_of-found : (xs : List Session) (s : ℕ) (x : Session) → session_in xs s ≡ Some x
     → x.number ≡ s
@@ -71,7 +71,7 @@ number_at : (xs : List Session) (s i : ℕ) (d : Session) → position (is_numbe
     → (get_or xs i d).number ≡ s
 number_at xs s i d h = number_of-found xs s (get_or xs i d) (found_at xs s i h d)
 
--- a session that is there has a place
+-- a session that is there has an index
 pub never_unplaced : (xs : List Session) (s : ℕ) → IsSome (session_in xs s)
     → position (is_number s) xs ≡ None → ⊥
 never_unplaced xs s there none =
@@ -111,10 +111,10 @@ once_set (x ∷ xs) (suc i) y d e h = (none_set xs i y d x.number e h.0, once_se
 session_in-set : (xs : List Session) (s i : ℕ) (y : Session) → position (is_number s) xs ≡ Some i
     → y.number ≡ s → IsOnly s (Some y) xs (slice_set xs i y)
 session_in-set xs s i y h e t =
-    let place = place_within xs s i h in
+    let index = index_within xs s i h in
     elim (eqb_tells s t) [
       | inl same ↦ rw same.0 (subst (λ u. session_in (slice_set xs i y) u ≡ Some y) same.1
-          (find-set (is_number s) xs i y place.1 place.0 (grind (arith, nat_tests, e))))
+          (find-set (is_number s) xs i y index.1 index.0 (grind (arith, nat_tests, e))))
       | inr other ↦
           let passed : is_number t (get_or xs i y) ≡ false =
           grind (arith, nat_tests, number_at xs s i y h, other.1) in
@@ -126,7 +126,7 @@ session_in-set xs s i y h e t =
           )))
     ]
 
--- a write at the place of a session changes that session alone
+-- a write at the index of a session changes that session alone
 pub set_only : (xs : List Session) (s i : ℕ) (x y : Session) → position (is_number s) xs ≡ Some i
     → session_in xs s ≡ Some x → y.number ≡ x.number
     → OnlyAt s (Some y) xs (slice_set xs i y)
@@ -191,11 +191,11 @@ none_leaves [] s h = refl
 none_leaves (x ∷ xs) s h =
     let n = none_there x xs s h in rw n.0 (ap (λ ys. x ∷ ys) (none_leaves xs s n.1))
 
-leaves_place : (xs : List Session) (s : ℕ) → EachOnce xs
+stays_evictable : (xs : List Session) (s : ℕ) → EachOnce xs
     → position_or_len (is_number s) xs < length xs
     → remove xs (position_or_len (is_number s) xs) ≡ others s xs
-leaves_place [] s once within = absurd (omega (arith, within))
-leaves_place (x ∷ xs) s once within = go (is_number s x) refl within (leaves_place xs s once.1)
+stays_evictable [] s once within = absurd (omega (arith, within))
+stays_evictable (x ∷ xs) s once within = go (is_number s x) refl within (stays_evictable xs s once.1)
   where
     n : ℕ
     n = position_or_len (is_number s) xs
@@ -212,15 +212,15 @@ leaves_place (x ∷ xs) s once within = go (is_number s x) refl within (leaves_p
         subst (λ m. remove (x ∷ xs) m ≡ x ∷ others s xs) next (ap (λ ys.
         x ∷ ys) (rest (omega (arith, within))))
 
--- where no number occurs twice, those of other numbers are left when the one at its place is
+-- where no number occurs twice, those of other numbers are left when the one at its index is
 -- removed
 pub removed_at : (xs : List Session) (s i : ℕ) → EachOnce xs → position (is_number s) xs ≡ Some i
     → remove xs i ≡ filter (λ x. not (is_number s x)) xs
 removed_at xs s i once at =
-    let place = place_within xs s i at in
+    let index = index_within xs s i at in
     subst (λ n. remove xs n
-    ≡ others s xs) (sym place.1)
-    (leaves_place xs s once (subst (λ n. n < length xs) place.1 place.0))
+    ≡ others s xs) (sym index.1)
+    (stays_evictable xs s once (subst (λ n. n < length xs) index.1 index.0))
 
 -- where nobody has the number, all are
 pub none_removed : (xs : List Session) (s : ℕ) → position (is_number s) xs ≡ None

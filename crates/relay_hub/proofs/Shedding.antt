@@ -16,7 +16,7 @@ use Rattle.relay_hub.specs.Log.{Log, Watching, Place, Bequest, home, documents, 
 use Rattle.relay_hub.specs.Session.{Session, with_outbox, later}
 use Rattle.relay_hub.specs.Shed.{shed_budget, fold_patches, shed_session, shed_room, shed_named, shed}
 use Rattle.relay_hub.specs.Stands.{RoomStands, OutboxStands, WatchStands, SessionStands, RoomSessionsStand, HomeStands, Follows, named_will, StandsFor}
-use Rattle.relay_hub.specs.State.{RoomSessions, State, EachOnce, IsHub, numbers, place_of, place_named, session_in}
+use Rattle.relay_hub.specs.State.{RoomSessions, State, EachOnce, IsHub, numbers, index_of, index_named, session_in}
 use Rattle.relay_hub.specs.Watched.{IsIndexed}
 use Rattle.relay_hub.specs.declared.config.HubConfig.{HubConfig}
 use Rattle.relay_hub.specs.declared.will.Will.{Will}
@@ -63,21 +63,21 @@ shed_indexed w xs h = record {
 -- Rooms.
 
 -- a room that was there
-record Was (hub : State) (budget : Budget) (place : ℕ) (name : List ℕ) (g : RoomSessions) : Type 0
+record Was (hub : State) (budget : Budget) (index : ℕ) (name : List ℕ) (g : RoomSessions) : Type 0
   where
     old : RoomSessions
-    there : slice_get hub.rooms place ≡ Some (name, old)
+    there : slice_get hub.rooms index ≡ Some (name, old)
     is : g ≡ shed_room budget old
 
-was : (hub : State) (budget : Budget) (place : ℕ) (name : List ℕ) (g : RoomSessions)
-    → slice_get (map (shed_named budget) hub.rooms) place ≡ Some (name, g)
-    → Was hub budget place name g
-was hub budget place name g at =
-    go (slice_get hub.rooms place) refl (sym (slice_get-map (shed_named budget) hub.rooms place)
+was : (hub : State) (budget : Budget) (index : ℕ) (name : List ℕ) (g : RoomSessions)
+    → slice_get (map (shed_named budget) hub.rooms) index ≡ Some (name, g)
+    → Was hub budget index name g
+was hub budget index name g at =
+    go (slice_get hub.rooms index) refl (sym (slice_get-map (shed_named budget) hub.rooms index)
     ∙ at)
   where
-    go : (o : Option (List ℕ × RoomSessions)) → slice_get hub.rooms place ≡ o
-        → option_map (shed_named budget) o ≡ Some (name, g) → Was hub budget place name g
+    go : (o : Option (List ℕ × RoomSessions)) → slice_get hub.rooms index ≡ o
+        → option_map (shed_named budget) o ≡ Some (name, g) → Was hub budget index name g
     go None there h = absurd (cc h)
     go (Some r) there h =
         let both : ◌≡◌ {A = List ℕ × RoomSessions} (r.0, shed_room budget r.1) (name, g) = cc in
@@ -89,7 +89,7 @@ was hub budget place name g at =
         }
 
 shed_names : (name : List ℕ) (budget : Budget) (rooms : List (List ℕ × RoomSessions))
-    → place_named name (map (shed_named budget) rooms) ≡ place_named name rooms
+    → index_named name (map (shed_named budget) rooms) ≡ index_named name rooms
 shed_names name budget rooms = rw (go rooms, length-map rooms (shed_named budget)) refl
   where
     go : (rs : List (List ℕ × RoomSessions))
@@ -108,35 +108,35 @@ shed_is_hub hub h = record {
   config = h.config;
   floor = h.floor;
   below = h.below;
-  homes = λ t place at.
-      let mine = h.homes t place at in
+  homes = λ t index at.
+      let mine = h.homes t index at in
       let r = mine.room in
       record {
         room =
             record {
-              place = r.place;
+              index = r.index;
               name = r.name;
               room_sessions =
                   shed_room budget r.room_sessions;
               there =
-                  slice_get-map (shed_named budget) hub.rooms r.place
+                  slice_get-map (shed_named budget) hub.rooms r.index
                   ∙ ap (option_map (shed_named budget)) r.there;
             };
         session = shed_session mine.session;
         at = mine.at;
         is = shed_found r.room_sessions.sessions t ∙ ap (option_map shed_session) mine.is;
       };
-  members = λ place name g at t y is.
-      let w = was hub budget place name g at in
+  members = λ index name g at t y is.
+      let w = was hub budget index name g at in
       let found = ap (λ (k : RoomSessions). session_in k.sessions t) (sym w.is) ∙ is in
       let x =
       some_shed (session_in w.old.sessions t)
       (session_in (map shed_session w.old.sessions) t) y (shed_found w.old.sessions t)
       found in
-      h.members place name w.old w.there t x.0 x.1;
-  once = λ place name g at.
-      let w = was hub budget place name g at in
-      rw w.is (shed_once w.old.sessions (h.once place name w.old w.there));
+      h.members index name w.old w.there t x.0 x.1;
+  once = λ index name g at.
+      let w = was hub budget index name g at in
+      rw w.is (shed_once w.old.sessions (h.once index name w.old w.there));
   few = h.few;
   wills =
       have_more hub.rooms (map (shed_named budget) hub.rooms) hub.wills (omega (
@@ -154,9 +154,9 @@ shed_wills : (rooms : List (List ℕ × RoomSessions)) (budget : Budget) (wills 
 shed_wills rooms budget [] = refl
 shed_wills rooms budget (w ∷ wills) =
     rw (
-      slice_get-map (shed_named budget) rooms w.place,
+      slice_get-map (shed_named budget) rooms w.index,
       shed_wills rooms budget wills,
-    ) (one (slice_get rooms w.place))
+    ) (one (slice_get rooms w.index))
   where
     bequest : Option (List ℕ × RoomSessions) → Bequest
     bequest o = record { room = option_map_or (λ r. r.0) o []; patch = w.patch }
@@ -226,24 +226,24 @@ module _ (b : HubConfig) (E : Log) (hub : State) (h : StandsFor b E hub) where
       let same : hub.config.history_weight ≡ Unbounded =
       ap (λ (config : HubConfig). config.history_weight) h.config ∙ is in ap shed_budget same
 
-  room_stands : (t : ℕ) (o : Option (List ℕ × RoomSessions)) (place : ℕ)
-      → slice_get hub.rooms place ≡ o
+  room_stands : (t : ℕ) (o : Option (List ℕ × RoomSessions)) (index : ℕ)
+      → slice_get hub.rooms index ≡ o
       → RoomSessionsStand b.max_waiting_patches (documents E) t o (home E t) (watching b E t)
       → RoomSessionsStand b.max_waiting_patches (documents E) t (option_map (shed_named budget) o)
       (home E t) (watching b E t)
-  room_stands t (Some r) place at k =
+  room_stands t (Some r) index at k =
       rw (shed_found r.1.sessions t)
       (session_stands b (documents E) r.0 r.1.room budget (session_in r.1.sessions t)
-      (home E t) (watching b E t) (h.rooms place r.0 r.1 at) k)
-  room_stands t None place at k = k
+      (home E t) (watching b E t) (h.rooms index r.0 r.1 at) k)
+  room_stands t None index at k = k
 
   home_stands : (t : ℕ) (o : Option ℕ)
       → HomeStands b.max_waiting_patches (documents E) hub.rooms t o (home E t) (watching b E t)
       → HomeStands b.max_waiting_patches (documents E) (map (shed_named budget) hub.rooms) t o
       (home E t) (watching b E t)
-  home_stands t (Some place) k =
-      rw (slice_get-map (shed_named budget) hub.rooms place)
-      (room_stands t (slice_get hub.rooms place) place refl k)
+  home_stands t (Some index) k =
+      rw (slice_get-map (shed_named budget) hub.rooms index)
+      (room_stands t (slice_get hub.rooms index) index refl k)
   home_stands t None k = k
 
   pub shed_stands : StandsFor b E (shed hub)
@@ -253,16 +253,16 @@ module _ (b : HubConfig) (E : Log) (hub : State) (h : StandsFor b E hub) where
     is = h.is;
     next = h.next;
     count = h.count;
-    rooms = λ place name g at.
-        let w = was hub budget place name g at in
+    rooms = λ index name g at.
+        let w = was hub budget index name g at in
         rw w.is (trimmed_stands b (documents E name) w.old.room budget free
-        (h.rooms place name w.old w.there));
-    names = λ place name g at.
-        let w = was hub budget place name g at in
-        shed_names name budget hub.rooms ∙ h.names place name w.old w.there;
-    known = λ name place there. h.known name place (sym (shed_names name budget hub.rooms) ∙ there);
+        (h.rooms index name w.old w.there));
+    names = λ index name g at.
+        let w = was hub budget index name g at in
+        shed_names name budget hub.rooms ∙ h.names index name w.old w.there;
+    known = λ name index there. h.known name index (sym (shed_names name budget hub.rooms) ∙ there);
     others = λ name none. h.others name (sym (shed_names name budget hub.rooms) ∙ none);
-    sessions = λ t. home_stands t (place_of hub t) (h.sessions t);
+    sessions = λ t. home_stands t (index_of hub t) (h.sessions t);
     wills = shed_wills hub.rooms budget hub.wills ∙ h.wills;
     willing =
         have_more hub.rooms (map (shed_named budget) hub.rooms) hub.wills (omega (

@@ -12,8 +12,8 @@ use Rattle.relay_hub.specs.Log.{Log, entry}
 use Rattle.relay_hub.specs.Admitted.{admitted}
 use Rattle.relay_hub.specs.Session.{Session}
 use Rattle.relay_hub.specs.Stands.{StandsFor}
-use Rattle.relay_hub.specs.State.{RoomSessions, State, RoomOf, Home, place_of, session_in}
-use Rattle.relay_hub.specs.Step.{Serves, Receives, Draws, with_room, InRoom, AtPlace, ClosesIn, ClosesInRoom, ClosesAt, Step}
+use Rattle.relay_hub.specs.State.{RoomSessions, State, RoomOf, Home, index_of, session_in}
+use Rattle.relay_hub.specs.Step.{Serves, Receives, Draws, with_room, InRoom, AtIndex, ClosesIn, ClosesInRoom, ClosesAt, Step}
 use Rattle.relay_hub.specs.declared.config.HubConfig.{HubConfig}
 use Rattle.relay_hub.specs.declared.event.Answer.{Answer}
 use Rattle.relay_hub.specs.declared.event.Answer.TheVariants.{Opened, NotOpened, Heard, Drawn, Closed, Forgotten, NotForgotten, NoSession}
@@ -34,16 +34,16 @@ use Rattle.relay_hub.proofs.Served.{served_refusal, served_will, served_watch, s
 
 -- an open session is in its room
 never_absent : (b : HubConfig) (E : Log) (hub : State) (s : ℕ) (r : RoomOf hub) → StandsFor b E hub
-    → place_of hub s ≡ Some r.place → session_in r.room_sessions.sessions s ≡ None → ⊥
+    → index_of hub s ≡ Some r.index → session_in r.room_sessions.sessions s ≡ None → ⊥
 never_absent b E hub s r stands at none =
     let found = session_stands b E hub s r stands at in rw none at found
 
 -- an unchanged room leaves the hub unchanged
 same_room_sessions : (hub : State) (r : RoomOf hub) (h : RoomSessions) → h ≡ r.room_sessions
-    → with_room r.place r.name h hub ≡ hub
+    → with_room r.index r.name h hub ≡ hub
 same_room_sessions hub r h same =
     rw same (ap (λ (rooms : List (List ℕ × RoomSessions)).
-    record hub { rooms = rooms }) (slice_set_same hub.rooms r.place (
+    record hub { rooms = rooms }) (slice_set_same hub.rooms r.index (
       r.name,
       r.room_sessions,
     ) r.there))
@@ -54,7 +54,7 @@ serve_stands : (b : HubConfig) (E : Log) (old : State) (s : ℕ) (mine : Home ol
     → admitted b.view_weight mine.session.access (request_of_text text) ≡ request
     → Serves b s mine.session request short mine.room.room_sessions h
     → StandsFor b (entry (Receive s text) (Heard (Answered short)) ∷ E)
-    (with_room mine.room.place mine.room.name h old)
+    (with_room mine.room.index mine.room.name h old)
 serve_stands b E old s mine h short text (Err r) stands read step =
     served_refusal b E old s mine h short text stands r read step.1
 serve_stands b E old s mine h short text (Ok (Watch id v)) stands read step =
@@ -77,7 +77,7 @@ serve_stands b E old s mine h short text (Ok (Edit id base patch)) stands read s
     let counts = request_counts text (Edit id base patch) is.1 in
     let room = mine.room.room_sessions.room in
     let last =
-    (stands.rooms mine.room.place mine.room.name mine.room.room_sessions
+    (stands.rooms mine.room.index mine.room.name mine.room.room_sessions
     mine.room.there).is.history.last in
     served_edit b E old s mine h short text stands id base patch is.0 is.1 counts.0
     (edited room base patch) refl
@@ -86,9 +86,9 @@ serve_stands b E old s mine h short text (Ok (Edit id base patch)) stands read s
 
 receive_stands : (b : HubConfig) (E : Log) (old : State) (s : ℕ) (r : RoomOf old)
     (h : RoomSessions) (o : Option Session) (text : List ℕ) (answer : Answer) → StandsFor b E old
-    → place_of old s ≡ Some r.place → session_in r.room_sessions.sessions s ≡ o
+    → index_of old s ≡ Some r.index → session_in r.room_sessions.sessions s ≡ o
     → Receives old.config s o text answer r.room_sessions h
-    → StandsFor b (entry (Receive s text) answer ∷ E) (with_room r.place r.name h old)
+    → StandsFor b (entry (Receive s text) answer ∷ E) (with_room r.index r.name h old)
 receive_stands b E old s r h None text NoSession stands at is step =
     absurd (never_absent b E old s r stands at is)
 receive_stands b E old s r h (Some x) text (Heard Busy) stands at is step =
@@ -108,9 +108,9 @@ receive_stands b E old s r h o text answer stands at is step = absurd step
 
 drawn_stands : (b : HubConfig) (E : Log) (old : State) (s : ℕ) (r : RoomOf old) (h : RoomSessions)
     (o : Option Session) (answer : Answer) → StandsFor b E old
-    → place_of old s ≡ Some r.place → session_in r.room_sessions.sessions s ≡ o
+    → index_of old s ≡ Some r.index → session_in r.room_sessions.sessions s ≡ o
     → Draws s o answer r.room_sessions h
-    → StandsFor b (entry (Draw s) answer ∷ E) (with_room r.place r.name h old)
+    → StandsFor b (entry (Draw s) answer ∷ E) (with_room r.index r.name h old)
 drawn_stands b E old s r h None NoSession stands at is step =
     absurd (never_absent b E old s r stands at is)
 drawn_stands b E old s r h (Some x) (Drawn text) stands at is step =
@@ -119,35 +119,35 @@ drawn_stands b E old s r h o answer stands at is step = absurd step
 
 -- What happens in the room of a session, or if it has none.
 
-in_room_stands : (b : HubConfig) (E : Log) (old new : State) (place : ℕ) (event : Event)
+in_room_stands : (b : HubConfig) (E : Log) (old new : State) (index : ℕ) (event : Event)
     (answer : Answer) (Does : RoomSessions → RoomSessions
     → Type 0) (o : Option (List ℕ × RoomSessions))
     → StandsFor b (entry event NoSession ∷ E) old
-    → ((r : RoomOf old) (h : RoomSessions) → r.place ≡ place → Does r.room_sessions h
-    → StandsFor b (entry event answer ∷ E) (with_room r.place r.name h old))
-    → slice_get old.rooms place ≡ o → InRoom place o old answer Does new
+    → ((r : RoomOf old) (h : RoomSessions) → r.index ≡ index → Does r.room_sessions h
+    → StandsFor b (entry event answer ∷ E) (with_room r.index r.name h old))
+    → slice_get old.rooms index ≡ o → InRoom index o old answer Does new
     → StandsFor b (entry event answer ∷ E) new
-in_room_stands b E old new place event answer Does (Some home) quiet does at step =
-    rw step.2 (does (record { place = place; name = home.0; room_sessions = home.1; there = at })
+in_room_stands b E old new index event answer Does (Some home) quiet does at step =
+    rw step.2 (does (record { index = index; name = home.0; room_sessions = home.1; there = at })
     step.0 refl step.1)
-in_room_stands b E old new place event answer Does None quiet does at step =
+in_room_stands b E old new index event answer Does None quiet does at step =
     rw (step.0, step.1) quiet
 
 at_home_stands : (b : HubConfig) (E : Log) (old new : State) (event : Event) (answer : Answer)
     (Does : RoomSessions → RoomSessions → Type 0) (o : Option ℕ)
     → StandsFor b (entry event NoSession ∷ E) old
-    → ((r : RoomOf old) (h : RoomSessions) → o ≡ Some r.place → Does r.room_sessions h
-    → StandsFor b (entry event answer ∷ E) (with_room r.place r.name h old))
-    → AtPlace o old answer Does new → StandsFor b (entry event answer ∷ E) new
-at_home_stands b E old new event answer Does (Some place) quiet does step =
-    in_room_stands b E old new place event answer Does (slice_get old.rooms place) quiet
+    → ((r : RoomOf old) (h : RoomSessions) → o ≡ Some r.index → Does r.room_sessions h
+    → StandsFor b (entry event answer ∷ E) (with_room r.index r.name h old))
+    → AtIndex o old answer Does new → StandsFor b (entry event answer ∷ E) new
+at_home_stands b E old new event answer Does (Some index) quiet does step =
+    in_room_stands b E old new index event answer Does (slice_get old.rooms index) quiet
     (λ r h same d. does r h (ap Some (sym same)) d) refl step
 at_home_stands b E old new event answer Does None quiet does step = rw (step.0, step.1) quiet
 
 closes_in_stands : (b : HubConfig) (E : Log) (old new : State) (s : ℕ) (r : RoomOf old)
     (o : Option Session) (answer : Answer) → StandsFor b E old
-    → place_of old s ≡ Some r.place → session_in r.room_sessions.sessions s ≡ o
-    → ClosesIn s r.place r.name r.room_sessions o old answer new
+    → index_of old s ≡ Some r.index → session_in r.room_sessions.sessions s ≡ o
+    → ClosesIn s r.index r.name r.room_sessions o old answer new
     → StandsFor b (entry (Close s) answer ∷ E) new
 closes_in_stands b E old new s r None NoSession stands at is step =
     absurd (never_absent b E old s r stands at is)
@@ -155,24 +155,24 @@ closes_in_stands b E old new s r (Some x) Closed stands at is step =
     close_stands b E old new s (record { room = r; session = x; at = at; is = is }) stands step
 closes_in_stands b E old new s r o answer stands at is step = absurd step
 
-closes_in_room_stands : (b : HubConfig) (E : Log) (old new : State) (s place : ℕ)
+closes_in_room_stands : (b : HubConfig) (E : Log) (old new : State) (s index : ℕ)
     (o : Option (List ℕ × RoomSessions)) (answer : Answer) → StandsFor b E old
     → StandsFor b (entry (Close s) NoSession ∷ E) old
-    → slice_get old.rooms place ≡ o → place_of old s ≡ Some place
-    → ClosesInRoom s place o old answer new → StandsFor b (entry (Close s) answer ∷ E) new
-closes_in_room_stands b E old new s place (Some home) answer stands quiet there at step =
+    → slice_get old.rooms index ≡ o → index_of old s ≡ Some index
+    → ClosesInRoom s index o old answer new → StandsFor b (entry (Close s) answer ∷ E) new
+closes_in_room_stands b E old new s index (Some home) answer stands quiet there at step =
     closes_in_stands b E old new s
-    (record { place = place; name = home.0; room_sessions = home.1; there = there })
+    (record { index = index; name = home.0; room_sessions = home.1; there = there })
     (session_in home.1.sessions s) answer stands at refl step
-closes_in_room_stands b E old new s place None answer stands quiet there at step =
+closes_in_room_stands b E old new s index None answer stands quiet there at step =
     rw (step.0, step.1) quiet
 
 closes_stands : (b : HubConfig) (E : Log) (old new : State) (s : ℕ) (o : Option ℕ)
     (answer : Answer) → StandsFor b E old → StandsFor b (entry (Close s) NoSession ∷ E) old
-    → place_of old s ≡ o → ClosesAt s o old answer new
+    → index_of old s ≡ o → ClosesAt s o old answer new
     → StandsFor b (entry (Close s) answer ∷ E) new
-closes_stands b E old new s (Some place) answer stands quiet at step =
-    closes_in_room_stands b E old new s place (slice_get old.rooms place) answer stands quiet refl
+closes_stands b E old new s (Some index) answer stands quiet at step =
+    closes_in_room_stands b E old new s index (slice_get old.rooms index) answer stands quiet refl
     at step
 closes_stands b E old new s None answer stands quiet at step = rw (step.0, step.1) quiet
 
@@ -189,7 +189,7 @@ step_stands b E old new (Open name access) (NotOpened fault) stands step =
     refl) (λ other. refl) (λ t. refl))
 step_stands b E old new (Receive s text) answer stands step =
     at_home_stands b E old new (Receive s text) answer (λ g h.
-    Receives old.config s (session_in g.sessions s) text answer g h) (place_of old s)
+    Receives old.config s (session_in g.sessions s) text answer g h) (index_of old s)
     (unaffected b E (entry (Receive s text) NoSession) old stands
     (record { opened = refl; count = refl; rooms = λ name. refl }) (λ name. refl) refl (λ t.
     refl) (λ other. refl) (λ t. refl))
@@ -199,7 +199,7 @@ step_stands b E old new (Receive s text) answer stands step =
     step
 step_stands b E old new (Draw s) answer stands step =
     at_home_stands b E old new (Draw s) answer (λ g h.
-    Draws s (session_in g.sessions s) answer g h) (place_of old s)
+    Draws s (session_in g.sessions s) answer g h) (index_of old s)
     (unaffected b E (entry (Draw s) NoSession) old stands
     (record { opened = refl; count = refl; rooms = λ name. refl }) (λ name. refl) refl (λ t.
     refl) (λ other. refl) (λ t. refl))
@@ -208,7 +208,7 @@ step_stands b E old new (Draw s) answer stands step =
     does)
     step
 step_stands b E old new (Close s) answer stands step =
-    closes_stands b E old new s (place_of old s) answer stands
+    closes_stands b E old new s (index_of old s) answer stands
     (unaffected b E (entry (Close s) NoSession) old stands
     (record { opened = refl; count = refl; rooms = λ name. refl }) (λ name. refl) refl (λ t.
     refl) (λ other. refl) (λ t. refl))

@@ -17,7 +17,7 @@ use Rattle.relay_hub.specs.Told.{ChangesAmong, ChangesToldAnd}
 use Rattle.relay_hub.specs.declared.told.Told.{Told}
 use Rattle.relay_hub.proofs.Sessions.{set_only}
 
--- a write at the place of a session changes that session alone
+-- a write at the index of a session changes that session alone
 pub one_among : (xs : List Session) (s i : ℕ) (x y : Session) → position (is_number s) xs ≡ Some i
     → session_in xs s ≡ Some x → y.number ≡ x.number
     → ChangesAmong (s ∷ []) xs (slice_set xs i y)

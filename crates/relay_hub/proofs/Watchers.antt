@@ -17,7 +17,7 @@ use Rattle.relay_hub.specs.Admitted.{admitted}
 use Rattle.relay_hub.specs.Refusal.{refused, edit_refusal}
 use Rattle.relay_hub.specs.Session.{Session, replied, later}
 use Rattle.relay_hub.specs.Stands.{IsAtNamed, EachLeads, HoldsPresent, Follows, WatchStands, StandsFor}
-use Rattle.relay_hub.specs.State.{RoomSessions, State, RoomOf, Home, place_of, home_of, session_in, session_of, without_sessions}
+use Rattle.relay_hub.specs.State.{RoomSessions, State, RoomOf, Home, index_of, home_of, session_in, session_of, without_sessions}
 use Rattle.relay_hub.specs.Step.{OnlyAt, ChangesOnly, EditServed, Serves, Receives, with_room, InRoom, Step}
 use Rattle.relay_hub.specs.Queries.{LeavesNoTrace}
 use Rattle.relay_hub.specs.declared.config.HubConfig.{HubConfig}
@@ -28,15 +28,15 @@ use Rattle.relay_hub.proofs.Follow.{client_after-append}
 use Rattle.relay_hub.proofs.Frames.{here}
 use Rattle.relay_hub.proofs.Lists.{slice_get-set, slice_get-set_other}
 
--- a session that has a room has it at a place
-at_place : (hub : State) (s : ℕ) (home : List ℕ × RoomSessions) → home_of hub s ≡ Some home
-    → (place : ℕ) × (place_of hub s ≡ Some place) × (slice_get hub.rooms place ≡ Some home)
-at_place hub s home h = go (place_of hub s) refl h
+-- a session that has a room has it at an index
+at_index : (hub : State) (s : ℕ) (home : List ℕ × RoomSessions) → home_of hub s ≡ Some home
+    → (index : ℕ) × (index_of hub s ≡ Some index) × (slice_get hub.rooms index ≡ Some home)
+at_index hub s home h = go (index_of hub s) refl h
   where
-    go : (o : Option ℕ) → place_of hub s ≡ o
-        → option_and_then (λ place. slice_get hub.rooms place) o ≡ Some home
-        → (place : ℕ) × (place_of hub s ≡ Some place) × (slice_get hub.rooms place ≡ Some home)
-    go (Some place) is at = (place, is, at)
+    go : (o : Option ℕ) → index_of hub s ≡ o
+        → option_and_then (λ index. slice_get hub.rooms index) o ≡ Some home
+        → (index : ℕ) × (index_of hub s ≡ Some index) × (slice_get hub.rooms index ≡ Some home)
+    go (Some index) is at = (index, is, at)
     go None is at = absurd (cc at)
 
 -- Watchers.
@@ -47,10 +47,10 @@ module _ (b : HubConfig) (E : Log) (hub : State) (s : ℕ) (name : List ℕ) (g 
     (is : session_in g.sessions s ≡ Some x) (watches : watching b E s ≡ Some w) where
   watcher : Follows (documents E name) w (later g.room w.view x.outbox)
   watcher =
-      let p = at_place hub s (name, g) there in
+      let p = at_index hub s (name, g) there in
       let mine : Home hub s =
       record {
-        room = record { place = p.0; name = name; room_sessions = g; there = p.2 };
+        room = record { index = p.0; name = name; room_sessions = g; there = p.2 };
         session = x;
         at = p.1;
         is = is;
@@ -82,36 +82,36 @@ module _ (b : HubConfig) (E : Log) (hub : State) (s : ℕ) (name : List ℕ) (g 
 -- Refused edits.
 
 same_rooms : (rooms : List (List ℕ
-    × RoomSessions)) (place : ℕ) (name : List ℕ) (g h : RoomSessions)
-    → slice_get rooms place ≡ Some (name, g) → h.room ≡ g.room
-    → map without_sessions (slice_set rooms place (name, h)) ≡ map without_sessions rooms
-same_rooms [] place name g h at same = refl
+    × RoomSessions)) (index : ℕ) (name : List ℕ) (g h : RoomSessions)
+    → slice_get rooms index ≡ Some (name, g) → h.room ≡ g.room
+    → map without_sessions (slice_set rooms index (name, h)) ≡ map without_sessions rooms
+same_rooms [] index name g h at same = refl
 same_rooms (r ∷ rooms) zero name g h at same =
     let first : r ≡ (name, g) = cc in
     rw (first, same) refl
-same_rooms (r ∷ rooms) (suc place) name g h at same =
-    ap (λ rest. without_sessions r ∷ rest) (same_rooms rooms place name g h at same)
+same_rooms (r ∷ rooms) (suc index) name g h at same =
+    ap (λ rest. without_sessions r ∷ rest) (same_rooms rooms index name g h at same)
 
 -- any session but s is found as before
 others_found : (hub : State) (r : RoomOf hub) (h : RoomSessions) (s : ℕ) (y : Option Session)
     → OnlyAt s y r.room_sessions.sessions h.sessions
-    → (t : ℕ) → s ≢ t → session_of (with_room r.place r.name h hub) t ≡ session_of hub t
-others_found hub r h s y only t apart = go (place_of hub t)
+    → (t : ℕ) → s ≢ t → session_of (with_room r.index r.name h hub) t ≡ session_of hub t
+others_found hub r h s y only t apart = go (index_of hub t)
   where
     found : List (List ℕ × RoomSessions) → Option ℕ → Option Session
     found rooms o =
         option_and_then (λ (home : List ℕ × RoomSessions).
         session_in home.1.sessions t) (option_and_then (λ p. slice_get rooms p) o)
 
-    go : (o : Option ℕ) → found (slice_set hub.rooms r.place (r.name, h)) o ≡ found hub.rooms o
+    go : (o : Option ℕ) → found (slice_set hub.rooms r.index (r.name, h)) o ≡ found hub.rooms o
     go None = refl
     go (Some p) =
-        elim (eqb_tells p r.place) [
+        elim (eqb_tells p r.index) [
           | inl same ↦
               let other : (s == t) ≡ false = grind (arith, nat_tests, apart) in
               rw (
                 same.1,
-                slice_get-set hub.rooms r.place (r.name, r.room_sessions) (
+                slice_get-set hub.rooms r.index (r.name, r.room_sessions) (
                   r.name,
                   h,
                 ) r.there,
@@ -119,17 +119,17 @@ others_found hub r h s y only t apart = go (place_of hub t)
                 only.found t,
                 other,
               ) refl
-          | inr differs ↦ rw (slice_get-set_other hub.rooms r.place p (r.name, h) differs.1) refl
+          | inr differs ↦ rw (slice_get-set_other hub.rooms r.index p (r.name, h) differs.1) refl
         ]
 
 -- a room in which one session alone differs
 leaves_no_trace : (hub : State) (s : ℕ) (r : RoomOf hub) (h : RoomSessions) (y : Session)
-    → place_of hub s ≡ Some r.place → ChangesOnly s (Some y) r.room_sessions h
-    → LeavesNoTrace s y hub (with_room r.place r.name h hub)
+    → index_of hub s ≡ Some r.index → ChangesOnly s (Some y) r.room_sessions h
+    → LeavesNoTrace s y hub (with_room r.index r.name h hub)
 leaves_no_trace hub s r h y at changes =
     let same : (s == s) ≡ true = grind (arith, nat_tests) in
     record {
-      rooms = same_rooms hub.rooms r.place r.name r.room_sessions h r.there changes.0;
+      rooms = same_rooms hub.rooms r.index r.name r.room_sessions h r.there changes.0;
       homes = refl;
       wills = refl;
       next = refl;
@@ -137,7 +137,7 @@ leaves_no_trace hub s r h y at changes =
       sender =
           rw (
             at,
-            slice_get-set hub.rooms r.place (r.name, r.room_sessions) (r.name, h) r.there,
+            slice_get-set hub.rooms r.index (r.name, r.room_sessions) (r.name, h) r.there,
             changes.1.found s,
             same,
           ) refl;
@@ -152,7 +152,7 @@ module _ (old new : State) (s short : ℕ) (text : List ℕ) (name : List ℕ) (
       (admitted old.config.view_weight x.access (request_of_text text)) short g
       h × ((y : Session) → ChangesOnly s (Some y) g h → LeavesNoTrace s y old new)
   done =
-      let p = at_place old s (name, g) there in
+      let p = at_index old s (name, g) there in
       let answer = Heard (Answered short) in
       let Does : RoomSessions → RoomSessions → Type 0 =
       λ g h. Receives old.config s (session_in g.sessions s) text answer g h in
@@ -164,7 +164,7 @@ module _ (old new : State) (s short : ℕ) (text : List ℕ) (name : List ℕ) (
         λ y changes.
             subst (λ hub. LeavesNoTrace s y old hub) (sym at_home.2)
             (leaves_no_trace old s
-            (record { place = p.0; name = name; room_sessions = g; there = p.2 }) h y p.1
+            (record { index = p.0; name = name; room_sessions = g; there = p.2 }) h y p.1
             changes),
       )
 

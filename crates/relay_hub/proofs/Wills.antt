@@ -13,7 +13,7 @@ use Rattle.relay_hub.proofs.Lists.{slice_get-set, slice_get-set_other, slice_get
 abbrev Rooms : Type 0
 Rooms = List (List ℕ × RoomSessions)
 
--- there is a room at each place within the list
+-- there is a room at each index within the list
 pub room_within : (rooms : Rooms) (i : ℕ) → i < length rooms
     → (room : List ℕ × RoomSessions) × (slice_get rooms i ≡ Some room)
 room_within [] i h = absurd (omega (arith, h))
@@ -33,24 +33,24 @@ have_set rooms i r wills h =
     have_more rooms (slice_set rooms i r) wills (omega (arith, length-set rooms i r)) h
 
 -- what a closed session leaves has its room
-pub have_left : (rooms : Rooms) (wills : List Will) (place : ℕ) (patch : List Op)
-    → place < length rooms → HaveRooms rooms wills
-    → HaveRooms rooms (wills ++ left_of place patch)
-have_left rooms [] place [] within h = tt
-have_left rooms [] place (op ∷ ops) within h = (within, tt)
-have_left rooms (w ∷ wills) place patch within h =
-    (h.0, have_left rooms wills place patch within h.1)
+pub have_left : (rooms : Rooms) (wills : List Will) (index : ℕ) (patch : List Op)
+    → index < length rooms → HaveRooms rooms wills
+    → HaveRooms rooms (wills ++ left_of index patch)
+have_left rooms [] index [] within h = tt
+have_left rooms [] index (op ∷ ops) within h = (within, tt)
+have_left rooms (w ∷ wills) index patch within h =
+    (h.0, have_left rooms wills index patch within h.1)
 
 -- it is at most one will
-pub few_left : (place : ℕ) (patch : List Op) → length (left_of place patch) ≤ 1
-few_left place [] = omega arith
-few_left place (op ∷ ops) = omega arith
+pub few_left : (index : ℕ) (patch : List Op) → length (left_of index patch) ≤ 1
+few_left index [] = omega arith
+few_left index (op ∷ ops) = omega arith
 
 -- Names.
 
 -- if each will names the same room, the bequests are the same
 same_named : (rooms more : Rooms) (wills : List Will) → HaveRooms rooms wills
-    → ((w : Will) → w.place < length rooms → named_will more w ≡ named_will rooms w)
+    → ((w : Will) → w.index < length rooms → named_will more w ≡ named_will rooms w)
     → map (named_will more) wills ≡ map (named_will rooms) wills
 same_named rooms more [] h same = refl
 same_named rooms more (w ∷ wills) h same =
@@ -63,12 +63,12 @@ pub named_set : (rooms : Rooms) (i : ℕ) (name : List ℕ) (g h : RoomSessions)
 named_set rooms i name g h wills there have =
     same_named rooms (slice_set rooms i (name, h)) wills have one
   where
-    one : (w : Will) → w.place < length rooms
+    one : (w : Will) → w.index < length rooms
         → named_will (slice_set rooms i (name, h)) w ≡ named_will rooms w
     one w within =
-        elim (eqb_tells w.place i) [
+        elim (eqb_tells w.index i) [
           | inl same ↦ rw (same.1, slice_get-set rooms i (name, g) (name, h) there, there) refl
-          | inr other ↦ rw (slice_get-set_other rooms i w.place (name, h) other.1) refl
+          | inr other ↦ rw (slice_get-set_other rooms i w.index (name, h) other.1) refl
         ]
 
 -- a room was added behind the others
@@ -77,15 +77,15 @@ pub named_earlier : (rooms : Rooms) (room : List ℕ × RoomSessions) (wills : L
     → map (named_will (rooms ++ room ∷ [])) wills ≡ map (named_will rooms) wills
 named_earlier rooms room wills have = same_named rooms (rooms ++ room ∷ []) wills have one
   where
-    one : (w : Will) → w.place < length rooms
+    one : (w : Will) → w.index < length rooms
         → named_will (rooms ++ room ∷ []) w ≡ named_will rooms w
     one w within =
-        let r = room_within rooms w.place within in
-        rw (slice_get-earlier rooms room r.0 w.place r.1, r.1) refl
+        let r = room_within rooms w.index within in
+        rw (slice_get-earlier rooms room r.0 w.index r.1, r.1) refl
 
 -- what a closed session left, by the name of its room
-pub named_left : (rooms : Rooms) (place : ℕ) (name : List ℕ) (g : RoomSessions) (patch : List Op)
-    → slice_get rooms place ≡ Some (name, g)
-    → map (named_will rooms) (left_of place patch) ≡ left_in name patch
-named_left rooms place name g [] there = refl
-named_left rooms place name g (op ∷ ops) there = rw there refl
+pub named_left : (rooms : Rooms) (index : ℕ) (name : List ℕ) (g : RoomSessions) (patch : List Op)
+    → slice_get rooms index ≡ Some (name, g)
+    → map (named_will rooms) (left_of index patch) ≡ left_in name patch
+named_left rooms index name g [] there = refl
+named_left rooms index name g (op ∷ ops) there = rw there refl

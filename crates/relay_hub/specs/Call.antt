@@ -121,7 +121,7 @@ IsAbove s sessions = (t : ℕ) → s ≤ t → session_in sessions t ≡ None
 -- the same of the sessions of every room
 abbrev pub IsFresh : ℕ → List (List ℕ × RoomSessions) → Type 0
 IsFresh s rooms =
-    (place : ℕ) (name : List ℕ) (g : RoomSessions) → slice_get rooms place ≡ Some (name, g)
+    (index : ℕ) (name : List ℕ) (g : RoomSessions) → slice_get rooms index ≡ Some (name, g)
     → IsAbove s g.sessions
 
 -- session s becomes f of what it was, and no other session differs

@@ -44,8 +44,8 @@ pub record Place : Type 0 where
   pub access : Access
   pub will : List Op
 
-abbrev pub place : List ℕ → Access → List Op → Place
-place name access will = record { room = name; access = access; will = will }
+abbrev pub index : List ℕ → Access → List Op → Place
+index name access will = record { room = name; access = access; will = will }
 
 -- the will of a session after a request
 abbrev pub will_after : List Op → Result Request Refusal → List Op
@@ -55,12 +55,12 @@ will_after was _ = was
 -- the same after a text of a session that is open there
 abbrev pub willed : List ℕ → Place → Place
 willed text p =
-    place p.room p.access (will_after p.will (permitted p.access (request_of_text text)))
+    index p.room p.access (will_after p.will (permitted p.access (request_of_text text)))
 
 -- where session s is open, if it is, after an event
 abbrev pub home_after : Option Place → ℕ → Event → Answer → Option Place
 home_after was s (Open name access) (Opened o) =
-    if o.session == s then Some (place name access []) else was
+    if o.session == s then Some (index name access []) else was
 home_after was s (Receive t text) (Heard (Answered short)) =
     if t == s then option_map (willed text) was else was
 home_after was s (Close t) Closed = if t == s then None else was
@@ -107,7 +107,7 @@ abbrev pub left : Log → List Bequest
 left [] = []
 left (e ∷ E) = left_after (home E) (left E) e.event e.answer
 
--- The documents of a room, the first one first, so that the one of revision r is at place r.
+-- The documents of a room, the first one first, so that the one of revision r is at index r.
 
 abbrev pub present_of : List Document → Document
 present_of documents = unwrap_or (slice_get documents (length documents - 1)) null

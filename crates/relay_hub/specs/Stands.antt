@@ -16,9 +16,9 @@ use Rattle.relay_room.specs.CatchUp.{IsSent}
 use Rattle.relay_room.specs.Room.{State as Room, IsRoom, revision}
 use Rattle.relay_tree.specs.Document.{Document, null}
 use Rattle.relay_view.specs.View.{View, view}
-use Rattle.relay_hub.specs.Log.{Log, Watching, Place, place, home, is_opened, documents, beginning, present_of, watching, Bequest, left, opened, open_count}
+use Rattle.relay_hub.specs.Log.{Log, Watching, Place, index, home, is_opened, documents, beginning, present_of, watching, Bequest, left, opened, open_count}
 use Rattle.relay_hub.specs.Session.{Session, later}
-use Rattle.relay_hub.specs.State.{HaveRooms, State, IsConfig, RoomSessions, place_of, home_of, place_named, session_in}
+use Rattle.relay_hub.specs.State.{HaveRooms, State, IsConfig, RoomSessions, index_of, home_of, index_named, session_in}
 use Rattle.relay_tree.specs.declared.budget.Budget.TheVariants.{Unbounded}
 use Rattle.relay_hub.specs.declared.config.HubConfig.{HubConfig}
 use Rattle.relay_hub.specs.declared.will.Will.{Will}
@@ -101,7 +101,7 @@ WatchStands documents room x None =
 abbrev pub SessionStands : ℕ → (List ℕ → List Document) → List ℕ → Room → Option Session
     → Option Place → Option Watching → Type 0
 SessionStands most documents name room (Some x) there w =
-    (there ≡ Some (place name x.access x.will)) × OutboxStands most x
+    (there ≡ Some (index name x.access x.will)) × OutboxStands most x
     × WatchStands (documents name) room x w
 SessionStands most documents name room None there w = ⊥
 
@@ -111,7 +111,7 @@ RoomSessionsStand most documents s (Some home) there w =
     SessionStands most documents home.0 home.1.room (session_in home.1.sessions s) there w
 RoomSessionsStand most documents s None there w = ⊥
 
--- what holds of session s, whose room is at that place
+-- what holds of session s, whose room is at that index
 abbrev pub HomeStands : ℕ → (List ℕ → List Document) → List (List ℕ × RoomSessions) → ℕ → Option ℕ
     → Option Place → Option Watching → Type 0
 HomeStands most documents rooms s (Some at) there w =
@@ -126,7 +126,7 @@ MayBegin floor documents = (length documents ≤ floor) ⊎ (documents ≡ null 
 -- what a will leaves, by the name of its room
 abbrev pub named_will : List (List ℕ × RoomSessions) → Will → Bequest
 named_will rooms w =
-    record { room = option_map_or (λ r. r.0) (slice_get rooms w.place) []; patch = w.patch }
+    record { room = option_map_or (λ r. r.0) (slice_get rooms w.index) []; patch = w.patch }
 
 pub record StandsFor (b : HubConfig) (E : Log) (hub : State) : Type 0 where
   pub config : hub.config ≡ b
@@ -135,21 +135,21 @@ pub record StandsFor (b : HubConfig) (E : Log) (hub : State) : Type 0 where
   pub next : hub.next ≡ b.first + opened E
   pub count : length hub.homes ≡ open_count E
   -- each room has the documents of its name
-  pub rooms : (place : ℕ) (name : List ℕ) (g : RoomSessions)
-      → slice_get hub.rooms place ≡ Some (name, g)
+  pub rooms : (index : ℕ) (name : List ℕ) (g : RoomSessions)
+      → slice_get hub.rooms index ≡ Some (name, g)
       → RoomStands b (beginning E name) (documents E name) g.room
   -- a room is found by its name
-  pub names : (place : ℕ) (name : List ℕ) (g : RoomSessions)
-      → slice_get hub.rooms place ≡ Some (name, g) → place_named name hub.rooms ≡ Some place
+  pub names : (index : ℕ) (name : List ℕ) (g : RoomSessions)
+      → slice_get hub.rooms index ≡ Some (name, g) → index_named name hub.rooms ≡ Some index
   -- there is no room of a name that was never opened
-  pub known : (name : List ℕ) (place : ℕ) → place_named name hub.rooms ≡ Some place
+  pub known : (name : List ℕ) (index : ℕ) → index_named name hub.rooms ≡ Some index
       → is_opened E name ≡ true
   -- a room that does not exist may begin at the floor
-  pub others : (name : List ℕ) → place_named name hub.rooms ≡ None
+  pub others : (name : List ℕ) → index_named name hub.rooms ≡ None
       → MayBegin hub.floor (documents E name)
   -- the sessions that are open, with their views
   pub sessions : (s : ℕ)
-      → HomeStands b.max_waiting_patches (documents E) hub.rooms s (place_of hub s) (home E s)
+      → HomeStands b.max_waiting_patches (documents E) hub.rooms s (index_of hub s) (home E s)
       (watching b E s)
   -- the wills that are left to be done, each in its room
   pub wills : map (named_will hub.rooms) hub.wills ≡ left E

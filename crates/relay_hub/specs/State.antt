@@ -54,8 +54,8 @@ pub record IsConfig (config : HubConfig) : Type 0 where
       × (config.max_waiting_patches ≤ MAX_PATCHES)
 
 -- the configuration, the number of the next session, the revision at which a new room begins, the
--- rooms by name, each at its place (a new one comes last, or takes that of one that makes place),
--- for each open session the place of its room, and the wills that closed sessions left and that are
+-- rooms by name, each at its index (a new one comes last, or replaces one that is evictable),
+-- for each open session the index of its room, and the wills that closed sessions left and that are
 -- not done yet, the oldest first
 pub record State : Type 0 where
   pub config : HubConfig
@@ -94,80 +94,80 @@ numbers sessions = map (λ x. x.number) sessions
 abbrev pub IsRising : List Session → Type 0
 IsRising sessions = IsStrictlyIncreasing (numbers sessions)
 
--- the place of a session's room
-abbrev pub place_of : State → ℕ → Option ℕ
-place_of hub s = lookup (nat_eq s) hub.homes
+-- the index of a session's room
+abbrev pub index_of : State → ℕ → Option ℕ
+index_of hub s = lookup (nat_eq s) hub.homes
 
 -- a session's room, with its name
 abbrev pub home_of : State → ℕ → Option (List ℕ × RoomSessions)
-home_of hub s = option_and_then (λ place. slice_get hub.rooms place) (place_of hub s)
+home_of hub s = option_and_then (λ index. slice_get hub.rooms index) (index_of hub s)
 
 abbrev pub session_of : State → ℕ → Option Session
 session_of hub s = option_and_then (λ home. session_in home.1.sessions s) (home_of hub s)
 
--- the place of the room of that name
-abbrev pub place_named : List ℕ → List (List ℕ × RoomSessions) → Option ℕ
-place_named name rooms = position (λ room. bytes_eq name room.0) rooms
+-- the index of the room of that name
+abbrev pub index_named : List ℕ → List (List ℕ × RoomSessions) → Option ℕ
+index_named name rooms = position (λ room. bytes_eq name room.0) rooms
 
 abbrev pub is_null : Document → Bool
 is_null null = true
 is_null _ = false
 
--- a room that makes place for another one: nobody is in it, its document is null, and a revision
+-- a room that may be evicted for another one: nobody is in it, its document is null, and a revision
 -- above its own is left
-abbrev pub makes_place : RoomSessions → Bool
-makes_place g =
+abbrev pub is_evictable : RoomSessions → Bool
+is_evictable g =
     is_null g.room.document && (length g.sessions == 0) && nat_lt (revision g.room) MAX_COUNT
 
--- the place that a new room takes from another: that of the first room that makes place, if all
--- places are taken, and no will is left to be done
-abbrev pub vacant_place : ℕ → List Will → List (List ℕ × RoomSessions) → Option ℕ
-vacant_place most [] rooms =
-    if nat_le most (length rooms) then position (λ room. makes_place room.1) rooms else None
-vacant_place most (w ∷ wills) rooms = None
+-- the index of the room that a new one replaces: the first that is evictable, if there are as many
+-- as may be, and no will is left to be done
+abbrev pub vacant_index : ℕ → List Will → List (List ℕ × RoomSessions) → Option ℕ
+vacant_index most [] rooms =
+    if nat_le most (length rooms) then position (λ room. is_evictable room.1) rooms else None
+vacant_index most (w ∷ wills) rooms = None
 
 abbrev pub vacant_in : State → Option ℕ
-vacant_in hub = vacant_place hub.config.rooms hub.wills hub.rooms
+vacant_in hub = vacant_index hub.config.rooms hub.wills hub.rooms
 
--- a revision above all of a room that makes place; 0 for one in which no edit was ever accepted
+-- a revision above all of an evictable room; 0 for one in which no edit was ever accepted
 abbrev pub above : RoomSessions → ℕ
 above g = if revision g.room == 0 then 0 else revision g.room + 1
 
--- the revision at which a new room begins that takes that place: no earlier one begins at a higher
--- one, and every revision of a room that made place is lower
+-- the revision at which a new room begins that replaces that one: no earlier one begins at a higher
+-- one, and every revision of a room that was evicted is lower
 abbrev pub floor_over : ℕ → Option (List ℕ × RoomSessions) → ℕ
 floor_over floor (Some room) = max floor (above room.1)
 floor_over floor None = floor
 
 abbrev pub floor_at : Option ℕ → State → ℕ
-floor_at place hub = floor_over hub.floor (option_and_then (slice_get hub.rooms) place)
+floor_at index hub = floor_over hub.floor (option_and_then (slice_get hub.rooms) index)
 
--- another room is wanted, all places are taken, and none is vacant
+-- another room is wanted, there are as many as may be, and none is evictable
 abbrev pub is_crowded : Option ℕ → State → Bool
-is_crowded place hub =
-    not (is_some place) && nat_le hub.config.rooms (length hub.rooms)
+is_crowded index hub =
+    not (is_some index) && nat_le hub.config.rooms (length hub.rooms)
     && not (is_some (vacant_in hub))
 
 -- a room with its name, without its sessions
 abbrev pub without_sessions : List ℕ × RoomSessions → List ℕ × Room
 without_sessions r = (r.0, r.1.room)
 
--- A room of a hub: its place, its name, and what is stored there.
+-- A room of a hub: its index, its name, and what is stored there.
 pub record RoomOf (hub : State) : Type 0 where
-  pub place : ℕ
+  pub index : ℕ
   pub name : List ℕ
   pub room_sessions : RoomSessions
-  pub there : slice_get hub.rooms place ≡ Some (name, room_sessions)
+  pub there : slice_get hub.rooms index ≡ Some (name, room_sessions)
 
 -- each will has its room
 abbrev pub HaveRooms : List (List ℕ × RoomSessions) → List Will → Type 0
-HaveRooms rooms = AllByRecursion (λ w. w.place < length rooms)
+HaveRooms rooms = AllByRecursion (λ w. w.index < length rooms)
 
 -- Session s is open: its room, and the session in it.
 pub record Home (hub : State) (s : ℕ) : Type 0 where
   pub room : RoomOf hub
   pub session : Session
-  pub at : place_of hub s ≡ Some room.place
+  pub at : index_of hub s ≡ Some room.index
   pub is : session_in room.room_sessions.sessions s ≡ Some session
 
 -- What holds of each hub.
@@ -176,16 +176,16 @@ pub record IsHub (hub : State) : Type 0 where
   -- the revision at which a new room begins is a count
   pub floor : hub.floor ≤ MAX_COUNT
   -- no session has the next number or a later one
-  pub below : (t : ℕ) → hub.next ≤ t → place_of hub t ≡ None
+  pub below : (t : ℕ) → hub.next ≤ t → index_of hub t ≡ None
   -- an open session is in its room
-  pub homes : (t place : ℕ) → place_of hub t ≡ Some place → Home hub t
+  pub homes : (t index : ℕ) → index_of hub t ≡ Some index → Home hub t
   -- a session is in no room but its own
-  pub members : (place : ℕ) (name : List ℕ) (g : RoomSessions)
-      → slice_get hub.rooms place ≡ Some (name, g)
-      → (t : ℕ) (x : Session) → session_in g.sessions t ≡ Some x → place_of hub t ≡ Some place
+  pub members : (index : ℕ) (name : List ℕ) (g : RoomSessions)
+      → slice_get hub.rooms index ≡ Some (name, g)
+      → (t : ℕ) (x : Session) → session_in g.sessions t ≡ Some x → index_of hub t ≡ Some index
   -- and is there only once
-  pub once : (place : ℕ) (name : List ℕ) (g : RoomSessions)
-      → slice_get hub.rooms place ≡ Some (name, g) → EachOnce g.sessions
+  pub once : (index : ℕ) (name : List ℕ) (g : RoomSessions)
+      → slice_get hub.rooms index ≡ Some (name, g) → EachOnce g.sessions
   -- sessions and wills together are within the limit of sessions
   pub few : length hub.homes + length hub.wills ≤ hub.config.sessions
   pub wills : HaveRooms hub.rooms hub.wills
@@ -202,8 +202,8 @@ room_sessions_code change session = code_by (Room × List Session)
 abbrev pub will_code : Coded Op → Coded Will
 will_code op = code_by (ℕ × List Op)
     (coded× coded_ℕ (coded_list op))
-    (λ w. (w.place, w.patch))
-    (λ p. record { place = p.0; patch = p.1 })
+    (λ w. (w.index, w.patch))
+    (λ p. record { index = p.0; patch = p.1 })
     (λ _. refl)
 
 abbrev pub hub_code : Coded Change → Coded Op → Coded Session → Coded State

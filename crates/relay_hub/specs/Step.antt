@@ -42,7 +42,7 @@ use Rattle.relay_hub.specs.Admitted.{admitted}
 use Rattle.relay_hub.specs.Allowance.{Allowance, whole, within, after_update}
 use Rattle.relay_hub.specs.Refusal.{refused, edit_refusal, future_refusal}
 use Rattle.relay_hub.specs.Session.{Session, with_outbox, replied, newcomer, leaves_will, watches, unwatches, resumes, notified_outbox, front_message, message_text, ReadsBack, drawn}
-use Rattle.relay_hub.specs.State.{RoomSessions, room_sessions, State, EachOnce, place_of, place_named, vacant_in, floor_at, is_crowded, session_in}
+use Rattle.relay_hub.specs.State.{RoomSessions, room_sessions, State, EachOnce, index_of, index_named, vacant_in, floor_at, is_crowded, session_in}
 
 -- Within a room.
 
@@ -211,11 +211,11 @@ Draws s x answer old new = ⊥
 -- The whole hub.
 
 abbrev pub with_room : ℕ → List ℕ → RoomSessions → State → State
-with_room place name g hub = record {
+with_room index name g hub = record {
   config = hub.config;
   next = hub.next;
   floor = hub.floor;
-  rooms = slice_set hub.rooms place (name, g);
+  rooms = slice_set hub.rooms index (name, g);
   homes = hub.homes;
   wills = hub.wills;
 }
@@ -230,55 +230,55 @@ with_wills wills hub = record {
   wills = wills;
 }
 
--- what happens in the room at a place; nothing else changes
+-- what happens in the room at an index; nothing else changes
 abbrev pub InRoom : ℕ → Option (List ℕ × RoomSessions) → State → Answer
     → (RoomSessions → RoomSessions → Type 0) → State → Type 0
-InRoom place (Some home) old answer Does new =
-    (g : RoomSessions) × Does home.1 g × (new ≡ with_room place home.0 g old)
-InRoom place None old answer Does new = (answer ≡ NoSession) × (new ≡ old)
+InRoom index (Some home) old answer Does new =
+    (g : RoomSessions) × Does home.1 g × (new ≡ with_room index home.0 g old)
+InRoom index None old answer Does new = (answer ≡ NoSession) × (new ≡ old)
 
 -- the same in the room of a session, if it has one
-abbrev pub AtPlace : Option ℕ → State → Answer → (RoomSessions → RoomSessions → Type 0) → State
+abbrev pub AtIndex : Option ℕ → State → Answer → (RoomSessions → RoomSessions → Type 0) → State
     → Type 0
-AtPlace (Some place) old answer Does new =
-    InRoom place (slice_get old.rooms place) old answer Does new
-AtPlace None old answer Does new = (answer ≡ NoSession) × (new ≡ old)
+AtIndex (Some index) old answer Does new =
+    InRoom index (slice_get old.rooms index) old answer Does new
+AtIndex None old answer Does new = (answer ≡ NoSession) × (new ≡ old)
 
 abbrev pub AtHome : ℕ → State → Answer → (RoomSessions → RoomSessions → Type 0) → State → Type 0
-AtHome s old answer Does new = AtPlace (place_of old s) old answer Does new
+AtHome s old answer Does new = AtIndex (index_of old s) old answer Does new
 
 -- the first reason not to open a session in a room of that name
 abbrev pub open_fault : State → List ℕ → Option OpenFault
 open_fault hub name =
     if not (is_room_name name) then Some RoomName else
-    if is_crowded (place_named name hub.rooms) hub then Some RoomsFull else
+    if is_crowded (index_named name hub.rooms) hub then Some RoomsFull else
     if nat_le hub.config.sessions (length hub.homes + length hub.wills) then Some SessionsFull else
     if nat_lt MAX_COUNT hub.next then Some Exhausted else None
 
--- a new room, with its first session, is the last one, or takes the place of one that makes place
+-- a new room, with its first session, is the last one, or replaces one that is evictable
 abbrev pub Founds : Option ℕ → List ℕ × RoomSessions → List (List ℕ × RoomSessions) → ℕ
     → List (List ℕ × RoomSessions) → Type 0
-Founds (Some i) room old place new = (place ≡ i) × (new ≡ slice_set old i room)
-Founds None room old place new = (place ≡ length old) × (new ≡ old ++ room ∷ [])
+Founds (Some i) room old index new = (index ≡ i) × (new ≡ slice_set old i room)
+Founds None room old index new = (index ≡ length old) × (new ≡ old ++ room ∷ [])
 
 abbrev pub opening_of : ℕ → ℕ → Opening
 opening_of session rev = record { session = session; rev = rev }
 
 -- the new session, which `entrant` gives for the room's revision, enters a room that is there, or a
--- new one, whose document is null at the floor, at the vacant place if there is one
+-- new one, whose document is null at the floor, at the vacant index if there is one
 abbrev pub EntersRooms : Opening → (ℕ → Session) → Option ℕ → ℕ → ℕ → List ℕ → Option ℕ
     → List (List ℕ × RoomSessions) → ℕ → List (List ℕ × RoomSessions) → Type 0
-EntersRooms o entrant vacant history floor name (Some i) old place new = (place ≡ i)
+EntersRooms o entrant vacant history floor name (Some i) old index new = (index ≡ i)
     × (known : List ℕ) × (g : RoomSessions) × (h : RoomSessions)
     × (slice_get old i ≡ Some (known, g))
     × (new ≡ slice_set old i (known, h))
     × (o.rev ≡ revision g.room)
     × ChangesOnly o.session (Some (entrant (revision g.room))) g h
-EntersRooms o entrant vacant history floor name None old place new =
+EntersRooms o entrant vacant history floor name None old index new =
     (o.rev ≡ floor) × Founds vacant (
       name,
       room_sessions (begun null floor history) (entrant floor ∷ []),
-    ) old place new
+    ) old index new
 
 -- the floor of a hub after a session entered a room that is there, or a new one
 abbrev pub floor_after : Option ℕ → State → ℕ
@@ -287,62 +287,62 @@ floor_after None hub = floor_at (vacant_in hub) hub
 
 -- the same in a hub
 abbrev pub Enters : Opening → List ℕ → Access → Option ℕ → State → ℕ → State → Type 0
-Enters o name access at old place new =
+Enters o name access at old index new =
     EntersRooms o (λ rev.
     newcomer old.config access rev o.session) (vacant_in old) old.config.history new.floor name at
-    old.rooms place new.rooms
+    old.rooms index new.rooms
 
 pub record Opens (old : State) (name : List ℕ) (access : Access) (o : Opening)
     (new : State) : Type 0 where
   pub number : o.session ≡ old.next
   pub next : new.next ≡ o.session + 1
   pub config : new.config ≡ old.config
-  pub floor : new.floor ≡ floor_after (place_named name old.rooms) old
-  pub place : ℕ
-  pub enters : Enters o name access (place_named name old.rooms) old place new
-  pub home : (t : ℕ) → place_of new t ≡ (if o.session == t then Some place else place_of old t)
+  pub floor : new.floor ≡ floor_after (index_named name old.rooms) old
+  pub index : ℕ
+  pub enters : Enters o name access (index_named name old.rooms) old index new
+  pub home : (t : ℕ) → index_of new t ≡ (if o.session == t then Some index else index_of old t)
   pub count : length new.homes ≡ length old.homes + 1
   pub wills : new.wills ≡ old.wills
 
 -- what a session leaves to be done: nothing, or its will
 abbrev pub left_of : ℕ → List Op → List WillLeft
-left_of place [] = []
-left_of place (op ∷ ops) = record { place = place; patch = op ∷ ops } ∷ []
+left_of index [] = []
+left_of index (op ∷ ops) = record { index = index; patch = op ∷ ops } ∷ []
 
 -- session s is removed from its room, which stays, and is open nowhere; its will is left to be done
-pub record Closes (s place : ℕ) (name : List ℕ) (g : RoomSessions) (will : List Op) (old : State)
+pub record Closes (s index : ℕ) (name : List ℕ) (g : RoomSessions) (will : List Op) (old : State)
     (new : State) : Type 0 where
   pub next : new.next ≡ old.next
   pub config : new.config ≡ old.config
   pub floor : new.floor ≡ old.floor
   pub left : RoomSessions
   pub leaves : ChangesOnly s None g left
-  pub rooms : new.rooms ≡ slice_set old.rooms place (name, left)
-  pub home : (t : ℕ) → place_of new t ≡ (if s == t then None else place_of old t)
+  pub rooms : new.rooms ≡ slice_set old.rooms index (name, left)
+  pub home : (t : ℕ) → index_of new t ≡ (if s == t then None else index_of old t)
   pub count : length new.homes + 1 ≡ length old.homes
-  pub wills : new.wills ≡ old.wills ++ left_of place will
+  pub wills : new.wills ≡ old.wills ++ left_of index will
 
 abbrev pub ClosesIn : ℕ → ℕ → List ℕ → RoomSessions → Option Session → State → Answer → State
     → Type 0
-ClosesIn s place name g None old NoSession new = new ≡ old
-ClosesIn s place name g (Some x) old Closed new = Closes s place name g x.will old new
-ClosesIn s place name g x old answer new = ⊥
+ClosesIn s index name g None old NoSession new = new ≡ old
+ClosesIn s index name g (Some x) old Closed new = Closes s index name g x.will old new
+ClosesIn s index name g x old answer new = ⊥
 
 abbrev pub ClosesInRoom : ℕ → ℕ → Option (List ℕ × RoomSessions) → State → Answer → State → Type 0
-ClosesInRoom s place (Some home) old answer new =
-    ClosesIn s place home.0 home.1 (session_in home.1.sessions s) old answer new
-ClosesInRoom s place None old answer new = (answer ≡ NoSession) × (new ≡ old)
+ClosesInRoom s index (Some home) old answer new =
+    ClosesIn s index home.0 home.1 (session_in home.1.sessions s) old answer new
+ClosesInRoom s index None old answer new = (answer ≡ NoSession) × (new ≡ old)
 
 abbrev pub ClosesAt : ℕ → Option ℕ → State → Answer → State → Type 0
-ClosesAt s (Some place) old answer new =
-    ClosesInRoom s place (slice_get old.rooms place) old answer new
+ClosesAt s (Some index) old answer new =
+    ClosesInRoom s index (slice_get old.rooms index) old answer new
 ClosesAt s None old answer new = (answer ≡ NoSession) × (new ≡ old)
 
 -- the oldest of the wills that are left is done
 abbrev pub DoesWill : List WillLeft → State → Answer → State → Type 0
 DoesWill [] old NoWill new = new ≡ old
 DoesWill (w ∷ wills) old (WillDone short) new = (done : State) × (new ≡ with_wills wills done)
-    × InRoom w.place (slice_get old.rooms w.place) old (WillDone short)
+    × InRoom w.index (slice_get old.rooms w.index) old (WillDone short)
     (λ g h. WillServed old.config w.patch (edited g.room None w.patch) short g h) done
 DoesWill wills old answer new = ⊥
 
@@ -359,17 +359,17 @@ forget_fault_in (Some room) = anew_fault room.1
 
 abbrev pub forget_fault : State → List ℕ → Option ForgetFault
 forget_fault hub name =
-    forget_fault_in (option_and_then (slice_get hub.rooms) (place_named name hub.rooms))
+    forget_fault_in (option_and_then (slice_get hub.rooms) (index_named name hub.rooms))
 
 -- the room of that name, in which nobody is, begins anew: its document is null at the next
 -- revision, and it remembers no change
 pub record Forgets (old : State) (name : List ℕ) (rev : ℕ) (new : State) : Type 0 where
-  pub place : ℕ
+  pub index : ℕ
   pub room : RoomSessions
-  pub named : place_named name old.rooms ≡ Some place
-  pub there : slice_get old.rooms place ≡ Some (name, room)
+  pub named : index_named name old.rooms ≡ Some index
+  pub there : slice_get old.rooms index ≡ Some (name, room)
   pub newer : rev ≡ revision room.room + 1
-  pub begins : new ≡ with_room place name (room_sessions (begun null rev old.config.history) []) old
+  pub begins : new ≡ with_room index name (room_sessions (begun null rev old.config.history) []) old
 
 -- An event with its answer takes the hub from one state to the other.
 abbrev pub Step : State → Event → Answer → State → Type 0
@@ -381,7 +381,7 @@ Step old (Receive s text) answer new =
     AtHome s old answer (λ g h. Receives old.config s (session_in g.sessions s) text answer g h) new
 Step old (Draw s) answer new =
     AtHome s old answer (λ g h. Draws s (session_in g.sessions s) answer g h) new
-Step old (Close s) answer new = ClosesAt s (place_of old s) old answer new
+Step old (Close s) answer new = ClosesAt s (index_of old s) old answer new
 Step old DoWill answer new = DoesWill old.wills old answer new
 Step old (Forget name) (Forgotten rev) new =
     (forget_fault old name ≡ None) × Forgets old name rev new

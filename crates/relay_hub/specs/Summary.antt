@@ -3,7 +3,7 @@ use Rattle.std.specs.Prelude.{ℕ, List, length, Option, option_and_then, slice_
 use Rattle.relay_tree.specs.Document.{weight}
 use Rattle.relay_history.specs.Trimmed.{history_weight}
 use Rattle.relay_room.specs.Room.{revision}
-use Rattle.relay_hub.specs.State.{RoomSessions, place_named}
+use Rattle.relay_hub.specs.State.{RoomSessions, index_named}
 use Rattle.relay_hub.specs.declared.summary.RoomSummary.{RoomSummary}
 
 -- the room's name, its revision, how many sessions are open in it, and the weights of its document
@@ -36,4 +36,4 @@ shown_by x = record {
 
 -- the room of a name
 abbrev pub room_named : List ℕ → List (List ℕ × RoomSessions) → Option (List ℕ × RoomSessions)
-room_named name rooms = option_and_then (slice_get rooms) (place_named name rooms)
+room_named name rooms = option_and_then (slice_get rooms) (index_named name rooms)

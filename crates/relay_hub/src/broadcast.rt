@@ -148,7 +148,7 @@ fn notify_one(
         (allowance_of cache.new) sessions.old sessions.new (if is_err result then 1 else 0) }
 {
     match position_of(sessions, number) {
-        Some(place) => notify(alloc, room, &mut sessions[place], cache),
+        Some(index) => notify(alloc, room, &mut sessions[index], cache),
         None => Ok(()),
     }
 }

@@ -7,11 +7,11 @@ ghost use Rattle.relay_hub.specs.State.{IsRising, is_number, session_in};
 
 use crate::session::Session;
 
-/// The session that calls: its number, and its place in the list of its room's sessions.
+/// The session that calls: its number, and its index in the list of its room's sessions.
 #[derive(Clone, Copy)]
 pub struct Caller {
     pub number: u64,
-    pub place: usize,
+    pub index: usize,
 }
 
 impl Caller {
@@ -20,12 +20,12 @@ impl Caller {
         requires there { IsSome (session_in sessions.now number) }
         requires rising { IsRising sessions.now }
         ensures number { result.number ≡ number }
-        ensures place { IsCaller sessions.now result }
+        ensures index { IsCaller sessions.now result }
     {
-        let Some(place) = position_of(sessions, number) else {
+        let Some(index) = position_of(sessions, number) else {
             unreachable!()
         };
-        Caller { number, place }
+        Caller { number, index }
     }
 }
 
@@ -34,7 +34,7 @@ pub fn session_at(sessions: &[Session], caller: Caller) -> &Session
     requires { IsCaller sessions.now caller }
     ensures { session_in sessions.now caller.number ≡ Some result.now }
 {
-    &sessions[caller.place]
+    &sessions[caller.index]
 }
 
 /// Borrows the session of the caller for writing. No other session changes.
@@ -43,26 +43,26 @@ pub fn session_mut(sessions: &mut [Session], caller: Caller) -> &mut Session
     ensures* writes_back { sem 𝓛 (LendsSession sessions.entry caller result) }
     ensures found { session_in sessions.old caller.number ≡ Some result.now }
 {
-    &mut sessions[caller.place]
+    &mut sessions[caller.index]
 }
 
-/// The place of the session with that number, if there is one. A binary search, since the numbers
+/// The index of the session with that number, if there is one. A binary search, since the numbers
 /// rise.
 pub fn position_of(sessions: &[Session], number: u64) -> Option<usize>
     requires { IsRising sessions.now }
     ensures { result ≡ position (is_number number) sessions.now }
 {
-    let place = place_from(sessions, number);
-    let session = sessions.get(place)?;
+    let index = index_from(sessions, number);
+    let session = sessions.get(index)?;
     if session.number() == number {
-        Some(place)
+        Some(index)
     } else {
         None
     }
 }
 
-/// The number of sessions with lower numbers, which is the place of a session with that number.
-fn place_from(sessions: &[Session], number: u64) -> usize
+/// The number of sessions with lower numbers, which is the index of a session with that number.
+fn index_from(sessions: &[Session], number: u64) -> usize
     requires { IsRising sessions.now }
     ensures { IsPartitionPoint (λ x. x.number < number) (λ x.
         number ≤ x.number) sessions.now result }

@@ -62,8 +62,8 @@ pub(crate) fn editing(patch: &Patch, weight: u64, changed: u64) -> u64 {
 /// may have copied all of it, and was taken back.
 pub(crate) fn refusing(patch: &Patch, done: u64, weight: u64) -> u64 {
     let mut cost = performing(patch, done, weight);
-    for place in 0..done as usize {
-        if let Some(Op::Copy { .. }) = patch.ops().get(place) {
+    for index in 0..done as usize {
+        if let Some(Op::Copy { .. }) = patch.ops().get(index) {
             cost = cost.saturating_add(weight.saturating_mul(CHANGED));
         }
     }
@@ -74,8 +74,8 @@ pub(crate) fn refusing(patch: &Patch, done: u64, weight: u64) -> u64 {
 /// which weigh no more than the document.
 fn performing(patch: &Patch, operations: u64, weight: u64) -> u64 {
     let mut cost = operations.saturating_mul(OPERATION);
-    for place in 0..operations as usize {
-        if let Some(Op::Add { .. } | Op::Remove { .. } | Op::Move { .. }) = patch.ops().get(place) {
+    for index in 0..operations as usize {
+        if let Some(Op::Add { .. } | Op::Remove { .. } | Op::Move { .. }) = patch.ops().get(index) {
             cost = cost.saturating_add(weight / MOVED);
         }
     }

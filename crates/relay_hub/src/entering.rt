@@ -6,7 +6,7 @@ ghost use Rattle.relay_tree.specs.declared.count.TheConstants.{MAX_COUNT};
 ghost use Rattle.relay_hub.specs.Call.{IsAbove, IsFresh};
 ghost use Rattle.relay_hub.specs.Representation.{rooms_of};
 ghost use Rattle.relay_hub.specs.Session.{newcomer};
-ghost use Rattle.relay_hub.specs.State.{IsConfig, room_sessions, makes_place, place_named, vacant_place};
+ghost use Rattle.relay_hub.specs.State.{IsConfig, room_sessions, is_evictable, index_named, vacant_index};
 ghost use Rattle.relay_hub.specs.Step.{ChangesOnly, EntersRooms, Founds, opening_of};
 
 use crate::config::HubConfig;
@@ -28,7 +28,7 @@ pub struct NewSession {
     pub config: HubConfig,
     /// The revision at which its room begins, if it is new.
     pub floor: u64,
-    /// The place that a new room takes from another one; `None`: it comes last.
+    /// The index of the room that a new one replaces; `None`: it comes last.
     pub vacant: Option<usize>,
 }
 
@@ -42,36 +42,36 @@ impl NewSession {
     }
 }
 
-/// Opens a session in the room at `place`, or in a new room if `place` is `None`. Returns the
-/// room's place, and its revision. Out of memory changes nothing.
+/// Opens a session in the room at `index`, or in a new room if `index` is `None`. Returns the
+/// room's index, and its revision. Out of memory changes nothing.
 pub fn open_session(
     alloc: Global,
     rooms: &mut IndexMap<String, RoomSessions>,
     name: &str,
-    place: Option<usize>,
+    index: Option<usize>,
     new_session: NewSession,
 ) -> Result<(usize, u64), AllocError>
-    requires place { place ≡ place_named name.now (rooms_of rooms.old.entries) }
+    requires index { index ≡ index_named name.now (rooms_of rooms.old.entries) }
     requires fresh { IsFresh new_session.number (rooms_of rooms.old.entries) }
     requires config { IsConfig new_session.config }
     requires floor { new_session.floor ≤ MAX_COUNT }
     requires vacant { IfSome new_session.vacant (λ i. i < length (rooms_of rooms.old.entries)) }
     ensures ok { IfOk result (λ at. EntersRooms (opening_of new_session.number at.1) (λ rev.
         newcomer new_session.config new_session.access rev new_session.number) new_session.vacant
-        new_session.config.history new_session.floor name.now place (rooms_of rooms.old.entries)
+        new_session.config.history new_session.floor name.now index (rooms_of rooms.old.entries)
         at.0 (rooms_of rooms.new.entries)) }
     ensures err { OnErr result (rooms_of rooms.new.entries ≡ rooms_of rooms.old.entries) }
 {
-    let Some(place) = place else {
-        let place = begin_room(alloc, rooms, name, new_session)?;
-        return Ok((place, new_session.floor));
+    let Some(index) = index else {
+        let index = begin_room(alloc, rooms, name, new_session)?;
+        return Ok((index, new_session.floor));
     };
-    let Some(room_sessions) = rooms.get_index_mut(place) else {
+    let Some(room_sessions) = rooms.get_index_mut(index) else {
         unreachable!()
     };
     let rev = room_sessions.room().revision();
     join_room(alloc, room_sessions, new_session)?;
-    Ok((place, rev))
+    Ok((index, rev))
 }
 
 /// Opens a session in a room that is there.
@@ -92,14 +92,14 @@ fn join_room(
     Ok(())
 }
 
-/// Makes a room for a new session. Returns the room's place.
+/// Makes a room for a new session. Returns the room's index.
 fn begin_room(
     alloc: Global,
     rooms: &mut IndexMap<String, RoomSessions>,
     name: &str,
     new_session: NewSession,
 ) -> Result<usize, AllocError>
-    requires absent { place_named name.now (rooms_of rooms.old.entries) ≡ None }
+    requires absent { index_named name.now (rooms_of rooms.old.entries) ≡ None }
     requires config { IsConfig new_session.config }
     requires floor { new_session.floor ≤ MAX_COUNT }
     requires vacant { IfSome new_session.vacant (λ i. i < length (rooms_of rooms.old.entries)) }
@@ -127,22 +127,22 @@ fn begin_room(
     let last = rooms.len();
     rooms.insert(String::from_str(alloc, name)?, room_sessions)?;
     match new_session.vacant {
-        Some(place) => {
-            let _ = rooms.swap_remove_index(place);
-            Ok(place)
+        Some(index) => {
+            let _ = rooms.swap_remove_index(index);
+            Ok(index)
         }
         None => Ok(last),
     }
 }
 
-/// The place of the first room that makes place for another one, if there are as many as there may
-/// be. None does while a will is left to be done.
-pub fn vacant_place(
+/// The index of the first room that is evictable, if there are as many as there may be. None is
+/// while a will is left to be done.
+pub fn vacant_index(
     most: u64,
     wills: &Vec<Will>,
     rooms: &IndexMap<String, RoomSessions>,
 ) -> Option<usize>
-    ensures { result ≡ vacant_place most wills.now.items (rooms_of rooms.now.entries) }
+    ensures { result ≡ vacant_index most wills.now.items (rooms_of rooms.now.entries) }
 {
     if !wills.is_empty() || (rooms.len() as u64) < most {
         return None;
@@ -151,14 +151,14 @@ pub fn vacant_place(
 }
 
 fn first_vacant(rooms: &IndexMap<String, RoomSessions>) -> Option<usize>
-    ensures { result ≡ position (λ room. makes_place room.1) (rooms_of rooms.now.entries) }
+    ensures { result ≡ position (λ room. is_evictable room.1) (rooms_of rooms.now.entries) }
 {
-    for place in 0..rooms.len() {
-        let Some((_, room_sessions)) = rooms.get_index(place) else {
+    for index in 0..rooms.len() {
+        let Some((_, room_sessions)) = rooms.get_index(index) else {
             unreachable!()
         };
-        if room_sessions.makes_place() {
-            return Some(place);
+        if room_sessions.is_evictable() {
+            return Some(index);
         }
     }
     None

@@ -20,7 +20,7 @@ pub enum OpenFault {
     #[error("no name of a room")]
     RoomName,
     /// No room has this name, there are as many rooms as the configuration allows, and none of them
-    /// makes place.
+    /// is evictable.
     #[error("too many rooms")]
     RoomsFull,
     /// As many sessions are open, or have left a will that is not done yet, as the configuration

@@ -7,7 +7,7 @@
 ghost use Rattle.std.specs.Prelude.{◌≡◌, ◌≢◌, ◌<◌, ◌≤◌, ◌⊎◌, ◌↔◌, [], ◌∷◌, ℕ, Some, None, Ok, IfOk, IfErr, IfSome, IsErrOf, IsSomeAnd, IsTrue, OnOk, OnErr, length, not, ◌==◌, option_map, slice_get};
 ghost use Rattle.relay_hub.specs.Call.{StepIf, opening, receiving, drawing, closing, doing_will, forgetting, logged, done, followed, Runs};
 ghost use Rattle.relay_hub.specs.Log.{Log, entry};
-ghost use Rattle.relay_hub.specs.State.{config, place_named, is_crowded, vacant_in, session_of, made_with, new_hub};
+ghost use Rattle.relay_hub.specs.State.{config, index_named, is_crowded, vacant_in, session_of, made_with, new_hub};
 ghost use Rattle.relay_hub.specs.Session.{waiting};
 ghost use Rattle.relay_hub.specs.Shed.{shed};
 ghost use Rattle.relay_hub.specs.Stands.{StandsFor, EachHoldsPresent, EachIsAtNamed};
@@ -21,7 +21,7 @@ ghost use Rattle.relay_hub.specs.declared.event.Heard.TheVariants.{Answered};
 ghost use Rattle.relay_hub.specs.declared.fault.HubNewFault.TheVariants.{BadLimit};
 
 use crate::config::HubConfig;
-use crate::entering::{NewSession, open_session, vacant_place};
+use crate::entering::{NewSession, open_session, vacant_index};
 use crate::event::{Answer, Event, Heard, Opening};
 use crate::fault::{ForgetFault, HubFault, HubNewFault, NoSession, OpenFault, RunFault};
 use crate::message_counts::MessageCounts;
@@ -47,10 +47,10 @@ pub struct Hub {
     next: u64,
     /// The revision at which a new room begins.
     floor: u64,
-    /// The rooms by name, each at its place. A new one comes last, or takes the place of one that
-    /// makes place.
+    /// The rooms by name, each at its index. A new one comes last, or replaces one that is
+    /// evictable.
     rooms: IndexMap<String, RoomSessions>,
-    /// The place of each open session's room, by the session's number.
+    /// The index of each open session's room, by the session's number.
     homes: IndexMap<u64, usize>,
     /// The wills that are left to be done, the oldest first. There is space for one of each
     /// session.
@@ -165,9 +165,9 @@ impl Hub {
     }
 
     /// Opens a session in a room, which may edit there or only watch. If there is no room of that
-    /// name, one begins, with the document `null`; if all places are taken, it takes that of a room
+    /// name, one begins, with the document `null`; if there are as many as may be, it replaces one
     /// in which nobody is and whose document is `null`, unless a will is left to be done. It begins
-    /// at a revision above those of all rooms that made place, so that no client takes it for an
+    /// at a revision above those of all rooms that were evicted, so that no client takes it for an
     /// earlier one; 0 as long as no edit was accepted in these. A `Welcome` waits in the session's
     /// outbox. An error leaves the hub unchanged. `NoMemory` comes only if no other error does.
     ///
@@ -184,21 +184,21 @@ impl Hub {
         ensures no_memory { IsErrOf result OpenFault.NoMemory
             → open_fault self.old room.now ≡ None }
     {
-        let place = self.admit(room)?;
+        let index = self.admit(room)?;
         let new_session = NewSession {
             number: self.next,
             access,
             config: self.config,
-            floor: self.floor_after(place),
-            vacant: self.vacant_for(place),
+            floor: self.floor_after(index),
+            vacant: self.vacant_for(index),
         };
         if self.homes.reserve(1).is_err() {
             return Err(OpenFault::NoMemory);
         }
-        let Ok((place, rev)) = open_session(alloc, &mut self.rooms, room, place, new_session) else {
+        let Ok((index, rev)) = open_session(alloc, &mut self.rooms, room, index, new_session) else {
             return Err(OpenFault::NoMemory);
         };
-        let _ = self.homes.insert(new_session.number, place);
+        let _ = self.homes.insert(new_session.number, index);
         self.next += 1;
         self.floor = new_session.floor;
         Ok(Opening {
@@ -207,16 +207,16 @@ impl Hub {
         })
     }
 
-    /// The revision at which a new room begins once a session entered the room at `place`, or a new
+    /// The revision at which a new room begins once a session entered the room at `index`, or a new
     /// one.
-    fn floor_after(&self, place: Option<usize>) -> u64
-        ensures floor { result ≡ floor_after place self.now }
+    fn floor_after(&self, index: Option<usize>) -> u64
+        ensures floor { result ≡ floor_after index self.now }
         ensures count { result ≤ MAX_COUNT }
     {
-        if place.is_some() {
+        if index.is_some() {
             return self.floor;
         }
-        let Some(vacant) = vacant_place(self.config.rooms, &self.wills, &self.rooms) else {
+        let Some(vacant) = vacant_index(self.config.rooms, &self.wills, &self.rooms) else {
             return self.floor;
         };
         let Some((_, room_sessions)) = self.rooms.get_index(vacant) else {
@@ -225,29 +225,29 @@ impl Hub {
         self.floor.max(room_sessions.above())
     }
 
-    /// The place that a new room takes from another one, if it is not the last.
-    fn vacant_for(&self, place: Option<usize>) -> Option<usize>
-        ensures new { place ≡ None → result ≡ vacant_in self.now }
+    /// The index of the room that a new one replaces, if it does not come last.
+    fn vacant_for(&self, index: Option<usize>) -> Option<usize>
+        ensures new { index ≡ None → result ≡ vacant_in self.now }
         ensures within { IfSome result (λ i. i < length self.now.rooms) }
     {
-        match place {
+        match index {
             Some(_) => None,
-            None => vacant_place(self.config.rooms, &self.wills, &self.rooms),
+            None => vacant_index(self.config.rooms, &self.wills, &self.rooms),
         }
     }
 
-    /// Returns the place of the room of that name, if there is one, or the first reason not to open
+    /// Returns the index of the room of that name, if there is one, or the first reason not to open
     /// a session there.
     fn admit(&self, room: &str) -> Result<Option<usize>, OpenFault>
-        ensures ok { IfOk result (λ place. place ≡ place_named room.now self.now.rooms) }
+        ensures ok { IfOk result (λ index. index ≡ index_named room.now self.now.rooms) }
         ensures admitted { OnOk result (open_fault self.now room.now ≡ None) }
         ensures refused { IfErr result (λ fault. open_fault self.now room.now ≡ Some fault) }
     {
         if !is_room_name(room) {
             return Err(OpenFault::RoomName);
         }
-        let place = self.rooms.get_index_of(room);
-        if self.is_crowded(place) {
+        let index = self.rooms.get_index_of(room);
+        if self.is_crowded(index) {
             return Err(OpenFault::RoomsFull);
         }
         if (self.homes.len() + self.wills.len()) as u64 >= self.config.sessions {
@@ -256,17 +256,17 @@ impl Hub {
         if self.next > MAX_COUNT {
             return Err(OpenFault::Exhausted);
         }
-        Ok(place)
+        Ok(index)
     }
 
     /// Whether another room is needed, there are as many as the configuration allows, and none of
-    /// them makes place.
-    fn is_crowded(&self, place: Option<usize>) -> bool
-        ensures { result ≡ is_crowded place self.now }
+    /// them is evictable.
+    fn is_crowded(&self, index: Option<usize>) -> bool
+        ensures { result ≡ is_crowded index self.now }
     {
-        place.is_none()
+        index.is_none()
             && self.rooms.len() as u64 >= self.config.rooms
-            && vacant_place(self.config.rooms, &self.wills, &self.rooms).is_none()
+            && vacant_index(self.config.rooms, &self.wills, &self.rooms).is_none()
     }
 
     /// Serves a text from a session. `NoSession`: it is not open. `Busy`, with nothing changed,
@@ -290,10 +290,10 @@ impl Hub {
         ensures no_memory { IsErrOf result HubFault.NoMemory
             → IsTrue (may_hear (session_of self.old session)) }
     {
-        let Some(place) = self.homes.get(&session) else {
+        let Some(index) = self.homes.get(&session) else {
             return Err(HubFault::NoSession);
         };
-        let Some(room_sessions) = self.rooms.get_index_mut(*place) else {
+        let Some(room_sessions) = self.rooms.get_index_mut(*index) else {
             unreachable!()
         };
         room_sessions.receive(
@@ -341,10 +341,10 @@ impl Hub {
         ensures no_memory { IsErrOf result HubFault.NoMemory
             → IsSomeAnd (option_map waiting (session_of self.old session)) (λ n. 0 < n) }
     {
-        let Some(place) = self.homes.get(&session) else {
+        let Some(index) = self.homes.get(&session) else {
             return Err(HubFault::NoSession);
         };
-        let Some(room_sessions) = self.rooms.get_index_mut(*place) else {
+        let Some(room_sessions) = self.rooms.get_index_mut(*index) else {
             unreachable!()
         };
         room_sessions.draw(alloc, session, &mut self.counts)
@@ -364,14 +364,14 @@ impl Hub {
         ensures stands { (b : HubConfig) (E : Log) → StandsFor b E self.old →
             StandsFor b (entry (Close session) (closing result) ∷ E) self.new }
     {
-        let Some(place) = self.homes.get(&session) else {
+        let Some(index) = self.homes.get(&session) else {
             return Err(NoSession);
         };
-        let Some(room_sessions) = self.rooms.get_index_mut(*place) else {
+        let Some(room_sessions) = self.rooms.get_index_mut(*index) else {
             unreachable!()
         };
         let patch = room_sessions.leave(session);
-        leave_behind(&mut self.wills, *place, patch);
+        leave_behind(&mut self.wills, *index, patch);
         let _ = self.homes.swap_remove(&session);
         Ok(())
     }
@@ -407,7 +407,7 @@ impl Hub {
         let Some(will) = self.wills.first() else {
             return Ok(None);
         };
-        let Some(room_sessions) = self.rooms.get_index_mut(will.place) else {
+        let Some(room_sessions) = self.rooms.get_index_mut(will.index) else {
             unreachable!()
         };
         let short = room_sessions.do_will(alloc, self.config, &will.patch, &mut self.told)?;
@@ -433,10 +433,10 @@ impl Hub {
         ensures no_memory { IsErrOf result ForgetFault.NoMemory
             → forget_fault self.old room.now ≡ None }
     {
-        let Some(place) = self.rooms.get_index_of(room) else {
+        let Some(index) = self.rooms.get_index_of(room) else {
             return Err(ForgetFault::NoRoom);
         };
-        let Some(room_sessions) = self.rooms.get_index_mut(place) else {
+        let Some(room_sessions) = self.rooms.get_index_mut(index) else {
             unreachable!()
         };
         room_sessions.begin_anew(alloc, self.config.history)
@@ -458,8 +458,8 @@ impl Hub {
     fn find(&self, session: u64) -> Option<(&Room, &Session)>
         ensures { option_map (λ p. (p.0.now, p.1.now)) result ≡ room_and_session self.now session }
     {
-        let place = self.homes.get(&session)?;
-        let Some((_, room_sessions)) = self.rooms.get_index(*place) else {
+        let index = self.homes.get(&session)?;
+        let Some((_, room_sessions)) = self.rooms.get_index(*index) else {
             unreachable!()
         };
         Some((room_sessions.room(), room_sessions.session(session)))
@@ -485,7 +485,7 @@ impl Hub {
         Some(session.waiting())
     }
 
-    /// The place of the session's room ([`Hub::room_at`]), which it keeps while the session is
+    /// The index of the session's room ([`Hub::room_at`]), which it keeps while the session is
     /// open. `None` if it is not open. No clause speaks of it. Allocates nothing.
     pub fn room_of(&self, session: u64) -> Option<usize> {
         self.homes.get(&session).copied()
@@ -520,14 +520,14 @@ impl Hub {
         }
     }
 
-    /// The name and the size of the room at a place, from 0. `None` if no room has that place or a
-    /// later one. Allocates nothing.
+    /// The name and the size of the room at an index, from 0. `None` if no room has that index or
+    /// a later one. Allocates nothing.
     #[tactic(auto, using(crate::proofs::Representation::room_at, crate::proofs::Representation::no_room_at))]
-    pub fn room_at(&self, place: usize) -> Option<RoomSummary<'_>>
+    pub fn room_at(&self, index: usize) -> Option<RoomSummary<'_>>
         ensures { option_map shown_by result
-            ≡ option_map summary_of (slice_get self.now.rooms place) }
+            ≡ option_map summary_of (slice_get self.now.rooms index) }
     {
-        let (name, room_sessions) = self.rooms.get_index(place)?;
+        let (name, room_sessions) = self.rooms.get_index(index)?;
         Some(summary_of(name, room_sessions))
     }
 
@@ -537,7 +537,7 @@ impl Hub {
             ≡ option_map summary_of (room_named name.now self.now.rooms) }
     {
         match self.rooms.get_index_of(name) {
-            Some(place) => self.room_at(place),
+            Some(index) => self.room_at(index),
             None => None,
         }
     }

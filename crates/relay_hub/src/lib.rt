@@ -3,8 +3,8 @@
 //! ends before the next one starts, so concurrent clients are events in any order.
 //!
 //! Rooms are kept by name, and stay when their sessions are closed. One whose document is `null`
-//! and in which nobody is makes place for another when all places are taken. A session belongs to
-//! one room.
+//! and in which nobody is may be evicted for another when there are as many as may be. A session
+//! belongs to one room.
 #![tactic(auto)]
 
 mod admission;

@@ -427,5 +427,5 @@ fn take_session(sessions: &mut Vec<Session>, number: u64) -> Session
         not (is_number number x)) sessions.old.items }
 {
     let caller = Caller::find(sessions.as_slice(), number);
-    sessions.remove(caller.place)
+    sessions.remove(caller.index)
 }

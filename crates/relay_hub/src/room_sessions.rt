@@ -53,7 +53,7 @@ impl RoomSessions {
     ghost use Rattle.relay_hub.specs.Call.{receiving, drawing, ReceivesIf, WillServedIf, DrawsIf, HasSpace, IsAbove};
     ghost use Rattle.relay_hub.specs.Session.{Session, waiting};
     ghost use Rattle.relay_hub.specs.Shed.{shed_room};
-    ghost use Rattle.relay_hub.specs.State.{room_sessions, makes_place, above, session_in};
+    ghost use Rattle.relay_hub.specs.State.{room_sessions, is_evictable, above, session_in};
     ghost use Rattle.relay_hub.specs.Step.{ChangesOnly, anew_fault};
     ghost use Rattle.relay_hub.specs.Told.{ChangesTold, ChangesToldAnd};
     ghost use Rattle.relay_hub.specs.declared.fault.ForgetFault.TheVariants.{NoMemory};
@@ -97,20 +97,20 @@ impl RoomSessions {
         load
     }
 
-    /// Whether it makes place for another room: its document is `null`, nobody is in it, and a
+    /// Whether it may be evicted for another room: its document is `null`, nobody is in it, and a
     /// revision above its own is left. Allocates nothing.
-    pub fn makes_place(&self) -> bool
-        ensures { result ≡ makes_place self.now }
+    pub fn is_evictable(&self) -> bool
+        ensures { result ≡ is_evictable self.now }
     {
         is_null(self.room.document())
             && self.sessions.is_empty()
             && self.room.revision() < MAX_COUNT
     }
 
-    /// A revision above all of its own, if it makes place; 0 if no edit was ever accepted.
+    /// A revision above all of its own, if it is evictable; 0 if no edit was ever accepted.
     /// Allocates nothing.
     pub fn above(&self) -> u64
-        requires { makes_place self.now ≡ true }
+        requires { is_evictable self.now ≡ true }
         ensures { result ≡ above self.now }
     {
         match self.room.revision() {

@@ -24,8 +24,8 @@ pub fn shed_budget(budget: Budget) -> Budget
 pub fn shed_rooms(rooms: &mut IndexMap<String, RoomSessions>, budget: Budget)
     ensures { rooms_of rooms.new.entries ≡ map (shed_named budget) (rooms_of rooms.old.entries) }
 {
-    for place in 0..rooms.len() {
-        let Some(room_sessions) = rooms.get_index_mut(place) else {
+    for index in 0..rooms.len() {
+        let Some(room_sessions) = rooms.get_index_mut(index) else {
             unreachable!()
         };
         room_sessions.shed(budget);
@@ -36,7 +36,7 @@ pub fn shed_rooms(rooms: &mut IndexMap<String, RoomSessions>, budget: Budget)
 pub fn shed_sessions(sessions: &mut Vec<Session>)
     ensures { sessions.new.items ≡ map shed_session sessions.old.items }
 {
-    for place in 0..sessions.len() {
-        sessions[place].shed();
+    for index in 0..sessions.len() {
+        sessions[index].shed();
     }
 }

@@ -47,15 +47,15 @@ returns-in-Some-clause-ok c =
     let last =
     entered_last m key c.args.name.now g c.insert.new.self.entries key_is c.requires.absent
     c.in_ok-insert.ensures.entries in
-    let there : c.in-Some.place < length (rooms_of m.entries) =
+    let there : c.in-Some.index < length (rooms_of m.entries) =
     rw c.in-Some.is at c.requires.vacant in
-    let within : c.in-Some.place < length m.entries =
+    let within : c.in-Some.index < length m.entries =
     omega (arith, there, length-map m.entries named) in
     rw c.in-Some.is (
       refl,
       put_at m.entries c.insert.new.self.entries c.swap_remove_index.new.self.entries (
         key,
         g,
-      ) c.swap_remove_index.result _ c.in-Some.place last within
+      ) c.swap_remove_index.result _ c.in-Some.index last within
           c.swap_remove_index.ensures.entry c.swap_remove_index.ensures.entries is,
     )

@@ -15,14 +15,14 @@ pub join_room-requires : goal.join_room-requires
 join_room-requires c =
     let g = c.in-Some-get_index_mut.room_sessions.now in
     let w =
-    written c.args.rooms.now.entries c.in-Some.place g g
+    written c.args.rooms.now.entries c.in-Some.index g g
     (sym c.in-Some-get_index_mut.ensures.value) in
-    record { fresh = c.requires.fresh c.in-Some.place w.name g w.was; config = c.requires.config }
+    record { fresh = c.requires.fresh c.in-Some.index w.name g w.was; config = c.requires.config }
 
 pub returns-in_err-join_room-clause-err : goal.returns-in_err-join_room-clause-err
 returns-in_err-join_room-clause-err c =
     let es = c.args.rooms.now.entries in
-    let i = c.in-Some.place in
+    let i = c.in-Some.index in
     let g = c.in-Some-get_index_mut.room_sessions.now in
     let w =
     written es i g c.join_room.new.room_sessions
@@ -37,7 +37,7 @@ returns-clause-ok c =
     let g = c.in-Some-get_index_mut.room_sessions.now in
     let new = c.join_room.new.room_sessions in
     let w =
-    written c.args.rooms.now.entries c.in-Some.place g new
+    written c.args.rooms.now.entries c.in-Some.index g new
     (sym c.in-Some-get_index_mut.ensures.value) in
     rw c.in-Some.is (
       refl,
@@ -52,5 +52,5 @@ returns-clause-ok c =
 
 pub unreachable-requires : goal.unreachable-requires
 unreachable-requires c =
-    never_unnamed c.args.rooms.now.entries c.args.name.now c.in-Some.place (sym c.requires.place
+    never_unnamed c.args.rooms.now.entries c.args.name.now c.in-Some.index (sym c.requires.index
     ∙ c.in-Some.is) (sym c.in_default-get_index_mut.ensures.value)

@@ -12,7 +12,7 @@ pub returns-in_ok-watch-in-Ok-Watch-clause-told : goal.returns-in_ok-watch-in-Ok
 returns-in_ok-watch-in-Ok-Watch-clause-told c =
     let xs = c.args.sessions.now in
     let s = c.args.asked.caller.number in
-    let x = session_there xs s c.args.asked.caller.place c.requires.caller in
+    let x = session_there xs s c.args.asked.caller.index c.requires.caller in
     changed_told s c.args.told.now (watches c.in-Ok-Watch.id c.in-Ok-Watch.view) xs c.watch.new.sessions
     x.0 x.1 c.in_ok-watch-in-Ok-Watch.ensures.ok
 
@@ -20,7 +20,7 @@ pub returns-in-Ok-Will-clause-told : goal.returns-in-Ok-Will-clause-told
 returns-in-Ok-Will-clause-told c =
     let xs = c.args.sessions.now in
     let s = c.args.asked.caller.number in
-    let x = session_there xs s c.args.asked.caller.place c.requires.caller in
+    let x = session_there xs s c.args.asked.caller.index c.requires.caller in
     changed_told s c.args.told.now (leaves_will c.in-Ok-Will.id c.in-Ok-Will.patch) xs
     c.leave_will.new.sessions x.0 x.1 c.leave_will.ensures.leaves
 
@@ -28,7 +28,7 @@ pub returns-in-Ok-Unwatch-clause-told : goal.returns-in-Ok-Unwatch-clause-told
 returns-in-Ok-Unwatch-clause-told c =
     let xs = c.args.sessions.now in
     let s = c.args.asked.caller.number in
-    let x = session_there xs s c.args.asked.caller.place c.requires.caller in
+    let x = session_there xs s c.args.asked.caller.index c.requires.caller in
     changed_told s c.args.told.now (unwatches c.in-Ok-Unwatch.id) xs c.unwatch.new.sessions x.0 x.1
     c.unwatch.ensures.unwatches
 
@@ -36,7 +36,7 @@ pub returns-in_ok-resume-in-Ok-Resume-clause-told : goal.returns-in_ok-resume-in
 returns-in_ok-resume-in-Ok-Resume-clause-told c =
     let xs = c.args.sessions.now in
     let s = c.args.asked.caller.number in
-    let x = session_there xs s c.args.asked.caller.place c.requires.caller in
+    let x = session_there xs s c.args.asked.caller.index c.requires.caller in
     let request = c.in-Ok-Resume in
     let room = c.args.room.now in
     resumed_told (request.epoch == c.args.config.epoch) (nat_le request.rev (revision room))

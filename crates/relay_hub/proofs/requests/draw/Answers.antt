@@ -9,7 +9,7 @@ returns-in-Ok-clause-step c =
     let x = c.session_mut.result.now in
     let there = c.session_mut.ensures.found in
     let only =
-    written_only c.args.sessions.now c.find-caller.result c.find-caller.ensures.place x
+    written_only c.args.sessions.now c.find-caller.result c.find-caller.ensures.index x
     there (drawn x) refl in
     rw (
       ← c.find-caller.ensures.number,
@@ -25,7 +25,7 @@ returns-in-Ok-clause-numbers c =
     let x = c.session_mut.result.now in
     let there = c.session_mut.ensures.found in
     let number = ap (λ (y : Session). y.number) c.in-Ok.ensures.ok in
-    written_numbers c.args.sessions.now c.find-caller.result c.find-caller.ensures.place x there
+    written_numbers c.args.sessions.now c.find-caller.result c.find-caller.ensures.index x there
     c.draw.new.self number
 
 pub returns-in-Err-clause-step : goal.returns-in-Err-clause-step
@@ -33,7 +33,7 @@ returns-in-Err-clause-step c =
     let x = c.session_mut.result.now in
     let there = c.session_mut.ensures.found in
     let same =
-    unwritten c.args.sessions.now c.find-caller.result c.find-caller.ensures.place x there
+    unwritten c.args.sessions.now c.find-caller.result c.find-caller.ensures.index x there
     in
     rw c.in-Err.ensures.err (ap (λ xs. room_sessions c.args.room.now xs) same)
 
@@ -42,7 +42,7 @@ returns-in-Err-clause-numbers c =
     let x = c.session_mut.result.now in
     let there = c.session_mut.ensures.found in
     let same =
-    unwritten c.args.sessions.now c.find-caller.result c.find-caller.ensures.place x there
+    unwritten c.args.sessions.now c.find-caller.result c.find-caller.ensures.index x there
     in
     rw c.in-Err.ensures.err (ap (λ xs. numbers xs) same)
 

@@ -36,7 +36,7 @@ returns-in-Ok-clause-indexed c =
     let all_notified =
     c.broadcast_and_trim.ensures.notified old.document changes since c.in-Ok.ensures.led in
     let xs = c.args.sessions.now in
-    let ys = slice_set xs c.args.asked.caller.place c.reply.new.self in
+    let ys = slice_set xs c.args.asked.caller.index c.reply.new.self in
     let x = c.session_mut.result.now in
     let there = c.session_mut.ensures.found in
     let number = ap (λ (y : Session). y.number) c.reply.ensures in
@@ -100,7 +100,7 @@ returns-in-Ok-clause-ok c = λ x e.
     let only =
     written_by xs c.args.asked.caller c.requires.caller was there c.reply.new.self number done
     c.reply.ensures x e in
-    let ys = slice_set xs c.args.asked.caller.place c.reply.new.self in
+    let ys = slice_set xs c.args.asked.caller.index c.reply.new.self in
     rw c.in-Ok.ensures.document (
       notified,
       goes_on,

@@ -39,7 +39,7 @@ returns-clause-ok c =
           rw (w.budget-budget.ensures
           ∙ ap (λ (y : Session). y.budget) one) at caught_up.exact in
           rw present (resume_served room caller.number request.id request.rev request.view
-          w.in-Ok.how x xs (slice_set xs caller.place c.resume.new.self)
+          w.in-Ok.how x xs (slice_set xs caller.index c.resume.new.self)
           (λ late. cc (caught_up.future.1 late)) exact caught_up.leads caught_up.sizes
           (rw w.how-is at (changed x e)))
       | else-asked-epoch w ↦

@@ -5,9 +5,9 @@ use Rattle.relay_hub.proofs.shed.shed_sessions.Goals as goal
 
 pub returns : goal.returns
 returns c =
-    let l = c.loop-place in
-    all_mapped shed_session l.place c.args.sessions.now.items l.sessions.items (omega (
+    let l = c.loop-index in
+    all_mapped shed_session l.index c.args.sessions.now.items l.sessions.items (omega (
       arith,
-      c.loop-place-test.false,
-      l.auto.place-end,
+      c.loop-index-test.false,
+      l.auto.index-end,
     )) l.invariant

@@ -12,19 +12,19 @@ use Rattle.relay_hub.proofs.hub.Hub.close.Goals as goal
 
 pub unreachable-requires : goal.unreachable-requires
 unreachable-requires c =
-    never_missing c.self.inside c.args.session c.in-Some.place.now c.self.invariant.0
+    never_missing c.self.inside c.args.session c.in-Some.index.now c.self.invariant.0
     (sym c.in-Some.ensures.value) (sym c.in_default-get_index_mut.ensures.value)
 
 pub leave-patch-requires : goal.leave-patch-requires
 leave-patch-requires c =
-    is_there c.self.inside c.args.session c.in-Some.place.now c.self.invariant.0
+    is_there c.self.inside c.args.session c.in-Some.index.now c.self.invariant.0
     (sym c.in-Some.ensures.value) c.in-Some-get_index_mut.room_sessions.now
     (sym c.in-Some-get_index_mut.ensures.value)
 
-some_open : (homes : List (ℕ × ℕ)) (s place : ℕ) → lookup (nat_eq s) homes ≡ Some place
+some_open : (homes : List (ℕ × ℕ)) (s index : ℕ) → lookup (nat_eq s) homes ≡ Some index
     → 1 ≤ length homes
-some_open [] s place h = absurd (cc h)
-some_open (home ∷ homes) s place h = omega arith
+some_open [] s index h = absurd (cc h)
+some_open (home ∷ homes) s index h = omega arith
 
 -- there is space for the will, since its session is one of those that are open
 pub leave_behind-requires : goal.leave_behind-requires
@@ -34,7 +34,7 @@ leave_behind-requires c =
       arith,
       c.self.invariant.0.few,
       c.self.invariant.1,
-      some_open h.homes.entries c.args.session c.in-Some.place.now (sym c.in-Some.ensures.value),
+      some_open h.homes.entries c.args.session c.in-Some.index.now (sym c.in-Some.ensures.value),
     )
 
 abbrev left : goal.After-swap_remove → RoomSessions
@@ -42,29 +42,29 @@ left c = c.leave-patch.new.self
 
 goes : (c : goal.After-swap_remove)
     → Step (hub_of c.self.inside) (Close c.args.session) answer.Closed
-    (hub_leaving c.self.inside c.in-Some.place.now (left c) c.swap_remove.new.self.entries
+    (hub_leaving c.self.inside c.in-Some.index.now (left c) c.swap_remove.new.self.entries
     c.leave_behind.new.wills.items)
 goes c =
     let g = c.in-Some-get_index_mut.room_sessions.now in
     let s = c.args.session in
     let there =
-    session_there c.self.inside s c.in-Some.place.now c.self.invariant.0
+    session_there c.self.inside s c.in-Some.index.now c.self.invariant.0
     (sym c.in-Some.ensures.value) g (sym c.in-Some-get_index_mut.ensures.value) in
     let count =
     rw (c.swap_remove.ensures.value
     ∙ sym c.in-Some.ensures.value) at c.swap_remove.ensures.len in
-    closes c.self.inside s c.in-Some.place.now g (left c) (sym c.in-Some.ensures.value)
+    closes c.self.inside s c.in-Some.index.now g (left c) (sym c.in-Some.ensures.value)
     (sym c.in-Some-get_index_mut.ensures.value)
     c.swap_remove.new.self.entries c.leave_behind.new.wills.items there.0 there.1
     c.leave-patch.ensures.gone c.swap_remove.ensures.updates.0 count
     (c.leave_behind.ensures.wills
-    ∙ ap (λ ops. c.self.inside.wills.items ++ left_of c.in-Some.place.now ops)
+    ∙ ap (λ ops. c.self.inside.wills.items ++ left_of c.in-Some.index.now ops)
     (c.leave-patch.ensures.will there.0 there.1))
 
 pub invariant_of-self : goal.invariant_of-self
 invariant_of-self c = (
   step_is_hub (hub_of c.self.inside)
-      (hub_leaving c.self.inside c.in-Some.place.now (left c) c.swap_remove.new.self.entries
+      (hub_leaving c.self.inside c.in-Some.index.now (left c) c.swap_remove.new.self.entries
       c.leave_behind.new.wills.items) (Close c.args.session) answer.Closed c.self.invariant.0
       (goes c),
   rw c.leave_behind.ensures.capacity c.self.invariant.1,
@@ -74,7 +74,7 @@ pub returns : goal.returns
 returns c =
     let old = hub_of c.self.inside in
     let new =
-    hub_leaving c.self.inside c.in-Some.place.now (left c) c.swap_remove.new.self.entries
+    hub_leaving c.self.inside c.in-Some.index.now (left c) c.swap_remove.new.self.entries
     c.leave_behind.new.wills.items in
     rw (← c.self.view_is) (record {
       step = goes c;

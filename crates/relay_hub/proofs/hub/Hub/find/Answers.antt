@@ -7,29 +7,29 @@ use Rattle.relay_hub.proofs.hub.Hub.find.Goals as goal
 
 pub unreachable-requires : goal.unreachable-requires
 unreachable-requires c =
-    never_no_entry c.self.inside c.args.session c.in_ok-place.place.now c.self.invariant.0
-    (sym c.in_ok-place.ensures.value) (sym c.in_default.ensures.entry)
+    never_no_entry c.self.inside c.args.session c.in_ok-index.index.now c.self.invariant.0
+    (sym c.in_ok-index.ensures.value) (sym c.in_default.ensures.entry)
 
 pub session-requires : goal.session-requires
 session-requires c =
     let g = c.in-Some.room_sessions.now in
     let at =
-    room_at c.self.inside.rooms.entries c.in_ok-place.place.now c.in-Some.field-0-0.now g
+    room_at c.self.inside.rooms.entries c.in_ok-index.index.now c.in-Some.field-0-0.now g
     (sym c.in-Some.ensures.entry) in
     let there =
-    entry_session c.self.inside c.args.session c.in_ok-place.place.now c.self.invariant.0
-    (sym c.in_ok-place.ensures.value) (string_bytes c.in-Some.field-0-0.now) g at in
+    entry_session c.self.inside c.args.session c.in_ok-index.index.now c.self.invariant.0
+    (sym c.in_ok-index.ensures.value) (string_bytes c.in-Some.field-0-0.now) g at in
     rw there.1 refl
 
 pub returns : goal.returns
 returns c =
     let g = c.in-Some.room_sessions.now in
     let at =
-    room_at c.self.inside.rooms.entries c.in_ok-place.place.now c.in-Some.field-0-0.now g
+    room_at c.self.inside.rooms.entries c.in_ok-index.index.now c.in-Some.field-0-0.now g
     (sym c.in-Some.ensures.entry) in
     let home =
-    found_home (hub_of c.self.inside) c.args.session c.in_ok-place.place.now
-    (named (c.in-Some.field-0-0.now, g)) (sym c.in_ok-place.ensures.value) at in
+    found_home (hub_of c.self.inside) c.args.session c.in_ok-index.index.now
+    (named (c.in-Some.field-0-0.now, g)) (sym c.in_ok-index.ensures.value) at in
     rw (
       ← c.self.view_is,
       c.room.ensures,

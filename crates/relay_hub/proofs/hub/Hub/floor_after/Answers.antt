@@ -6,7 +6,7 @@ use Rattle.relay_hub.proofs.Representation.{room_at}
 use Rattle.relay_hub.proofs.Rooms.{vacant, vacant_makes}
 use Rattle.relay_hub.proofs.hub.Hub.floor_after.Goals as goal
 
--- one room is at a place
+-- one room is at an index
 same_room : (rooms : List (List ℕ
     × RoomSessions)) (i : ℕ) (one other : List ℕ) (g h : RoomSessions)
     → slice_get rooms i ≡ Some (one, g) → slice_get rooms i ≡ Some (other, h) → g ≡ h
@@ -38,7 +38,7 @@ returns-clause-floor c =
     (sym c.in-Some-get_index.ensures.entry) in
     rw (
       ← c.self.view_is,
-      floor_is (hub_of c.self.inside) c.args.place i _ g (sym c.if-is_some.ensures)
+      floor_is (hub_of c.self.inside) c.args.index i _ g (sym c.if-is_some.ensures)
           (sym c.in-Some.ensures) at,
     ) (search rules)
 
@@ -50,7 +50,7 @@ returns-clause-count c =
     room_at c.self.inside.rooms.entries i c.in-Some-get_index.field-0-0.now g
     (sym c.in-Some-get_index.ensures.entry) in
     let is =
-    floor_is (hub_of c.self.inside) c.args.place i _ g (sym c.if-is_some.ensures)
+    floor_is (hub_of c.self.inside) c.args.index i _ g (sym c.if-is_some.ensures)
     (sym c.in-Some.ensures) at in
-    let count = floor_count (hub_of c.self.inside) c.args.place c.self.invariant.0.floor in
+    let count = floor_count (hub_of c.self.inside) c.args.index c.self.invariant.0.floor in
     rw (c.max.ensures, c.above.ensures) (rw is at count)

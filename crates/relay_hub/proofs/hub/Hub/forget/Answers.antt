@@ -1,10 +1,10 @@
 use Rattle.std.proofs.Common.{◌≡◌, ◌∙◌, Some, refl, sym}
 use Rattle.relay_hub.specs.Call.{StepIf, forgetting}
 use Rattle.relay_hub.specs.Representation.{hub_of}
-use Rattle.relay_hub.specs.State.{State, place_named}
+use Rattle.relay_hub.specs.State.{State, index_named}
 use Rattle.relay_hub.specs.declared.event.Event.TheVariants.{Forget}
 use Rattle.relay_hub.proofs.Forgetting.{fault_is}
-use Rattle.relay_hub.proofs.OpenFaults.{place_is}
+use Rattle.relay_hub.proofs.OpenFaults.{index_is}
 use Rattle.relay_hub.proofs.Representation.{written, hub_with, forgets, stays_hub}
 use Rattle.relay_hub.proofs.Stands.{call_stands}
 use Rattle.relay_hub.proofs.hub.Hub.forget.Goals as goal
@@ -13,23 +13,23 @@ pub returns-in_default-clause-step : goal.returns-in_default-clause-step
 returns-in_default-clause-step c =
     let none =
     sym (c.get_index_of.ensures.index
-    ∙ place_is c.args.room.now c.self.inside.rooms.entries) ∙ c.in_default.is in
+    ∙ index_is c.args.room.now c.self.inside.rooms.entries) ∙ c.in_default.is in
     rw (← c.self.view_is, none) (refl, refl)
 
 at : (c : goal.After-self-2-1)
-    → place_named c.args.room.now (hub_of c.self.inside).rooms ≡ Some c.in-Some.place
+    → index_named c.args.room.now (hub_of c.self.inside).rooms ≡ Some c.in-Some.index
 at c =
-    sym (c.get_index_of.ensures.index ∙ place_is c.args.room.now c.self.inside.rooms.entries)
+    sym (c.get_index_of.ensures.index ∙ index_is c.args.room.now c.self.inside.rooms.entries)
     ∙ c.in-Some.is
 
 abbrev after : goal.After-self-2-1 → State
-after c = hub_with c.self.inside c.in-Some.place c.begin_anew.new.self
+after c = hub_with c.self.inside c.in-Some.index c.begin_anew.new.self
 
 step : (c : goal.After-self-2-1)
     → StepIf (hub_of c.self.inside) (Forget c.args.room.now) (forgetting c.begin_anew.result)
     (after c)
 step c =
-    forgets c.self.inside c.args.room.now c.in-Some.place c.in-Some-get_index_mut.room_sessions.now
+    forgets c.self.inside c.args.room.now c.in-Some.index c.in-Some-get_index_mut.room_sessions.now
     c.begin_anew.new.self c.begin_anew.result (at c)
     (sym c.in-Some-get_index_mut.ensures.value) c.begin_anew.ensures.ok c.begin_anew.ensures.may
     c.begin_anew.ensures.fault c.begin_anew.ensures.err
@@ -54,9 +54,9 @@ pub returns-clause-no_memory : goal.returns-clause-no_memory
 returns-clause-no_memory c = λ e.
     let g = c.in-Some-get_index_mut.room_sessions.now in
     let w =
-    written c.self.inside.rooms.entries c.in-Some.place g g
+    written c.self.inside.rooms.entries c.in-Some.index g g
     (sym c.in-Some-get_index_mut.ensures.value) in
-    rw (← c.self.view_is) (fault_is (hub_of c.self.inside) c.args.room.now c.in-Some.place (
+    rw (← c.self.view_is) (fault_is (hub_of c.self.inside) c.args.room.now c.in-Some.index (
       w.name,
       g,
     ) (at c) w.was ∙ c.begin_anew.ensures.no_memory e)

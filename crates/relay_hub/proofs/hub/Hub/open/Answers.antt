@@ -30,18 +30,18 @@ step : (c : goal.After-self-2-1)
     → Step (hub_of c.self.inside) (Open c.args.room.now c.args.access) (Opened (opening c))
     (entered c)
 step c =
-    let admitted = rw (← c.self.view_is) at c.in_ok-place.ensures.admitted in
-    let named = rw (← c.self.view_is) at c.in_ok-place.ensures.ok in (
+    let admitted = rw (← c.self.view_is) at c.in_ok-index.ensures.admitted in
+    let named = rw (← c.self.view_is) at c.in_ok-index.ensures.ok in (
       admitted,
       record {
         number = refl;
         next = refl;
         config = refl;
         floor = rw (← c.self.view_is, named) at c.floor_after.ensures.floor;
-        place = c.in-Ok.place;
+        index = c.in-Ok.index;
         enters =
             enters_at (hub_of c.self.inside) c.args.room.now c.args.access (opening c)
-            c.in_ok-place.place c.vacant_for.result c.in-Ok.place (entered c)
+            c.in_ok-index.index c.vacant_for.result c.in-Ok.index (entered c)
             (rw (← c.self.view_is) at c.vacant_for.ensures.new) named c.in-Ok.ensures.ok;
         home = search rules;
         count = search rules;
@@ -62,8 +62,8 @@ returns-clause-stands c =
     step_stands b E (hub_of c.self.inside) (entered c) (Open c.args.room.now c.args.access)
     (Opened (opening c)) h (step c))
 
-pub returns-in_err-place-clause-stands : goal.returns-in_err-place-clause-stands
-returns-in_err-place-clause-stands c =
+pub returns-in_err-index-clause-stands : goal.returns-in_err-index-clause-stands
+returns-in_err-index-clause-stands c =
     λ b E h.
     call_stands b E c.args.self.now c.args.self.now (Open c.args.room.now c.args.access)
     (opening_as c.from_residual.result) h (search rules)

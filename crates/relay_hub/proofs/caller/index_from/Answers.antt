@@ -1,7 +1,7 @@
 use Rattle.std.proofs.Common.{rules, of_calls}
 use Rattle.std.proofs.lemmas.List.Sorted.{IsPartitionPoint-from_clause}
 use Rattle.relay_hub.proofs.Rising.{is_below, below_parted, below_from}
-use Rattle.relay_hub.proofs.caller.place_from.Goals as goal
+use Rattle.relay_hub.proofs.caller.index_from.Goals as goal
 
 pub returns : goal.returns
 returns c =
