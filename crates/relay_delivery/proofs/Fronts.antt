@@ -212,11 +212,11 @@ module _ (b : HubConfig) (E : Log) (hub new : State) (s : ℕ) (c : Client) (tex
   of_room index (Some home) there at step =
       of_session index home.0 home.1 step.0 (session_in home.1.sessions s) there at refl step.1
 
-  of_place : (o : Option ℕ) → index_of hub s ≡ o
+  of_index : (o : Option ℕ) → index_of hub s ≡ o
       → AtIndex o hub (Drawn (Some text)) (λ g h.
       Draws s (session_in g.sessions s) (Drawn (Some text)) g h) new → Leads c text (watching b E s)
-  of_place None at step = absurd (cc step.0)
-  of_place (Some index) at step = of_room index (slice_get hub.rooms index) refl at step
+  of_index None at step = absurd (cc step.0)
+  of_index (Some index) at step = of_room index (slice_get hub.rooms index) refl at step
 
   pub drawn_leads : Step hub (Draw s) (Drawn (Some text)) new → Leads c text (watching b E s)
-  drawn_leads step = of_place (index_of hub s) refl step
+  drawn_leads step = of_index (index_of hub s) refl step

@@ -44,12 +44,12 @@ in_room_homes : (index : ℕ) (o : Option (List ℕ
 in_room_homes index (Some home) old new answer Does step t = ap (λ hub. index_of hub t) step.2
 in_room_homes index None old new answer Does step t = ap (λ hub. index_of hub t) step.1
 
-at_place_homes : (o : Option ℕ) (old new : State) (answer : Answer) (Does : RoomSessions
+at_index_homes : (o : Option ℕ) (old new : State) (answer : Answer) (Does : RoomSessions
     → RoomSessions → Type 0) → AtIndex o old answer Does new → (t : ℕ)
     → index_of new t ≡ index_of old t
-at_place_homes (Some index) old new answer Does step t =
+at_index_homes (Some index) old new answer Does step t =
     in_room_homes index (slice_get old.rooms index) old new answer Does step t
-at_place_homes None old new answer Does step t = ap (λ hub. index_of hub t) step.1
+at_index_homes None old new answer Does step t = ap (λ hub. index_of hub t) step.1
 
 -- session s was closed, and no other
 abbrev IsClosed : ℕ → State → State → Type 0
@@ -76,7 +76,7 @@ closed s (Some index) old new answer is at some step =
     closed_home s old new answer home (subst (λ o. ClosesAt s o old answer new) same step)
 closed s None old new answer is at some step = absurd (cc some)
 
--- No session's place changes by an event of the house.
+-- No session's room changes by an event of the house.
 
 will_homes : (wills : List Will) (old new : State) (answer : Answer) → DoesWill wills old answer new
     → (t : ℕ) → index_of new t ≡ index_of old t
@@ -236,9 +236,9 @@ module _ (key : ℕ) (sessions : Sessions) where
   one_event rooms mine (Open name access) (NotOpened fault) old new is own step each =
       one_each_same (λ t. ap (λ hub. index_of hub t) step.1) (λ k. refl) each
   one_event rooms mine (Receive s text) answer old new is own step each =
-      one_each_same (at_place_homes (index_of old s) old new answer _ step) (λ k. refl) each
+      one_each_same (at_index_homes (index_of old s) old new answer _ step) (λ k. refl) each
   one_event rooms mine (Draw s) answer old new is own step each =
-      one_each_same (at_place_homes (index_of old s) old new answer _ step) (λ k. refl) each
+      one_each_same (at_index_homes (index_of old s) old new answer _ step) (λ k. refl) each
   one_event rooms mine (Close s) answer old new is own step each =
       let some = each.opened key s (mine_there mine ∙ own) in
       closes s old new (closed s (index_of old s) old new answer is refl some step)

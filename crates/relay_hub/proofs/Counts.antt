@@ -3,7 +3,7 @@ use Rattle.std.proofs.Common.{◌≡◌, ℕ, ◌≤◌, List, length, Option, S
 use Rattle.relay_patch.specs.declared.bounds.TheConstants.Bounds.{DOCUMENT}
 use Rattle.relay_patch.specs.declared.limits.TheConstants.PatchLimits.{REQUEST}
 use Rattle.relay_patch.specs.declared.op.Op.{Op}
-use Rattle.relay_patch.proofs.Places.{after-index}
+use Rattle.relay_patch.proofs.Places.{after-place}
 use Rattle.relay_proto.specs.Written.{IsCount, IsCountOrNull, HasCounts}
 use Rattle.relay_proto.specs.declared.reply.Reply.{Reply}
 use Rattle.relay_proto.specs.declared.reply.Reply.TheVariants.{Refused}
@@ -33,7 +33,7 @@ edit_refusal_counts room id base patch (Apply fault) r i last few unmade is =
         omega (
           arith,
           few,
-          after-index room.document patch DOCUMENT fault
+          after-place room.document patch DOCUMENT fault
               (edited_refused room base patch fault unmade),
         )
 
