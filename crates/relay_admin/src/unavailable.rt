@@ -5,7 +5,7 @@ ghost use Rattle.relay_admin.specs.AdminFaults.{unavailable_why};
 /// Why a room cannot be entered, or opened by name, now. Nothing was changed.
 #[derive(Clone, Copy, Debug, PartialEq, Eq)]
 pub enum Unavailable {
-    /// There are as many rooms as there may be, and none makes place; or so many are open by name.
+    /// There are as many rooms as there may be, and none is evictable; or so many are open by name.
     Rooms,
     /// As many sessions are open as may be.
     Sessions,

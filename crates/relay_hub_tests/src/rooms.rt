@@ -14,7 +14,7 @@ say 3 {"do":"edit","id":2,"patch":[{"op":"replace","path":"","value":null}]} => 
 begin c => Err(RoomsFull)
 close 3 => Ok(())
 
-# One that is null makes place once nobody is in it. What begins then is above its revisions.
+# One that is null is evictable once nobody is in it. What begins then is above its revisions.
 begin c => Ok(Opening { session: 4, rev: 3 })
 begin b => Ok(Opening { session: 5, rev: 0 })
 close 2 => Ok(())

@@ -65,7 +65,7 @@ draw 8 => {"epoch":1,"kind":"welcome","rev":4,"session":8}
 say 8 {"do":"will","id":1,"patch":[]} => Ok(Answered { short: 0 })
 draw 8 => {"at":null,"fault":"read-only","id":1,"kind":"refused"}
 
-# A will that is left counts as a session, and while it is left no room makes place.
+# A will that is left counts as a session, and while it is left no room is evicted.
 new sessions=2 rooms=1
 begin a => Ok(Opening { session: 1, rev: 0 })
 say 1 {"do":"will","id":1,"patch":[{"op":"replace","path":"","value":null}]} => Ok(Answered { short: 0 })
