@@ -84,7 +84,8 @@ will_homes [] old new NoWill step t = ap (λ hub. index_of hub t) step
 will_homes [] old new answer step t = absurd step
 will_homes (w ∷ wills) old new (WillDone short) step t =
     ap (λ hub. index_of hub t) step.1
-    ∙ in_room_homes w.index (slice_get old.rooms w.index) old step.0 (WillDone short) _ step.2 t
+    ∙ in_room_homes w.room_index (slice_get old.rooms w.room_index) old step.0 (WillDone short) _
+    step.2 t
 will_homes (w ∷ wills) old new answer step t = absurd step
 
 forget_homes : (name : List ℕ) (old new : State) (answer : Answer)

@@ -26,19 +26,19 @@ use Rattle.relay_hub.proofs.Rooms.{by_name}
 -- the oldest will is that of a room
 module _ (b : HubConfig) (E : Log) (old : State) (w : Will) (wills : List Will) (short : ℕ)
     (name : List ℕ) (g h : RoomSessions)
-    (stands : StandsFor b E old) (is : old.wills ≡ w ∷ wills) (there : slice_get old.rooms w.index
-    ≡ Some (name, g)) where
+    (stands : StandsFor b E old) (is : old.wills ≡ w ∷ wills)
+    (there : slice_get old.rooms w.room_index ≡ Some (name, g)) where
   abbrev e : Entry
   e = entry DoWill (WillDone short)
 
   abbrev r : RoomOf old
-  r = record { index = w.index; name = name; room_sessions = g; there = there }
+  r = record { index = w.room_index; name = name; room_sessions = g; there = there }
 
   abbrev ds : List Document
   ds = documents E name
 
   was : RoomStands b (beginning E name) ds g.room
-  was = stands.rooms w.index name g there
+  was = stands.rooms w.room_index name g there
 
   abbrev bequest : Bequest
   bequest = record { room = name; patch = w.patch }
@@ -79,7 +79,7 @@ module _ (b : HubConfig) (E : Log) (old : State) (w : Will) (wills : List Will) 
 
   will_stands : (o : Result Document EditFault) → edited g.room None w.patch ≡ o
       → WillServed b w.patch o short g h
-      → StandsFor b (e ∷ E) (with_wills wills (with_room w.index name h old))
+      → StandsFor b (e ∷ E) (with_wills wills (with_room w.room_index name h old))
   will_stands (Ok d) makes step =
       let notified : Room = step.0 in
       let changes = all_changes g.room.document w.patch in
@@ -108,8 +108,8 @@ module _ (b : HubConfig) (E : Log) (old : State) (w : Will) (wills : List Will) 
 
 in_room_stands : (b : HubConfig) (E : Log) (old done : State) (w : Will) (wills : List Will)
     (short : ℕ) (o : Option (List ℕ × RoomSessions)) → StandsFor b E old
-    → old.wills ≡ w ∷ wills → slice_get old.rooms w.index ≡ o
-    → InRoom w.index o old (WillDone short) (λ g h.
+    → old.wills ≡ w ∷ wills → slice_get old.rooms w.room_index ≡ o
+    → InRoom w.room_index o old (WillDone short) (λ g h.
     WillServed old.config w.patch (edited g.room None w.patch) short g h) done
     → StandsFor b (entry DoWill (WillDone short) ∷ E) (with_wills wills done)
 in_room_stands b E old done w wills short (Some home) stands is there step =
@@ -128,6 +128,6 @@ does_will_stands b E old new [] NoWill stands is step =
     (record { opened = refl; count = refl; rooms = λ name. refl })
     (λ name. refl) refl (λ t. refl) (λ other. refl) (λ t. refl))
 does_will_stands b E old new (w ∷ wills) (WillDone short) stands is step =
-    rw step.1 (in_room_stands b E old step.0 w wills short (slice_get old.rooms w.index) stands is
-    refl step.2)
+    rw step.1 (in_room_stands b E old step.0 w wills short (slice_get old.rooms w.room_index) stands
+    is refl step.2)
 does_will_stands b E old new wills answer stands is step = absurd step

@@ -703,14 +703,14 @@ does_will_is_hub : (old new : State) (wills : List WillLeft) (answer : Answer) �
 does_will_is_hub old new [] NoWill h is step = rw step h
 does_will_is_hub old new (w ∷ wills) (WillDone short) h is step =
     let done = step.0 in
-    let k = in_room_is_hub old done w.index (WillDone short) (λ g k.
+    let k = in_room_is_hub old done w.room_index (WillDone short) (λ g k.
     WillServed old.config w.patch (edited g.room None w.patch) short g k)
-    (slice_get old.rooms w.index) h
+    (slice_get old.rooms w.room_index) h
     (λ g k served. will_keeps old.config w.patch (edited g.room None w.patch) short g k served) refl
     step.2 in
-    let same = in_room_wills old done w.index (WillDone short) (λ g k.
+    let same = in_room_wills old done w.room_index (WillDone short) (λ g k.
     WillServed old.config w.patch (edited g.room None w.patch) short g k)
-    (slice_get old.rooms w.index) step.2 in
+    (slice_get old.rooms w.room_index) step.2 in
     let all : done.wills ≡ w ∷ wills = same.0 ∙ is in
     let few : length done.homes + length (w ∷ wills) ≤ done.config.sessions = rw all at k.few in
     let have : HaveRooms done.rooms (w ∷ wills) = rw all at k.wills in

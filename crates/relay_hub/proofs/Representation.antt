@@ -240,14 +240,14 @@ module _ (h : Inside) (s i : ℕ) (old new : RoomSessions) (home : index_of (hub
 -- the oldest will is done in its room
 pub will_done : (h : Inside) (w : Will) (old new : RoomSessions) (left : List Will) (short : ℕ)
     → slice_get h.wills.items 0 ≡ Some w
-    → slice_get (values h.rooms) w.index ≡ Some old → left ≡ remove h.wills.items 0
+    → slice_get (values h.rooms) w.room_index ≡ Some old → left ≡ remove h.wills.items 0
     → WillServed h.config w.patch (edited old.room None w.patch) short old new
     → Step (hub_of h) DoWill (answer.WillDone short)
-    (hub_leaving h w.index new h.homes.entries left)
+    (hub_leaving h w.room_index new h.homes.entries left)
 will_done h w old new left short oldest there is served =
     subst (λ wills. left ≡ remove wills 0
     → DoesWill wills (hub_of h) (answer.WillDone short)
-    (hub_leaving h w.index new h.homes.entries left)) (sym all) done is
+    (hub_leaving h w.room_index new h.homes.entries left)) (sym all) done is
   where
     head : (wills : List Will) → slice_get wills 0 ≡ Some w → wills ≡ w ∷ drop 1 wills
     head (v ∷ wills) at = let same : v ≡ w = cc in ap (λ u. u ∷ wills) same
@@ -258,12 +258,12 @@ will_done h w old new left short oldest there is served =
 
     done : left ≡ remove (w ∷ drop 1 h.wills.items) 0
         → DoesWill (w ∷ drop 1 h.wills.items) (hub_of h) (answer.WillDone short)
-        (hub_leaving h w.index new h.homes.entries left)
+        (hub_leaving h w.room_index new h.homes.entries left)
     done is =
-        let k = written h.rooms.entries w.index old new there in (
-          hub_with h w.index new,
-          ap (λ wills. hub_leaving h w.index new h.homes.entries wills) is,
-          rw k.was (new, served, hub_with-is h w.index old new k),
+        let k = written h.rooms.entries w.room_index old new there in (
+          hub_with h w.room_index new,
+          ap (λ wills. hub_leaving h w.room_index new h.homes.entries wills) is,
+          rw k.was (new, served, hub_with-is h w.room_index old new k),
         )
 
 -- the room of a name is forgotten, or not

@@ -154,9 +154,9 @@ shed_wills : (rooms : List (List ℕ × RoomSessions)) (budget : Budget) (wills 
 shed_wills rooms budget [] = refl
 shed_wills rooms budget (w ∷ wills) =
     rw (
-      slice_get-map (shed_named budget) rooms w.index,
+      slice_get-map (shed_named budget) rooms w.room_index,
       shed_wills rooms budget wills,
-    ) (one (slice_get rooms w.index))
+    ) (one (slice_get rooms w.room_index))
   where
     bequest : Option (List ℕ × RoomSessions) → Bequest
     bequest o = record { room = option_map_or (λ r. r.0) o []; patch = w.patch }

@@ -50,7 +50,7 @@ few_left index (op ∷ ops) = omega arith
 
 -- if each will names the same room, the bequests are the same
 same_named : (rooms more : Rooms) (wills : List Will) → HaveRooms rooms wills
-    → ((w : Will) → w.index < length rooms → named_will more w ≡ named_will rooms w)
+    → ((w : Will) → w.room_index < length rooms → named_will more w ≡ named_will rooms w)
     → map (named_will more) wills ≡ map (named_will rooms) wills
 same_named rooms more [] h same = refl
 same_named rooms more (w ∷ wills) h same =
@@ -63,12 +63,12 @@ pub named_set : (rooms : Rooms) (i : ℕ) (name : List ℕ) (g h : RoomSessions)
 named_set rooms i name g h wills there have =
     same_named rooms (slice_set rooms i (name, h)) wills have one
   where
-    one : (w : Will) → w.index < length rooms
+    one : (w : Will) → w.room_index < length rooms
         → named_will (slice_set rooms i (name, h)) w ≡ named_will rooms w
     one w within =
-        elim (eqb_tells w.index i) [
+        elim (eqb_tells w.room_index i) [
           | inl same ↦ rw (same.1, slice_get-set rooms i (name, g) (name, h) there, there) refl
-          | inr other ↦ rw (slice_get-set_other rooms i w.index (name, h) other.1) refl
+          | inr other ↦ rw (slice_get-set_other rooms i w.room_index (name, h) other.1) refl
         ]
 
 -- a room was added behind the others
@@ -77,11 +77,11 @@ pub named_earlier : (rooms : Rooms) (room : List ℕ × RoomSessions) (wills : L
     → map (named_will (rooms ++ room ∷ [])) wills ≡ map (named_will rooms) wills
 named_earlier rooms room wills have = same_named rooms (rooms ++ room ∷ []) wills have one
   where
-    one : (w : Will) → w.index < length rooms
+    one : (w : Will) → w.room_index < length rooms
         → named_will (rooms ++ room ∷ []) w ≡ named_will rooms w
     one w within =
-        let r = room_within rooms w.index within in
-        rw (slice_get-earlier rooms room r.0 w.index r.1, r.1) refl
+        let r = room_within rooms w.room_index within in
+        rw (slice_get-earlier rooms room r.0 w.room_index r.1, r.1) refl
 
 -- what a closed session left, by the name of its room
 pub named_left : (rooms : Rooms) (index : ℕ) (name : List ℕ) (g : RoomSessions) (patch : List Op)

@@ -126,7 +126,7 @@ MayBegin floor documents = (length documents ≤ floor) ⊎ (documents ≡ null 
 -- what a will leaves, by the name of its room
 abbrev pub named_will : List (List ℕ × RoomSessions) → Will → Bequest
 named_will rooms w =
-    record { room = option_map_or (λ r. r.0) (slice_get rooms w.index) []; patch = w.patch }
+    record { room = option_map_or (λ r. r.0) (slice_get rooms w.room_index) []; patch = w.patch }
 
 pub record StandsFor (b : HubConfig) (E : Log) (hub : State) : Type 0 where
   pub config : hub.config ≡ b

@@ -161,7 +161,7 @@ pub record RoomOf (hub : State) : Type 0 where
 
 -- each will has its room
 abbrev pub HaveRooms : List (List ℕ × RoomSessions) → List Will → Type 0
-HaveRooms rooms = AllByRecursion (λ w. w.index < length rooms)
+HaveRooms rooms = AllByRecursion (λ w. w.room_index < length rooms)
 
 -- Session s is open: its room, and the session in it.
 pub record Home (hub : State) (s : ℕ) : Type 0 where
@@ -202,8 +202,8 @@ room_sessions_code change session = code_by (Room × List Session)
 abbrev pub will_code : Coded Op → Coded Will
 will_code op = code_by (ℕ × List Op)
     (coded× coded_ℕ (coded_list op))
-    (λ w. (w.index, w.patch))
-    (λ p. record { index = p.0; patch = p.1 })
+    (λ w. (w.room_index, w.patch))
+    (λ p. record { room_index = p.0; patch = p.1 })
     (λ _. refl)
 
 abbrev pub hub_code : Coded Change → Coded Op → Coded Session → Coded State

@@ -306,8 +306,8 @@ pub record Opens (old : State) (name : List ℕ) (access : Access) (o : Opening)
 
 -- what a session leaves to be done: nothing, or its will
 abbrev pub left_of : ℕ → List Op → List WillLeft
-left_of index [] = []
-left_of index (op ∷ ops) = record { index = index; patch = op ∷ ops } ∷ []
+left_of room_index [] = []
+left_of room_index (op ∷ ops) = record { room_index = room_index; patch = op ∷ ops } ∷ []
 
 -- session s is removed from its room, which stays, and is open nowhere; its will is left to be done
 pub record Closes (s index : ℕ) (name : List ℕ) (g : RoomSessions) (will : List Op) (old : State)
@@ -342,7 +342,7 @@ ClosesAt s None old answer new = (answer ≡ NoSession) × (new ≡ old)
 abbrev pub DoesWill : List WillLeft → State → Answer → State → Type 0
 DoesWill [] old NoWill new = new ≡ old
 DoesWill (w ∷ wills) old (WillDone short) new = (done : State) × (new ≡ with_wills wills done)
-    × InRoom w.index (slice_get old.rooms w.index) old (WillDone short)
+    × InRoom w.room_index (slice_get old.rooms w.room_index) old (WillDone short)
     (λ g h. WillServed old.config w.patch (edited g.room None w.patch) short g h) done
 DoesWill wills old answer new = ⊥
 

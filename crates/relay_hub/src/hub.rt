@@ -407,7 +407,7 @@ impl Hub {
         let Some(will) = self.wills.first() else {
             return Ok(None);
         };
-        let Some(room_sessions) = self.rooms.get_index_mut(will.index) else {
+        let Some(room_sessions) = self.rooms.get_index_mut(will.room_index) else {
             unreachable!()
         };
         let short = room_sessions.do_will(alloc, self.config, &will.patch, &mut self.told)?;

@@ -17,7 +17,7 @@ use Rattle.relay_hub.proofs.hub.Hub.do_will.Goals as goal
 
 abbrev after : goal.After-drop-remove → State
 after c =
-    hub_leaving c.self.inside c.in-Some.will.now.index c.do_will.new.self
+    hub_leaving c.self.inside c.in-Some.will.now.room_index c.do_will.new.self
     c.self.inside.homes.entries c.remove.new.self.items
 
 step : (c : goal.After-drop-remove)
@@ -49,9 +49,9 @@ returns-clause-stands c =
 -- If memory runs out.
 
 same : (c : goal.After-from_residual)
-    → hub_with c.self.inside c.in-Some.will.now.index c.do_will.new.self ≡ hub_of c.self.inside
+    → hub_with c.self.inside c.in-Some.will.now.room_index c.do_will.new.self ≡ hub_of c.self.inside
 same c =
-    same_hub c.self.inside c.in-Some.will.now.index c.in-Some-get_index_mut.room_sessions.now
+    same_hub c.self.inside c.in-Some.will.now.room_index c.in-Some-get_index_mut.room_sessions.now
     c.do_will.new.self (sym c.in-Some-get_index_mut.ensures.value) c.in_err-short.ensures.done
 
 none_done : (r : Result (Option ℕ) AllocError) → IsErr r → doing_will r ≡ None
