@@ -1,4 +1,4 @@
--- Whom a text told something.
+-- Whom a text or a will told something.
 use Rattle.std.specs.Prelude.{◌≡◌, ℕ, nat_eq, ◌==◌, ◌||◌, Bool, false, List}
 use Rattle.std.specs.List.{list_any}
 use Rattle.relay_hub.specs.Session.{Session}

@@ -10,8 +10,8 @@ use crate::admission::read_admitted;
 use crate::boxed_reply::ReservedReply;
 use crate::caller::{Caller, session_at};
 use crate::cost;
+use crate::cost_meter::CostMeter;
 use crate::session::Session;
-use crate::told::Told;
 use relay_proto::{Refusal, Request, RequestFault};
 use relay_tree::{Budget, Scratch};
 use std::alloc::{AllocError, Global};
@@ -25,7 +25,7 @@ pub struct Asked {
     pub request: Result<Request, Refusal>,
 }
 
-/// Reads a text of a session that is there, whose view may weigh so much, and counts the cost.
+/// Reads a text of a session that is there, whose view may weigh so much, and adds the cost.
 /// `None` if 32 replies wait for it already.
 pub fn ask(
     alloc: Global,
@@ -34,7 +34,7 @@ pub fn ask(
     text: &str,
     scratch: &mut Scratch,
     budget: Budget,
-    told: &Told,
+    cost: &mut CostMeter,
 ) -> Result<Option<Asked>, AllocError>
     requires there { IsSome (session_in sessions.now number) }
     requires rising { IsRising sessions.now }
@@ -48,7 +48,7 @@ pub fn ask(
         return Ok(None);
     }
     let reserved = ReservedReply::new(alloc)?;
-    told.count(cost::reading(text));
+    cost.add(cost::reading(text));
     let access = session_at(sessions, caller).access();
     let request = match read_admitted(alloc, text, scratch, access, budget) {
         Ok(request) => Ok(request),

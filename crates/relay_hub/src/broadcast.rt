@@ -16,13 +16,13 @@ use crate::cached_update::{UpdateCache, update_for};
 use crate::caller::position_of;
 use crate::config::HubConfig;
 use crate::cost;
+use crate::report::Report;
 use crate::session::Session;
 use crate::told::Told;
 use crate::update::Update;
 use relay_room::Room;
 use relay_translate::WatchIndex;
 use std::alloc::{AllocError, Global};
-use std::cell::Cell;
 
 /// Notifies the watchers of the newest edit, within the hub's bounds, and writes down whom it told.
 /// Then the room drops the oldest changes that may not be kept. Returns how many outboxes folded
@@ -33,7 +33,7 @@ pub fn broadcast_and_trim(
     room: &mut Room,
     watches: &WatchIndex,
     sessions: &mut [Session],
-    told: &mut Told,
+    report: &mut Report,
 ) -> u64
     requires room { IsRoom room.old }
     requires edited { 0 < revision room.old }
@@ -43,11 +43,12 @@ pub fn broadcast_and_trim(
         → changes ≡ changes_since (revision room.old - 1) room.old.history
         → Leads d changes room.old.document
         → AllNotified d changes room.old config.telling_weight sessions.old sessions.new result }
-    ensures told { ChangesTold told.new sessions.old sessions.new }
+    ensures told { ChangesTold report.new.told sessions.old sessions.new }
     ensures trimmed { room.new ≡ trimmed config.history_weight room.old }
 {
     let mut cache = UpdateCache::new(alloc, config.telling_weight);
-    let short = broadcast(alloc, room, watches, sessions, &mut cache, told);
+    let short = broadcast(alloc, room, watches, sessions, &mut cache, report);
+    report.cost.add(cache.cost.total());
     room.trim(config.history_weight);
     short
 }
@@ -67,14 +68,14 @@ fn broadcast(
     watches: &WatchIndex,
     sessions: &mut [Session],
     cache: &mut UpdateCache,
-    told: &mut Told,
+    report: &mut Report,
 ) -> u64
     requires room { IsRoom room.now }
     requires edited { 0 < revision room.now }
     requires reaches { Reaches room.now.history (revision room.now - 1) }
     requires indexed { IsIndexed watches.now sessions.old }
     requires kept { IsKept room.now cache.old }
-    ensures told { ChangesTold told.new sessions.old sessions.new }
+    ensures told { ChangesTold report.new.told sessions.old sessions.new }
     ensures notified { (d : Document) (changes : List Change)
         → changes ≡ changes_since (revision room.now - 1) room.now.history
         → Leads d changes room.now.document
@@ -82,15 +83,14 @@ fn broadcast(
         sessions.old sessions.new result }
 {
     let Ok(numbers) = room.touched(alloc, watches) else {
-        *told = told.everybody(alloc);
+        report.told = Told::everybody(alloc);
         return notify_all(alloc, room, sessions, cache);
     };
     let short = notify_those(alloc, room, sessions, numbers.as_slice(), cache);
-    told.count(cost::telling(numbers.len() as u64).saturating_add(cache.cost()));
-    *told = Told {
+    report.cost.add(cost::telling(numbers.len() as u64));
+    report.told = Told {
         sessions: numbers,
         all: false,
-        cost: Cell::new(told.cost()),
     };
     short
 }

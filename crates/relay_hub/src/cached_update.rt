@@ -11,6 +11,7 @@ ghost use Rattle.relay_hub.specs.Allowance.{whole, smaller, less, same_view, is_
 ghost use Rattle.relay_hub.specs.CachedUpdate.{IsUpdate, IsKept, views_of, allowance_of, shared_within, spent};
 
 use crate::cost;
+use crate::cost_meter::CostMeter;
 use crate::encoded_patch::EncodedPatch;
 use crate::shared_view::SharedView;
 use crate::update::Update;
@@ -18,7 +19,6 @@ use relay_room::{CatchFault, Room};
 use relay_tree::Budget;
 use relay_view::View;
 use std::alloc::{AllocError, Global};
-use std::cell::Cell;
 
 /// The most patches of one edit that are kept to be shared; and as many other updates.
 pub(crate) const MAX_SHARED: usize = 16;
@@ -33,8 +33,8 @@ pub struct UpdateCache {
     pub patches: Vec<CachedPatch>,
     /// The updates that were made last and are no patches, the newest first.
     pub others: Vec<CachedUpdate>,
-    /// What the updates cost that were made, in nanoseconds.
-    cost: Cell<u64>,
+    /// What the updates cost that were made.
+    pub cost: CostMeter,
 }
 
 /// A view, and the patch that the newest edit means to it.
@@ -65,25 +65,8 @@ impl UpdateCache {
             left: budget,
             patches: Vec::new(alloc),
             others: Vec::new(alloc),
-            cost: Cell::new(0),
+            cost: CostMeter::new(),
         }
-    }
-
-    /// Counts an update that was made within a budget: a patch by its weight, and an attempt at one
-    /// that was given up by what was left.
-    fn count(&self, update: &Update, budget: Budget) {
-        let weight = match (update, budget) {
-            (Update::Nothing, _) | (Update::Snapshot, Budget::Unbounded) => 0,
-            (Update::Patch(patch), _) => patch.weight().unwrap_or(u64::MAX),
-            (Update::Snapshot, Budget::Left(left)) => left,
-        };
-        self.cost
-            .set(self.cost.get().saturating_add(cost::making(weight)));
-    }
-
-    /// What the updates cost that were made, in nanoseconds.
-    pub fn cost(&self) -> u64 {
-        self.cost.get()
     }
 
     /// Keeps a patch that was made for the view, and pays for it. Out of memory changes nothing.
@@ -238,7 +221,7 @@ fn make_and_cache(
     ensures err { OnErr result (allowance_of cache.new ≡ allowance_of cache.old) }
 {
     let update = make_update(alloc, room, view, budget)?;
-    cache.count(&update, budget);
+    cache.cost.add(cost::making(&update, budget));
     let share = update.share()?;
     let view = view.share()?;
     match update {

@@ -1,10 +1,13 @@
-//! What the work of a hub costs, in nanoseconds on the machine of docs/PERFORMANCE.md, within a
-//! factor of about two.
+//! What the work of a hub costs: an estimate in nanoseconds on the machine of docs/PERFORMANCE.md,
+//! within a factor of about two.
 //!
 //! It is counted where the work is done, so nothing is guessed of a text that was not served yet.
 //! No clause speaks of it.
+use crate::update::Update;
 use relay_history::CHANGE_WEIGHT;
-use relay_patch::{Op, Patch};
+use relay_patch::{ApplyFault, Op, Patch};
+use relay_room::EditFault;
+use relay_tree::Budget;
 use relay_view::View;
 
 /// A value of a text: it is read, becomes part of a tree, and is dropped.
@@ -58,9 +61,12 @@ pub(crate) fn editing(patch: &Patch, weight: u64, changed: u64) -> u64 {
         .saturating_add(performing(patch, operations, weight))
 }
 
-/// An edit is refused, once so many of its operations were done to a document of this weight: each
-/// may have copied all of it, and was taken back.
-pub(crate) fn refusing(patch: &Patch, done: u64, weight: u64) -> u64 {
+/// An edit is refused, at an operation or before the first. The ones before that were done to a
+/// document of this weight: each may have copied all of it, and was taken back.
+pub(crate) fn refusing(patch: &Patch, fault: EditFault, weight: u64) -> u64 {
+    let EditFault::Apply(ApplyFault { at: done, .. }) = fault else {
+        return 0;
+    };
     let mut cost = performing(patch, done, weight);
     for index in 0..done as usize {
         if let Some(Op::Copy { .. }) = patch.ops().get(index) {
@@ -87,8 +93,14 @@ pub(crate) fn telling(sessions: u64) -> u64 {
     sessions.saturating_mul(SESSION)
 }
 
-/// A patch of this weight is made for an edit's watchers, or an attempt at one is given up there.
-pub(crate) fn making(weight: u64) -> u64 {
+/// An update is made for an edit's watchers within a budget: a patch costs by its weight, and an
+/// attempt at one that was given up by what was left.
+pub(crate) fn making(update: &Update, budget: Budget) -> u64 {
+    let weight = match (update, budget) {
+        (Update::Nothing, _) | (Update::Snapshot, Budget::Unbounded) => 0,
+        (Update::Patch(patch), _) => patch.weight().unwrap_or(u64::MAX),
+        (Update::Snapshot, Budget::Left(left)) => left,
+    };
     OPERATION.saturating_add(weight.saturating_mul(TOLD))
 }
 

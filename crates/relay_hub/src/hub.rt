@@ -25,6 +25,7 @@ use crate::entering::{NewSession, open_session, vacant_index};
 use crate::event::{Answer, Event, Heard, Opening};
 use crate::fault::{ForgetFault, HubFault, HubNewFault, NoSession, OpenFault, RunFault};
 use crate::message_counts::MessageCounts;
+use crate::report::Report;
 use crate::room_sessions::RoomSessions;
 use crate::session::Session;
 use crate::shed::{shed_budget, shed_rooms};
@@ -56,8 +57,8 @@ pub struct Hub {
     /// session.
     wills: Vec<Will>,
     counts: MessageCounts,
-    /// Whom the last text told something.
-    told: Told,
+    /// Whom the last text or will told something, and what all of them cost.
+    report: Report,
     /// The memory in which texts are read.
     scratch: Box<Scratch>,
 }
@@ -139,7 +140,7 @@ impl Hub {
             homes: IndexMap::new(alloc),
             wills,
             counts: MessageCounts::none(),
-            told: Told::nobody(alloc),
+            report: Report::new(alloc),
             scratch,
         })
     }
@@ -157,11 +158,12 @@ impl Hub {
         &self.counts
     }
 
-    /// What its texts and draws cost since it was made, in microseconds on the machine of
-    /// docs/PERFORMANCE.md, within a factor of about two: counted where the work is done. No clause
-    /// speaks of it. Allocates nothing.
+    /// What its texts, wills and draws cost since it was made: an estimate in microseconds on the
+    /// machine of docs/PERFORMANCE.md, within a factor of about two, counted where the work is
+    /// done. No clause speaks of it. Allocates nothing.
     pub fn cost(&self) -> u64 {
-        self.told.cost().saturating_add(self.counts.cost) / 1_000
+        let nanos = self.report.cost.total();
+        nanos.saturating_add(self.counts.cost.total()) / 1_000
     }
 
     /// Opens a session in a room, which may edit there or only watch. If there is no room of that
@@ -301,13 +303,13 @@ impl Hub {
             self.config,
             session,
             text,
-            &mut self.told,
+            &mut self.report,
             &mut self.scratch,
         )
     }
 
-    /// Whom the last text that an open session sent told something, besides that session: no other
-    /// outbox changed. No clause speaks of it. Allocates nothing.
+    /// Whom the last text of an open session, or the last will, told something, besides the session
+    /// that sent the text: no other outbox changed. No clause speaks of it. Allocates nothing.
     ///
     /// ```
     /// let mut hub = Hub::new(alloc, 1, 1, 64, 32).ok()?;
@@ -319,7 +321,7 @@ impl Hub {
     /// assert!(rt; hub.told().sessions.as_slice() == [watcher].as_slice());
     /// ```
     pub fn told(&self) -> &Told {
-        &self.told
+        &self.report.told
     }
 
     /// Removes and returns the text at the front of a session's outbox: replies first, then
@@ -410,7 +412,7 @@ impl Hub {
         let Some(room_sessions) = self.rooms.get_index_mut(will.room_index) else {
             unreachable!()
         };
-        let short = room_sessions.do_will(alloc, self.config, &will.patch, &mut self.told)?;
+        let short = room_sessions.do_will(alloc, self.config, &will.patch, &mut self.report)?;
         let _ = self.wills.remove(0);
         Ok(Some(short))
     }

@@ -1,4 +1,5 @@
 //! The messages that the sessions of a hub drew, counted by kind.
+use crate::cost_meter::CostMeter;
 use relay_proto::{Reply, Word};
 
 /// How many words name the fault of a refusal.
@@ -30,8 +31,8 @@ pub struct MessageCounts {
     pub refusals: [FaultCount; FAULTS],
     pub patches: u64,
     pub snapshots: SnapshotCounts,
-    /// What the draws cost, in nanoseconds.
-    pub(crate) cost: u64,
+    /// What the draws cost.
+    pub(crate) cost: CostMeter,
 }
 
 /// How many refusals name a fault.
@@ -95,13 +96,13 @@ impl MessageCounts {
                 weight: 0,
                 memory: 0,
             },
-            cost: 0,
+            cost: CostMeter::new(),
         }
     }
 
-    /// Counts what a draw cost.
-    pub(crate) fn count_cost(&mut self, cost: u64) {
-        self.cost = self.cost.saturating_add(cost);
+    /// Counts what a draw cost, in nanoseconds.
+    pub(crate) fn count_cost(&mut self, nanos: u64) {
+        self.cost.add(nanos);
     }
 
     /// Counts a reply.

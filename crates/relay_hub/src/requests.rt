@@ -21,6 +21,7 @@ use crate::config::HubConfig;
 use crate::cost;
 use crate::fault::HubFault;
 use crate::message_counts::MessageCounts;
+use crate::report::Report;
 use crate::session::Session;
 use crate::shared_view::SharedView;
 use crate::told::Told;
@@ -42,7 +43,7 @@ pub fn answer(
     watches: &mut WatchIndex,
     sessions: &mut [Session],
     asked: Asked,
-    told: &mut Told,
+    report: &mut Report,
 ) -> Result<u64, AllocError>
     requires caller { IsCaller sessions.old asked.caller }
     requires space { HasSpace sessions.old asked.caller.number }
@@ -51,7 +52,7 @@ pub fn answer(
         → session_in sessions.old asked.caller.number ≡ Some x
         → Serves config asked.caller.number x asked.request short
         (room_sessions room.old sessions.old) (room_sessions room.new sessions.new)) }
-    ensures told { ChangesToldAnd asked.caller.number told.new sessions.old sessions.new }
+    ensures told { ChangesToldAnd asked.caller.number report.new.told sessions.old sessions.new }
     ensures err { OnErr result (room_sessions room.new sessions.new
         ≡ room_sessions room.old sessions.old) }
     ensures indexed { IsIndexed watches.new sessions.new }
@@ -70,7 +71,7 @@ pub fn answer(
                 base,
                 patch,
             };
-            edit(alloc, config, room, watches, sessions, asked, told)
+            edit(alloc, config, room, watches, sessions, asked, report)
         }
         Ok(Request::Will { id, patch }) => {
             leave_will(watches, sessions, caller, reserved, id, patch);
@@ -92,7 +93,9 @@ pub fn answer(
                 view,
             },
         ) => {
-            told.count(cost::resuming(&view, room.history_weight()));
+            report
+                .cost
+                .add(cost::resuming(&view, room.history_weight()));
             let asked = AskedResume {
                 caller,
                 reserved,
@@ -142,7 +145,7 @@ fn edit(
     watches: &WatchIndex,
     sessions: &mut [Session],
     asked: AskedEdit,
-    told: &mut Told,
+    report: &mut Report,
 ) -> Result<u64, AllocError>
     requires caller { IsCaller sessions.old asked.caller }
     requires space { HasSpace sessions.old asked.caller.number }
@@ -152,7 +155,7 @@ fn edit(
         → EditServed config asked.caller.number x asked.id asked.patch
         (edited room.old asked.base asked.patch) short
         (room_sessions room.old sessions.old) (room_sessions room.new sessions.new)) }
-    ensures told { ChangesToldAnd asked.caller.number told.new sessions.old sessions.new }
+    ensures told { ChangesToldAnd asked.caller.number report.new.told sessions.old sessions.new }
     ensures err { OnErr result (room_sessions room.new sessions.new
         ≡ room_sessions room.old sessions.old) }
     ensures indexed { IsIndexed watches.now sessions.new }
@@ -169,14 +172,12 @@ fn edit(
     match room.edit(alloc, kept, base, &patch) {
         Ok(rev) => {
             let changed = room.history_weight().saturating_sub(held);
-            told.count(cost::editing(&patch, weight, changed));
+            report.cost.add(cost::editing(&patch, weight, changed));
             session_mut(sessions, caller).reply(reserved, Reply::Done { id, rev });
-            Ok(broadcast_and_trim(alloc, config, room, watches, sessions, told))
+            Ok(broadcast_and_trim(alloc, config, room, watches, sessions, report))
         }
         Err(fault) => {
-            if let EditFault::Apply(fault) = fault {
-                told.count(cost::refusing(&patch, fault.at, weight));
-            }
+            report.cost.add(cost::refusing(&patch, fault, weight));
             let Some(reply) = edit_refusal(id, fault) else {
                 return Err(AllocError);
             };
@@ -195,29 +196,28 @@ pub fn do_will(
     watches: &WatchIndex,
     sessions: &mut [Session],
     patch: &Patch,
-    told: &mut Told,
+    report: &mut Report,
 ) -> Result<u64, AllocError>
     requires indexed { IsIndexed watches.now sessions.old }
     ensures done { WillServedIf config patch.now result (room_sessions room.old sessions.old)
         (room_sessions room.new sessions.new) }
-    ensures told { ChangesTold told.new sessions.old sessions.new }
+    ensures told { ChangesTold report.new.told sessions.old sessions.new }
     ensures indexed { IsIndexed watches.now sessions.new }
 {
-    *told = told.next(alloc);
+    report.told = Told::nobody(alloc);
     let kept = ReservedRevision::new(alloc)?;
     let (weight, held) = (room.weight(), room.history_weight());
     match room.edit(alloc, kept, None, patch) {
         Ok(_) => {
             let changed = room.history_weight().saturating_sub(held);
-            told.count(cost::editing(patch, weight, changed));
-            Ok(broadcast_and_trim(alloc, config, room, watches, sessions, told))
+            report.cost.add(cost::editing(patch, weight, changed));
+            Ok(broadcast_and_trim(alloc, config, room, watches, sessions, report))
         }
         Err(EditFault::Apply(fault)) if fault.cause == Cause::NoMemory => Err(AllocError),
-        Err(EditFault::Apply(fault)) => {
-            told.count(cost::refusing(patch, fault.at, weight));
+        Err(fault) => {
+            report.cost.add(cost::refusing(patch, fault, weight));
             Ok(0)
         }
-        Err(_) => Ok(0),
     }
 }
 

@@ -9,6 +9,7 @@ use crate::config::HubConfig;
 use crate::event::Heard;
 use crate::fault::{ForgetFault, HubFault};
 use crate::message_counts::MessageCounts;
+use crate::report::Report;
 use crate::requests;
 use crate::session::Session;
 use crate::shed::shed_sessions;
@@ -158,10 +159,10 @@ impl RoomSessions {
         alloc: Global,
         config: HubConfig,
         patch: &Patch,
-        told: &mut Told,
+        report: &mut Report,
     ) -> Result<u64, AllocError>
         ensures done { WillServedIf config patch.now result self.old self.new }
-        ensures told { ChangesTold told.new self.old.sessions self.new.sessions }
+        ensures told { ChangesTold report.new.told self.old.sessions self.new.sessions }
     {
         requests::do_will(
             alloc,
@@ -170,7 +171,7 @@ impl RoomSessions {
             &self.watches,
             self.sessions.as_mut_slice(),
             patch,
-            told,
+            report,
         )
     }
 
@@ -219,18 +220,18 @@ impl RoomSessions {
         config: HubConfig,
         number: u64,
         text: &str,
-        told: &mut Told,
+        report: &mut Report,
         scratch: &mut Scratch,
     ) -> Result<Heard, HubFault>
         requires { IsSome (session_in self.old.sessions number) }
-        ensures told { ChangesToldAnd number told.new self.old.sessions self.new.sessions }
+        ensures told { ChangesToldAnd number report.new.told self.old.sessions self.new.sessions }
         ensures step { ReceivesIf config number text.now (receiving result) self.old self.new }
         ensures no_memory { IsErrOf result HubFault.NoMemory → HasSpace self.old.sessions number }
     {
-        *told = told.next(alloc);
+        report.told = Told::nobody(alloc);
         let sessions = self.sessions.as_slice();
-        let budget = config.view_weight;
-        let asked = match ask(alloc, sessions, number, text, scratch, budget, told) {
+        let (budget, cost) = (config.view_weight, &mut report.cost);
+        let asked = match ask(alloc, sessions, number, text, scratch, budget, cost) {
             Ok(Some(asked)) => asked,
             Ok(None) => return Ok(Heard::Busy),
             Err(_) => return Err(HubFault::NoMemory),
@@ -242,7 +243,7 @@ impl RoomSessions {
             &mut self.watches,
             self.sessions.as_mut_slice(),
             asked,
-            told,
+            report,
         );
         match answered {
             Ok(short) => Ok(Heard::Answered { short }),

@@ -13,7 +13,7 @@ returns-in_ok-watch-in-Ok-Watch-clause-told c =
     let xs = c.args.sessions.now in
     let s = c.args.asked.caller.number in
     let x = session_there xs s c.args.asked.caller.index c.requires.caller in
-    changed_told s c.args.told.now (watches c.in-Ok-Watch.id c.in-Ok-Watch.view) xs c.watch.new.sessions
+    changed_told s c.args.report.now.told (watches c.in-Ok-Watch.id c.in-Ok-Watch.view) xs c.watch.new.sessions
     x.0 x.1 c.in_ok-watch-in-Ok-Watch.ensures.ok
 
 pub returns-in-Ok-Will-clause-told : goal.returns-in-Ok-Will-clause-told
@@ -21,7 +21,7 @@ returns-in-Ok-Will-clause-told c =
     let xs = c.args.sessions.now in
     let s = c.args.asked.caller.number in
     let x = session_there xs s c.args.asked.caller.index c.requires.caller in
-    changed_told s c.args.told.now (leaves_will c.in-Ok-Will.id c.in-Ok-Will.patch) xs
+    changed_told s c.args.report.now.told (leaves_will c.in-Ok-Will.id c.in-Ok-Will.patch) xs
     c.leave_will.new.sessions x.0 x.1 c.leave_will.ensures.leaves
 
 pub returns-in-Ok-Unwatch-clause-told : goal.returns-in-Ok-Unwatch-clause-told
@@ -29,7 +29,7 @@ returns-in-Ok-Unwatch-clause-told c =
     let xs = c.args.sessions.now in
     let s = c.args.asked.caller.number in
     let x = session_there xs s c.args.asked.caller.index c.requires.caller in
-    changed_told s c.args.told.now (unwatches c.in-Ok-Unwatch.id) xs c.unwatch.new.sessions x.0 x.1
+    changed_told s c.args.report.now.told (unwatches c.in-Ok-Unwatch.id) xs c.unwatch.new.sessions x.0 x.1
     c.unwatch.ensures.unwatches
 
 pub returns-in_ok-resume-in-Ok-Resume-clause-told : goal.returns-in_ok-resume-in-Ok-Resume-clause-told
@@ -41,7 +41,7 @@ returns-in_ok-resume-in-Ok-Resume-clause-told c =
     let room = c.args.room.now in
     resumed_told (request.epoch == c.args.config.epoch) (nat_le request.rev (revision room))
     request.id request.rev request.view s x.0 (room_sessions room xs)
-    (room_sessions room c.resume.new.sessions) c.args.told.now
+    (room_sessions room c.resume.new.sessions) c.args.report.now.told
     (c.in_ok-resume-in-Ok-Resume.ensures.ok x.0 x.1)
 
 pub returns-in-Err-clause-ok : goal.returns-in-Err-clause-ok
@@ -62,7 +62,7 @@ returns-in-Err-clause-told c =
     let now = replied c.reply.result was in
     rw c.reply-in-Err.ensures
     (written_told c.args.sessions.now c.args.asked.caller c.requires.caller was there now refl
-    c.args.told.now)
+    c.args.report.now.told)
 
 pub returns-in-Err-clause-indexed : goal.returns-in-Err-clause-indexed
 returns-in-Err-clause-indexed c =

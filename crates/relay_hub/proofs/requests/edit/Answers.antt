@@ -65,7 +65,7 @@ returns-in-Ok-clause-told c = λ t other absent.
     let number = ap (λ (y : Session). y.number) c.reply.ensures in
     c.broadcast_and_trim.ensures.told t absent
     ∙ written_told xs c.args.asked.caller c.requires.caller was there c.reply.new.self number
-    c.broadcast_and_trim.new.told t other absent
+    c.broadcast_and_trim.new.report.told t other absent
 
 pub returns-clause-told : goal.returns-clause-told
 returns-clause-told c =
@@ -73,7 +73,7 @@ returns-clause-told c =
     let there = c.session_mut-in-Err.ensures.found in
     let number = ap (λ (y : Session). y.number) c.reply-in-Err.ensures in
     written_told c.args.sessions.now c.args.asked.caller c.requires.caller was there
-    c.reply-in-Err.new.self number c.args.told.now
+    c.reply-in-Err.new.self number c.args.report.now.told
 
 pub returns-in-Ok-clause-ok : goal.returns-in-Ok-clause-ok
 returns-in-Ok-clause-ok c = λ x e.

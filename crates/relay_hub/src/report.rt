@@ -1,0 +1,22 @@
+//! What texts and wills leave to be known besides their answers.
+use crate::cost_meter::CostMeter;
+use crate::told::Told;
+use std::alloc::Global;
+
+/// Whom the last text or will told something, and what all of them cost.
+#[derive(Drop)]
+pub struct Report {
+    pub told: Told,
+    /// The cost of all texts and wills so far.
+    pub cost: CostMeter,
+}
+
+impl Report {
+    /// Before any text or will. Allocates nothing.
+    pub fn new(alloc: Global) -> Report {
+        Report {
+            told: Told::nobody(alloc),
+            cost: CostMeter::new(),
+        }
+    }
+}
