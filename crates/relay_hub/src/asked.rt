@@ -12,6 +12,7 @@ use crate::caller::{Caller, session_at};
 use crate::cost;
 use crate::cost_meter::CostMeter;
 use crate::session::Session;
+use crate::text_size::TextSize;
 use relay_proto::{Refusal, Request, RequestFault};
 use relay_tree::{Budget, Scratch};
 use std::alloc::{AllocError, Global};
@@ -21,6 +22,8 @@ use std::alloc::{AllocError, Global};
 pub struct Asked {
     pub caller: Caller,
     pub reserved: ReservedReply,
+    /// The size of the text.
+    pub size: TextSize,
     /// The request, or why it is refused.
     pub request: Result<Request, Refusal>,
 }
@@ -34,7 +37,7 @@ pub fn ask(
     text: &str,
     scratch: &mut Scratch,
     budget: Budget,
-    cost: &mut CostMeter,
+    meter: &mut CostMeter,
 ) -> Result<Option<Asked>, AllocError>
     requires there { IsSome (session_in sessions.now number) }
     requires rising { IsRising sessions.now }
@@ -48,7 +51,8 @@ pub fn ask(
         return Ok(None);
     }
     let reserved = ReservedReply::new(alloc)?;
-    cost.add(cost::reading(text));
+    let size = TextSize::of(text);
+    meter.add(cost::reading(size));
     let access = session_at(sessions, caller).access();
     let request = match read_admitted(alloc, text, scratch, access, budget) {
         Ok(request) => Ok(request),
@@ -58,6 +62,7 @@ pub fn ask(
     Ok(Some(Asked {
         caller,
         reserved,
+        size,
         request,
     }))
 }

@@ -1,8 +1,10 @@
 //! What the work of a hub costs: an estimate in nanoseconds on the machine of docs/PERFORMANCE.md,
-//! within a factor of about two.
+//! within a factor of about two for many values, and of about three for long strings.
 //!
 //! It is counted where the work is done, so nothing is guessed of a text that was not served yet.
-//! No clause speaks of it.
+//! What is known to come from a text is counted by the text's values and bytes, and all else by
+//! weight, which counts a byte of a string as much as an eighth of a number. No clause speaks of it.
+use crate::text_size::{Price, TextSize};
 use crate::update::Update;
 use relay_history::CHANGE_WEIGHT;
 use relay_patch::{ApplyFault, Op, Patch};
@@ -10,19 +12,34 @@ use relay_room::EditFault;
 use relay_tree::Budget;
 use relay_view::View;
 
-/// A value of a text: it is read, becomes part of a tree, and is dropped.
-const VALUE: u64 = 250;
+/// A value of a text, and a byte: it is read, becomes part of a tree, and is dropped.
+const READ: Price = Price {
+    value: 250,
+    byte: 2,
+};
 
 /// An operation: its paths, and its change.
 const OPERATION: u64 = 300;
 
-/// A unit of weight that an edit changes: it is copied for the history, and for the document, and
-/// is dropped from both.
+/// A value of a text that becomes part of the document, and a byte: it is copied for the history,
+/// and for the document, and is dropped from both.
+const KEPT: Price = Price {
+    value: 288,
+    byte: 1,
+};
+
+/// The same of a unit of weight.
 const CHANGED: u64 = 36;
 
 /// So many units of weight are moved in a nanosecond, where something is inserted before them or
 /// removed.
-const MOVED: u64 = 4;
+const MOVED: u64 = 5;
+
+/// A value of a patch that is made and written, and a byte.
+const MADE: Price = Price {
+    value: 240,
+    byte: 2,
+};
 
 /// A unit of weight of a patch that is made and written, or given up.
 const TOLD: u64 = 30;
@@ -33,32 +50,51 @@ const SESSION: u64 = 200;
 /// A message that is drawn.
 const MESSAGE: u64 = 300;
 
-/// A byte of the text of a snapshot, which is written when it is drawn.
-const WRITTEN: u64 = 10;
+/// So many bytes of a message are copied in a nanosecond.
+const COPIED: u64 = 2;
+
+/// A value of a snapshot that is written when it is drawn, and a byte.
+const WRITTEN: Price = Price { value: 20, byte: 1 };
 
 /// A unit of weight that a resume compares with a slot.
 const COMPARED: u64 = 2;
 
-/// A text is read. Between two values stands a comma, and before one a colon or a bracket.
-pub(crate) fn reading(text: &str) -> u64 {
-    let marks = text
-        .bytes()
-        .filter(|byte| matches!(*byte, b',' | b':' | b'['));
-    let values = marks.count() as u64;
-    values
-        .saturating_mul(VALUE)
-        .saturating_add(VALUE)
-        .saturating_add(text.len() as u64)
+/// A text of this size is read.
+pub(crate) fn reading(size: TextSize) -> u64 {
+    size.cost(READ)
 }
 
 /// A document of this weight is edited, and the changes have that weight in the history, which
-/// counts some for each change that nothing is copied for.
-pub(crate) fn editing(patch: &Patch, weight: u64, changed: u64) -> u64 {
+/// counts some for each change that nothing is copied for. The patch came by a text of that size, if
+/// it is known.
+pub(crate) fn editing(patch: &Patch, size: Option<TextSize>, weight: u64, changed: u64) -> u64 {
     let operations = patch.ops().len() as u64;
-    changed
-        .saturating_sub(operations.saturating_mul(CHANGE_WEIGHT))
+    let changed = changed.saturating_sub(operations.saturating_mul(CHANGE_WEIGHT));
+    let given = given_weight(patch).min(changed);
+    (changed - given)
         .saturating_mul(CHANGED)
+        .saturating_add(keeping(size, given))
         .saturating_add(performing(patch, operations, weight))
+}
+
+/// The weight of the values that a patch gives. All others are in the document.
+fn given_weight(patch: &Patch) -> u64 {
+    let mut weight = 0u64;
+    for op in patch.ops() {
+        if let Op::Add { value, .. } | Op::Replace { value, .. } = op {
+            weight = weight.saturating_add(value.weight());
+        }
+    }
+    weight
+}
+
+/// Values of this weight, which a text of that size gives, become part of a document.
+fn keeping(size: Option<TextSize>, weight: u64) -> u64 {
+    let cost = weight.saturating_mul(CHANGED);
+    match size {
+        Some(size) => cost.min(size.cost(KEPT)),
+        None => cost,
+    }
 }
 
 /// An edit is refused, at an operation or before the first. The ones before that were done to a
@@ -93,15 +129,19 @@ pub(crate) fn telling(sessions: u64) -> u64 {
     sessions.saturating_mul(SESSION)
 }
 
-/// An update is made for an edit's watchers within a budget: a patch costs by its weight, and an
-/// attempt at one that was given up by what was left.
+/// An update is made for an edit's watchers within a budget. A patch costs by its weight, or by its
+/// text if that is less; an attempt at one that was given up by what was left.
 pub(crate) fn making(update: &Update, budget: Budget) -> u64 {
-    let weight = match (update, budget) {
+    let cost = match (update, budget) {
         (Update::Nothing, _) | (Update::Snapshot, Budget::Unbounded) => 0,
-        (Update::Patch(patch), _) => patch.weight().unwrap_or(u64::MAX),
-        (Update::Snapshot, Budget::Left(left)) => left,
+        (Update::Patch(patch), _) => {
+            let weight = patch.weight().unwrap_or(u64::MAX);
+            let size = TextSize::of(patch.as_str());
+            weight.saturating_mul(TOLD).min(size.cost(MADE))
+        }
+        (Update::Snapshot, Budget::Left(left)) => left.saturating_mul(TOLD),
     };
-    OPERATION.saturating_add(weight.saturating_mul(TOLD))
+    OPERATION.saturating_add(cost)
 }
 
 /// A view is resumed by all changes that a room remembers, of this weight.
@@ -111,12 +151,12 @@ pub(crate) fn resuming(view: &View, history_weight: u64) -> u64 {
         .saturating_mul(COMPARED)
 }
 
-/// A message is drawn that was written before.
+/// A message of so many bytes is drawn that was written before.
 pub(crate) fn drawing(bytes: u64) -> u64 {
-    MESSAGE.saturating_add(bytes)
+    MESSAGE.saturating_add(bytes / COPIED)
 }
 
-/// A snapshot is drawn.
-pub(crate) fn showing(bytes: u64) -> u64 {
-    MESSAGE.saturating_add(bytes.saturating_mul(WRITTEN))
+/// A snapshot is drawn, which is this text.
+pub(crate) fn showing(text: &str) -> u64 {
+    MESSAGE.saturating_add(TextSize::of(text).cost(WRITTEN))
 }

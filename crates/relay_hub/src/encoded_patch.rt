@@ -99,6 +99,13 @@ impl EncodedPatch {
         }
     }
 
+    /// The text of the message. Allocates nothing.
+    pub fn as_str(&self) -> &str
+        ensures { result.now ≡ message_text (patch_message self.now) }
+    {
+        self.encoding.text.as_str()
+    }
+
     /// Returns a copy of the text of the message.
     pub fn text(&self, alloc: Global) -> Result<String, AllocError>
         ensures text { IfOk result (λ text. string_bytes text

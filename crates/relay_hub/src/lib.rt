@@ -31,6 +31,7 @@ mod shared_view;
 mod shed;
 mod summary;
 mod text;
+mod text_size;
 mod told;
 mod update;
 mod will;

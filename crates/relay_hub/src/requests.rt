@@ -24,6 +24,7 @@ use crate::message_counts::MessageCounts;
 use crate::report::Report;
 use crate::session::Session;
 use crate::shared_view::SharedView;
+use crate::text_size::TextSize;
 use crate::told::Told;
 use crate::update::Update;
 use relay_history::ReservedRevision;
@@ -60,6 +61,7 @@ pub fn answer(
     let Asked {
         caller,
         reserved,
+        size,
         request,
     } = asked;
     match request {
@@ -67,6 +69,7 @@ pub fn answer(
             let asked = AskedEdit {
                 caller,
                 reserved,
+                size,
                 id,
                 base,
                 patch,
@@ -119,6 +122,7 @@ pub fn answer(
 struct AskedEdit {
     caller: Caller,
     reserved: ReservedReply,
+    size: TextSize,
     id: u64,
     base: Option<u64>,
     patch: Patch,
@@ -163,6 +167,7 @@ fn edit(
     let AskedEdit {
         caller,
         reserved,
+        size,
         id,
         base,
         patch,
@@ -172,7 +177,9 @@ fn edit(
     match room.edit(alloc, kept, base, &patch) {
         Ok(rev) => {
             let changed = room.history_weight().saturating_sub(held);
-            report.cost.add(cost::editing(&patch, weight, changed));
+            report
+                .cost
+                .add(cost::editing(&patch, Some(size), weight, changed));
             session_mut(sessions, caller).reply(reserved, Reply::Done { id, rev });
             Ok(broadcast_and_trim(alloc, config, room, watches, sessions, report))
         }
@@ -210,7 +217,7 @@ pub fn do_will(
     match room.edit(alloc, kept, None, patch) {
         Ok(_) => {
             let changed = room.history_weight().saturating_sub(held);
-            report.cost.add(cost::editing(patch, weight, changed));
+            report.cost.add(cost::editing(patch, None, weight, changed));
             Ok(broadcast_and_trim(alloc, config, room, watches, sessions, report))
         }
         Err(EditFault::Apply(fault)) if fault.cause == Cause::NoMemory => Err(AllocError),

@@ -230,8 +230,8 @@ impl RoomSessions {
     {
         report.told = Told::nobody(alloc);
         let sessions = self.sessions.as_slice();
-        let (budget, cost) = (config.view_weight, &mut report.cost);
-        let asked = match ask(alloc, sessions, number, text, scratch, budget, cost) {
+        let (budget, meter) = (config.view_weight, &mut report.cost);
+        let asked = match ask(alloc, sessions, number, text, scratch, budget, meter) {
             Ok(Some(asked)) => asked,
             Ok(None) => return Ok(Heard::Busy),
             Err(_) => return Err(HubFault::NoMemory),

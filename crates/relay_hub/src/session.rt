@@ -331,7 +331,7 @@ impl Session {
             }
             Front::Snapshot => {
                 counts.count_snapshot(self.due_for);
-                counts.count_cost(cost::showing(bytes));
+                counts.count_cost(cost::showing(text.as_str()));
             }
         }
     }

@@ -1,0 +1,37 @@
+//! How large a text is, and what that costs.
+
+/// How many values a text has, and how many bytes.
+#[derive(Clone, Copy)]
+pub struct TextSize {
+    values: u64,
+    bytes: u64,
+}
+
+/// What a value of a text costs, and what a byte, in nanoseconds.
+#[derive(Clone, Copy)]
+pub struct Price {
+    pub value: u64,
+    pub byte: u64,
+}
+
+impl TextSize {
+    /// The size of a text, which is walked once. Between two values stands a comma, and before one a
+    /// colon or a bracket. So a member of an object counts as two values, and a string that has such
+    /// bytes as more.
+    pub fn of(text: &str) -> TextSize {
+        let marks = text
+            .bytes()
+            .filter(|byte| matches!(*byte, b',' | b':' | b'['));
+        TextSize {
+            values: (marks.count() as u64).saturating_add(1),
+            bytes: text.len() as u64,
+        }
+    }
+
+    /// What the text costs at a price.
+    pub fn cost(self, price: Price) -> u64 {
+        self.values
+            .saturating_mul(price.value)
+            .saturating_add(self.bytes.saturating_mul(price.byte))
+    }
+}
