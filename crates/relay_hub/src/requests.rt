@@ -35,6 +35,10 @@ use relay_translate::WatchIndex;
 use relay_view::View;
 use std::alloc::{AllocError, Global};
 
+/// How many of a room's sessions are looked at for an equal view when one begins to watch. A crowd
+/// that watches the same view comes one after the other.
+const NEWEST: usize = 16;
+
 /// Does what a session asks, and writes down whom it told something. Adds exactly one reply to the
 /// session's outbox. Returns how many outboxes folded because memory ran out.
 pub fn answer(
@@ -299,7 +303,7 @@ fn watch(
     ensures err { OnErr result (sessions.new ≡ sessions.old) }
     ensures indexed { IsIndexed watches.new sessions.new }
 {
-    let view = put_view(alloc, watches, caller.number, view)?;
+    let view = put_view(alloc, watches, sessions, caller.number, view)?;
     session_mut(sessions, caller).watch(reserved, id, view);
     Ok(())
 }
@@ -368,7 +372,7 @@ fn resume(
         CatchUp::Snapshot
     };
     let update = Update::of(alloc, room.revision(), how)?;
-    let view = put_view(alloc, watches, caller.number, view)?;
+    let view = put_view(alloc, watches, sessions, caller.number, view)?;
     session_mut(sessions, caller).resume(reserved, id, view, update);
     Ok(())
 }
@@ -377,6 +381,7 @@ fn resume(
 fn put_view(
     alloc: Global,
     watches: &mut WatchIndex,
+    sessions: &[Session],
     number: u64,
     view: View,
 ) -> Result<SharedView, AllocError>
@@ -384,9 +389,24 @@ fn put_view(
     ensures ok { OnOk result (watches.new ≡ map.insert watches.old number view) }
     ensures err { OnErr result (watches.new ≡ watches.old) }
 {
-    let shared = SharedView::new(alloc, view)?;
+    let shared = shared_view(alloc, sessions, view)?;
     watches.put(alloc, number, shared.get())?;
     Ok(shared)
+}
+
+/// A view for a session to hold. It is shared with the first of the room's newest sessions that
+/// watches an equal one, and otherwise new. The views are compared token by token.
+fn shared_view(alloc: Global, sessions: &[Session], view: View) -> Result<SharedView, AllocError>
+    ensures { IfOk result (λ shared. shared ≡ view) }
+{
+    let first = sessions.len().saturating_sub(NEWEST);
+    for session in &sessions[first..] {
+        match session.view() {
+            Some(shared) if shared.get().same(&view) => return shared.share(),
+            _ => {}
+        }
+    }
+    SharedView::new(alloc, view)
 }
 
 /// Removes and returns the text at the front of the outbox of a session that is there, and counts
