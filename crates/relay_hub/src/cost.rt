@@ -8,9 +8,9 @@ use crate::text_size::{Price, TextSize};
 use crate::update::Update;
 use relay_history::CHANGE_WEIGHT;
 use relay_patch::{ApplyFault, Op, Patch};
+use relay_proto::{Refusal, Request};
 use relay_room::EditFault;
 use relay_tree::Budget;
-use relay_view::View;
 
 /// A value of a text, and a byte: it is read, becomes part of a tree, and is dropped.
 const READ: Price = Price {
@@ -144,8 +144,12 @@ pub(crate) fn making(update: &Update, budget: Budget) -> u64 {
     OPERATION.saturating_add(cost)
 }
 
-/// A view is resumed by all changes that a room remembers, of this weight.
-pub(crate) fn resuming(view: &View, history_weight: u64) -> u64 {
+/// A request is asked of a room whose history has this weight. If it is a resume, all changes there
+/// are compared with each slot of its view.
+pub(crate) fn asking(request: &Result<Request, Refusal>, history_weight: u64) -> u64 {
+    let Ok(Request::Resume { view, .. }) = request else {
+        return 0;
+    };
     view.len()
         .saturating_mul(history_weight)
         .saturating_mul(COMPARED)

@@ -62,13 +62,8 @@ pub fn answer(
         ≡ room_sessions room.old sessions.old) }
     ensures indexed { IsIndexed watches.new sessions.new }
 {
-    let Asked {
-        caller,
-        reserved,
-        size,
-        request,
-    } = asked;
-    match request {
+    let (caller, reserved, size) = (asked.caller, asked.reserved, asked.size);
+    match asked.request {
         Ok(Request::Edit { id, base, patch }) => {
             let asked = AskedEdit {
                 caller,
@@ -100,9 +95,6 @@ pub fn answer(
                 view,
             },
         ) => {
-            report
-                .cost
-                .add(cost::resuming(&view, room.history_weight()));
             let asked = AskedResume {
                 caller,
                 reserved,

@@ -10,10 +10,10 @@ use crate::event::Heard;
 use crate::fault::{ForgetFault, HubFault};
 use crate::message_counts::MessageCounts;
 use crate::report::Report;
-use crate::requests;
 use crate::session::Session;
 use crate::shed::shed_sessions;
 use crate::told::Told;
+use crate::{cost, requests};
 use relay_patch::Patch;
 use relay_room::{Room, RoomFault};
 use relay_translate::WatchIndex;
@@ -236,6 +236,8 @@ impl RoomSessions {
             Ok(None) => return Ok(Heard::Busy),
             Err(_) => return Err(HubFault::NoMemory),
         };
+        let held = self.room.history_weight();
+        report.cost.add(cost::asking(&asked.request, held));
         let answered = requests::answer(
             alloc,
             config,

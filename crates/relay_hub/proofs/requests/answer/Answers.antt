@@ -1,7 +1,6 @@
 -- Of the requests but an edit, each changes the session of the caller alone, and so does a refusal.
-use Rattle.std.proofs.Common.{◌==◌, nat_le, refl}
-use Rattle.relay_room.specs.Room.{revision}
-use Rattle.relay_hub.specs.Session.{replied, leaves_will, watches, unwatches}
+use Rattle.std.proofs.Common.{refl}
+use Rattle.relay_hub.specs.Session.{replied}
 use Rattle.relay_hub.specs.State.{room_sessions}
 use Rattle.relay_hub.proofs.Callers.{written_by, written_same, written_told}
 use Rattle.relay_hub.proofs.Sessions.{session_there}
@@ -13,23 +12,23 @@ returns-in_ok-watch-in-Ok-Watch-clause-told c =
     let xs = c.args.sessions.now in
     let s = c.args.asked.caller.number in
     let x = session_there xs s c.args.asked.caller.index c.requires.caller in
-    changed_told s c.args.report.now.told (watches c.in-Ok-Watch.id c.in-Ok-Watch.view) xs c.watch.new.sessions
-    x.0 x.1 c.in_ok-watch-in-Ok-Watch.ensures.ok
+    changed_told s c.args.report.now.told _ xs c.watch.new.sessions x.0 x.1
+    c.in_ok-watch-in-Ok-Watch.ensures.ok
 
 pub returns-in-Ok-Will-clause-told : goal.returns-in-Ok-Will-clause-told
 returns-in-Ok-Will-clause-told c =
     let xs = c.args.sessions.now in
     let s = c.args.asked.caller.number in
     let x = session_there xs s c.args.asked.caller.index c.requires.caller in
-    changed_told s c.args.report.now.told (leaves_will c.in-Ok-Will.id c.in-Ok-Will.patch) xs
-    c.leave_will.new.sessions x.0 x.1 c.leave_will.ensures.leaves
+    changed_told s c.args.report.now.told _ xs c.leave_will.new.sessions x.0 x.1
+    c.leave_will.ensures.leaves
 
 pub returns-in-Ok-Unwatch-clause-told : goal.returns-in-Ok-Unwatch-clause-told
 returns-in-Ok-Unwatch-clause-told c =
     let xs = c.args.sessions.now in
     let s = c.args.asked.caller.number in
     let x = session_there xs s c.args.asked.caller.index c.requires.caller in
-    changed_told s c.args.report.now.told (unwatches c.in-Ok-Unwatch.id) xs c.unwatch.new.sessions x.0 x.1
+    changed_told s c.args.report.now.told _ xs c.unwatch.new.sessions x.0 x.1
     c.unwatch.ensures.unwatches
 
 pub returns-in_ok-resume-in-Ok-Resume-clause-told : goal.returns-in_ok-resume-in-Ok-Resume-clause-told
@@ -37,12 +36,9 @@ returns-in_ok-resume-in-Ok-Resume-clause-told c =
     let xs = c.args.sessions.now in
     let s = c.args.asked.caller.number in
     let x = session_there xs s c.args.asked.caller.index c.requires.caller in
-    let request = c.in-Ok-Resume in
     let room = c.args.room.now in
-    resumed_told (request.epoch == c.args.config.epoch) (nat_le request.rev (revision room))
-    request.id request.rev request.view s x.0 (room_sessions room xs)
-    (room_sessions room c.resume.new.sessions) c.args.report.now.told
-    (c.in_ok-resume-in-Ok-Resume.ensures.ok x.0 x.1)
+    resumed_told _ _ _ _ _ s x.0 (room_sessions room xs) (room_sessions room c.resume.new.sessions)
+    c.args.report.now.told (c.in_ok-resume-in-Ok-Resume.ensures.ok x.0 x.1)
 
 pub returns-in-Err-clause-ok : goal.returns-in-Err-clause-ok
 returns-in-Err-clause-ok c = λ x e.
