@@ -4,39 +4,36 @@
 //! (`specs/Stands`): it has the documents, sessions and views of the log, and every client that
 //! watches, and applies what was drawn for it and what waits, in order, holds exactly its view of
 //! the present document. A call that returns `NoMemory` changes nothing.
-ghost use Rattle.std.specs.Prelude.{◌≡◌, ◌≢◌, ◌<◌, ◌≤◌, ◌⊎◌, ◌↔◌, [], ◌∷◌, ℕ, Some, None, Ok, IfOk, IfErr, IfSome, IsErrOf, IsSomeAnd, IsTrue, OnOk, OnErr, length, not, ◌==◌, option_map, slice_get};
-ghost use Rattle.relay_hub.specs.Call.{StepIf, opening, receiving, drawing, closing, doing_will, forgetting, logged, done, followed, Runs};
+ghost use Rattle.std.specs.Prelude.{◌≡◌, ◌<◌, ◌≤◌, ◌↔◌, [], ◌∷◌, ℕ, Some, None, Ok, IfOk, IfErr, IfSome, IsErrOf, IsSomeAnd, IsTrue, OnOk, OnErr, length, not, ◌==◌, option_map};
+ghost use Rattle.relay_hub.specs.Call.{StepIf, opening, receiving, drawing, closing, doing_will, forgetting, logged};
 ghost use Rattle.relay_hub.specs.Log.{Log, entry};
 ghost use Rattle.relay_hub.specs.State.{config, index_named, is_crowded, vacant_in, session_of, made_with, new_hub};
 ghost use Rattle.relay_hub.specs.Session.{waiting};
 ghost use Rattle.relay_hub.specs.Shed.{shed};
-ghost use Rattle.relay_hub.specs.Stands.{StandsFor, EachHoldsPresent, EachIsAtNamed};
+ghost use Rattle.relay_hub.specs.Stands.{StandsFor};
 ghost use Rattle.relay_hub.specs.Step.{Step, open_fault, forget_fault, floor_after};
 ghost use Rattle.relay_tree.specs.declared.count.TheConstants.{MAX_COUNT};
-ghost use Rattle.relay_hub.specs.Summary.{room_named, shown_by, summary_of};
-ghost use Rattle.relay_hub.specs.Queries.{BadLimits, room_and_session, may_hear, truth, RefusesEdits};
+ghost use Rattle.relay_hub.specs.Queries.{BadLimits, may_hear, RefusesEdits};
 ghost use Rattle.relay_hub.specs.declared.config.HubConfig.{HubConfig};
 ghost use Rattle.relay_hub.specs.declared.event.Event.TheVariants.{Open, Receive, Draw, Close, DoWill, Forget};
 ghost use Rattle.relay_hub.specs.declared.event.Heard.TheVariants.{Answered};
 ghost use Rattle.relay_hub.specs.declared.fault.HubNewFault.TheVariants.{BadLimit};
 
+mod queries;
+mod running;
+
 use crate::config::HubConfig;
 use crate::entering::{NewSession, open_session, vacant_index};
-use crate::event::{Answer, Event, Heard, Opening};
-use crate::fault::{ForgetFault, HubFault, HubNewFault, NoSession, OpenFault, RunFault};
+use crate::event::{Heard, Opening};
+use crate::fault::{ForgetFault, HubFault, HubNewFault, NoSession, OpenFault};
 use crate::message_counts::MessageCounts;
 use crate::report::Report;
 use crate::room_sessions::RoomSessions;
-use crate::session::Session;
 use crate::shed::{shed_budget, shed_rooms};
-use crate::summary::{RoomSummary, summary_of};
-use crate::text::Text;
-use crate::told::Told;
 use crate::will::{Will, leave_behind};
 use indexmap::IndexMap;
 use relay_proto::{Access, is_room_name};
-use relay_room::Room;
-use relay_tree::{MAX_COUNT, Scratch, Tree};
+use relay_tree::{MAX_COUNT, Scratch};
 use std::alloc::{AllocError, Global};
 use std::marker::Model;
 
@@ -143,27 +140,6 @@ impl Hub {
             report: Report::new(alloc),
             scratch,
         })
-    }
-
-    /// The configuration that it was made with. Allocates nothing.
-    pub fn config(&self) -> HubConfig
-        ensures { result ≡ self.now.config }
-    {
-        self.config
-    }
-
-    /// How many messages its sessions drew since it was made, by kind. No clause speaks of these
-    /// numbers. Allocates nothing.
-    pub fn message_counts(&self) -> &MessageCounts {
-        &self.counts
-    }
-
-    /// What its texts, wills and draws cost since it was made: an estimate in microseconds on the
-    /// machine of docs/PERFORMANCE.md, within a factor of about two, counted where the work is
-    /// done. No clause speaks of it. Allocates nothing.
-    pub fn cost(&self) -> u64 {
-        let nanos = self.report.cost.total();
-        nanos.saturating_add(self.counts.cost.total()) / 1_000
     }
 
     /// Opens a session in a room, which may edit there or only watch. If there is no room of that
@@ -308,22 +284,6 @@ impl Hub {
         )
     }
 
-    /// Whom the last text of an open session, or the last will, told something, besides the session
-    /// that sent the text: no other outbox changed. No clause speaks of it. Allocates nothing.
-    ///
-    /// ```
-    /// let mut hub = Hub::new(alloc, 1, 1, 64, 32).ok()?;
-    /// let editor = hub.open(alloc, "board", Access::ReadWrite).ok()?.session;
-    /// let watcher = hub.open(alloc, "board", Access::ReadOnly).ok()?.session;
-    /// hub.receive(alloc, watcher, r#"{"do": "watch", "id": 1, "view": [""]}"#).ok()?;
-    /// let edit = r#"{"do": "edit", "id": 1, "patch": [{"op": "add", "path": "", "value": []}]}"#;
-    /// hub.receive(alloc, editor, edit).ok()?;
-    /// assert!(rt; hub.told().sessions.as_slice() == [watcher].as_slice());
-    /// ```
-    pub fn told(&self) -> &Told {
-        &self.report.told
-    }
-
     /// Removes and returns the text at the front of a session's outbox: replies first, then
     /// patches, then the due snapshot, which is made from the present document. `None` if nothing
     /// waits. `NoSession`: it is not open. `NoMemory` comes only if something waits, and leaves the
@@ -454,187 +414,5 @@ impl Hub {
             → StandsFor b E self.new }
     {
         shed_rooms(&mut self.rooms, shed_budget(self.config.history_weight));
-    }
-
-    /// The room of a session, and the session.
-    fn find(&self, session: u64) -> Option<(&Room, &Session)>
-        ensures { option_map (λ p. (p.0.now, p.1.now)) result ≡ room_and_session self.now session }
-    {
-        let index = self.homes.get(&session)?;
-        let Some((_, room_sessions)) = self.rooms.get_index(*index) else {
-            unreachable!()
-        };
-        Some((room_sessions.room(), room_sessions.session(session)))
-    }
-
-    /// Whether a text of the session would be answered: it is open, and fewer than 32 replies wait.
-    /// Allocates nothing.
-    pub fn may_hear(&self, session: u64) -> bool
-        ensures { result ≡ may_hear (session_of self.now session) }
-    {
-        match self.find(session) {
-            Some((_, session)) => !session.is_full(),
-            None => false,
-        }
-    }
-
-    /// How many messages wait for the session: the number of draws that would return a text now.
-    /// `None` if it is not open. Allocates nothing.
-    pub fn waiting(&self, session: u64) -> Option<u64>
-        ensures { result ≡ option_map waiting (session_of self.now session) }
-    {
-        let (_, session) = self.find(session)?;
-        Some(session.waiting())
-    }
-
-    /// The index of the session's room ([`Hub::room_at`]), which it keeps while the session is
-    /// open. `None` if it is not open. No clause speaks of it. Allocates nothing.
-    pub fn room_of(&self, session: u64) -> Option<usize> {
-        self.homes.get(&session).copied()
-    }
-
-    /// The present revision and the session's view of the present document; `None` if it watches
-    /// nothing. `NoSession`: it is not open. `NoMemory`: there is not enough for the view.
-    ///
-    /// ```
-    /// let mut hub = Hub::new(alloc, 1, 1, 64, 32).ok()?;
-    /// let session = hub.open(alloc, "board", Access::ReadWrite).ok()?.session;
-    /// assert!(rt; hub.truth(alloc, session).ok()?.is_none());
-    /// hub.receive(alloc, session, r#"{"do": "watch", "id": 1, "view": [""]}"#).ok()?;
-    /// let (rev, view) = hub.truth(alloc, session).ok()??;
-    /// assert!(rt; rev == 0 && view.text(alloc).ok()?.as_str() == "[[null]]");
-    /// ```
-    pub fn truth(&self, alloc: Global, session: u64) -> Result<Option<(u64, Tree)>, HubFault>
-        ensures ok { IfOk result (λ shown. truth self.now session ≡ Some shown) }
-        ensures no_session { IsErrOf result HubFault.NoSession
-            ↔ (session_of self.now session ≡ None) }
-        ensures no_memory { IsErrOf result HubFault.NoMemory → truth self.now session ≢ Some None }
-    {
-        let Some((room, session)) = self.find(session) else {
-            return Err(HubFault::NoSession);
-        };
-        let Some(view) = session.view() else {
-            return Ok(None);
-        };
-        match view.get().of(alloc, room.document()) {
-            Ok(shown) => Ok(Some((room.revision(), shown))),
-            Err(_) => Err(HubFault::NoMemory),
-        }
-    }
-
-    /// The name and the size of the room at an index, from 0. `None` if no room has that index or
-    /// a later one. Allocates nothing.
-    #[tactic(auto, using(crate::proofs::Representation::room_at, crate::proofs::Representation::no_room_at))]
-    pub fn room_at(&self, index: usize) -> Option<RoomSummary<'_>>
-        ensures { option_map shown_by result
-            ≡ option_map summary_of (slice_get self.now.rooms index) }
-    {
-        let (name, room_sessions) = self.rooms.get_index(index)?;
-        Some(summary_of(name, room_sessions))
-    }
-
-    /// The name and the size of the room of a name. `None` if there is none. Allocates nothing.
-    pub fn room_named(&self, name: &str) -> Option<RoomSummary<'_>>
-        ensures { option_map shown_by result
-            ≡ option_map summary_of (room_named name.now self.now.rooms) }
-    {
-        match self.rooms.get_index_of(name) {
-            Some(index) => self.room_at(index),
-            None => None,
-        }
-    }
-
-    /// What the patches weigh that wait for all sessions, as far as that is bounded. No clause
-    /// speaks of it. Allocates nothing.
-    pub fn waiting_weight(&self) -> u64 {
-        let mut weight = 0u64;
-        for (_, room_sessions) in self.rooms.iter() {
-            weight = weight.saturating_add(room_sessions.load());
-        }
-        weight
-    }
-
-    /// Carries out events, in order. The space for all answers is allocated before the first event.
-    /// If memory runs out the run stops: the events of the fault's answers were done, and the next
-    /// one changed nothing. Either way each client that watches, and applies what was drawn for it
-    /// and what waits, in order, holds exactly its view of the present document, and after each of
-    /// these messages its view of the revision that the message names.
-    ///
-    /// ```
-    /// let mut hub = Hub::new(alloc, 1, 1, 64, 32).ok()?;
-    /// let room = Text::of(String::from_str(alloc, "board").ok()?);
-    /// let events = [
-    ///     Event::Open { room, access: Access::ReadWrite },
-    ///     Event::Draw { session: 1 },
-    ///     Event::Close { session: 1 },
-    ///     Event::Close { session: 1 },
-    /// ];
-    /// let answers = hub.run(alloc, events.as_slice()).ok()?;
-    /// assert!(rt; matches!(&answers[0], Answer::Opened(_)));
-    /// assert!(rt; matches!(&answers[3], Answer::NoSession));
-    /// ```
-    pub fn run(&mut self, alloc: Global, events: &[Event]) -> Result<Vec<Answer>, RunFault>
-        ensures steps { IfOk result (λ answers. Runs self.old events.now answers.items self.new) }
-        ensures all { IfOk result (λ answers. length answers.items ≡ length events.now) }
-        ensures stopped { IfErr result (λ fault.
-            Runs self.old events.now fault.answers.items self.new) }
-        ensures before { IfErr result (λ fault. (length events.now ≡ 0)
-            ⊎ (length fault.answers.items < length events.now)) }
-        ensures stands { (b : HubConfig) (E : Log) → StandsFor b E self.old
-            → StandsFor b (followed E events.now (done result)) self.new }
-        ensures exact { (b : HubConfig) (E : Log) → StandsFor b E self.old
-            → EachHoldsPresent b (followed E events.now (done result)) self.new }
-        ensures each { (b : HubConfig) (E : Log) → StandsFor b E self.old
-            → EachIsAtNamed b (followed E events.now (done result)) self.new }
-    {
-        let Ok(mut answers) = Vec::with_capacity(alloc, events.len()) else {
-            return Err(RunFault {
-                answers: Vec::new(alloc),
-            });
-        };
-        for event in events {
-            match self.carry_out(alloc, event) {
-                Ok(answer) => answers.push_reserved(answer),
-                Err(_) => return Err(RunFault { answers }),
-            }
-        }
-        Ok(answers)
-    }
-
-    /// Carries out one event.
-    fn carry_out(&mut self, alloc: Global, event: &Event) -> Result<Answer, AllocError>
-        ensures ok { IfOk result (λ answer. Step self.old event.now answer self.new) }
-        ensures err { OnErr result (self.new ≡ self.old) }
-    {
-        match event {
-            Event::Open { room, access } => match self.open(alloc, room.as_str(), *access) {
-                Ok(opening) => Ok(Answer::Opened(opening)),
-                Err(OpenFault::NoMemory) => Err(AllocError),
-                Err(fault) => Ok(Answer::NotOpened(fault)),
-            },
-            Event::Receive { session, text } => match self.receive(alloc, *session, text.as_str()) {
-                Ok(heard) => Ok(Answer::Heard(heard)),
-                Err(HubFault::NoSession) => Ok(Answer::NoSession),
-                Err(HubFault::NoMemory) => Err(AllocError),
-            },
-            Event::Draw { session } => match self.draw(alloc, *session) {
-                Ok(text) => Ok(Answer::Drawn(text.map(Text::of))),
-                Err(HubFault::NoSession) => Ok(Answer::NoSession),
-                Err(HubFault::NoMemory) => Err(AllocError),
-            },
-            Event::Close { session } => match self.close(*session) {
-                Ok(()) => Ok(Answer::Closed),
-                Err(NoSession) => Ok(Answer::NoSession),
-            },
-            Event::DoWill => match self.do_will(alloc)? {
-                Some(short) => Ok(Answer::WillDone { short }),
-                None => Ok(Answer::NoWill),
-            },
-            Event::Forget { room } => match self.forget(alloc, room.as_str()) {
-                Ok(rev) => Ok(Answer::Forgotten { rev }),
-                Err(ForgetFault::NoMemory) => Err(AllocError),
-                Err(fault) => Ok(Answer::NotForgotten(fault)),
-            },
-        }
     }
 }

@@ -1,0 +1,154 @@
+//! What a hub tells of itself. Nothing here changes it.
+ghost use Rattle.std.specs.Prelude.{◌≡◌, ◌≢◌, ◌↔◌, Some, None, IfOk, IsErrOf, option_map, slice_get};
+ghost use Rattle.relay_hub.specs.State.{session_of};
+ghost use Rattle.relay_hub.specs.Session.{waiting};
+ghost use Rattle.relay_hub.specs.Summary.{room_named, shown_by, summary_of};
+ghost use Rattle.relay_hub.specs.Queries.{room_and_session, may_hear, truth};
+
+use super::Hub;
+use crate::config::HubConfig;
+use crate::fault::HubFault;
+use crate::message_counts::MessageCounts;
+use crate::session::Session;
+use crate::summary::{RoomSummary, summary_of};
+use crate::told::Told;
+use relay_room::Room;
+use relay_tree::Tree;
+use std::alloc::Global;
+
+impl Hub {
+    /// The configuration that it was made with. Allocates nothing.
+    pub fn config(&self) -> HubConfig
+        ensures { result ≡ self.now.config }
+    {
+        self.config
+    }
+
+    /// How many messages its sessions drew since it was made, by kind. No clause speaks of these
+    /// numbers. Allocates nothing.
+    pub fn message_counts(&self) -> &MessageCounts {
+        &self.counts
+    }
+
+    /// What its texts, wills and draws cost since it was made: an estimate in microseconds on the
+    /// machine of docs/PERFORMANCE.md, within a factor of about two, counted where the work is
+    /// done. No clause speaks of it. Allocates nothing.
+    pub fn cost(&self) -> u64 {
+        let nanos = self.report.cost.total();
+        nanos.saturating_add(self.counts.cost.total()) / 1_000
+    }
+
+    /// Whom the last text of an open session, or the last will, told something, besides the session
+    /// that sent the text: no other outbox changed. No clause speaks of it. Allocates nothing.
+    ///
+    /// ```
+    /// let mut hub = Hub::new(alloc, 1, 1, 64, 32).ok()?;
+    /// let editor = hub.open(alloc, "board", Access::ReadWrite).ok()?.session;
+    /// let watcher = hub.open(alloc, "board", Access::ReadOnly).ok()?.session;
+    /// hub.receive(alloc, watcher, r#"{"do": "watch", "id": 1, "view": [""]}"#).ok()?;
+    /// let edit = r#"{"do": "edit", "id": 1, "patch": [{"op": "add", "path": "", "value": []}]}"#;
+    /// hub.receive(alloc, editor, edit).ok()?;
+    /// assert!(rt; hub.told().sessions.as_slice() == [watcher].as_slice());
+    /// ```
+    pub fn told(&self) -> &Told {
+        &self.report.told
+    }
+
+    /// The room of a session, and the session.
+    fn find(&self, session: u64) -> Option<(&Room, &Session)>
+        ensures { option_map (λ p. (p.0.now, p.1.now)) result ≡ room_and_session self.now session }
+    {
+        let index = self.homes.get(&session)?;
+        let Some((_, room_sessions)) = self.rooms.get_index(*index) else {
+            unreachable!()
+        };
+        Some((room_sessions.room(), room_sessions.session(session)))
+    }
+
+    /// Whether a text of the session would be answered: it is open, and fewer than 32 replies wait.
+    /// Allocates nothing.
+    pub fn may_hear(&self, session: u64) -> bool
+        ensures { result ≡ may_hear (session_of self.now session) }
+    {
+        match self.find(session) {
+            Some((_, session)) => !session.is_full(),
+            None => false,
+        }
+    }
+
+    /// How many messages wait for the session: the number of draws that would return a text now.
+    /// `None` if it is not open. Allocates nothing.
+    pub fn waiting(&self, session: u64) -> Option<u64>
+        ensures { result ≡ option_map waiting (session_of self.now session) }
+    {
+        let (_, session) = self.find(session)?;
+        Some(session.waiting())
+    }
+
+    /// The index of the session's room ([`Hub::room_at`]), which it keeps while the session is
+    /// open. `None` if it is not open. No clause speaks of it. Allocates nothing.
+    pub fn room_of(&self, session: u64) -> Option<usize> {
+        self.homes.get(&session).copied()
+    }
+
+    /// The present revision and the session's view of the present document; `None` if it watches
+    /// nothing. `NoSession`: it is not open. `NoMemory`: there is not enough for the view.
+    ///
+    /// ```
+    /// let mut hub = Hub::new(alloc, 1, 1, 64, 32).ok()?;
+    /// let session = hub.open(alloc, "board", Access::ReadWrite).ok()?.session;
+    /// assert!(rt; hub.truth(alloc, session).ok()?.is_none());
+    /// hub.receive(alloc, session, r#"{"do": "watch", "id": 1, "view": [""]}"#).ok()?;
+    /// let (rev, view) = hub.truth(alloc, session).ok()??;
+    /// assert!(rt; rev == 0 && view.text(alloc).ok()?.as_str() == "[[null]]");
+    /// ```
+    pub fn truth(&self, alloc: Global, session: u64) -> Result<Option<(u64, Tree)>, HubFault>
+        ensures ok { IfOk result (λ shown. truth self.now session ≡ Some shown) }
+        ensures no_session { IsErrOf result HubFault.NoSession
+            ↔ (session_of self.now session ≡ None) }
+        ensures no_memory { IsErrOf result HubFault.NoMemory → truth self.now session ≢ Some None }
+    {
+        let Some((room, session)) = self.find(session) else {
+            return Err(HubFault::NoSession);
+        };
+        let Some(view) = session.view() else {
+            return Ok(None);
+        };
+        match view.get().of(alloc, room.document()) {
+            Ok(shown) => Ok(Some((room.revision(), shown))),
+            Err(_) => Err(HubFault::NoMemory),
+        }
+    }
+
+    /// The name and the size of the room at an index, from 0. `None` if no room has that index or
+    /// a later one. Allocates nothing.
+    #[tactic(auto, using(crate::proofs::Representation::room_at, crate::proofs::Representation::no_room_at))]
+    pub fn room_at(&self, index: usize) -> Option<RoomSummary<'_>>
+        ensures { option_map shown_by result
+            ≡ option_map summary_of (slice_get self.now.rooms index) }
+    {
+        let (name, room_sessions) = self.rooms.get_index(index)?;
+        Some(summary_of(name, room_sessions))
+    }
+
+    /// The name and the size of the room of a name. `None` if there is none. Allocates nothing.
+    pub fn room_named(&self, name: &str) -> Option<RoomSummary<'_>>
+        ensures { option_map shown_by result
+            ≡ option_map summary_of (room_named name.now self.now.rooms) }
+    {
+        match self.rooms.get_index_of(name) {
+            Some(index) => self.room_at(index),
+            None => None,
+        }
+    }
+
+    /// What the patches weigh that wait for all sessions, as far as that is bounded. No clause
+    /// speaks of it. Allocates nothing.
+    pub fn waiting_weight(&self) -> u64 {
+        let mut weight = 0u64;
+        for (_, room_sessions) in self.rooms.iter() {
+            weight = weight.saturating_add(room_sessions.load());
+        }
+        weight
+    }
+}
