@@ -191,11 +191,12 @@ none_leaves [] s h = refl
 none_leaves (x ∷ xs) s h =
     let n = none_there x xs s h in rw n.0 (ap (λ ys. x ∷ ys) (none_leaves xs s n.1))
 
-stays_evictable : (xs : List Session) (s : ℕ) → EachOnce xs
+removed_at_index : (xs : List Session) (s : ℕ) → EachOnce xs
     → position_or_len (is_number s) xs < length xs
     → remove xs (position_or_len (is_number s) xs) ≡ others s xs
-stays_evictable [] s once within = absurd (omega (arith, within))
-stays_evictable (x ∷ xs) s once within = go (is_number s x) refl within (stays_evictable xs s once.1)
+removed_at_index [] s once within = absurd (omega (arith, within))
+removed_at_index (x ∷ xs) s once within =
+    go (is_number s x) refl within (removed_at_index xs s once.1)
   where
     n : ℕ
     n = position_or_len (is_number s) xs
@@ -220,7 +221,7 @@ removed_at xs s i once at =
     let index = index_within xs s i at in
     subst (λ n. remove xs n
     ≡ others s xs) (sym index.1)
-    (stays_evictable xs s once (subst (λ n. n < length xs) index.1 index.0))
+    (removed_at_index xs s once (subst (λ n. n < length xs) index.1 index.0))
 
 -- where nobody has the number, all are
 pub none_removed : (xs : List Session) (s : ℕ) → position (is_number s) xs ≡ None
