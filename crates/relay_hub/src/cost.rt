@@ -2,8 +2,9 @@
 //! within a factor of about two for many values, and of about three for long strings.
 //!
 //! It is counted where the work is done, so nothing is guessed of a text that was not served yet.
-//! What is known to come from a text is counted by the text's values and bytes, and all else by
-//! weight, which counts a byte of a string as much as an eighth of a number. No clause speaks of it.
+//! What is known to come from a text is counted by the text's values and bytes if that is less than
+//! by weight, which has a byte of a string cost as much as an eighth of a number. All else is
+//! counted by weight. No clause speaks of it.
 use crate::text_size::{Price, TextSize};
 use crate::update::Update;
 use relay_history::CHANGE_WEIGHT;
@@ -65,8 +66,8 @@ pub(crate) fn reading(size: TextSize) -> u64 {
 }
 
 /// A document of this weight is edited, and the changes have that weight in the history, which
-/// counts some for each change that nothing is copied for. The patch came by a text of that size, if
-/// it is known.
+/// counts some for each change that nothing is copied for. The patch came by a text of that size,
+/// if it is known.
 pub(crate) fn editing(patch: &Patch, size: Option<TextSize>, weight: u64, changed: u64) -> u64 {
     let operations = patch.ops().len() as u64;
     let changed = changed.saturating_sub(operations.saturating_mul(CHANGE_WEIGHT));

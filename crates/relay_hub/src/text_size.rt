@@ -15,9 +15,9 @@ pub struct Price {
 }
 
 impl TextSize {
-    /// The size of a text, which is walked once. Between two values stands a comma, and before one a
-    /// colon or a bracket. So a member of an object counts as two values, and a string that has such
-    /// bytes as more.
+    /// The size of a text, which is walked once. Between two values stands a comma, and before one
+    /// a colon or a bracket. So a member of an object counts as two values, and a string that has
+    /// such bytes as more.
     pub fn of(text: &str) -> TextSize {
         let marks = text
             .bytes()
