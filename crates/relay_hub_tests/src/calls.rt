@@ -1,4 +1,4 @@
-//! The calls of a hub, as acts of rows. A number behind the word is a session, or the place of a
+//! The calls of a hub, as acts of rows. A number behind the word is a session, or the index of a
 //! room.
 use crate::shared::{Came, at_revision, number, owned, words};
 use crate::weights::WATCHING;
@@ -69,7 +69,7 @@ fn act_on_one(alloc: Global, hub: &mut Hub, word: &str, rest: &str) -> Came {
     }
 }
 
-/// What a hub tells of a session, or of the room at a place.
+/// What a hub tells of a session, or of the room at an index.
 fn seen_of_one(alloc: Global, hub: &Hub, word: &str, number: u64) -> Came {
     match word {
         "waiting" => words(alloc, hub.waiting(number)),

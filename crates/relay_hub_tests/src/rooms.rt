@@ -52,6 +52,24 @@ draw 2 => {"kind":"snapshot","rev":1,"view":[[7]]}
 say 2 {"do":"unwatch","id":3} => Ok(Answered { short: 0 })
 draw 2 => {"id":3,"kind":"unwatched"}
 
+# Sessions that watch an equal view share it, and each goes on alone.
+new
+begin a => Ok(Opening { session: 1, rev: 0 })
+begin a => Ok(Opening { session: 2, rev: 0 })
+begin a => Ok(Opening { session: 3, rev: 0 })
+say 1 {"do":"watch","id":1,"view":["","/x"]} => Ok(Answered { short: 0 })
+say 2 {"do":"watch","id":1,"view":["","/x"]} => Ok(Answered { short: 0 })
+say 3 {"do":"watch","id":1,"view":["","/y"]} => Ok(Answered { short: 0 })
+say 1 {"do":"watch","id":2,"view":["/y"]} => Ok(Answered { short: 0 })
+say 2 {"do":"edit","id":2,"patch":[{"op":"replace","path":"","value":{"x":1}}]} => Ok(Answered { short: 0 })
+truth 1 => 1 [[]]
+truth 2 => 1 [[{"x":1}],[1]]
+truth 3 => 1 [[{"x":1}],[]]
+close 1 => Ok(())
+say 3 {"do":"watch","id":2,"view":["","/x"]} => Ok(Answered { short: 0 })
+close 2 => Ok(())
+truth 3 => 1 [[{"x":1}],[1]]
+
 # A view is refused at the first slot for which nothing is left: a token weighs 8 and its bytes.
 new view-weight=20
 begin a => Ok(Opening { session: 1, rev: 0 })
